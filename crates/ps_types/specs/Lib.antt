@@ -1,0 +1,13 @@
+pub mod Tree
+pub mod TreeCode
+pub mod Elem
+pub mod Attrs
+pub mod ChildCode
+pub mod ElemFalls
+pub mod Form
+pub mod Print
+pub mod Reading
+pub mod Address
+pub mod Cutting
+pub mod Spelled
+pub mod Same
