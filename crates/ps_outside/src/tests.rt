@@ -10,7 +10,7 @@ fn what_was_put_is_opened_once_and_given_back(rt: HostRuntime) -> Result<(), Fai
     let alloc = rt.alloc();
     let name = Text::of(alloc, "in")?;
     let other = Text::of(alloc, "out")?;
-    let mut world = MemWorld::new(alloc, &[4])?;
+    let mut world = MemWorld::new(alloc, &[3])?;
     world.put_source(&name, MemSource::new(alloc, b"abc", &[])?)?;
     let mut source = world.open_source(&name)?;
     let mut room = [0; 2];
