@@ -7,10 +7,16 @@
 #![tactic(auto)]
 
 mod files;
+mod held;
+mod line;
+mod lines;
 mod memory;
 mod streams;
+mod writes;
 
 pub use files::{FileSink, FileSource};
+pub use lines::{Lines, LinesRefusal, NextLine, NextLineRefusal};
 pub use memory::{MemSink, MemSource};
 pub use ps_base::{Bytes, Failed, Memory};
 pub use streams::{Sink, Source};
+pub use writes::{WriteFault, write_line};
