@@ -1,5 +1,5 @@
 -- What contracts see of a reader of lines, and what one call of it does.
-use Rattle.std.specs.Prelude.{ℕ, Bool, false, ◌≡◌, ◌≢◌, ◌<◌, ◌≤◌, ◌+◌, ◌-◌, ◌^◌, List, [], length, Some, None}
+use Rattle.std.specs.Prelude.{ℕ, Bool, false, IsTrue, ◌≡◌, ◌≢◌, ◌<◌, ◌≤◌, ◌+◌, ◌-◌, ◌^◌, List, [], length, Some, None}
 use Rattle.std.specs.declared.option.Option.{Option}
 use Rattle.std.specs.Io.KnownBytes.{prepend_known, Consumes}
 use Rattle.ps_types.specs.Lines.{first_line, after_line, NoNewline}
@@ -62,6 +62,12 @@ abbrev pub Takes : NextLine → ℕ → ℕ → Type 0
 Takes (Whole line) before now = (now < before) × (now + length line ≤ before)
 Takes TooLong before now = now + 262144 < before
 Takes End before now = now ≡ before
+
+-- the end comes where no byte is held and the source has answered that the input ended
+abbrev pub Ends : NextLine → List ℕ → Bool → Type 0
+Ends (Whole line) held ended = Unit {0}
+Ends TooLong held ended = Unit {0}
+Ends End held ended = (held ≡ []) × IsTrue ended
 
 -- the bytes that the source gave are those that were counted
 abbrev pub Gave : Option (List ℕ) → Option (List ℕ) → ℕ → ℕ → Type 0

@@ -11,12 +11,16 @@ mod held;
 mod line;
 mod lines;
 mod memory;
+mod print;
+mod read;
 mod streams;
 mod writes;
 
 pub use files::{FileSink, FileSource};
 pub use lines::{Lines, LinesRefusal, NextLine, NextLineRefusal};
 pub use memory::{MemSink, MemSource};
+pub use print::print_tree;
 pub use ps_base::{Bytes, Failed, Memory};
+pub use read::{TreeRefusal, read_tree};
 pub use streams::{Sink, Source};
 pub use writes::{WriteFault, write_line};

@@ -72,7 +72,7 @@ pub struct Lines<S: Source> {
 }
 
 impl<S: Source> Lines<S> {
-    ghost use Rattle.ps_wire.specs.Reading.{source_of, held_of, given_of, ended_of, stopped_of, rest_of, budget_of, IsFresh, IsNext, Takes, Gave, IsPastLimit, IsBeforeLimit, ReadNothing, StandsStill};
+    ghost use Rattle.ps_wire.specs.Reading.{source_of, held_of, given_of, ended_of, stopped_of, rest_of, budget_of, IsFresh, IsNext, Takes, Ends, Gave, IsPastLimit, IsBeforeLimit, ReadNothing, StandsStill};
 
     /// A reader over the source, which has read nothing yet.
     pub fn new(alloc: Global, source: S) -> Result<Lines<S>, LinesRefusal<S>>
@@ -123,6 +123,9 @@ impl<S: Source> Lines<S> {
         ensures within { given_of self.new ≤ 2 ^ 40 }
         ensures holds_line { Contains (held_of self.old) 10 → ReadNothing self.old self.new }
         ensures input_ended { IsTrue (ended_of self.old) → ReadNothing self.old self.new }
+        ensures answers_line { Contains (held_of self.old) 10 → stopped_of self.old ≡ None → IfErr result (λ why. why ≡ OutOfMemory) }
+        ensures answers_end { IsTrue (ended_of self.old) → stopped_of self.old ≡ None → IfErr result (λ why. why ≡ OutOfMemory) }
+        ensures ends { IfOk result (λ next. Ends next (held_of self.new) (ended_of self.new)) }
     {
         if let Some(why) = self.stopped {
             return Err(why);
@@ -148,6 +151,9 @@ impl<S: Source> Lines<S> {
         ensures gave { Gave (S.left (source_of self.old)) (S.left (source_of self.new)) (given_of self.old) (given_of self.new) }
         ensures holds_line { Contains (held_of self.old) 10 → ReadNothing self.old self.new }
         ensures input_ended { IsTrue (ended_of self.old) → ReadNothing self.old self.new }
+        ensures answers_line { Contains (held_of self.old) 10 → IfErr result (λ why. why ≡ OutOfMemory) }
+        ensures answers_end { IsTrue (ended_of self.old) → IfErr result (λ why. why ≡ OutOfMemory) }
+        ensures ends { IfOk result (λ next. Ends next (held_of self.new) (ended_of self.new)) }
     {
         let mut line = Line::new(alloc);
         'pieces: loop {
