@@ -1,7 +1,7 @@
 use Rattle.std.proofs.Common.{◌+◌, ◌-◌, ◌^◌, take, refl, sym, ◌∙◌, arith}
 use Rattle.std.proofs.lemmas.Bool.{false≢true}
 use Rattle.ps_wire.proofs.Pieces.{at_newline, takes_at_newline, before_limit_at_newline, at_end, takes_to_end, before_limit_at_end, past_limit, goes_on}
-use Rattle.ps_wire.proofs.Gaining.{gave_none, gave_more, gave_same, no_newline_held}
+use Rattle.ps_wire.proofs.Gaining.{gave_more, no_newline_held}
 use Rattle.ps_wire.proofs.lines.Lines.read_line.Goals as goal
 
 pub returns-in-Some-clause-next : goal.returns-in-Some-clause-next
