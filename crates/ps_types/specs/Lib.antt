@@ -11,3 +11,4 @@ pub mod Address
 pub mod Cutting
 pub mod Spelled
 pub mod Same
+pub mod Lines

@@ -1,1 +1,9 @@
 pub mod MemoryBytes
+pub mod HeldLemmas
+pub mod Written
+pub mod Pieces
+pub mod Gaining
+pub mod Depths
+pub mod Puts
+pub mod Attrs
+pub mod Kids

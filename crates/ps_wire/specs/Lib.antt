@@ -1,2 +1,9 @@
 pub mod Memory
 pub mod Files
+pub mod AtEnd
+pub mod Line
+pub mod Reading
+pub mod Writing
+pub mod Putting
+pub mod Taking
+pub mod Answer
