@@ -4,7 +4,7 @@ use std::sync::Mutex;
 use std::thread;
 use std::time::Instant;
 
-const ENTRIES: u64 = 4_000_000;
+const ENTRIES: u64 = 1_000_000;
 
 fn main() {
     for threads in [1u64, 2, 4, 16] {
