@@ -54,7 +54,6 @@ after_write synced now written then_written range c same (inl none) leaves =
 after_write synced now written then_written range c same (inr one) leaves =
     subst (λ (l : List ℕ). MayLeave l (range ∷ written) c) same (subst (λ (w : List (ℕ × ℕ)). MayLeave now w c) one leaves)
 
-
 -- where nothing was written
 pub torn_same : (at n : ℕ) (old new : List ℕ) → new ≡ old → TornAt at n old new
 torn_same at n old new same = record {
