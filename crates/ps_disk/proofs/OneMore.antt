@@ -29,14 +29,14 @@ module _ (old new : Recorded) (start_is : new.start ≡ old.start) where
     pub state_is : state_of new ≡ step (state_of old) one.call
     state_is =
         ap (λ (l : List ℕ). after_calls (start_of l) new.kept) start_is
-            ∙ ap (λ (l : List Kept). after_calls (start_of old.start) l) kept_is
-            ∙ after_push (start_of old.start) old.kept one
+        ∙ ap (λ (l : List Kept). after_calls (start_of old.start) l) kept_is
+        ∙ after_push (start_of old.start) old.kept one
 
     front : (k : ℕ) → k ≤ length old.kept → after_calls (start_of new.start) (take k new.kept) ≡ after_calls (start_of old.start) (take k old.kept)
     front k le =
         ap (λ (l : List ℕ). after_calls (start_of l) (take k new.kept)) start_is
-            ∙ ap (λ (l : List Kept). after_calls (start_of old.start) (take k l)) kept_is
-            ∙ ap (λ (l : List Kept). after_calls (start_of old.start) l) (take-append-le k old.kept (one ∷ []) le)
+        ∙ ap (λ (l : List Kept). after_calls (start_of old.start) (take k l)) kept_is
+        ∙ ap (λ (l : List Kept). after_calls (start_of old.start) l) (take-append-le k old.kept (one ∷ []) le)
 
     size : length new.kept ≡ length old.kept + 1
     size = ap length kept_is ∙ length-append old.kept (one ∷ [])
@@ -72,8 +72,8 @@ pub one_further : (s : State) (p : Kept → Bool) (kept : List Kept) (i : ℕ) (
     → after_calls s (filter p (take (i + 1) kept)) ≡ cond (p one) (step (after_calls s (filter p (take i kept))) one.call) (after_calls s (filter p (take i kept)))
 one_further s p kept i one within is =
     ap (λ (l : List Kept). after_calls s (filter p l)) (take_more kept i one within ∙ ap (λ (x : Kept). take i kept ++ x ∷ []) (sym is))
-        ∙ ap (λ (l : List Kept). after_calls s l) (filter-append p (take i kept) (one ∷ []))
-        ∙ last (p one) refl
+    ∙ ap (λ (l : List Kept). after_calls s l) (filter-append p (take i kept) (one ∷ []))
+    ∙ last (p one) refl
   where
     before : State
     before = after_calls s (filter p (take i kept))

@@ -1,5 +1,5 @@
 -- What a crash leaves after one write behind a sync.
-use Rattle.std.proofs.Common.{◌≡◌, ◌⊎◌, inl, inr, ℕ, ◌+◌, ◌<◌, ◌≤◌, List, [], ◌∷◌, length, get_or, take, drop, refl, sym, ◌∙◌, ap, subst, arith, length-take}
+use Rattle.std.proofs.Common.{◌≡◌, ◌⊎◌, inl, inr, ℕ, ◌+◌, ◌<◌, ◌≤◌, List, [], ◌∷◌, length, get_or, take, drop, sym, ◌∙◌, ap, subst, arith, length-take}
 use Rattle.std.proofs.lemmas.List.{get_or-take, get_or-drop, length-drop, drop_all}
 use Rattle.std.proofs.lemmas.Grind.{same_number_lists}
 use Rattle.std.proofs.lemmas.Bool.{cases_lt}
@@ -53,7 +53,6 @@ after_write synced now written then_written range c same (inl none) leaves =
     grows synced c written range (subst (λ (l : List ℕ). MayLeave l written c) same (subst (λ (w : List (ℕ × ℕ)). MayLeave now w c) none leaves))
 after_write synced now written then_written range c same (inr one) leaves =
     subst (λ (l : List ℕ). MayLeave l (range ∷ written) c) same (subst (λ (w : List (ℕ × ℕ)). MayLeave now w c) one leaves)
-
 
 -- where nothing was written
 pub torn_same : (at n : ℕ) (old new : List ℕ) → new ≡ old → TornAt at n old new

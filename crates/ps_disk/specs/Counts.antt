@@ -1,5 +1,5 @@
 -- How a disk in memory counts its calls, and which of them fail.
-use Rattle.std.specs.Prelude.{ℕ, ◌≡◌, ◌⊎◌, ◌<◌, ◌↔◌, Contains, IsErr, Result}
+use Rattle.std.specs.Prelude.{◌≡◌, ◌⊎◌, ◌<◌, ◌↔◌, Contains, IsErr, Result}
 use Rattle.ps_base.specs.Causes.{next_count, Rose}
 use Rattle.ps_disk.specs.Calls.{Recorded}
 

@@ -38,7 +38,12 @@ pub(crate) struct Outcomes {
 }
 
 // The bytes with a piece over them, or behind them.
-pub(crate) fn written_over(alloc: Global, old: &[u8], at: u64, piece: &[u8]) -> Result<Vec<u8>, Memory>
+pub(crate) fn written_over(
+    alloc: Global,
+    old: &[u8],
+    at: u64,
+    piece: &[u8],
+) -> Result<Vec<u8>, Memory>
     ensures { IfOk result (λ v. v.items ≡ over old.now at piece.now) }
 {
     let at = (at as usize).min(old.len());
@@ -54,35 +59,61 @@ pub(crate) fn written_over(alloc: Global, old: &[u8], at: u64, piece: &[u8]) -> 
 fn after_call(alloc: Global, before: Outcomes, call: &Call, byte: u8) -> Result<Outcomes, Memory>
     ensures { IfOk result (λ o. (s : State) → AreOutcomes byte s before → AreOutcomes byte (step s call.now) o) }
 {
-    let Outcomes { lost, whole, filled } = before;
+    let Outcomes {
+        lost,
+        whole,
+        filled,
+    } = before;
     match call {
         Call::Wrote(at, bytes) => {
             let fill = vec![in alloc; byte; bytes.len()]?;
             let whole = written_over(alloc, &whole, *at, bytes.as_slice())?;
             let filled = written_over(alloc, &filled, *at, &fill)?;
-            Ok(Outcomes { lost, whole, filled })
+            Ok(Outcomes {
+                lost,
+                whole,
+                filled,
+            })
         }
         Call::Failed(at, count) => {
             let fill = vec![in alloc; byte; *count]?;
             let filled = written_over(alloc, &filled, *at, &fill)?;
-            Ok(Outcomes { lost, whole, filled })
+            Ok(Outcomes {
+                lost,
+                whole,
+                filled,
+            })
         }
         Call::Synced => {
             let lost = whole.to_vec(alloc)?;
             let filled = whole.to_vec(alloc)?;
-            Ok(Outcomes { lost, whole, filled })
+            Ok(Outcomes {
+                lost,
+                whole,
+                filled,
+            })
         }
     }
 }
 
 // The outcomes of a crash after the calls of these numbers.
-pub(crate) fn replay(alloc: Global, start: &[u8], kept: &Vec<Kept>, calls: u64, byte: u8) -> Result<Outcomes, Memory>
+pub(crate) fn replay(
+    alloc: Global,
+    start: &[u8],
+    kept: &Vec<Kept>,
+    calls: u64,
+    byte: u8,
+) -> Result<Outcomes, Memory>
     ensures { IfOk result (AreOutcomes byte (after_calls (start_of start.now) (filter (λ one. nat_le one.number calls) kept.now.items))) }
 {
     let lost = start.to_vec(alloc)?;
     let whole = start.to_vec(alloc)?;
     let filled = start.to_vec(alloc)?;
-    let mut outcomes = Outcomes { lost, whole, filled };
+    let mut outcomes = Outcomes {
+        lost,
+        whole,
+        filled,
+    };
     'calls: for one in kept {
         if one.number <= calls {
             outcomes = after_call(alloc, outcomes, &one.call, byte)?;

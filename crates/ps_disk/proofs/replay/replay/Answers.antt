@@ -17,7 +17,7 @@ calls-preserved c =
     let is = c.one-item.is ∙ ap (λ (l : List Kept). get_or l c.calls.one-index one) c.deref-one-items.ensures.value in
     let next = one_further (start_of c.args.start.now) p all c.calls.one-index one (omega (arith, c.deref-one-items.ensures.len)) is in
     let to = λ (b : Bool) (passes : p one ≡ b) (o : Outcomes) (are : AreOutcomes c.args.byte (cond b (step before one.call) before) o).
-      subst (λ (s : State). AreOutcomes c.args.byte s o) (sym (next ∙ ap (λ (x : Bool). cond x (step before one.call) before) passes)) are in
+    subst (λ (s : State). AreOutcomes c.args.byte s o) (sym (next ∙ ap (λ (x : Bool). cond x (step before one.call) before) passes)) are in
     elim c.if-one-calls.branch [
       | then-one-calls+in_ok-outcomes w ↦
           let passes : p one ≡ true = search rules in

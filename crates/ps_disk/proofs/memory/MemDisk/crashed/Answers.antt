@@ -1,4 +1,4 @@
-use Rattle.std.proofs.Common.{◌≡◌, List, ℕ, sym, ◌∙◌, ap, subst}
+use Rattle.std.proofs.Common.{List, ℕ, sym, ◌∙◌, ap, subst}
 use Rattle.std.proofs.lemmas.Result.{IfOk-weaker}
 use Rattle.ps_disk.specs.Disk.{MayLeave}
 use Rattle.ps_disk.specs.Calls.{Recorded, state_after}

@@ -1,6 +1,5 @@
-use Rattle.std.proofs.Common.{◌≡◌, List, ℕ, sym, ◌∙◌, ap, refl, rules}
-use Rattle.ps_disk.specs.Calls.{State, start_of, after_calls, step, over}
-use Rattle.ps_disk.specs.declared.replay.Call.{Call}
+use Rattle.std.proofs.Common.{◌≡◌, List, ℕ, sym, ◌∙◌, ap, rules}
+use Rattle.ps_disk.specs.Calls.{State, start_of, after_calls, over}
 use Rattle.ps_disk.specs.declared.replay.Call.TheVariants.{Wrote}
 use Rattle.ps_disk.specs.declared.replay.Kept.{Kept}
 use Rattle.ps_disk.proofs.OneMore.{after_push}

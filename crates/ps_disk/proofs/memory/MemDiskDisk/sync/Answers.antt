@@ -1,4 +1,4 @@
-use Rattle.std.proofs.Common.{◌∙◌, ap}
+use Rattle.std.proofs.Common.{ap}
 use Rattle.ps_disk.specs.Calls.{Recorded, State}
 use Rattle.ps_disk.specs.declared.replay.Call.TheVariants.{Synced}
 use Rattle.ps_disk.specs.declared.replay.Kept.{Kept}
