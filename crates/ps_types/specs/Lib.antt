@@ -20,3 +20,10 @@ pub mod Rosters
 pub mod Resources
 pub mod Vers
 pub mod Counts
+pub mod Namespaces
+pub mod LineTree
+pub mod Shape
+pub mod Defaults
+pub mod Forms
+pub mod Values
+pub mod Config
