@@ -1,0 +1,2 @@
+//! What the service means: definitions alone, which every contract above cites.
+#![tactic(auto)]
