@@ -1,3 +1,4 @@
+pub mod Book
 pub mod Damage
 pub mod Entries
 pub mod Store

@@ -1,2 +1,2 @@
-//! What the service means.
+//! What the service means: definitions alone, which every contract above cites.
 #![tactic(auto)]

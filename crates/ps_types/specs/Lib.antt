@@ -11,3 +11,12 @@ pub mod Address
 pub mod Cutting
 pub mod Spelled
 pub mod Same
+pub mod Nodes
+pub mod Affils
+pub mod Subs
+pub mod Items
+pub mod Links
+pub mod Rosters
+pub mod Resources
+pub mod Vers
+pub mod Counts
