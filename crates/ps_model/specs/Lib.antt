@@ -1,4 +1,12 @@
+pub mod Access
 pub mod Book
+pub mod Core
 pub mod Damage
+pub mod Due
 pub mod Entries
+pub mod Machine
+pub mod NoticeTrees
+pub mod Stamp
 pub mod Store
+pub mod Ways
+pub mod World
