@@ -20,3 +20,4 @@ pub mod Rosters
 pub mod Resources
 pub mod Vers
 pub mod Counts
+pub mod Lines
