@@ -1,5 +1,6 @@
 -- What an event gives an address. All is asked of one Book: the one after the entry, but for a node that is deleted the one before it.
 use Rattle.std.specs.Prelude.{ℕ, Bool, true, false, not, ◌&&◌, ◌||◌, List, [], ◌∷◌, ◌++◌, map, Option, Some, None, codes, if◌then◌else◌}
+use Rattle.ps_types.specs.Forms.{form_tree}
 use Rattle.ps_types.specs.Items.{last_item}
 use Rattle.ps_types.specs.Nodes.{config_at}
 use Rattle.ps_types.specs.Resources.{is_present}
@@ -19,8 +20,8 @@ use Rattle.ps_types.specs.declared.node.NodeKey.{NodeKey}
 use Rattle.ps_types.specs.declared.rows.ItemRow.{ItemRow}
 use Rattle.ps_model.specs.Access.{read}
 use Rattle.ps_model.specs.Book.{Book}
-use Rattle.ps_model.specs.Entries.{of_host}
-use Rattle.ps_model.specs.NoticeTrees.{message, kind_attr, item_nodes, payload_nodes, items_tree, retract_tree, named_tree, associate_tree, header_nodes, delay_nodes, event_nodes, told_tree, approval_tree, only, question}
+use Rattle.ps_model.specs.NoticeTrees.{message, kind_attr, item_nodes, payload_nodes, items_tree, retract_tree, named_tree, associate_tree, header_nodes, delay_nodes, event_nodes, told_tree, approval_form, only, question}
+use Rattle.ps_model.specs.Stanza.{host_jid}
 use Rattle.ps_model.specs.Ways.{Way, NoWay, OwnRow, Through, way_to, way_to_new, is_interested}
 
 -- ---- the conditions
@@ -126,10 +127,10 @@ given book (Purge node) who = told_about book (about_node book true node always 
 given book (Delete node) who = told_about book (about_node book false node (λ config. config.notify_delete) (λ config. named_tree (codes "delete") node)) who
 given book (Configuration node) who = told_about book (about_node book false node (λ config. config.notify_config) (λ config. named_tree (codes "configuration") node)) who
 given book (Associate node collection) who = told_about book (about_new book node collection) who
-given book (Approval node owner subscriber) who = to_one owner who (Some (message node.service owner [] (only (approval_tree node subscriber))))
+given book (Approval node owner subscriber) who = to_one owner who (Some (message node.service owner [] (only (form_tree (approval_form node subscriber)))))
 given book (Told node subscriber state) who = to_one subscriber who (Some (message node.service subscriber [] (only (told_tree node subscriber state))))
 given book (Last node to by_subscription moment) who = to_one to who (last_notice book node to by_subscription moment (config_at node book.nodes) (last_item node book.items))
-given book (Question to caps) who = to_one to who (Some (question (of_host book.service) to caps))
+given book (Question to caps) who = to_one to who (Some (question (host_jid book.service) to caps))
 
 -- the addresses that an event may give something: those of the rows, or the one that it names
 abbrev pub asked : Book → Event → List Jid

@@ -2,28 +2,25 @@
 use Rattle.std.specs.Prelude.{ℕ, List, [], ◌∷◌, ◌++◌, Option, Some, None, codes}
 use Rattle.ps_types.specs.Address.{jid_text}
 use Rattle.ps_types.specs.Attrs.{attr}
+use Rattle.ps_types.specs.Config.{type_field}
+use Rattle.ps_types.specs.Namespaces.{event_ns, headers_ns, info_ns, pubsub_ns}
 use Rattle.ps_types.specs.Print.{client}
 use Rattle.ps_types.specs.Tree.{Tree, tree, Nodes, none, branch, words}
 use Rattle.ps_types.specs.declared.attrs.Attr.{Attr}
 use Rattle.ps_types.specs.declared.config.NoticeKind.{NoticeKind}
 use Rattle.ps_types.specs.declared.config.NoticeKind.TheVariants.{Normal, Headline}
+use Rattle.ps_types.specs.declared.form.Field.{Field}
+use Rattle.ps_types.specs.declared.form.Form.{Form}
+use Rattle.ps_types.specs.declared.form.FormKind.TheVariants as form
 use Rattle.ps_types.specs.declared.jid.Jid.{Jid}
 use Rattle.ps_types.specs.declared.node.NodeKey.{NodeKey}
 use Rattle.ps_types.specs.declared.rows.Caps.{Caps}
 use Rattle.ps_types.specs.declared.rows.ItemRow.{ItemRow}
 use Rattle.ps_types.specs.declared.rows.SubState.{SubState}
 use Rattle.ps_types.specs.declared.rows.SubState.TheVariants as state
+use Rattle.ps_model.specs.Asking.{authorization}
 use Rattle.ps_model.specs.Stamp.{stamp}
 use Rattle.ps_model.specs.Ways.{Way, NoWay, OwnRow, Through}
-
-abbrev pub event_ns : List ℕ
-event_ns = codes "http://jabber.org/protocol/pubsub#event"
-
-abbrev pub pubsub_ns : List ℕ
-pubsub_ns = codes "http://jabber.org/protocol/pubsub"
-
-abbrev pub form_ns : List ℕ
-form_ns = codes "jabber:x:data"
 
 -- ---- what a stanza is made of
 
@@ -70,7 +67,7 @@ associate_tree node collection = tree (codes "collection") event_ns (one (codes 
 
 -- the collection whose subscription was used (XEP-0248 with the header of XEP-0131)
 abbrev pub headers : List ℕ → Tree
-headers name = tree (codes "headers") (codes "http://jabber.org/protocol/shim") [] (only (tree (codes "header") (codes "http://jabber.org/protocol/shim") (one (codes "name") (codes "Collection")) (words name none)))
+headers name = tree (codes "headers") headers_ns [] (only (tree (codes "header") headers_ns (one (codes "name") (codes "Collection")) (words name none)))
 
 abbrev pub header_nodes : Way → Nodes
 header_nodes NoWay = none
@@ -96,21 +93,18 @@ abbrev pub told_tree : NodeKey → Jid → SubState → Tree
 told_tree node who state =
     tree (codes "pubsub") pubsub_ns [] (only (leaf (codes "subscription") pubsub_ns (attr (codes "jid") (jid_text who) ∷ attr (codes "node") node.name ∷ attr (codes "subscription") (state_text state) ∷ [])))
 
-abbrev pub field : List ℕ → List ℕ → List ℕ → Tree
-field kind var value = tree (codes "field") form_ns (attr (codes "type") kind ∷ attr (codes "var") var ∷ []) (only (tree (codes "value") form_ns [] (words value none)))
+abbrev pub field : List ℕ → List ℕ → List ℕ → Field
+field kind var value = record { var = codes "pubsub#" ++ var; kind = kind; values = value ∷ [] }
 
-abbrev pub approval_tree : NodeKey → Jid → Tree
-approval_tree node who =
-    tree (codes "x") form_ns (one (codes "type") (codes "form"))
-    (branch (field (codes "hidden") (codes "FORM_TYPE") (codes "http://jabber.org/protocol/pubsub#subscribe_authorization"))
-    (branch (field (codes "text-single") (codes "pubsub#node") node.name)
-    (branch (field (codes "jid-single") (codes "pubsub#subscriber_jid") (jid_text who))
-    (branch (field (codes "boolean") (codes "pubsub#allow") (codes "0"))
-    none))))
+abbrev pub approval_form : NodeKey → Jid → Form
+approval_form node who = record {
+    kind = form.Form;
+    fields = type_field authorization ∷ field (codes "text-single") (codes "node") node.name ∷ field (codes "jid-single") (codes "subscriber_jid") (jid_text who) ∷ field (codes "boolean") (codes "allow") (codes "0") ∷ []
+  }
 
 -- ---- the question for capabilities (XEP-0115 §6.2)
 
 abbrev pub question : Jid → Jid → Caps → Tree
 question service to caps =
     tree (codes "iq") client (attr (codes "from") (jid_text service) ∷ attr (codes "to") (jid_text to) ∷ attr (codes "type") (codes "get") ∷ [])
-    (only (leaf (codes "query") (codes "http://jabber.org/protocol/disco#info") (one (codes "node") (caps.node ++ codes "#" ++ caps.ver))))
+    (only (leaf (codes "query") info_ns (one (codes "node") (caps.node ++ codes "#" ++ caps.ver))))

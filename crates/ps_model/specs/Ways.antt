@@ -1,5 +1,5 @@
 -- By which way a node event comes to an address: by a subscription to the node or to a collection above it (XEP-0248), or because a resource wants it (XEP-0163 §4).
-use Rattle.std.specs.Prelude.{Bool, true, false, not, ◌&&◌, ◌||◌, List, [], ◌∷◌, length, nat_lt, Option, Some, None, if◌then◌else◌}
+use Rattle.std.specs.Prelude.{Bool, true, false, not, ◌&&◌, ◌||◌, List, [], ◌∷◌, Option, Some, None, if◌then◌else◌}
 use Rattle.ps_types.specs.Address.{bare}
 use Rattle.ps_types.specs.Links.{above}
 use Rattle.ps_types.specs.Resources.{wants}
@@ -9,6 +9,7 @@ use Rattle.ps_types.specs.Subs.{sub_row, sub_at, is_subscribed}
 use Rattle.ps_types.specs.declared.jid.Jid.{Jid}
 use Rattle.ps_types.specs.declared.node.NodeKey.{NodeKey}
 use Rattle.ps_types.specs.declared.rows.SubRow.{SubRow}
+use Rattle.ps_model.specs.Access.{is_account}
 use Rattle.ps_model.specs.Book.{Book}
 
 -- no subscription reaches the event, one to the node itself does, or the nearest that does is to this collection
@@ -42,10 +43,6 @@ way_to_new book collection who = way_above false false who (collection ∷ above
 
 -- ---- resources
 
--- the node belongs to an account and not to the service host
-abbrev pub is_personal : NodeKey → Bool
-is_personal node = nat_lt 0 (length node.service.local)
-
 -- the address is of the account, or the account's roster has it at from or both
 abbrev pub is_entitled : Book → NodeKey → Jid → Bool
 is_entitled book node who = same_bare node.service who || is_presence_contact node.service who book.rosters
@@ -54,6 +51,6 @@ is_entitled book node who = same_bare node.service who || is_presence_contact no
 abbrev pub is_subscriber : Book → NodeKey → Jid → Bool
 is_subscriber book node who = is_subscribed (sub_at node who book.subs) || is_subscribed (sub_at node (bare who) book.subs)
 
--- the resource wants the events of the personal node, may have them, and has no subscription in their place
+-- the resource wants the events of the node of an account, may have them, and has no subscription in their place
 abbrev pub is_interested : Book → NodeKey → Jid → Bool
-is_interested book node who = is_personal node && wants who node.name book.resources && is_entitled book node who && not (is_subscriber book node who)
+is_interested book node who = is_account node.service && wants who node.name book.resources && is_entitled book node who && not (is_subscriber book node who)

@@ -2,5 +2,7 @@
 #![tactic(auto)]
 
 mod steps;
+mod store_laws;
 
 pub use steps::{Role, Step};
+pub use store_laws::one_list;
