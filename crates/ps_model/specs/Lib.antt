@@ -34,3 +34,12 @@ pub mod Tallies
 pub mod TwoWorlds
 pub mod Ways
 pub mod World
+pub mod Commits
+pub mod Conditions
+pub mod Grammar
+pub mod Outcome
+pub mod Replies
+pub mod Stanza
+pub mod Steps
+pub mod Taken
+pub mod Taking

@@ -21,3 +21,10 @@ pub mod Resources
 pub mod Vers
 pub mod Counts
 pub mod Lines
+pub mod Namespaces
+pub mod LineTree
+pub mod Shape
+pub mod Defaults
+pub mod Forms
+pub mod Values
+pub mod Config

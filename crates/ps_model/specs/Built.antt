@@ -1,0 +1,120 @@
+-- What is built today. As a kind of request, a target, an event or an entry is built, its lines here go, and nothing else changes.
+use Rattle.std.specs.Prelude.{ℕ, Bool, true, false, ◌&&◌, ◌||◌, not, ◌==◌, length, List, [], ◌∷◌, Option, None, cond, is_some}
+use Rattle.ps_types.specs.declared.config.Access.{Access}
+use Rattle.ps_types.specs.declared.config.Access.TheVariants.{Everyone, Presence, Roster, Authorize, Whitelist}
+use Rattle.ps_types.specs.declared.config.NodeConfig.{NodeConfig}
+use Rattle.ps_types.specs.declared.config.NodeKind.{NodeKind}
+use Rattle.ps_types.specs.declared.config.NodeKind.TheVariants.{Leaf, Collection}
+use Rattle.ps_types.specs.declared.config.PublishModel.{PublishModel}
+use Rattle.ps_types.specs.declared.config.PublishModel.TheVariants.{Publishers, Subscribers, Anyone}
+use Rattle.ps_types.specs.declared.denial.Condition.{Condition}
+use Rattle.ps_types.specs.declared.denial.Condition.TheVariants.{C14, C26}
+use Rattle.ps_types.specs.declared.denial.LineRefusal.TheVariants.{L8}
+use Rattle.ps_types.specs.declared.entry.Entry.{Entry}
+use Rattle.ps_types.specs.declared.entry.Entry.TheVariants.{Boot, Change, Handed, Gone, Base}
+use Rattle.ps_types.specs.declared.event.Event.{Event}
+use Rattle.ps_types.specs.declared.event.Event.TheVariants as event
+use Rattle.ps_types.specs.declared.request.Ask.{Ask}
+use Rattle.ps_types.specs.declared.request.Ask.TheVariants as ask
+use Rattle.ps_types.specs.declared.request.AskItem.{AskItem}
+use Rattle.ps_types.specs.declared.request.Request.{Request}
+use Rattle.ps_types.specs.Same.{same_jid}
+use Rattle.ps_model.specs.Outcome.{Outcome, denied, accepted}
+use Rattle.ps_model.specs.Stanza.{host_jid}
+use Rattle.ps_model.specs.Steps.{unless}
+use Rattle.ps_model.specs.Taken as taken
+use Rattle.ps_model.specs.Taken.{Taken}
+
+-- ---- lines of which nothing is built yet are refused as such
+
+-- the request is built: to make a node without a form
+abbrev pub is_read_ask : Ask → Bool
+is_read_ask (ask.Create node None) = true
+is_read_ask _ = false
+
+-- and its target is: the service host
+abbrev pub is_read : List ℕ → Request → Bool
+is_read service r = is_read_ask r.ask && same_jid r.target (host_jid service)
+
+abbrev pub built_taken : List ℕ → Taken → Taken
+built_taken service taken.silent = taken.silent
+built_taken service (taken.refused why) = taken.refused why
+built_taken service (taken.denied head why) = taken.refused L8
+built_taken service (taken.asked t r) = cond (is_read service r) (taken.asked t r) (taken.refused L8)
+
+-- ---- requests that are read and not built yet are denied
+
+-- one item, with an id and one payload
+abbrev pub is_plain_item : List AskItem → Bool
+is_plain_item [] = false
+is_plain_item (item ∷ []) = not (length item.id == 0) && (length item.payloads == 1)
+is_plain_item (item ∷ next ∷ items) = false
+
+abbrev pub is_unbuilt_ask : Ask → Bool
+is_unbuilt_ask (ask.Create node form) = false
+is_unbuilt_ask (ask.Publish node items options) = is_some options || not (is_plain_item items)
+is_unbuilt_ask (ask.ItemsGet node max ids) = not (length max == 0 && (length ids == 0))
+is_unbuilt_ask ask.Silent = false
+is_unbuilt_ask _ = true
+
+-- requests to an account
+abbrev pub is_unbuilt : List ℕ → Request → Bool
+is_unbuilt service r = is_unbuilt_ask r.ask || not (same_jid r.target (host_jid service))
+
+-- what gets no reply isn't denied
+abbrev pub unbuilt_outcome : Ask → Outcome
+unbuilt_outcome (ask.Present caps) = accepted None
+unbuilt_outcome ask.Absent = accepted None
+unbuilt_outcome (ask.CapsAnswer node info) = accepted None
+unbuilt_outcome ask.Silent = accepted None
+unbuilt_outcome _ = denied C26
+
+abbrev pub built_outcome : List ℕ → Request → Outcome → Outcome
+built_outcome service r given = cond (is_unbuilt service r) (unbuilt_outcome r.ask) given
+
+-- ---- configurations
+
+abbrev pub is_built_access : Access → Bool
+is_built_access Everyone = true
+is_built_access Presence = false
+is_built_access Roster = false
+is_built_access Authorize = false
+is_built_access Whitelist = false
+
+abbrev pub is_built_publish : PublishModel → Bool
+is_built_publish Publishers = true
+is_built_publish Subscribers = false
+is_built_publish Anyone = false
+
+abbrev pub is_built_kind : NodeKind → Bool
+is_built_kind Leaf = true
+is_built_kind Collection = false
+
+abbrev pub is_built_config : NodeConfig → Bool
+is_built_config config =
+    is_built_access config.access_model && is_built_publish config.publish_model && is_built_kind config.node_type
+    && (length config.collection == 0) && not config.presence_based_delivery
+
+abbrev pub built_config : NodeConfig → Option Condition
+built_config config = unless (is_built_config config) C14
+
+-- ---- events and entries
+
+abbrev pub is_built_event : Event → Bool
+is_built_event (event.Items node item) = false
+is_built_event (event.Retract node id) = false
+is_built_event (event.Purge node) = false
+is_built_event (event.Delete node) = false
+is_built_event (event.Configuration node) = false
+is_built_event (event.Associate node collection) = false
+is_built_event (event.Approval node owner who) = false
+is_built_event (event.Told node who state) = false
+is_built_event (event.Last node to by_subscription moment) = false
+is_built_event (event.Question to caps) = false
+
+abbrev pub is_built_entry : Entry → Bool
+is_built_entry (Boot service) = true
+is_built_entry (Change host line moment row) = true
+is_built_entry (Handed to) = true
+is_built_entry (Gone host) = true
+is_built_entry (Base row) = false
