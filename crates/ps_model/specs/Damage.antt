@@ -1,4 +1,4 @@
--- Where a store is damaged.
+-- How the bytes of a store fail to spell a list.
 use Rattle.std.specs.Prelude.{◌≡◌, ◌≢◌, ℕ, ◌+◌, Bool, true, false, List, [], ◌∷◌, ◌++◌, length, take, map}
 use Rattle.ps_types.specs.declared.entry.Entry.{Entry}
 use Rattle.ps_model.specs.Entries.{spelling, body, IsEntryIn, AreEntriesIn}
