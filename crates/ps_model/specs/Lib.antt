@@ -27,6 +27,7 @@ pub mod Events
 pub mod Grammar
 pub mod Machine
 pub mod NoticeTrees
+pub mod Numbers
 pub mod Outcome
 pub mod Replay
 pub mod Replies
