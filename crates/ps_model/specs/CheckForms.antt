@@ -1,5 +1,6 @@
 -- How a form that configures a node is checked: the form itself, its values, and the collection of a node to be made (XEP-0060 §8.1.3, §8.2; XEP-0248).
-use Rattle.std.specs.Prelude.{ℕ, Bool, true, false, ◌&&◌, List, [], ◌∷◌, Option, Some, None, Result, Ok, Err, if◌then◌else◌}
+use Rattle.std.specs.Prelude.{ℕ, Bool, true, false, ◌&&◌, not, List, [], ◌∷◌, Option, Some, None, Result, Ok, Err, if◌then◌else◌}
+use Rattle.std.specs.Str.{bytes_eq}
 use Rattle.ps_types.specs.declared.config.NodeConfig.{NodeConfig}
 use Rattle.ps_types.specs.declared.config.NodeKind.{NodeKind}
 use Rattle.ps_types.specs.declared.config.NodeKind.TheVariants.{Leaf, Collection}
@@ -50,3 +51,11 @@ collection_by (Some row) book who = first_denial (denied_by (own book row.key wh
 abbrev pub collection_step : Book → Request → List ℕ → Option Condition
 collection_step book r [] = None
 collection_step book r (x ∷ name) = collection_by (node_at (node_of r (x ∷ name)) book.nodes) book r.from
+
+abbrev pub same_kind : NodeKind → NodeKind → Bool
+same_kind Leaf other = not (is_collection other)
+same_kind Collection other = is_collection other
+
+-- a standing node keeps its kind and its collection
+abbrev pub is_unmoved : NodeConfig → NodeConfig → Bool
+is_unmoved base config = same_kind base.node_type config.node_type && bytes_eq config.collection base.collection

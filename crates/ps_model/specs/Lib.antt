@@ -12,11 +12,17 @@ pub mod BaseRead
 pub mod BaseRows
 pub mod Book
 pub mod Built
+pub mod ChangeEntity
 pub mod ChangeNodes
+pub mod ChangeOwner
+pub mod ChangePublish
 pub mod Changes
 pub mod Check
 pub mod CheckCreate
+pub mod CheckEntity
 pub mod CheckForms
+pub mod CheckOwner
+pub mod CheckPublish
 pub mod Commits
 pub mod Conditions
 pub mod Core
@@ -28,11 +34,13 @@ pub mod Grammar
 pub mod Machine
 pub mod NoticeTrees
 pub mod Numbers
+pub mod ItemIds
 pub mod Outcome
 pub mod Replay
 pub mod Replies
 pub mod Sorted
 pub mod Stamp
+pub mod SameRows
 pub mod Stanza
 pub mod Steps
 pub mod Store
@@ -44,3 +52,4 @@ pub mod TheCore
 pub mod TwoWorlds
 pub mod Ways
 pub mod World
+pub mod Words

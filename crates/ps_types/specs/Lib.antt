@@ -28,3 +28,4 @@ pub mod Defaults
 pub mod Forms
 pub mod Values
 pub mod Config
+pub mod Options
