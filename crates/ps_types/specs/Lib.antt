@@ -11,7 +11,6 @@ pub mod Address
 pub mod Cutting
 pub mod Spelled
 pub mod Same
-pub mod Lines
 pub mod Nodes
 pub mod Affils
 pub mod Subs
@@ -21,6 +20,7 @@ pub mod Rosters
 pub mod Resources
 pub mod Vers
 pub mod Counts
+pub mod Lines
 pub mod Namespaces
 pub mod LineTree
 pub mod Shape
