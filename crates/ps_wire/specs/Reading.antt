@@ -45,6 +45,7 @@ pub record IsFresh {S : Type 0} {g : Ghosts S} (lines : Lines S g) : Type 0 wher
   pub given_none : given_of lines ≡ 0
   pub not_ended : ended_of lines ≡ false
   pub going : stopped_of lines ≡ None
+  pub before : rest_of lines ≡ g.left (source_of lines)
 
 -- the answer is the first line of the bytes before it, and the rest stays
 abbrev pub IsNextOf : NextLine → List ℕ → List ℕ → Type 0
