@@ -58,6 +58,12 @@ IsNext next None rest = Unit {0}
 IsNext next (Some bytes) None = ⊥
 IsNext next (Some bytes) (Some rest) = IsNextOf next bytes rest
 
+-- a line has no newline, and at most 262,144 bytes
+abbrev pub IsLine : NextLine → Type 0
+IsLine (Whole line) = NoNewline line × (length line ≤ 262144)
+IsLine TooLong = Unit {0}
+IsLine End = Unit {0}
+
 -- a line takes its own bytes at least, and one byte at least
 abbrev pub Takes : NextLine → ℕ → ℕ → Type 0
 Takes (Whole line) before now = (now < before) × (now + length line ≤ before)
