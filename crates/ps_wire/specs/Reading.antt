@@ -45,6 +45,7 @@ pub record IsFresh {S : Type 0} {g : Ghosts S} (lines : Lines S g) : Type 0 wher
   pub given_none : given_of lines ≡ 0
   pub not_ended : ended_of lines ≡ false
   pub going : stopped_of lines ≡ None
+  pub before : rest_of lines ≡ g.left (source_of lines)
 
 -- the answer is the first line of the bytes before it, and the rest stays
 abbrev pub IsNextOf : NextLine → List ℕ → List ℕ → Type 0
@@ -56,6 +57,12 @@ abbrev pub IsNext : NextLine → Option (List ℕ) → Option (List ℕ) → Typ
 IsNext next None rest = Unit {0}
 IsNext next (Some bytes) None = ⊥
 IsNext next (Some bytes) (Some rest) = IsNextOf next bytes rest
+
+-- a line has no newline, and at most 262,144 bytes
+abbrev pub IsLine : NextLine → Type 0
+IsLine (Whole line) = NoNewline line × (length line ≤ 262144)
+IsLine TooLong = Unit {0}
+IsLine End = Unit {0}
 
 -- a line takes its own bytes at least, and one byte at least
 abbrev pub Takes : NextLine → ℕ → ℕ → Type 0

@@ -8,7 +8,8 @@
 //!
 //! [`Lines`] gives the lines of a source in order. `first_line` and `after_line` of `ps_types`' `specs/Lines.antt` say which
 //! bytes an answer has and leaves; `specs/Reading.antt` names what a contract sees of the reader and says when it refuses.
-//! [`write_line`] writes a line whole, or a front of it and its newline.
+//! [`write_line`] writes a line whole, or a front of it and its newline. The laws of lines stand on the contracts of
+//! `lines_go_on`, `written_in_one_way` and `written_lines_read_back`.
 //!
 //! [`read_tree`] takes exactly the texts that `Reads` of `ps_types`' `specs/Reading.antt` calls trees, and `specs/Answer.antt`
 //! says of every other text why it is refused. [`print_tree`] writes the one compact text of a tree, which reads as that tree.
@@ -16,6 +17,7 @@
 
 mod files;
 mod held;
+mod laws;
 mod line;
 mod lines;
 mod memory;
@@ -25,6 +27,7 @@ mod streams;
 mod writes;
 
 pub use files::{FileSink, FileSource};
+pub use laws::{lines_go_on, written_in_one_way, written_lines_read_back};
 pub use lines::{Lines, LinesRefusal, NextLine, NextLineRefusal};
 pub use memory::{MemSink, MemSource};
 pub use print::print_tree;

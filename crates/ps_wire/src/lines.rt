@@ -72,7 +72,7 @@ pub struct Lines<S: Source> {
 }
 
 impl<S: Source> Lines<S> {
-    ghost use Rattle.ps_wire.specs.Reading.{source_of, held_of, given_of, ended_of, stopped_of, rest_of, budget_of, IsFresh, IsNext, Takes, Ends, Gave, IsPastLimit, IsBeforeLimit, ReadNothing, StandsStill};
+    ghost use Rattle.ps_wire.specs.Reading.{source_of, held_of, given_of, ended_of, stopped_of, rest_of, budget_of, IsFresh, IsNext, IsLine, Takes, Ends, Gave, IsPastLimit, IsBeforeLimit, ReadNothing, StandsStill};
 
     /// A reader over the source, which has read nothing yet.
     pub fn new(alloc: Global, source: S) -> Result<Lines<S>, LinesRefusal<S>>
@@ -108,6 +108,7 @@ impl<S: Source> Lines<S> {
     /// The next line. It reads only while it holds no whole line and the input hasn't ended.
     pub fn next(&mut self, alloc: Global) -> Result<NextLine, NextLineRefusal>
         ensures next { IfOk result (λ next. IsNext next (rest_of self.old) (rest_of self.new)) }
+        ensures line { IfOk result IsLine }
         ensures takes { IfOk result (λ next. Takes next (budget_of self.old) (budget_of self.new)) }
         ensures again { IfSome (stopped_of self.old) (λ why. (result ≡ Err why) × StandsStill self.old self.new) }
         ensures going { OnOk result (stopped_of self.new ≡ None) }
@@ -141,6 +142,7 @@ impl<S: Source> Lines<S> {
 
     fn read_line(&mut self, alloc: Global) -> Result<NextLine, NextLineRefusal>
         ensures next { IfOk result (λ next. IsNext next (rest_of self.old) (rest_of self.new)) }
+        ensures line { IfOk result IsLine }
         ensures takes { IfOk result (λ next. Takes next (budget_of self.old) (budget_of self.new)) }
         ensures same { stopped_of self.new ≡ stopped_of self.old }
         ensures later { S.faults (source_of self.old) ≤ S.faults (source_of self.new) }

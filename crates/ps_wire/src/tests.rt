@@ -1,7 +1,7 @@
 // Lines that are read, trees that are read and printed, and ends that fail.
 use crate::{
-    FileSink, FileSource, Lines, LinesRefusal, MemSink, MemSource, NextLine, NextLineRefusal, Sink,
-    Source, TreeRefusal, WriteFault, print_tree, read_tree, write_line,
+    Failed, FileSink, FileSource, Lines, LinesRefusal, MemSink, MemSource, NextLine,
+    NextLineRefusal, Source, TreeRefusal, WriteFault, print_tree, read_tree, write_line,
 };
 use ps_types::{Attrs, Elem, Kids, Text};
 use std::fs;
@@ -84,20 +84,21 @@ fn ends_fail_where_they_are_told(rt: HostRuntime) -> Result<(), Fail> {
 #[test]
 fn files_count_their_faults(rt: HostRuntime) -> Result<(), Fail> {
     let mut room = [0u8; 4];
-    let mut empty = FileSource::new(fs::open(&rt, "/dev/null")?, 3);
-    assert!(rt; empty.read(&mut room) == Ok(0));
-    assert_eq!(rt; empty.faults(), 3);
-    // A folder opens and can't be read.
-    let mut folder = FileSource::new(fs::open(&rt, "/")?, 3);
-    assert!(rt; folder.read(&mut room).is_err());
-    assert_eq!(rt; folder.faults(), 4);
-    let mut sink = FileSink::new(fs::create(&rt, "/dev/null")?, 0);
-    assert_eq!(rt; write_line(&mut sink, b"one"), Ok(()));
-    assert!(rt; sink.flush().is_ok());
-    // This device is always full.
-    let mut full = FileSink::new(fs::create(&rt, "/dev/full")?, 0);
-    assert_eq!(rt; write_line(&mut full, b"one"), Err(WriteFault));
-    assert_eq!(rt; full.faults(), 1);
+    // A folder opens and can't be read; the last device is always full.
+    for (path, want, faults) in [
+        ("/dev/zero", Ok(4), 3),
+        ("/dev/null", Ok(0), 3),
+        ("/", Err(Failed), 4),
+    ] {
+        let mut source = FileSource::new(fs::open(&rt, path)?, 3);
+        assert_eq!(rt; source.read(&mut room), want, "{path}");
+        assert_eq!(rt; source.faults(), faults, "{path}");
+    }
+    for (path, want, faults) in [("/dev/null", Ok(()), 0), ("/dev/full", Err(WriteFault), 1)] {
+        let mut sink = FileSink::new(fs::create(&rt, path)?, 0);
+        assert_eq!(rt; write_line(&mut sink, b"one"), want, "{path}");
+        assert_eq!(rt; sink.faults(), faults, "{path}");
+    }
     Ok(())
 }
 
@@ -123,37 +124,35 @@ fn nested(rt: &HostRuntime, levels: usize) -> Result<String, Fail> {
 
 #[test]
 fn a_line_that_is_no_tree_is_refused(rt: HostRuntime) -> Result<(), Fail> {
-    assert_eq!(rt;
-        refusal(&rt, padded(&rt, CREATE, 262_144)?.as_bytes()),
-        None
-    );
-    assert_eq!(rt;
-        refusal(&rt, b" { \"n\" : \"a\", \"c\":[\"x\",{\"n\":\"b\"}] } "),
-        None
-    );
-    for line in ["{", "", " ", "{\"n\":\"a\"", "{\"c\":[1e999],\"n\":\"a\"}"] {
-        assert_eq!(rt; refusal(&rt, line.as_bytes()), Some(TreeRefusal::L2));
-    }
+    let full = padded(&rt, CREATE, 262_144)?;
     let (half, _) = CREATE.as_bytes().split_at(CREATE.len() / 2);
-    assert_eq!(rt; refusal(&rt, half), Some(TreeRefusal::L2));
-    assert_eq!(rt; refusal(&rt, &[0xff]), Some(TreeRefusal::L2));
-    for line in [
-        "[]",
-        "{\"n\":\"\"}",
-        "{\"n\":\"iq\",\"x\":1}",
-        "{\"a\":{\"id\":1},\"n\":\"iq\"}",
+    for (line, want) in [
+        (full.as_bytes(), None),
+        (b" { \"n\" : \"a\", \"c\":[\"x\",{\"n\":\"b\"}] } ", None),
+        (half, Some(TreeRefusal::L2)),
+        (b"", Some(TreeRefusal::L2)),
+        (b" ", Some(TreeRefusal::L2)),
+        (b"{", Some(TreeRefusal::L2)),
+        (b"\xff", Some(TreeRefusal::L2)),
+        (b"{\"c\":[1e999],\"n\":\"a\"}", Some(TreeRefusal::L2)),
+        (b"[]", Some(TreeRefusal::L3)),
+        (b"{\"n\":\"\"}", Some(TreeRefusal::L3)),
+        (b"{\"n\":\"iq\",\"x\":1}", Some(TreeRefusal::L3)),
+        (b"{\"a\":{\"id\":1},\"n\":\"iq\"}", Some(TreeRefusal::L3)),
     ] {
-        assert_eq!(rt; refusal(&rt, line.as_bytes()), Some(TreeRefusal::L3));
+        assert_eq!(rt; refusal(&rt, line), want, "{line:?}");
     }
-    assert_eq!(rt; refusal(&rt, nested(&rt, 32)?.as_bytes()), None);
-    assert_eq!(rt;
-        refusal(&rt, nested(&rt, 33)?.as_bytes()),
-        Some(TreeRefusal::L4)
-    );
-    assert_eq!(rt;
-        refusal(&rt, nested(&rt, 100)?.as_bytes()),
-        Some(TreeRefusal::L2)
-    );
+    for (levels, want) in [
+        (32, None),
+        (33, Some(TreeRefusal::L4)),
+        (100, Some(TreeRefusal::L2)),
+    ] {
+        assert_eq!(rt;
+            refusal(&rt, nested(&rt, levels)?.as_bytes()),
+            want,
+            "{levels}"
+        );
+    }
     Ok(())
 }
 
