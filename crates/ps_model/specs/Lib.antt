@@ -10,6 +10,7 @@ pub mod ChangeEntity
 pub mod ChangeNodes
 pub mod ChangeOwner
 pub mod ChangePublish
+pub mod ChangeRouter
 pub mod Changes
 pub mod Check
 pub mod CheckCreate
@@ -17,10 +18,14 @@ pub mod CheckEntity
 pub mod CheckForms
 pub mod CheckOwner
 pub mod CheckPublish
+pub mod CheckRouter
+pub mod Children
 pub mod Commits
 pub mod Conditions
+pub mod Discovery
 pub mod Grammar
 pub mod ItemIds
+pub mod Lists
 pub mod Outcome
 pub mod Replies
 pub mod SameRows

@@ -28,3 +28,6 @@ pub mod Forms
 pub mod Values
 pub mod Config
 pub mod Options
+pub mod Ordered
+pub mod CapString
+pub mod CapVer
