@@ -31,16 +31,16 @@ pub mod Due
 pub mod Entries
 pub mod Events
 pub mod Grammar
+pub mod ItemIds
 pub mod Machine
 pub mod NoticeTrees
 pub mod Numbers
-pub mod ItemIds
 pub mod Outcome
 pub mod Replay
 pub mod Replies
+pub mod SameRows
 pub mod Sorted
 pub mod Stamp
-pub mod SameRows
 pub mod Stanza
 pub mod Steps
 pub mod Store
@@ -51,5 +51,5 @@ pub mod Tallies
 pub mod TheCore
 pub mod TwoWorlds
 pub mod Ways
-pub mod World
 pub mod Words
+pub mod World
