@@ -1,2 +1,10 @@
 //! What the service means: definitions alone, which every contract above cites.
 #![tactic(auto)]
+
+mod laws;
+mod steps;
+mod store_laws;
+
+pub use laws::{lawful_prefix, notices_grow, replay_goes_on};
+pub use steps::{Role, Step};
+pub use store_laws::one_list;

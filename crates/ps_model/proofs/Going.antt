@@ -1,0 +1,23 @@
+-- A list that goes on.
+use Rattle.std.proofs.Common.{◌≡◌, List, [], ◌∷◌, ◌++◌, refl, sym, ap, ◌∙◌, append_assoc}
+use Rattle.ps_types.specs.declared.entry.Entry.{Entry}
+use Rattle.ps_types.specs.declared.event.Event.{Event}
+use Rattle.std.proofs.Common.{Bool}
+use Rattle.ps_types.specs.declared.jid.Jid.{Jid}
+use Rattle.ps_model.specs.After as step
+use Rattle.ps_model.specs.Book.{State}
+use Rattle.ps_model.specs.Replay.{IsLawfulFrom, after, notices_from, replay_from, to_address}
+
+pub replay-append : (told : Event → Bool) (E F : List Entry) (s : State) → replay_from told s (E ++ F) ≡ replay_from told (replay_from told s E) F
+replay-append told [] F s = refl
+replay-append told (e ∷ E) F s = replay-append told E F (step.after told s e)
+
+pub notices-append : (told : Event → Bool) (E F : List Entry) (s : State) (a : Jid) → notices_from told s (E ++ F) a ≡ notices_from told s E a ++ notices_from told (replay_from told s E) F a
+notices-append told [] F s a = refl
+notices-append told (e ∷ E) F s a =
+    ap (λ ns. to_address a (step.notices_at told s e) ++ ns) (notices-append told E F (step.after told s e) a)
+    ∙ sym (append_assoc (to_address a (step.notices_at told s e)) (notices_from told (step.after told s e) E a) (notices_from told (replay_from told (step.after told s e) E) F a))
+
+pub lawful-front : (E F : List Entry) (s : State) → IsLawfulFrom s (E ++ F) → IsLawfulFrom s E
+lawful-front [] F s is = tt
+lawful-front (e ∷ E) F s is = (is.0, lawful-front E F (after s e) is.1)

@@ -1,0 +1,34 @@
+-- What stands in the bytes of a sink: its whole lines are replies and notices.
+use Rattle.std.specs.Prelude.{ℕ, Bool, true, false, not, ◌&&◌, ◌||◌, List, filter, codes, Option, Some, None, Result, Ok, Err}
+use Rattle.ps_types.specs.LineTree.{line_tree}
+use Rattle.ps_types.specs.Lines.{whole_lines}
+use Rattle.ps_types.specs.Namespaces.{line_ns}
+use Rattle.ps_types.specs.Same.{same_bare}
+use Rattle.ps_types.specs.Shape.{attr_text}
+use Rattle.ps_types.specs.Tree.{Tree, is_named}
+use Rattle.ps_types.specs.declared.denial.LineRefusal.{LineRefusal}
+use Rattle.ps_types.specs.declared.jid.Jid.{Jid}
+use Rattle.ps_model.specs.Stanza.{is_iq, is_message, is_presence, is_answering, has_type, jid_of}
+
+-- an iq of type result or error, a message or presence of type error, or a refused line
+abbrev pub is_reply : Tree → Bool
+is_reply t = (is_iq t && is_answering t) || ((is_message t || is_presence t) && has_type (codes "error") t) || is_named (codes "refused") line_ns t
+
+abbrev pub is_to : Jid → Option Jid → Bool
+is_to a None = false
+is_to a (Some to) = same_bare a to
+
+-- any other stanza to an address of the bare address
+abbrev pub is_note : Jid → Tree → Bool
+is_note a t = not (is_reply t) && is_to a (jid_of (attr_text (codes "to") t))
+
+abbrev pub passes : (Tree → Bool) → Result Tree LineRefusal → Bool
+passes test (Ok t) = test t
+passes test (Err why) = false
+
+-- the replies among the lines that were written, and the notices to a bare address
+abbrev pub replies : List ℕ → List (List ℕ)
+replies out = filter (λ line. passes is_reply (line_tree line)) (whole_lines out)
+
+abbrev pub notes : List ℕ → Jid → List (List ℕ)
+notes out a = filter (λ line. passes (is_note a) (line_tree line)) (whole_lines out)

@@ -1,0 +1,21 @@
+// Laws of whole lists of entries. Each function is its contract.
+ghost use Rattle.std.specs.Prelude.{◌≡◌, ◌++◌, List};
+ghost use Rattle.ps_types.specs.declared.entry.Entry.{Entry};
+ghost use Rattle.ps_types.specs.declared.jid.Jid.{Jid};
+ghost use Rattle.ps_model.specs.Built.{is_built_event};
+ghost use Rattle.ps_model.specs.Replay.{replay, replay_from, notices, notices_from, lawful};
+
+/// What a list leaves, followed by another, is what the other leaves from there on.
+pub fn replay_goes_on()
+    ensures { (E F : List Entry) → replay (E ++ F) ≡ replay_from is_built_event (replay E) F }
+{}
+
+/// The notices of a prefix are a prefix of the notices.
+pub fn notices_grow()
+    ensures { (E F : List Entry) (a : Jid) → notices (E ++ F) a ≡ notices E a ++ notices_from is_built_event (replay E) F a }
+{}
+
+/// A prefix of a lawful list is lawful.
+pub fn lawful_prefix()
+    ensures { (E F : List Entry) → lawful (E ++ F) → lawful E }
+{}
