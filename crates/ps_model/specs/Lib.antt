@@ -45,6 +45,12 @@ pub mod Replay
 pub mod Replies
 pub mod SameRows
 pub mod Sorted
+pub mod Spelled
+pub mod SpelledEntity
+pub mod SpelledOwner
+pub mod SpelledParts
+pub mod SpelledPublish
+pub mod SpelledRouter
 pub mod Stamp
 pub mod Stanza
 pub mod Steps
