@@ -4,3 +4,7 @@ pub mod TallyLaws
 mod Spelling
 mod SpellingKinds
 mod AccessLaws
+mod Counting
+mod NodeRows
+mod Bounded
+mod ChangedBounded

@@ -11,6 +11,7 @@ pub mod BaseAfter
 pub mod BaseRead
 pub mod BaseRows
 pub mod Book
+pub mod Bounds
 pub mod Built
 pub mod ChangeEntity
 pub mod ChangeNodes

@@ -7,7 +7,7 @@ mod request_laws;
 mod steps;
 mod store_laws;
 
-pub use access_laws::outcast_is_forbidden;
+pub use access_laws::{nodes_stay_bounded, outcast_is_forbidden};
 pub use laws::{lawful_prefix, notices_grow, replay_goes_on};
 pub use request_laws::{one_request, spelled_is_taken};
 pub use steps::{Role, Step};
