@@ -1,3 +1,10 @@
 pub mod Going
 pub mod OneList
 pub mod TallyLaws
+mod Spelling
+mod SpellingKinds
+mod AccessLaws
+mod Counting
+mod NodeRows
+mod Bounded
+mod ChangedBounded

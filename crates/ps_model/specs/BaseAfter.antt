@@ -1,5 +1,5 @@
 -- What a row of a compacted store adds to the State, and where it is accepted.
-use Rattle.std.specs.Prelude.{ℕ, Bool, true, false, not, ◌&&◌, ◌==◌, ◌^◌, ◌+◌, nat_le, nat_lt, length, List, [], ◌∷◌, ◌++◌, Option, Some, None, Result, Ok, Err, is_none, find, codes, decimal}
+use Rattle.std.specs.Prelude.{ℕ, Bool, true, false, not, ◌&&◌, ◌||◌, ◌==◌, ◌^◌, ◌+◌, nat_le, nat_lt, length, List, [], ◌∷◌, ◌++◌, Option, Some, None, Result, Ok, Err, is_none, find, codes, decimal}
 use Rattle.std.specs.List.{list_any}
 use Rattle.std.specs.Str.{bytes_eq}
 use Rattle.ps_types.specs.Address.{jid_text}
@@ -13,12 +13,14 @@ use Rattle.ps_types.specs.Print.{print}
 use Rattle.ps_types.specs.Rosters.{contact_at}
 use Rattle.ps_types.specs.Same.{same_node}
 use Rattle.ps_types.specs.Shape.{attr_text}
-use Rattle.ps_types.specs.Subs.{sub_row}
+use Rattle.ps_types.specs.Subs.{is_pending, is_subscribed, sub_row}
 use Rattle.ps_types.specs.Tree.{Tree, levels}
 use Rattle.ps_types.specs.Vers.{ver_at}
 use Rattle.ps_types.specs.declared.config.NodeConfig.{NodeConfig}
 use Rattle.ps_types.specs.declared.denial.LineRefusal.{LineRefusal}
 use Rattle.ps_types.specs.declared.jid.Jid.{Jid}
+use Rattle.ps_types.specs.declared.rows.Affil.{Affil}
+use Rattle.ps_types.specs.declared.rows.Affil.TheVariants as affil
 use Rattle.ps_types.specs.declared.rows.ItemRow.{ItemRow}
 use Rattle.ps_types.specs.declared.rows.LinkRow.{LinkRow}
 use Rattle.ps_types.specs.declared.rows.NodeRow.{NodeRow}
@@ -71,6 +73,10 @@ abbrev pub is_shallow : Option Tree → Bool
 is_shallow None = true
 is_shallow (Some payload) = nat_le (levels payload) 28
 
+abbrev pub is_some_affil : Affil → Bool
+is_some_affil affil.Nothing = false
+is_some_affil _ = true
+
 -- a leaf that persists items, and has room for one more, of a new id
 abbrev pub takes_item : Option NodeConfig → ItemRow → Book → Bool
 takes_item None r book = false
@@ -98,8 +104,8 @@ is_notice_line to number line (Ok t) = bytes_eq line (print t) && bytes_eq (attr
 
 abbrev pub accepts_row : BaseRow → State → Bool
 accepts_row (node r) s = not (stands r.key s.book.nodes) && (length r.config.collection == 0)
-accepts_row (affiliation r) s = stands r.node s.book.nodes && is_bare r.who && is_none (find (is_affil_of r.node r.who) s.book.affils)
-accepts_row (subscription r) s = stands r.node s.book.nodes && is_none (sub_row r.node r.who s.book.subs)
+accepts_row (affiliation r) s = is_some_affil r.affil && stands r.node s.book.nodes && is_bare r.who && is_none (find (is_affil_of r.node r.who) s.book.affils)
+accepts_row (subscription r) s = (is_pending r.state || is_subscribed r.state) && stands r.node s.book.nodes && is_none (sub_row r.node r.who s.book.subs)
 accepts_row (item r) s = takes_item (config_at r.node s.book.nodes) r s.book
 accepts_row (link r) s = takes_link r s.book
 accepts_row (contact r) s = is_none (contact_at r.account r.contact s.book.rosters)

@@ -13,14 +13,11 @@ use Rattle.ps_types.specs.Values.{choice_of}
 use Rattle.ps_types.specs.declared.config.NodeConfig.{NodeConfig}
 use Rattle.ps_types.specs.declared.jid.Jid.{Jid}
 use Rattle.ps_types.specs.declared.node.NodeKey.{NodeKey}
-use Rattle.ps_types.specs.declared.rows.Affil.{Affil}
-use Rattle.ps_types.specs.declared.rows.Affil.TheVariants.{Owner, Publisher, PublishOnly, Member, Outcast}
 use Rattle.ps_types.specs.declared.rows.RosterState.{RosterState}
 use Rattle.ps_types.specs.declared.rows.RosterState.TheVariants as roster
-use Rattle.ps_types.specs.declared.rows.SubState.{SubState}
-use Rattle.ps_types.specs.declared.rows.SubState.TheVariants.{Pending, Subscribed}
 use Rattle.ps_model.specs.BaseRows.{BaseRow, node, affiliation, subscription, item, link, contact, ver, made, counter, notice, base_ns, row_tree}
 use Rattle.ps_model.specs.Stanza.{jid_of}
+use Rattle.ps_model.specs.Words.{affil_of, sub_of}
 
 infixl 10 ◌>>=◌
 abbrev ◌>>=◌ : {A B : Type 0} → Option A → (A → Option B) → Option B
@@ -28,12 +25,6 @@ abbrev ◌>>=◌ : {A B : Type 0} → Option A → (A → Option B) → Option B
 None >>= f = None
 
 -- ---- the parts of a row
-
-abbrev affil_choices : List (List ℕ × Affil)
-affil_choices = (codes "owner", Owner) ∷ (codes "publisher", Publisher) ∷ (codes "publish-only", PublishOnly) ∷ (codes "member", Member) ∷ (codes "outcast", Outcast) ∷ []
-
-abbrev state_choices : List (List ℕ × SubState)
-state_choices = (codes "pending", Pending) ∷ (codes "subscribed", Subscribed) ∷ []
 
 abbrev roster_choices : List (List ℕ × RosterState)
 roster_choices = (codes "none", roster.Nothing) ∷ (codes "to", roster.To) ∷ (codes "from", roster.From) ∷ (codes "both", roster.Both) ∷ []
@@ -84,7 +75,7 @@ node_at t = do
 
 abbrev affiliation_at : Tree → Option BaseRow
 affiliation_at t = do
-  affil ← chosen affil_choices (codes "affiliation") t
+  affil ← affil_of (attr_text (codes "affiliation") t)
   who ← jid_at (codes "jid") t
   key ← key_at t
   Some (affiliation (record { node = key; who = who; affil = affil }))
@@ -94,7 +85,7 @@ subscription_at t = do
   deep ← chosen depth_choices (codes "depth") t
   who ← jid_at (codes "jid") t
   key ← key_at t
-  state ← chosen state_choices (codes "subscription") t
+  state ← sub_of (attr_text (codes "subscription") t)
   items ← chosen type_choices (codes "type") t
   Some (subscription (record { node = key; who = who; state = state; options = record { items = items; deep = deep } }))
 

@@ -8,8 +8,6 @@ use Rattle.ps_types.specs.Tree.{Tree, tree, Nodes, none, branch, words}
 use Rattle.ps_types.specs.declared.attrs.Attr.{Attr}
 use Rattle.ps_types.specs.declared.jid.Jid.{Jid}
 use Rattle.ps_types.specs.declared.node.NodeKey.{NodeKey}
-use Rattle.ps_types.specs.declared.rows.Affil.{Affil}
-use Rattle.ps_types.specs.declared.rows.Affil.TheVariants.{Owner, Publisher, PublishOnly, Member, Outcast, Nothing}
 use Rattle.ps_types.specs.declared.rows.AffilRow.{AffilRow}
 use Rattle.ps_types.specs.declared.rows.CountRow.{CountRow}
 use Rattle.ps_types.specs.declared.rows.ItemRow.{ItemRow}
@@ -20,7 +18,8 @@ use Rattle.ps_types.specs.declared.rows.RosterState.{RosterState}
 use Rattle.ps_types.specs.declared.rows.RosterState.TheVariants as roster
 use Rattle.ps_types.specs.declared.rows.SubRow.{SubRow}
 use Rattle.ps_types.specs.declared.rows.VerRow.{VerRow}
-use Rattle.ps_model.specs.NoticeTrees.{one, only, payload_nodes, state_text}
+use Rattle.ps_model.specs.NoticeTrees.{one, only, payload_nodes}
+use Rattle.ps_model.specs.Words.{affil_text, sub_text}
 
 -- one for each list of rows, for the number of handed notices of a bare address, and for a notice that isn't handed
 pub data BaseRow : Type 0 where
@@ -42,14 +41,6 @@ abbrev pub row : List ℕ → List Attr → Nodes → Tree
 row name attrs kids = tree name base_ns attrs kids
 
 -- ---- the parts of a row
-
-abbrev pub affil_text : Affil → List ℕ
-affil_text Owner = codes "owner"
-affil_text Publisher = codes "publisher"
-affil_text PublishOnly = codes "publish-only"
-affil_text Member = codes "member"
-affil_text Outcast = codes "outcast"
-affil_text Nothing = codes "none"
 
 abbrev pub roster_text : RosterState → List ℕ
 roster_text roster.Nothing = codes "none"
@@ -91,7 +82,7 @@ row_tree (BaseRow.node r) =
 row_tree (affiliation r) =
     row (codes "affiliation") (attr (codes "affiliation") (affil_text r.affil) ∷ attr (codes "jid") (jid_text r.who) ∷ attr (codes "name") r.node.name ∷ one (codes "service") (jid_text r.node.service)) none
 row_tree (subscription r) =
-    row (codes "subscription") (attr (codes "depth") (depth_text r.options.deep) ∷ attr (codes "jid") (jid_text r.who) ∷ attr (codes "name") r.node.name ∷ attr (codes "service") (jid_text r.node.service) ∷ attr (codes "subscription") (state_text r.state) ∷ one (codes "type") (type_text r.options.items)) none
+    row (codes "subscription") (attr (codes "depth") (depth_text r.options.deep) ∷ attr (codes "jid") (jid_text r.who) ∷ attr (codes "name") r.node.name ∷ attr (codes "service") (jid_text r.node.service) ∷ attr (codes "subscription") (sub_text r.state) ∷ one (codes "type") (type_text r.options.items)) none
 row_tree (item r) =
     row (codes "item") (attr (codes "id") r.id ∷ moment_attrs r.moment (attr (codes "name") r.node.name ∷ attr (codes "publisher") (jid_text r.publisher) ∷ one (codes "service") (jid_text r.node.service)))
     (payload_nodes r.payload)

@@ -17,9 +17,9 @@ use Rattle.ps_types.specs.declared.node.NodeKey.{NodeKey}
 use Rattle.ps_types.specs.declared.rows.Caps.{Caps}
 use Rattle.ps_types.specs.declared.rows.ItemRow.{ItemRow}
 use Rattle.ps_types.specs.declared.rows.SubState.{SubState}
-use Rattle.ps_types.specs.declared.rows.SubState.TheVariants as state
 use Rattle.ps_model.specs.Asking.{authorization}
 use Rattle.ps_model.specs.Stamp.{stamp}
+use Rattle.ps_model.specs.Words.{sub_text}
 use Rattle.ps_model.specs.Ways.{Way, NoWay, OwnRow, Through}
 
 -- ---- what a stanza is made of
@@ -84,14 +84,9 @@ event_nodes inside behind = branch (tree (codes "event") event_ns [] (only insid
 
 -- ---- what became of a subscription, and the question whether it may be (XEP-0060 §8.6)
 
-abbrev pub state_text : SubState → List ℕ
-state_text state.Nothing = codes "none"
-state_text state.Pending = codes "pending"
-state_text state.Subscribed = codes "subscribed"
-
 abbrev pub told_tree : NodeKey → Jid → SubState → Tree
 told_tree node who state =
-    tree (codes "pubsub") pubsub_ns [] (only (leaf (codes "subscription") pubsub_ns (attr (codes "jid") (jid_text who) ∷ attr (codes "node") node.name ∷ attr (codes "subscription") (state_text state) ∷ [])))
+    tree (codes "pubsub") pubsub_ns [] (only (leaf (codes "subscription") pubsub_ns (attr (codes "jid") (jid_text who) ∷ attr (codes "node") node.name ∷ attr (codes "subscription") (sub_text state) ∷ [])))
 
 abbrev pub field : List ℕ → List ℕ → List ℕ → Field
 field kind var value = record { var = codes "pubsub#" ++ var; kind = kind; values = value ∷ [] }
