@@ -1,3 +1,5 @@
 pub mod Going
+pub mod NumberLaws
+pub mod OneAt
 pub mod OneList
 pub mod TallyLaws
