@@ -72,6 +72,9 @@ unbuilt_outcome _ = denied C26
 abbrev pub built_outcome : List ℕ → Request → Outcome → Outcome
 built_outcome service r given = cond (is_unbuilt service r) (unbuilt_outcome r.ask) given
 
+abbrev pub built_commits : List ℕ → Request → Bool → Bool
+built_commits service r given = not (is_unbuilt service r) && given
+
 -- ---- configurations
 
 abbrev pub is_built_access : Access → Bool

@@ -1,5 +1,5 @@
 -- What subscribing does (XEP-0060 §6).
-use Rattle.std.specs.Prelude.{ℕ, Bool, true, false, ◌&&◌, List, [], ◌∷◌, Option, Some, None, Result, Ok, Err, if◌then◌else◌}
+use Rattle.std.specs.Prelude.{ℕ, ◌&&◌, Option, Some, None, Result, Ok, Err, if◌then◌else◌}
 use Rattle.ps_types.specs.declared.config.SubOptions.{SubOptions}
 use Rattle.ps_types.specs.declared.denial.Condition.{Condition}
 use Rattle.ps_types.specs.declared.denial.Condition.TheVariants.{C28}
@@ -9,7 +9,6 @@ use Rattle.ps_types.specs.declared.form.Form.{Form}
 use Rattle.ps_types.specs.declared.jid.Jid.{Jid}
 use Rattle.ps_types.specs.declared.node.NodeKey.{NodeKey}
 use Rattle.ps_types.specs.declared.request.Request.{Request}
-use Rattle.ps_types.specs.declared.rows.SubRow.{SubRow}
 use Rattle.ps_types.specs.declared.rows.SubState.{SubState}
 use Rattle.ps_types.specs.declared.rows.SubState.TheVariants as sub
 use Rattle.ps_types.specs.Forms.{form_of, has_form_type, is_submit}
@@ -19,7 +18,6 @@ use Rattle.ps_types.specs.Tree.{Tree}
 use Rattle.ps_model.specs.Access.{subscribe}
 use Rattle.ps_model.specs.Book.{Book}
 use Rattle.ps_model.specs.ChangeOwner.{options_in}
-use Rattle.ps_model.specs.CheckForms.{node_of}
 
 -- ---- options
 

@@ -1,5 +1,5 @@
 -- What publishing and taking away do (XEP-0060 §7, §8.5).
-use Rattle.std.specs.Prelude.{ℕ, Bool, true, false, List, [], ◌∷◌, Option, Some, None, Result, Ok, Err, cond}
+use Rattle.std.specs.Prelude.{ℕ, true, List, [], ◌∷◌, Option, Some, None, Result, Ok, Err, cond}
 use Rattle.ps_types.specs.declared.config.NodeConfig.{NodeConfig}
 use Rattle.ps_types.specs.declared.denial.Condition.{Condition}
 use Rattle.ps_types.specs.declared.jid.Jid.{Jid}
@@ -40,9 +40,9 @@ counted (x ∷ id) node who book = book.counts
 abbrev pub published : NodeKey → NodeConfig → Jid → Option ℕ → List AskItem → Book → Book
 published node config who moment [] book = book
 published node config who moment (item ∷ items) book = record book {
-    items = cond config.persist_items (items_with (item_row node (item_id item.id book node who) who item.payloads moment) config.max_items book.items) book.items;
-    counts = counted item.id node who book
-  }
+  items = cond config.persist_items (items_with (item_row node (item_id item.id book node who) who item.payloads moment) config.max_items book.items) book.items;
+  counts = counted item.id node who book;
+}
 
 abbrev pub published_new : Result NodeConfig Condition → NodeKey → Jid → Option ℕ → List AskItem → Book → Book
 published_new (Err why) node who moment items book = book

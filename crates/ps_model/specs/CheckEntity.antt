@@ -1,8 +1,7 @@
 -- The check of one who subscribes and reads (XEP-0060 §5, §6), and of discovery (XEP-0030).
-use Rattle.std.specs.Prelude.{ℕ, Bool, true, false, ◌||◌, ◌&&◌, not, ◌==◌, nat_lt, length, List, [], ◌∷◌, Option, Some, None, is_some, Result, Ok, Err, cond}
-use Rattle.ps_types.specs.declared.config.SubOptions.{SubOptions}
+use Rattle.std.specs.Prelude.{ℕ, Bool, ◌||◌, not, ◌==◌, nat_lt, length, List, [], ◌∷◌, Option, None, is_some}
 use Rattle.ps_types.specs.declared.denial.Condition.{Condition}
-use Rattle.ps_types.specs.declared.denial.Condition.TheVariants.{C1, C12, C15, C21, C22, C23, C28}
+use Rattle.ps_types.specs.declared.denial.Condition.TheVariants.{C1, C15, C21, C22, C23, C28}
 use Rattle.ps_types.specs.declared.jid.Jid.{Jid}
 use Rattle.ps_types.specs.declared.request.Request.{Request}
 use Rattle.ps_types.specs.Subs.{sub_row, sub_at, sub_count, is_pending}

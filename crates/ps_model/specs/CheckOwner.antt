@@ -1,16 +1,15 @@
 -- The check of an owner's requests (XEP-0060 §8).
-use Rattle.std.specs.Prelude.{ℕ, Bool, true, false, ◌||◌, ◌&&◌, not, nat_le, length, List, [], ◌∷◌, Option, Some, None, is_some, cond, find, reverse, codes, Result, Ok, Err, if◌then◌else◌}
+use Rattle.std.specs.Prelude.{ℕ, Bool, true, false, not, nat_le, List, [], ◌∷◌, Option, Some, None, is_some, cond, find, reverse, codes, Result, Ok, Err, if◌then◌else◌}
 use Rattle.std.specs.List.{list_all, list_any}
 use Rattle.std.specs.Str.{bytes_eq}
 use Rattle.ps_types.specs.declared.config.NodeConfig.{NodeConfig}
 use Rattle.ps_types.specs.declared.denial.Condition.{Condition}
-use Rattle.ps_types.specs.declared.denial.Condition.TheVariants.{C1, C12, C14, C22, C23}
+use Rattle.ps_types.specs.declared.denial.Condition.TheVariants.{C1, C14, C22, C23}
 use Rattle.ps_types.specs.declared.form.Form.{Form}
 use Rattle.ps_types.specs.declared.jid.Jid.{Jid}
 use Rattle.ps_types.specs.declared.node.NodeKey.{NodeKey}
 use Rattle.ps_types.specs.declared.request.AskRow.{AskRow}
 use Rattle.ps_types.specs.declared.request.Request.{Request}
-use Rattle.ps_types.specs.declared.rows.Affil.{Affil}
 use Rattle.ps_types.specs.declared.rows.AffilRow.{AffilRow}
 use Rattle.ps_types.specs.declared.rows.NodeRow.{NodeRow}
 use Rattle.ps_types.specs.Affils.{affils_of, is_owner}

@@ -1,5 +1,5 @@
 -- The check of what is published and taken away (XEP-0060 §7, §8.5).
-use Rattle.std.specs.Prelude.{ℕ, Bool, true, false, ◌&&◌, ◌||◌, not, ◌==◌, nat_le, length, List, [], ◌∷◌, ◌++◌, Option, Some, None, cond, is_some, Result, Ok, Err, if◌then◌else◌, codes}
+use Rattle.std.specs.Prelude.{ℕ, Bool, true, false, ◌&&◌, ◌||◌, not, ◌==◌, nat_le, length, List, [], ◌∷◌, ◌++◌, Option, Some, None, is_some, Result, Ok, Err, if◌then◌else◌, codes}
 use Rattle.std.specs.List.{list_all, list_any}
 use Rattle.std.specs.Str.{bytes_eq}
 use Rattle.ps_types.specs.declared.config.NodeConfig.{NodeConfig}
@@ -7,7 +7,6 @@ use Rattle.ps_types.specs.declared.denial.Condition.{Condition}
 use Rattle.ps_types.specs.declared.denial.Condition.TheVariants.{C1, C4, C5, C6, C7, C9, C10, C11, C12, C14, C16}
 use Rattle.ps_types.specs.declared.form.Field.{Field}
 use Rattle.ps_types.specs.declared.form.Form.{Form}
-use Rattle.ps_types.specs.declared.jid.Jid.{Jid}
 use Rattle.ps_types.specs.declared.request.AskItem.{AskItem}
 use Rattle.ps_types.specs.declared.request.Request.{Request}
 use Rattle.ps_types.specs.declared.rows.Affil.{Affil}
@@ -21,7 +20,7 @@ use Rattle.ps_types.specs.Namespaces.{pubsub_ns}
 use Rattle.ps_types.specs.Nodes.{node_at, stands}
 use Rattle.ps_types.specs.Print.{print}
 use Rattle.ps_types.specs.Tree.{Tree}
-use Rattle.ps_model.specs.Access.{publish, own, affiliation, is_account, is_own_account}
+use Rattle.ps_model.specs.Access.{publish, own, affiliation, is_own_account}
 use Rattle.ps_model.specs.Book.{Book}
 use Rattle.ps_model.specs.Built.{built_config}
 use Rattle.ps_model.specs.CheckCreate.{node_limit_step}

@@ -16,6 +16,7 @@ pub mod ChangeEntity
 pub mod ChangeNodes
 pub mod ChangeOwner
 pub mod ChangePublish
+pub mod ChangeRouter
 pub mod Changes
 pub mod Check
 pub mod CheckCreate
@@ -23,8 +24,14 @@ pub mod CheckEntity
 pub mod CheckForms
 pub mod CheckOwner
 pub mod CheckPublish
+pub mod CheckRouter
+pub mod Children
 pub mod Commits
 pub mod Conditions
+pub mod Discovery
+pub mod Grammar
+pub mod ItemIds
+pub mod Lists
 pub mod Core
 pub mod Damage
 pub mod Due

@@ -52,9 +52,13 @@ abbrev pub sender_taken : List ℕ → List ℕ → Tree → Option Jid → Take
 sender_taken host service t None = refused L5
 sender_taken host service t (Some from) = if bytes_eq from.host host then shape_taken service t from else refused L6
 
--- what a tree on the stream of the host is taken as
+-- what a tree on the stream of the host is
+abbrev pub stanza_taken : List ℕ → List ℕ → Tree → Taken
+stanza_taken host service t = sender_taken host service t (jid_of (attr_text (codes "from") t))
+
+-- what it is taken as, as far as it is built
 abbrev pub tree_taken : List ℕ → List ℕ → Tree → Taken
-tree_taken host service t = built_taken service (sender_taken host service t (jid_of (attr_text (codes "from") t)))
+tree_taken host service t = built_taken service (stanza_taken host service t)
 
 abbrev pub result_taken : List ℕ → List ℕ → Result Tree LineRefusal → Taken
 result_taken host service (Err why) = refused why

@@ -1,5 +1,5 @@
 -- The words by which affiliations, subscriptions and roster items are named in requests and replies (XEP-0060 §4.1, §4.2; RFC 6121 §2.1.2).
-use Rattle.std.specs.Prelude.{ℕ, Bool, true, false, List, [], ◌∷◌, Option, Some, None, codes}
+use Rattle.std.specs.Prelude.{ℕ, List, [], ◌∷◌, Option, Some, codes}
 use Rattle.ps_types.specs.declared.rows.Affil.{Affil}
 use Rattle.ps_types.specs.declared.rows.Affil.TheVariants as affil
 use Rattle.ps_types.specs.declared.rows.RosterState.{RosterState}
