@@ -1,7 +1,5 @@
 -- What an accepted request gives rise to, in the order in which it is told (XEP-0060 §7.1, §8; XEP-0163 §4.3.4; XEP-0115 §6.2).
-use Rattle.std.specs.Prelude.{ℕ, Bool, true, false, not, ◌&&◌, ◌||◌, List, [], ◌∷◌, ◌++◌, Option, Some, None, cond, filter, is_some, map, codes, unwrap_or}
-use Rattle.std.specs.Str.{bytes_eq}
-use Rattle.ps_types.specs.Address.{bare}
+use Rattle.std.specs.Prelude.{ℕ, Bool, true, false, not, ◌&&◌, ◌||◌, List, [], ◌∷◌, ◌++◌, Option, Some, None, cond, filter, is_some, map, unwrap_or}
 use Rattle.ps_types.specs.Affils.{affils_of, is_owner}
 use Rattle.ps_types.specs.Items.{last_item}
 use Rattle.ps_types.specs.Links.{collection_of}
@@ -9,7 +7,6 @@ use Rattle.ps_types.specs.Nodes.{config_at, stands}
 use Rattle.ps_types.specs.Resources.{caps_in, resource_at, wants}
 use Rattle.ps_types.specs.Subs.{is_pending, is_subscribed, sub_at, subs_with}
 use Rattle.ps_types.specs.Values.{is_true}
-use Rattle.ps_types.specs.Vers.{ver_at}
 use Rattle.ps_types.specs.declared.config.NodeConfig.{NodeConfig}
 use Rattle.ps_types.specs.declared.event.Event.{Event}
 use Rattle.ps_types.specs.declared.event.Event.TheVariants as event
@@ -31,6 +28,7 @@ use Rattle.ps_model.specs.Access.{is_account, is_own_account}
 use Rattle.ps_model.specs.Book.{Book}
 use Rattle.ps_model.specs.ChangeOwner.{approved, sub_with}
 use Rattle.ps_model.specs.ChangePublish.{item_row}
+use Rattle.ps_model.specs.ChangeRouter.{has_caps, verified}
 use Rattle.ps_model.specs.CheckForms.{node_of}
 use Rattle.ps_model.specs.ItemIds.{item_id}
 use Rattle.ps_model.specs.Words.{sub_of}
@@ -113,17 +111,10 @@ is_newly_wanted who before after row = is_account row.key.service && wants who r
 abbrev pub wanted_events : Jid → Book → Book → List Event
 wanted_events who before after = map (λ row. last_event after row.key who false) (filter (is_newly_wanted who before after) after.nodes)
 
-abbrev pub is_verified : Caps → Book → Bool
-is_verified caps book = bytes_eq caps.hash (codes "sha-1") && is_some (ver_at caps.ver book.vers)
-
-abbrev pub are_old : Caps → Option Caps → Bool
-are_old caps None = false
-are_old caps (Some old) = bytes_eq caps.hash old.hash && bytes_eq caps.node old.node && bytes_eq caps.ver old.ver
-
 -- capabilities that are neither verified nor those of the presence before are asked for
 abbrev pub question_events : Jid → Option Caps → Book → List Event
 question_events who None before = []
-question_events who (Some caps) before = cond (is_verified caps before || are_old caps (caps_in (resource_at who before.resources))) [] (event.Question who caps ∷ [])
+question_events who (Some caps) before = cond (is_some (verified caps before.vers) || has_caps caps (caps_in (resource_at who before.resources))) [] (event.Question who caps ∷ [])
 
 -- ---- every kind
 

@@ -1,5 +1,5 @@
 -- The service as the machine of steps sees it, and the machine over it.
-use Rattle.std.specs.Prelude.{ℕ, List, Option, option_map}
+use Rattle.std.specs.Prelude.{ℕ, List, option_map}
 use Rattle.ps_types.specs.Print.{print}
 use Rattle.ps_types.specs.declared.entry.Entry.{Entry}
 use Rattle.ps_model.specs.Core.{Core}
