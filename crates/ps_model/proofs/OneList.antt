@@ -36,9 +36,10 @@ wide64 = record { len = λ n. refl; again = λ n lt. from_be_bytes-to_be_bytes_8
 
 -- two fronts of one length, with what follows them
 front_one : (t u x y : List ℕ) → length t ≡ length u → t ++ x ≡ u ++ y → (t ≡ u) × (x ≡ y)
-front_one t u x y len same =
-    (sym (take_at t x (length t) refl) ∙ ap (take (length t)) same ∙ take_at u y (length t) (sym len),
-    sym (drop_at t x (length t) refl) ∙ ap (drop (length t)) same ∙ drop_at u y (length t) (sym len))
+front_one t u x y len same = (
+  sym (take_at t x (length t) refl) ∙ ap (take (length t)) same ∙ take_at u y (length t) (sym len),
+  sym (drop_at t x (length t) refl) ∙ ap (drop (length t)) same ∙ drop_at u y (length t) (sym len),
+)
 
 number_one : (w : Width) (limit : ℕ) (wide : IsWide w limit) (n m : ℕ) (x y : List ℕ) → n < limit → m < limit → to_be_bytes w n ++ x ≡ to_be_bytes w m ++ y → (n ≡ m) × (x ≡ y)
 number_one w limit wide n m x y fits fits' same =

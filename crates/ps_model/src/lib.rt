@@ -5,6 +5,6 @@ mod laws;
 mod steps;
 mod store_laws;
 
-pub use laws::{lawful_prefix, notices_grow, replay_goes_on};
+pub use laws::{lawful_prefix, notices_grow, numbers_rise, replay_goes_on};
 pub use steps::{Role, Step};
-pub use store_laws::one_list;
+pub use store_laws::{damaged_has_none, one_damage, one_list};
