@@ -1,5 +1,7 @@
+pub mod Computed
 pub mod Going
 pub mod NumberLaws
 pub mod OneAt
 pub mod OneList
+pub mod StoreExample
 pub mod TallyLaws

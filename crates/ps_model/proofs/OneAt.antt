@@ -1,16 +1,16 @@
 -- A store whose bytes have no list is damaged at one place, and one that has a list is not damaged.
-use Rattle.std.proofs.Common.{◌≡◌, ◌≢◌, ◌⊎◌, inl, inr, ℕ, ◌+◌, Bool, true, false, List, [], ◌∷◌, ◌++◌, length, take, drop, map, refl, sym, ap, subst, ◌∙◌, append_assoc, append-nil}
+use Rattle.std.proofs.Common.{◌≡◌, ◌⊎◌, inl, inr, ℕ, ◌+◌, Bool, true, false, List, [], ◌∷◌, ◌++◌, length, drop, map, refl, sym, ap, subst, ◌∙◌, append_assoc, append-nil}
 use Rattle.std.proofs.lemmas.Bool.{true≢false}
 use Rattle.ps_types.specs.declared.entry.Entry.{Entry}
 use Rattle.ps_model.specs.At.{BadEntry, IsBadNext, IsDamagedAt, IsStore}
 use Rattle.ps_model.specs.Book.{State, empty_state}
 use Rattle.ps_model.specs.Built.{is_built_event}
-use Rattle.ps_model.specs.Damage.{BadFrame, BadHeader, NoEntry, ReadUpTo}
+use Rattle.ps_model.specs.Damage.{BadFrame, NoEntry}
 use Rattle.ps_model.specs.Entries.{AreEntriesIn, IsEntryIn, body, spelling}
-use Rattle.ps_model.specs.Replay.{IsLawfulFrom, accepted, after, lawful, replay, replay_from}
-use Rattle.ps_model.specs.Store.{AreBodies, AreParts, Begun, IsBody, IsShut, frame, frames, gate_at, is_header, is_second, is_unbegun, joined, spelled}
+use Rattle.ps_model.specs.Replay.{IsLawfulFrom, accepted, after, lawful, replay_from}
+use Rattle.ps_model.specs.Store.{AreParts, Begun, IsShut, gate_at, is_second, joined, spelled}
 use Rattle.ps_model.proofs.Going.{replay-append}
-use Rattle.ps_model.proofs.OneList.{NoFrame, behind_header, body_one, entry_one, frames_one, one_frames, shut_no_frame, shut_some, starts}
+use Rattle.ps_model.proofs.OneList.{behind_header, body_one, entry_one, frames_one, one_frames, shut_no_frame, shut_some, starts}
 
 -- ---- lawful lists
 

@@ -34,6 +34,12 @@ pub mod Discovery
 pub mod Due
 pub mod Entries
 pub mod Events
+pub mod ExampleCollections
+pub mod ExampleCrash
+pub mod ExampleNotice
+pub mod ExampleOrder
+pub mod ExamplePersonal
+pub mod ExampleStore
 pub mod Grammar
 pub mod ItemIds
 pub mod Lists
@@ -57,4 +63,5 @@ pub mod TheCore
 pub mod TwoWorlds
 pub mod Ways
 pub mod Words
+pub mod Worked
 pub mod World
