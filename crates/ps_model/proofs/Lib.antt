@@ -5,3 +5,6 @@ pub mod OneAt
 pub mod OneList
 pub mod StoreExample
 pub mod TallyLaws
+mod Spelling
+mod SpellingKinds
+mod AccessLaws

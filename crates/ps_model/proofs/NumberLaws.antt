@@ -10,7 +10,7 @@ use Rattle.ps_types.specs.declared.entry.Notice.{Notice}
 use Rattle.ps_types.specs.declared.jid.Jid.{Jid}
 use Rattle.ps_types.specs.declared.rows.TallyRow.{TallyRow}
 use Rattle.ps_model.specs.After as step
-use Rattle.ps_model.specs.After.{numbered, tallied, notice_of, row_notices, row_tallies}
+use Rattle.ps_model.specs.Numbered.{numbered, tallied, row_notices, row_tallies}
 use Rattle.ps_model.specs.BaseAfter.{is_bare, is_number}
 use Rattle.ps_model.specs.BaseRead.{row_of}
 use Rattle.ps_model.specs.BaseRows.{BaseRow, node, affiliation, subscription, item, link, contact, ver, made, counter, notice}
