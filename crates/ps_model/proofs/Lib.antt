@@ -1,5 +1,9 @@
+pub mod Computed
 pub mod Going
+pub mod NumberLaws
+pub mod OneAt
 pub mod OneList
+pub mod StoreExample
 pub mod TallyLaws
 mod Spelling
 mod SpellingKinds

@@ -1,4 +1,6 @@
 -- The stanzas that tell of an event, without their ids.
+use Rattle.ps_types.specs.Attrs.{with_attr}
+use Rattle.std.specs.Prelude.{decimal}
 use Rattle.std.specs.Prelude.{ℕ, List, [], ◌∷◌, ◌++◌, Option, Some, None, codes}
 use Rattle.ps_types.specs.Address.{jid_text}
 use Rattle.ps_types.specs.Attrs.{attr}
@@ -93,9 +95,9 @@ field kind var value = record { var = codes "pubsub#" ++ var; kind = kind; value
 
 abbrev pub approval_form : NodeKey → Jid → Form
 approval_form node who = record {
-    kind = form.Form;
-    fields = type_field authorization ∷ field (codes "text-single") (codes "node") node.name ∷ field (codes "jid-single") (codes "subscriber_jid") (jid_text who) ∷ field (codes "boolean") (codes "allow") (codes "0") ∷ []
-  }
+  kind = form.Form;
+  fields = type_field authorization ∷ field (codes "text-single") (codes "node") node.name ∷ field (codes "jid-single") (codes "subscriber_jid") (jid_text who) ∷ field (codes "boolean") (codes "allow") (codes "0") ∷ [];
+}
 
 -- ---- the question for capabilities (XEP-0115 §6.2)
 
@@ -103,3 +105,12 @@ abbrev pub question : Jid → Jid → Caps → Tree
 question service to caps =
     tree (codes "iq") client (attr (codes "from") (jid_text service) ∷ attr (codes "to") (jid_text to) ∷ attr (codes "type") (codes "get") ∷ [])
     (only (leaf (codes "query") info_ns (one (codes "node") (caps.node ++ codes "#" ++ caps.ver))))
+
+-- ---- ids
+
+-- the id of the notice of that number
+abbrev pub notice_id : ℕ → List ℕ
+notice_id number = codes "n-" ++ decimal number
+
+abbrev pub with_id : ℕ → Tree → Tree
+with_id number (Tree.tree name ns attrs kids) = Tree.tree name ns (with_attr (codes "id") (notice_id number) attrs) kids

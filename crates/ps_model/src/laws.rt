@@ -1,8 +1,10 @@
 // Laws of whole lists of entries. Each function is its contract.
-ghost use Rattle.std.specs.Prelude.{◌≡◌, ◌++◌, List};
+ghost use Rattle.std.specs.Prelude.{◌≡◌, ◌+◌, ◌++◌, ℕ, List, Some, slice_get};
 ghost use Rattle.ps_types.specs.declared.entry.Entry.{Entry};
+ghost use Rattle.ps_types.specs.declared.entry.Notice.{Notice};
 ghost use Rattle.ps_types.specs.declared.jid.Jid.{Jid};
 ghost use Rattle.ps_model.specs.Built.{is_built_event};
+ghost use Rattle.ps_model.specs.Numbers.{counter_of};
 ghost use Rattle.ps_model.specs.Replay.{replay, replay_from, notices, notices_from, lawful};
 
 /// What a list leaves, followed by another, is what the other leaves from there on.
@@ -18,4 +20,9 @@ pub fn notices_grow()
 /// A prefix of a lawful list is lawful.
 pub fn lawful_prefix()
     ensures { (E F : List Entry) → lawful (E ++ F) → lawful E }
+{}
+
+/// The notices of a bare address are numbered one after the other, from the number of its counter on.
+pub fn numbers_rise()
+    ensures { (E : List Entry) (a : Jid) → lawful E → (k : ℕ) (n : Notice) → slice_get (notices E a) k ≡ Some n → n.number ≡ counter_of E a + (k + 1) }
 {}
