@@ -84,18 +84,18 @@ impl Batch {
         Ok(())
     }
 
-    /// How many bytes its entries have.
+    /// How many bytes its entries have, each of which is spelled.
     pub fn len(&self) -> u64
         ensures length { result ≡ length (body self.now) }
         ensures fits { result ≤ 2 ^ 30 }
+        ensures each { AreEntries self.now }
     {
         (self.frame.len() - 5) as u64
     }
 
     /// What a frame has behind its gate: a length of four bytes, the entries, and a closed gate.
     pub fn frame(&self) -> &[u8]
-        ensures frame { result.now ≡ piece self.now }
-        ensures each { AreEntries self.now }
+        ensures { result.now ≡ piece self.now }
     {
         &self.frame
     }
