@@ -8,3 +8,5 @@ mod Counting
 mod NodeRows
 mod Bounded
 mod ChangedBounded
+mod Playing
+mod WorkedWhitelist

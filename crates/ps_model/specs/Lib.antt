@@ -39,9 +39,11 @@ pub mod Grammar
 pub mod ItemIds
 pub mod Lists
 pub mod Machine
+pub mod Notation
 pub mod NoticeTrees
 pub mod Numbers
 pub mod Outcome
+pub mod Played
 pub mod Replay
 pub mod Replies
 pub mod SameRows
@@ -64,4 +66,5 @@ pub mod TheCore
 pub mod TwoWorlds
 pub mod Ways
 pub mod Words
+pub mod WorkedAccess
 pub mod World
