@@ -10,3 +10,5 @@ mod Bounded
 mod ChangedBounded
 mod Playing
 mod WorkedWhitelist
+mod WorkedAuthorize
+mod WorkedPresence
