@@ -12,3 +12,4 @@ mod Playing
 mod WorkedWhitelist
 mod WorkedAuthorize
 mod WorkedPresence
+mod WorkedRefusals

@@ -67,4 +67,5 @@ pub mod TwoWorlds
 pub mod Ways
 pub mod Words
 pub mod WorkedAccess
+pub mod WorkedRefusals
 pub mod World
