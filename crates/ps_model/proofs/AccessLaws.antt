@@ -8,7 +8,7 @@ use Rattle.ps_types.specs.declared.node.NodeKey.{NodeKey}
 use Rattle.ps_types.specs.declared.rows.Affil.TheVariants.{Outcast}
 use Rattle.ps_types.specs.declared.rows.NodeRow.{NodeRow}
 use Rattle.ps_types.specs.Nodes.{node_at, stands}
-use Rattle.ps_model.specs.Access.{affiliation, own, publish, publish_at, read, read_at, subscribe, subscribe_at}
+use Rattle.ps_model.specs.Access.{affiliation, own, publish_at, read_at, subscribe_at}
 use Rattle.ps_model.specs.Book.{Book}
 
 module _ (book : Book) (node : NodeKey) (who : Jid) (out : affiliation book node who ≡ Outcast) where

@@ -13,3 +13,4 @@ mod WorkedWhitelist
 mod WorkedAuthorize
 mod WorkedPresence
 mod WorkedRefusals
+mod WorkedNodes

@@ -1,7 +1,6 @@
 -- The bytes of a store spell one list of entries at most.
-use Rattle.std.proofs.Common.{◌≡◌, ◌≢◌, inl, inr, ℕ, zero, suc, ◌+◌, ◌<◌, ◌≤◌, ◌^◌, Bool, true, false, List, [], ◌∷◌, ◌++◌, length, take, drop, map, Option, Some, None, refl, sym, ap, subst, ◌∙◌, append_assoc, append-nil, arith, length-append}
+use Rattle.std.proofs.Common.{◌≡◌, ◌≢◌, inl, inr, ℕ, ◌+◌, ◌<◌, ◌≤◌, ◌^◌, Bool, true, false, List, [], ◌∷◌, ◌++◌, length, take, drop, map, Some, None, refl, sym, ap, subst, ◌∙◌, append_assoc, append-nil, arith, length-append}
 use Rattle.std.specs.Prelude.{◌&&◌, nat_le, ◌==◌}
-use Rattle.std.specs.List.{AllByRecursion}
 use Rattle.std.specs.Int.{Width, w16, w32, w64, byte_len, from_be_bytes, to_be_bytes}
 use Rattle.std.proofs.lemmas.Bool.{leb-true, eqb-true, and_parts, true≢false}
 use Rattle.std.proofs.lemmas.List.{take_at, drop_at}
@@ -18,7 +17,7 @@ use Rattle.ps_types.specs.declared.entry.Entry.TheVariants.{Boot, Change, Handed
 use Rattle.ps_types.specs.declared.jid.Jid.{Jid}
 use Rattle.std.specs.Str.{bytes_eq}
 use Rattle.ps_model.specs.Store.{magic, is_header, is_second, frame, frames, IsBody, AreBodies, IsShut, gate_at, Begun, joined, AreParts, spelled}
-use Rattle.ps_model.specs.Entries.{short, long, spelling, of_host, IsHostName, IsBare, IsMoment, IsWritten, IsEntry, IsEntryIn, AreEntriesIn, body, end_of_time}
+use Rattle.ps_model.specs.Entries.{short, long, spelling, of_host, IsHostName, IsBare, IsWritten, IsEntry, IsEntryIn, AreEntriesIn, body}
 
 -- ---- fields
 
@@ -37,9 +36,10 @@ wide64 = record { len = λ n. refl; again = λ n lt. from_be_bytes-to_be_bytes_8
 
 -- two fronts of one length, with what follows them
 front_one : (t u x y : List ℕ) → length t ≡ length u → t ++ x ≡ u ++ y → (t ≡ u) × (x ≡ y)
-front_one t u x y len same =
-    (sym (take_at t x (length t) refl) ∙ ap (take (length t)) same ∙ take_at u y (length t) (sym len),
-    sym (drop_at t x (length t) refl) ∙ ap (drop (length t)) same ∙ drop_at u y (length t) (sym len))
+front_one t u x y len same = (
+  sym (take_at t x (length t) refl) ∙ ap (take (length t)) same ∙ take_at u y (length t) (sym len),
+  sym (drop_at t x (length t) refl) ∙ ap (drop (length t)) same ∙ drop_at u y (length t) (sym len),
+)
 
 number_one : (w : Width) (limit : ℕ) (wide : IsWide w limit) (n m : ℕ) (x y : List ℕ) → n < limit → m < limit → to_be_bytes w n ++ x ≡ to_be_bytes w m ++ y → (n ≡ m) × (x ≡ y)
 number_one w limit wide n m x y fits fits' same =

@@ -1,21 +1,19 @@
 -- A tree that a row of the grammar spells is read as that row's request.
-use Rattle.std.proofs.Common.{◌≡◌, ◌≢◌, ℕ, ◌≤◌, List, [], ◌∷◌, length, Bool, true, false, cond, not, ◌&&◌, ◌||◌, ◌==◌, Option, Some, None, option_map, refl, sym, ap, ◌∙◌, arith}
-use Rattle.std.specs.Prelude.{Result, Ok, Err, codes, nat_le}
+use Rattle.std.proofs.Common.{◌≡◌, ℕ, ◌≤◌, List, [], ◌∷◌, length, true, false, Some, None, option_map, refl, sym, ap, ◌∙◌, arith}
+use Rattle.std.specs.Prelude.{codes, nat_le}
 use Rattle.std.proofs.lemmas.Bool.Decides.{nat_tests}
 use Rattle.ps_types.specs.declared.denial.Condition.{Condition}
 use Rattle.ps_types.specs.declared.jid.Jid.{Jid}
-use Rattle.ps_types.specs.declared.request.Ask.{Ask}
 use Rattle.ps_types.specs.Address.{Spells, address_of}
 use Rattle.ps_types.specs.Cutting.{parts_from}
 use Rattle.ps_types.specs.Namespaces.{pubsub_ns, owner_ns}
-use Rattle.ps_types.specs.Print.{client}
 use Rattle.ps_types.specs.Shape.{trees_of}
-use Rattle.ps_types.specs.Tree.{Tree, Nodes, name_of, ns_of, nodes_of}
+use Rattle.ps_types.specs.Tree.{Tree, Nodes}
 use Rattle.ps_types.proofs.AddressLaws.{parts-again}
 use Rattle.ps_model.specs.Asking.{ask_of, iq_by, set_ask, get_ask, owner_set_ask, owner_get_ask}
-use Rattle.ps_model.specs.SpelledParts.{IsIq, IsQuery, IsPubsub, IsNode}
+use Rattle.ps_model.specs.SpelledParts.{IsIq, IsPubsub, IsNode}
 use Rattle.ps_model.specs.Stanza.{jid_of}
-use Rattle.ps_model.specs.Steps.{named_step, node_step, unless, max_id}
+use Rattle.ps_model.specs.Steps.{named_step, node_step, max_id}
 
 pub spells-jid : (text : List ℕ) (j : Jid) → Spells text j → jid_of text ≡ Some j
 spells-jid text j s = ap (option_map address_of) (ap parts_from s.2 ∙ parts-again s.0 s.1) ∙ ap (λ (k : Jid). Some k) (sym s.3)

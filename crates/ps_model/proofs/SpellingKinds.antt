@@ -1,6 +1,6 @@
 -- Kind by kind: a tree that spells a request is read as that request.
-use Rattle.std.proofs.Common.{◌≡◌, ◌≢◌, ◌⊎◌, inl, inr, ℕ, ◌≤◌, List, [], ◌∷◌, length, Bool, true, false, cond, not, ◌&&◌, ◌||◌, ◌==◌, Option, Some, None, option_map, refl, sym, ap, ◌∙◌, arith}
-use Rattle.std.specs.Prelude.{Result, Ok, Err, codes}
+use Rattle.std.proofs.Common.{◌≡◌, inl, inr, ℕ, List, [], ◌∷◌, Bool, true, false, cond, ◌&&◌, Option, Some, None, refl, sym, ap, ◌∙◌}
+use Rattle.std.specs.Prelude.{Result, Ok, codes}
 use Rattle.ps_types.specs.declared.denial.Condition.{Condition}
 use Rattle.ps_types.specs.declared.denial.Condition.TheVariants.{C3, C27}
 use Rattle.ps_types.specs.declared.jid.Jid.{Jid}
@@ -17,17 +17,17 @@ use Rattle.std.specs.Str.{bytes_eq}
 use Rattle.std.proofs.lemmas.Slice.Eq.{bytes_eq-Decides}
 use Rattle.ps_types.specs.Namespaces.{info_ns}
 use Rattle.ps_types.specs.Same.{same_jid}
-use Rattle.ps_types.specs.Shape.{attr_text, children_of, trees_of}
-use Rattle.ps_types.specs.Tree.{Tree, Nodes, child_of}
+use Rattle.ps_types.specs.Shape.{attr_text}
+use Rattle.ps_types.specs.Tree.{Tree, child_of}
 use Rattle.ps_model.specs.AskRouter.{caps_in, is_for_service}
 use Rattle.ps_model.specs.Asking.{ask_of, value_in, message_form}
 use Rattle.ps_model.specs.Grammar.{rows_in}
 use Rattle.ps_model.specs.Spelled.{IsAsk, SpellsRequest}
 use Rattle.ps_model.specs.SpelledEntity.{IsMine, IsSubscribe, IsUnsubscribe, IsOptionsGet, IsOptionsSet, IsItemsGet, IsInfoGet, IsNodesGet}
-use Rattle.ps_model.specs.SpelledOwner.{IsOwnerPart, IsPurge, IsDelete, IsConfigGet, IsConfigSet, AreRows, IsAffilsGet, IsAffilsSet, IsSubsGet, IsSubsSet, IsApprove}
+use Rattle.ps_model.specs.SpelledOwner.{IsPurge, IsDelete, IsConfigGet, IsConfigSet, AreRows, IsAffilsGet, IsAffilsSet, IsSubsGet, IsSubsSet, IsApprove}
 use Rattle.ps_model.specs.SpelledPublish.{IsCreate, IsPublish, IsRetract}
 use Rattle.ps_model.specs.SpelledRouter.{IsRosterSet, IsPresent, IsAbsent, IsCapsAnswer, IsOtherAnswer, IsOtherPresence, IsVoidMessage, IsSilent}
-use Rattle.ps_model.specs.Stanza.{jid_of, host_jid, type_of, has_type}
+use Rattle.ps_model.specs.Stanza.{host_jid, type_of, has_type}
 use Rattle.ps_model.specs.Taken.{Taken, asked}
 use Rattle.ps_model.specs.Taken as taken
 use Rattle.ps_model.specs.Taking.{stanza_taken}

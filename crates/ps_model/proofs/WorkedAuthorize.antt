@@ -18,9 +18,9 @@ ann = account (codes "ann") (codes "a.example")
 
 abbrev made : Book
 made = record start {
-    nodes = record { key = at_service q; creator = ann; config = record service_config { access_model = Authorize } } ∷ [];
-    affils = record { node = at_service q; who = ann; affil = Owner } ∷ []
-  }
+  nodes = record { key = at_service q; creator = ann; config = record service_config { access_model = Authorize } } ∷ [];
+  affils = record { node = at_service q; who = ann; affil = Owner } ∷ [];
+}
 
 abbrev with_bob : SubState → Book
 with_bob state = record made { subs = record { node = at_service q; who = account (codes "bob") (codes "b.example"); state = state; options = default_options } ∷ [] }

@@ -22,10 +22,10 @@ node = record { service = ann; name = t }
 
 abbrev made : Book
 made = record start {
-    nodes = record { key = node; creator = ann; config = account_config } ∷ [];
-    affils = record { node = node; who = ann; affil = Owner } ∷ [];
-    items = record { node = node; id = codes "m"; publisher = ann; payload = Some entry; moment = None } ∷ []
-  }
+  nodes = record { key = node; creator = ann; config = account_config } ∷ [];
+  affils = record { node = node; who = ann; affil = Owner } ∷ [];
+  items = record { node = node; id = codes "m"; publisher = ann; payload = Some entry; moment = None } ∷ [];
+}
 
 abbrev with_bob : RosterState → Book
 with_bob state = record made { rosters = record { account = ann; contact = account (codes "bob") (codes "b.example"); state = state; groups = codes "g" ∷ [] } ∷ [] }

@@ -1,5 +1,5 @@
 -- Denials, computed.
-use Rattle.std.proofs.Common.{refl, true, false, [], ◌∷◌}
+use Rattle.std.proofs.Common.{refl, false, [], ◌∷◌}
 use Rattle.std.specs.Prelude.{ℕ, List, codes}
 use Rattle.json.specs.Print.{escape_byte}
 use Rattle.ps_types.specs.declared.config.NodeConfig.{NodeConfig}
@@ -40,21 +40,54 @@ subscribers = (with_news, refl, refl, (with_news, refl, refl, (with_news, refl, 
 
 abbrev with_bare : Book
 with_bare = record start {
-    nodes = node news service_config ∷ node bare_node (record service_config { persist_items = false; deliver_payloads = false }) ∷ [];
-    affils = owner news ann ∷ owner bare_node ann ∷ []
-  }
+  nodes = node news service_config ∷ node bare_node (record service_config { persist_items = false; deliver_payloads = false }) ∷ [];
+  affils = owner news ann ∷ owner bare_node ann ∷ [];
+}
 
 abbrev with_top : Book
 with_top = record start {
-    nodes = node news service_config ∷ node bare_node (record service_config { persist_items = false; deliver_payloads = false }) ∷ node top (record service_config { node_type = Collection }) ∷ [];
-    affils = owner news ann ∷ owner bare_node ann ∷ owner top ann ∷ []
-  }
+  nodes = node news service_config ∷ node bare_node (record service_config { persist_items = false; deliver_payloads = false }) ∷ node top (record service_config { node_type = Collection }) ∷ [];
+  affils = owner news ann ∷ owner bare_node ann ∷ owner top ann ∷ [];
+}
 
 pub items : ItemCase
 unfolding escape_byte same_bare same_jid same_node
-items =
-    (with_news, refl, refl, (with_news, refl, refl, (with_news, refl, refl, (with_news, refl, refl, (with_bare, refl, refl, (with_bare, refl, refl, (with_bare, refl, refl,
-        (with_top, refl, refl, (with_top, refl, refl, (with_top, refl, refl, tt))))))))))
+items = (
+  with_news,
+  refl,
+  refl,
+  (
+    with_news,
+    refl,
+    refl,
+    (
+      with_news,
+      refl,
+      refl,
+      (
+        with_news,
+        refl,
+        refl,
+        (
+          with_bare,
+          refl,
+          refl,
+          (
+            with_bare,
+            refl,
+            refl,
+            (
+              with_bare,
+              refl,
+              refl,
+              (with_top, refl, refl, (with_top, refl, refl, (with_top, refl, refl, tt))),
+            ),
+          ),
+        ),
+      ),
+    ),
+  ),
+)
 
 abbrev with_p : Book
 with_p = record start { nodes = node p (record service_config { max_items = 12 }) ∷ []; affils = owner p ann ∷ [] }

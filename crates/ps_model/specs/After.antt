@@ -1,11 +1,11 @@
 -- What an entry leaves: the Book, the events that it gives rise to, the notices that they make, and the numbers beside the Book.
-use Rattle.std.specs.Prelude.{ℕ, ◌+◌, Bool, List, [], ◌∷◌, ◌++◌, Option, Some, None, filter, map, codes}
+use Rattle.std.specs.Prelude.{ℕ, ◌+◌, Bool, List, [], ◌∷◌, Option, Some, None, filter, map, codes}
 use Rattle.std.specs.List.{filter_map, flat_map}
 use Rattle.ps_types.specs.Attrs.{with_attr}
 use Rattle.ps_types.specs.Print.{print}
 use Rattle.ps_types.specs.Resources.{resources_off}
 use Rattle.ps_types.specs.Shape.{attr_text}
-use Rattle.ps_types.specs.Tree.{Tree, tree}
+use Rattle.ps_types.specs.Tree.{Tree}
 use Rattle.ps_types.specs.declared.entry.Entry.{Entry}
 use Rattle.ps_types.specs.declared.entry.Entry.TheVariants.{Boot, Change, Handed, Gone, Base}
 use Rattle.ps_types.specs.declared.entry.Notice.{Notice}

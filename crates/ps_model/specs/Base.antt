@@ -1,5 +1,5 @@
 -- The entries that a compacted store begins with in the place of a list: the rows of its State, the numbers of handed notices, and the notices that aren't handed.
-use Rattle.std.specs.Prelude.{ℕ, ◌==◌, List, [], ◌∷◌, ◌++◌, Option, Some, None, drop, map, if◌then◌else◌}
+use Rattle.std.specs.Prelude.{ℕ, ◌==◌, List, [], ◌++◌, Option, Some, None, drop, map, if◌then◌else◌}
 use Rattle.std.specs.List.{filter_map, flat_map}
 use Rattle.ps_types.specs.declared.entry.Entry.{Entry}
 use Rattle.ps_types.specs.declared.entry.Entry.TheVariants as entry
@@ -8,7 +8,7 @@ use Rattle.ps_types.specs.declared.jid.Jid.{Jid}
 use Rattle.ps_types.specs.declared.rows.NodeRow.{NodeRow}
 use Rattle.ps_types.specs.declared.rows.TallyRow.{TallyRow}
 use Rattle.ps_model.specs.BaseRows.{BaseRow, node, affiliation, subscription, item, link, contact, ver, made, counter, notice, row_tree}
-use Rattle.ps_model.specs.Book.{Book, State}
+use Rattle.ps_model.specs.Book.{Book}
 use Rattle.ps_model.specs.Core.{handed}
 use Rattle.ps_model.specs.Replay.{notices, replay}
 use Rattle.ps_model.specs.Sorted.{sorted}

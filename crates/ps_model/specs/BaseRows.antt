@@ -1,5 +1,5 @@
 -- The rows that a compacted store begins with, as trees.
-use Rattle.std.specs.Prelude.{ℕ, Bool, true, false, List, [], ◌∷◌, ◌++◌, Option, Some, None, codes, decimal}
+use Rattle.std.specs.Prelude.{ℕ, Bool, true, false, List, [], ◌∷◌, Option, Some, None, codes, decimal}
 use Rattle.ps_types.specs.Address.{jid_text}
 use Rattle.ps_types.specs.Attrs.{attr}
 use Rattle.ps_types.specs.Config.{config_form}
@@ -7,7 +7,6 @@ use Rattle.ps_types.specs.Forms.{form_tree}
 use Rattle.ps_types.specs.Tree.{Tree, tree, Nodes, none, branch, words}
 use Rattle.ps_types.specs.declared.attrs.Attr.{Attr}
 use Rattle.ps_types.specs.declared.jid.Jid.{Jid}
-use Rattle.ps_types.specs.declared.node.NodeKey.{NodeKey}
 use Rattle.ps_types.specs.declared.rows.AffilRow.{AffilRow}
 use Rattle.ps_types.specs.declared.rows.CountRow.{CountRow}
 use Rattle.ps_types.specs.declared.rows.ItemRow.{ItemRow}

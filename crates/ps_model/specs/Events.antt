@@ -1,7 +1,6 @@
 -- What an accepted request gives rise to, in the order in which it is told (XEP-0060 §7.1, §8; XEP-0163 §4.3.4; XEP-0115 §6.2).
 use Rattle.std.specs.Prelude.{ℕ, Bool, true, false, not, ◌&&◌, ◌||◌, List, [], ◌∷◌, ◌++◌, Option, Some, None, cond, filter, is_some, map, codes, unwrap_or}
 use Rattle.std.specs.Str.{bytes_eq}
-use Rattle.ps_types.specs.Address.{bare}
 use Rattle.ps_types.specs.Affils.{affils_of, is_owner}
 use Rattle.ps_types.specs.Items.{last_item}
 use Rattle.ps_types.specs.Links.{collection_of}

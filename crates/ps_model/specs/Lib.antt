@@ -67,5 +67,6 @@ pub mod TwoWorlds
 pub mod Ways
 pub mod Words
 pub mod WorkedAccess
+pub mod WorkedNodes
 pub mod WorkedRefusals
 pub mod World

@@ -10,7 +10,7 @@ use Rattle.ps_model.specs.declared.steps.Role.TheVariants.{Reader, Writer}
 use Rattle.ps_model.specs.declared.steps.Step.{Step}
 use Rattle.ps_model.specs.declared.steps.Step.TheVariants.{Arrive, Flush, Take, Emit, Record, Gone, Ended, Broken, Crash}
 use Rattle.ps_model.specs.Core.{Core, handed}
-use Rattle.ps_model.specs.World.{Said, Flight, Nothing, Unrecorded, Recorded, HostPart, AddressPart, World, ends, first, durable, fresh_host, fresh_address, at_host, at_address, with_entry, zeros}
+use Rattle.ps_model.specs.World.{Said, Flight, Nothing, Unrecorded, Recorded, HostPart, World, ends, first, durable, fresh_host, fresh_address, at_host, at_address, with_entry, zeros}
 
 -- one more line, which may get a reply
 abbrev pub answered : ℕ → Arrival → Bool → ℕ → ℕ → ℕ → Option (List ℕ) → HostPart → HostPart

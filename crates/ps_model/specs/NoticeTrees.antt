@@ -93,9 +93,9 @@ field kind var value = record { var = codes "pubsub#" ++ var; kind = kind; value
 
 abbrev pub approval_form : NodeKey → Jid → Form
 approval_form node who = record {
-    kind = form.Form;
-    fields = type_field authorization ∷ field (codes "text-single") (codes "node") node.name ∷ field (codes "jid-single") (codes "subscriber_jid") (jid_text who) ∷ field (codes "boolean") (codes "allow") (codes "0") ∷ []
-  }
+  kind = form.Form;
+  fields = type_field authorization ∷ field (codes "text-single") (codes "node") node.name ∷ field (codes "jid-single") (codes "subscriber_jid") (jid_text who) ∷ field (codes "boolean") (codes "allow") (codes "0") ∷ [];
+}
 
 -- ---- the question for capabilities (XEP-0115 §6.2)
 

@@ -1,5 +1,5 @@
 -- Which request a tree spells, by one row for each kind. `Taking` computes it.
-use Rattle.std.specs.Prelude.{◌≡◌, ℕ, Bool, true, List, Option, Some, codes}
+use Rattle.std.specs.Prelude.{◌≡◌, ℕ, true, List, Some, codes}
 use Rattle.ps_types.specs.declared.jid.Jid.{Jid}
 use Rattle.ps_types.specs.declared.request.Ask.{Ask}
 use Rattle.ps_types.specs.declared.request.Ask.TheVariants as ask

@@ -1,5 +1,5 @@
 -- Which tree spells a request of one who subscribes or reads (XEP-0060 §5, §6), or asks what there is (XEP-0030).
-use Rattle.std.specs.Prelude.{◌≡◌, ◌≤◌, ℕ, Bool, true, List, length, Option, map, codes}
+use Rattle.std.specs.Prelude.{◌≡◌, ◌≤◌, ℕ, true, List, length, Option, map, codes}
 use Rattle.ps_types.specs.declared.jid.Jid.{Jid}
 use Rattle.ps_types.specs.Address.{Spells}
 use Rattle.ps_types.specs.Namespaces.{pubsub_ns, info_ns, items_ns}

@@ -1,5 +1,5 @@
 -- Which tree spells a request of an owner (XEP-0060 §8).
-use Rattle.std.specs.Prelude.{◌≡◌, ℕ, Bool, true, false, List, [], ◌∷◌, Option, Some, codes}
+use Rattle.std.specs.Prelude.{◌≡◌, ℕ, true, false, List, [], ◌∷◌, Option, Some, codes}
 use Rattle.ps_types.specs.declared.form.Form.{Form}
 use Rattle.ps_types.specs.declared.form.FormKind.TheVariants as kind
 use Rattle.ps_types.specs.declared.jid.Jid.{Jid}

@@ -1,5 +1,5 @@
 -- The shapes that the rows of the grammar of requests share.
-use Rattle.std.specs.Prelude.{◌≡◌, ◌≢◌, ◌≤◌, ℕ, List, [], ◌∷◌, length, Option, Some, codes}
+use Rattle.std.specs.Prelude.{◌≡◌, ◌≢◌, ◌≤◌, ℕ, List, [], ◌∷◌, length, Some, codes}
 use Rattle.ps_types.specs.Print.{client}
 use Rattle.ps_types.specs.Shape.{trees_of}
 use Rattle.ps_types.specs.Tree.{Tree, Nodes, name_of, ns_of, nodes_of}

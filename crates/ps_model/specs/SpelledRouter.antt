@@ -1,5 +1,5 @@
 -- Which stanza of the router is which (RFC 6121 §2, §4; XEP-0115 §4, §6), and which says nothing.
-use Rattle.std.specs.Prelude.{◌≡◌, ◌⊎◌, ℕ, Bool, true, false, List, [], ◌∷◌, Option, Some, None, map, codes}
+use Rattle.std.specs.Prelude.{◌≡◌, ◌⊎◌, ℕ, true, false, List, [], ◌∷◌, Option, Some, None, map, codes}
 use Rattle.ps_types.specs.declared.form.Form.{Form}
 use Rattle.ps_types.specs.declared.form.FormKind.TheVariants as kind
 use Rattle.ps_types.specs.declared.jid.Jid.{Jid}

@@ -1,5 +1,5 @@
 -- What stands in the bytes of a sink: its whole lines are replies and notices.
-use Rattle.std.specs.Prelude.{ℕ, Bool, true, false, not, ◌&&◌, ◌||◌, List, filter, codes, Option, Some, None, Result, Ok, Err}
+use Rattle.std.specs.Prelude.{ℕ, Bool, false, not, ◌&&◌, ◌||◌, List, filter, codes, Option, Some, None, Result, Ok, Err}
 use Rattle.ps_types.specs.LineTree.{line_tree}
 use Rattle.ps_types.specs.Lines.{whole_lines}
 use Rattle.ps_types.specs.Namespaces.{line_ns}

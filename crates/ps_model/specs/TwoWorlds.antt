@@ -16,7 +16,7 @@ use Rattle.ps_types.specs.declared.rows.CountRow.{CountRow}
 use Rattle.ps_types.specs.declared.rows.ItemRow.{ItemRow}
 use Rattle.ps_model.specs.Access.{read}
 use Rattle.ps_model.specs.Book.{Book, State}
-use Rattle.ps_model.specs.Taken.{Taken, asked}
+use Rattle.ps_model.specs.Taken.{asked}
 use Rattle.ps_model.specs.Taking.{taken}
 use Rattle.ps_model.specs.Tallies.{made_for, handed_to}
 use Rattle.ps_model.specs.declared.steps.Step.{Step}

@@ -1,8 +1,8 @@
 -- Worked cases of the access models.
-use Rattle.std.specs.Prelude.{ℕ, List, [], ◌∷◌, Option, Some, None, codes}
+use Rattle.std.specs.Prelude.{ℕ, List, [], ◌∷◌, Option, None, codes}
 use Rattle.ps_types.specs.Print.{client}
 use Rattle.ps_types.specs.Shape.{element}
-use Rattle.ps_types.specs.Namespaces.{data_ns, roster_ns}
+use Rattle.ps_types.specs.Namespaces.{roster_ns}
 use Rattle.ps_types.specs.Tree.{Tree, tree, words, none}
 use Rattle.ps_model.specs.Played.{Line, Exchange, Plays}
 use Rattle.ps_model.specs.Notation.{start, the_service, ann, bob, cid, dot, alf, by_ann, by, at_home, result, result_home, failure, failure_home, condition, special, create, publish, get_items, items_of, item, entry, field, form, part, pubsub, affiliation, set_affiliations, set, get}
@@ -44,9 +44,11 @@ get_subscriptions = pubsub (part (codes "subscriptions") [] [] ∷ [])
 
 -- ann's answer to the question
 abbrev pub approval : List ℕ → Line
-approval allow =
-    (codes "a.example", element (codes "message") client ((codes "from", ann) ∷ (codes "to", the_service) ∷ [])
-      (form (codes "#subscribe_authorization") (field (codes "pubsub#node") q ∷ field (codes "pubsub#subscriber_jid") (codes "bob@b.example") ∷ field (codes "pubsub#allow") allow ∷ []) ∷ []))
+approval allow = (
+  codes "a.example",
+  element (codes "message") client ((codes "from", ann) ∷ (codes "to", the_service) ∷ [])
+      (form (codes "#subscribe_authorization") (field (codes "pubsub#node") q ∷ field (codes "pubsub#subscriber_jid") (codes "bob@b.example") ∷ field (codes "pubsub#allow") allow ∷ []) ∷ []),
+)
 
 abbrev pub not_subscribed : Option Tree
 not_subscribed = failure bob (codes "auth") (condition (codes "not-authorized") ∷ special (codes "not-subscribed") ∷ [])
@@ -77,7 +79,7 @@ t = codes "urn:t"
 abbrev pub roster_item : List ℕ → List ℕ → Tree
 roster_item subscription group =
     element (codes "query") roster_ns []
-      (element (codes "item") roster_ns ((codes "jid", codes "bob@b.example") ∷ (codes "subscription", subscription) ∷ []) (tree (codes "group") roster_ns [] (words group none) ∷ []) ∷ [])
+    (element (codes "item") roster_ns ((codes "jid", codes "bob@b.example") ∷ (codes "subscription", subscription) ∷ []) (tree (codes "group") roster_ns [] (words group none) ∷ []) ∷ [])
 
 abbrev pub presence_lines : List Exchange
 presence_lines =

@@ -1,5 +1,5 @@
 -- Worked cases of requests that are denied, and of the order of their checks.
-use Rattle.std.specs.Prelude.{ℕ, List, [], ◌∷◌, Option, Some, None, replicate, codes}
+use Rattle.std.specs.Prelude.{ℕ, List, [], ◌∷◌, Option, replicate, codes}
 use Rattle.ps_types.specs.Namespaces.{errors_ns}
 use Rattle.ps_types.specs.Shape.{element}
 use Rattle.ps_types.specs.Tree.{Tree}

@@ -1,5 +1,5 @@
 -- What the machine holds.
-use Rattle.std.specs.Prelude.{ℕ, ◌+◌, ◌++◌, ◌∷◌, [], suc, Bool, true, false, cond, nat_le, bytes_eq, List, take, Option, Some, None, if◌then◌else◌}
+use Rattle.std.specs.Prelude.{ℕ, ◌+◌, ◌++◌, ◌∷◌, [], suc, Bool, false, cond, nat_le, bytes_eq, List, take, Option, Some, None, if◌then◌else◌}
 use Rattle.ps_types.specs.Same.{same_jid}
 use Rattle.ps_types.specs.declared.entry.Arrival.{Arrival}
 use Rattle.ps_types.specs.declared.entry.Entry.{Entry}

@@ -1,7 +1,6 @@
 use Rattle.ps_model.proofs.Going.{lawful-front}
 use Rattle.ps_model.proofs.laws.lawful_prefix.Goals as goal
 use Rattle.ps_model.specs.Book.{empty_state}
-use Rattle.ps_model.specs.Built.{is_built_event}
 
 pub returns : goal.returns
 returns c = λ E F is. lawful-front E F empty_state is
