@@ -1,3 +1,4 @@
+pub mod Asked
 pub mod Computed
 pub mod Going
 pub mod NumberLaws
@@ -8,3 +9,7 @@ pub mod TallyLaws
 mod Spelling
 mod SpellingKinds
 mod AccessLaws
+mod Counting
+mod NodeRows
+mod Bounded
+mod ChangedBounded

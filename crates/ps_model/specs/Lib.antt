@@ -12,6 +12,7 @@ pub mod BaseFields
 pub mod BaseRead
 pub mod BaseRows
 pub mod Book
+pub mod Bounds
 pub mod Built
 pub mod ChangeEntity
 pub mod ChangeNodes
