@@ -1,5 +1,10 @@
+pub mod Asked
+pub mod Computed
 pub mod Going
+pub mod NumberLaws
+pub mod OneAt
 pub mod OneList
+pub mod StoreExample
 pub mod TallyLaws
 mod Spelling
 mod SpellingKinds

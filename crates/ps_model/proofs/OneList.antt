@@ -114,7 +114,7 @@ line_one n m t u x y fits fits' is is' same =
     let q = long_one t u x y is is' p.1 in
     (p.0, q.0, q.1)
 
-entry_one : (e f : Entry) (x y : List ℕ) → IsEntry e → IsEntry f → spelling e ++ x ≡ spelling f ++ y → (e ≡ f) × (x ≡ y)
+pub entry_one : (e f : Entry) (x y : List ℕ) → IsEntry e → IsEntry f → spelling e ++ x ≡ spelling f ++ y → (e ≡ f) × (x ≡ y)
 entry_one (Boot h) (Boot k) x y is is' same =
     let p = host_one h k x y is is' (tail_of 0 (short h ++ x) (short k ++ y) same) in
     (ap Boot p.0, p.1)
@@ -151,7 +151,7 @@ entry_one e f x y is is' same = absurd (cc same)
 abbrev pub Stops : Bool → List ℕ → Type 0
 Stops second x = (e : Entry) (rest : List ℕ) → IsEntryIn second e → x ≡ spelling e ++ rest → ⊥
 
-starts : (e : Entry) (x : List ℕ) → [] ≡ spelling e ++ x → ⊥
+pub starts : (e : Entry) (x : List ℕ) → [] ≡ spelling e ++ x → ⊥
 starts (Change h n None t) x same = absurd (cc same)
 starts (Change h n (Some a) t) x same = absurd (cc same)
 starts e x same = absurd (cc same)

@@ -1,8 +1,10 @@
 -- What an entry leaves: the Book, the events that it gives rise to, the notices that they make, and the numbers beside the Book.
+<<<<<<< HEAD
 use Rattle.std.specs.Prelude.{ℕ, ◌+◌, Bool, List, [], ◌∷◌, Option, Some, None, filter, map, codes}
+=======
+use Rattle.std.specs.Prelude.{ℕ, ◌+◌, Bool, List, [], Option, Some, None, filter, map, codes}
+>>>>>>> 9bafed24cb091490f604c605175c99566745209e
 use Rattle.std.specs.List.{filter_map, flat_map}
-use Rattle.ps_types.specs.Attrs.{with_attr}
-use Rattle.ps_types.specs.Print.{print}
 use Rattle.ps_types.specs.Resources.{resources_off}
 use Rattle.ps_types.specs.Shape.{attr_text}
 use Rattle.ps_types.specs.Tree.{Tree}
@@ -15,17 +17,18 @@ use Rattle.ps_types.specs.declared.jid.Jid.{Jid}
 use Rattle.ps_types.specs.declared.request.Request.{Request}
 use Rattle.ps_types.specs.declared.rows.LineRow.{LineRow}
 use Rattle.ps_types.specs.declared.rows.TallyRow.{TallyRow}
-use Rattle.ps_model.specs.BaseAfter.{book_with, notice_id, tallies_after_row}
+use Rattle.ps_model.specs.BaseAfter.{book_with}
 use Rattle.ps_model.specs.BaseRead.{row_of}
-use Rattle.ps_model.specs.BaseRows.{BaseRow, notice}
+use Rattle.ps_model.specs.BaseRows.{BaseRow}
 use Rattle.ps_model.specs.Book.{Book, State}
 use Rattle.ps_model.specs.Changes.{changed}
-use Rattle.ps_model.specs.Due.{asked, given}
+use Rattle.ps_model.specs.Given.{asked, given}
 use Rattle.ps_model.specs.Events.{events_of}
 use Rattle.ps_model.specs.Sorted.{sorted}
 use Rattle.ps_model.specs.Stanza.{jid_of}
 use Rattle.ps_model.specs.Taking.{request_in, sender_taken}
-use Rattle.ps_model.specs.Tallies.{lines_with, made_for, more_made, one_handed}
+use Rattle.ps_model.specs.Tallies.{lines_with, one_handed}
+use Rattle.ps_model.specs.Numbered.{numbered, row_notices, row_tallies, tallied}
 
 -- ---- the Book
 
@@ -71,30 +74,7 @@ due_of before after evs who = filter_map (λ ev. given (book_for ev before after
 abbrev pub all_due : Book → Book → List Event → List (Jid × Tree)
 all_due before after evs = flat_map (λ who. map (λ t. (who, t)) (due_of before after evs who)) (sorted (flat_map (λ ev. asked (book_for ev before after) ev) evs))
 
--- ---- the notices
-
-abbrev pub with_id : ℕ → Tree → Tree
-with_id number (Tree.tree name ns attrs kids) = Tree.tree name ns (with_attr (codes "id") (notice_id number) attrs) kids
-
-abbrev pub notice_of : ℕ → ℕ → Jid × Tree → Notice
-notice_of place number (to, t) = record { to = to; place = place; number = number; line = print (with_id number t) }
-
--- each has the number that follows those made for its bare address
-abbrev pub numbered : ℕ → List TallyRow → List (Jid × Tree) → List Notice
-numbered place tallies [] = []
-numbered place tallies ((to, t) ∷ more) = notice_of place (made_for to tallies + 1) (to, t) ∷ numbered place (more_made to 1 tallies) more
-
-abbrev pub tallied : List TallyRow → List (Jid × Tree) → List TallyRow
-tallied tallies [] = tallies
-tallied tallies ((to, t) ∷ more) = tallied (more_made to 1 tallies) more
-
-abbrev pub row_notices : ℕ → List TallyRow → Option BaseRow → List Notice
-row_notices place tallies (Some (notice to line)) = record { to = to; place = place; number = made_for to tallies + 1; line = line } ∷ []
-row_notices place tallies _ = []
-
-abbrev pub row_tallies : Option BaseRow → List TallyRow → List TallyRow
-row_tallies None tallies = tallies
-row_tallies (Some r) tallies = tallies_after_row r tallies
+-- ---- the numbers beside the Book
 
 abbrev pub lines_after : Entry → List LineRow → List LineRow
 lines_after (Boot service) lines = []
@@ -103,7 +83,11 @@ lines_after _ lines = lines
 
 -- ---- where these events are told
 module _ (told : Event → Bool) where
-  -- what the entry gives all addresses, each one's in event order
+  -- what the entry gives the address, without the ids
+  abbrev pub due : State → Entry → Jid → List Tree
+  due s e who = due_of s.book (book_after s.book e) (filter told (events s.book e)) who
+
+  -- what it gives all addresses
   abbrev pub handed_out : State → Entry → List (Jid × Tree)
   handed_out s e = all_due s.book (book_after s.book e) (filter told (events s.book e))
 

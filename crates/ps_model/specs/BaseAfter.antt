@@ -1,5 +1,5 @@
 -- What a row of a compacted store adds to the State, and where it is accepted.
-use Rattle.std.specs.Prelude.{ℕ, Bool, true, false, not, ◌&&◌, ◌||◌, ◌==◌, ◌^◌, ◌+◌, nat_le, nat_lt, length, List, [], ◌∷◌, ◌++◌, Option, Some, None, Result, Ok, Err, is_none, find, codes, decimal}
+use Rattle.std.specs.Prelude.{ℕ, Bool, true, false, not, ◌&&◌, ◌||◌, ◌==◌, ◌^◌, ◌+◌, nat_le, nat_lt, length, List, [], ◌∷◌, ◌++◌, Option, Some, None, Result, Ok, Err, is_none, find, codes}
 use Rattle.std.specs.List.{list_any}
 use Rattle.std.specs.Str.{bytes_eq}
 use Rattle.ps_types.specs.Address.{jid_text}
@@ -29,6 +29,7 @@ use Rattle.ps_model.specs.BaseRows.{BaseRow, node, affiliation, subscription, it
 use Rattle.ps_model.specs.Book.{Book, State}
 use Rattle.ps_model.specs.CheckForms.{is_collection}
 use Rattle.ps_model.specs.Entries.{end_of_time}
+use Rattle.ps_model.specs.NoticeTrees.{notice_id}
 use Rattle.ps_model.specs.Tallies.{made_for, more_made, tallies_with}
 
 -- ---- what it adds
@@ -92,10 +93,6 @@ is_collection_at (Some config) = is_collection config.node_type
 abbrev pub takes_link : LinkRow → Book → Bool
 takes_link r book =
     stands r.child book.nodes && is_collection_at (config_at r.collection book.nodes) && not (same_node r.child r.collection) && not (list_any (is_link_at r.child) book.links)
-
--- the id of the notice of that number
-abbrev pub notice_id : ℕ → List ℕ
-notice_id number = codes "n-" ++ decimal number
 
 -- the line is the print of a tree to the address with this id
 abbrev pub is_notice_line : Jid → ℕ → List ℕ → Result Tree LineRefusal → Bool

@@ -1,68 +1,13 @@
 -- The row that a tree of a compacted store is. A tree is a row only where it is just what the row is written as.
-use Rattle.std.specs.Prelude.{ℕ, Bool, true, false, List, [], ◌∷◌, Option, Some, None, Result, Ok, Err, option_map, option_and_then, map, codes, if◌then◌else◌}
+use Rattle.std.specs.Prelude.{Option, Some, None, option_map, option_and_then, map, codes, if◌then◌else◌}
 use Rattle.std.specs.Str.{bytes_eq}
 use Rattle.std.specs.Str.Parse.{digits_value}
-use Rattle.ps_types.specs.Config.{read_config}
-use Rattle.ps_types.specs.Defaults.{service_config}
-use Rattle.ps_types.specs.Forms.{form_of}
-use Rattle.ps_types.specs.Namespaces.{data_ns}
 use Rattle.ps_types.specs.Print.{print}
 use Rattle.ps_types.specs.Shape.{attr_text, children_of, tree_text, trees_of}
-use Rattle.ps_types.specs.Tree.{Tree, attr_of, child_of, is_named}
-use Rattle.ps_types.specs.Values.{choice_of}
-use Rattle.ps_types.specs.declared.config.NodeConfig.{NodeConfig}
-use Rattle.ps_types.specs.declared.jid.Jid.{Jid}
-use Rattle.ps_types.specs.declared.node.NodeKey.{NodeKey}
-use Rattle.ps_types.specs.declared.rows.RosterState.{RosterState}
-use Rattle.ps_types.specs.declared.rows.RosterState.TheVariants as roster
+use Rattle.ps_types.specs.Tree.{Tree, attr_of, is_named}
 use Rattle.ps_model.specs.BaseRows.{BaseRow, node, affiliation, subscription, item, link, contact, ver, made, counter, notice, base_ns, row_tree}
-use Rattle.ps_model.specs.Stanza.{jid_of}
 use Rattle.ps_model.specs.Words.{affil_of, sub_of}
-
-infixl 10 ◌>>=◌
-abbrev ◌>>=◌ : {A B : Type 0} → Option A → (A → Option B) → Option B
-(Some x) >>= f = f x
-None >>= f = None
-
--- ---- the parts of a row
-
-abbrev roster_choices : List (List ℕ × RosterState)
-roster_choices = (codes "none", roster.Nothing) ∷ (codes "to", roster.To) ∷ (codes "from", roster.From) ∷ (codes "both", roster.Both) ∷ []
-
-abbrev depth_choices : List (List ℕ × Bool)
-depth_choices = (codes "all", true) ∷ (codes "1", false) ∷ []
-
-abbrev type_choices : List (List ℕ × Bool)
-type_choices = (codes "items", true) ∷ (codes "nodes", false) ∷ []
-
-abbrev chosen : {T : Type 0} → List (List ℕ × T) → List ℕ → Tree → Option T
-chosen choices name t = choice_of choices (attr_text name t)
-
-abbrev jid_at : List ℕ → Tree → Option Jid
-jid_at name t = jid_of (attr_text name t)
-
-abbrev number_at : List ℕ → Tree → ℕ
-number_at name t = digits_value 10 (attr_text name t)
-
-abbrev key_of : Tree → Jid → NodeKey
-key_of t service = record { service = service; name = attr_text (codes "name") t }
-
-abbrev key_at : Tree → Option NodeKey
-key_at t = option_map (key_of t) (jid_at (codes "service") t)
-
-abbrev config_in : Result NodeConfig ℕ → Option NodeConfig
-config_in (Ok config) = Some config
-config_in (Err row) = None
-
-abbrev config_at : Tree → Option NodeConfig
-config_at t = do
-  x ← child_of (codes "x") data_ns t
-  form ← form_of x
-  config_in (read_config form service_config)
-
-abbrev first_in : List Tree → Option Tree
-first_in [] = None
-first_in (t ∷ ts) = Some t
+use Rattle.ps_model.specs.BaseFields.{◌>>=◌, roster_choices, depth_choices, type_choices, chosen, jid_at, number_at, key_at, config_at, first_in}
 
 -- ---- the rows
 

@@ -1,4 +1,6 @@
 -- The stanzas that tell of an event, without their ids.
+use Rattle.ps_types.specs.Attrs.{with_attr}
+use Rattle.std.specs.Prelude.{decimal}
 use Rattle.std.specs.Prelude.{ℕ, List, [], ◌∷◌, ◌++◌, Option, Some, None, codes}
 use Rattle.ps_types.specs.Address.{jid_text}
 use Rattle.ps_types.specs.Attrs.{attr}
@@ -103,3 +105,12 @@ abbrev pub question : Jid → Jid → Caps → Tree
 question service to caps =
     tree (codes "iq") client (attr (codes "from") (jid_text service) ∷ attr (codes "to") (jid_text to) ∷ attr (codes "type") (codes "get") ∷ [])
     (only (leaf (codes "query") info_ns (one (codes "node") (caps.node ++ codes "#" ++ caps.ver))))
+
+-- ---- ids
+
+-- the id of the notice of that number
+abbrev pub notice_id : ℕ → List ℕ
+notice_id number = codes "n-" ++ decimal number
+
+abbrev pub with_id : ℕ → Tree → Tree
+with_id number (Tree.tree name ns attrs kids) = Tree.tree name ns (with_attr (codes "id") (notice_id number) attrs) kids

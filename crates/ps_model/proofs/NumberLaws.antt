@@ -1,0 +1,224 @@
+-- The notices of a bare address are numbered one after the other.
+use Rattle.std.proofs.Common.{◌≡◌, ◌⊎◌, inl, inr, ℕ, zero, suc, ◌+◌, ◌<◌, Bool, true, false, cond, List, [], ◌∷◌, ◌++◌, length, Option, Some, None, refl, sym, ap, subst, ◌∙◌, arith}
+use Rattle.std.specs.Prelude.{slice_get, ◌^◌, ◌&&◌, ◌==◌, not, nat_lt}
+use Rattle.std.proofs.lemmas.Bool.{and_parts, eqb-true, true≢false, ltb-true}
+use Rattle.ps_types.specs.Same.{same_bare}
+use Rattle.ps_types.specs.Tree.{Tree}
+use Rattle.ps_types.specs.declared.entry.Entry.{Entry}
+use Rattle.ps_types.specs.declared.entry.Entry.TheVariants.{Boot, Change, Handed, Gone, Base}
+use Rattle.ps_types.specs.declared.entry.Notice.{Notice}
+use Rattle.ps_types.specs.declared.jid.Jid.{Jid}
+use Rattle.ps_types.specs.declared.rows.TallyRow.{TallyRow}
+use Rattle.ps_model.specs.After as step
+use Rattle.ps_model.specs.Numbered.{numbered, tallied, row_notices, row_tallies}
+use Rattle.ps_model.specs.BaseAfter.{is_bare, is_number}
+use Rattle.ps_model.specs.BaseRead.{row_of}
+use Rattle.ps_model.specs.BaseRows.{BaseRow, node, affiliation, subscription, item, link, contact, ver, made, counter, notice}
+use Rattle.ps_model.specs.Book.{State, empty_state}
+use Rattle.ps_model.specs.Built.{is_built_entry, is_built_event}
+use Rattle.ps_model.specs.Numbers.{counter_in, counter_of}
+use Rattle.ps_model.specs.Replay.{IsLawfulFrom, after, accepted, accepted_at, is_booted, lawful, notices, notices_from, row_accepted, to_address}
+use Rattle.ps_model.specs.Tallies.{made_for, more_made}
+use Rattle.ps_model.proofs.TallyLaws.{made-handed, made-kept, made-like, made-more, made-set, same_bare-turned}
+
+-- each has the number after the one before it, the first the one after m
+abbrev pub RiseFrom : ℕ → List Notice → Type 0
+RiseFrom m [] = Unit {0}
+RiseFrom m (n ∷ ns) = (n.number ≡ m + 1) × RiseFrom (m + 1) ns
+
+rise-append : (m : ℕ) (ns more : List Notice) → RiseFrom m ns → RiseFrom (m + length ns) more → RiseFrom m (ns ++ more)
+rise-append m [] more rise rest = let same : m + 0 ≡ m = omega arith in subst (λ k. RiseFrom k more) same rest
+rise-append m (n ∷ ns) more rise rest =
+    let same : m + length (n ∷ ns) ≡ m + 1 + length ns = omega arith in
+    (rise.0, rise-append (m + 1) ns more rise.1 (subst (λ k. RiseFrom k more) same rest))
+
+pub rise-at : (m : ℕ) (ns : List Notice) → RiseFrom m ns → (k : ℕ) (n : Notice) → slice_get ns k ≡ Some n → n.number ≡ m + (k + 1)
+rise-at m [] rise k n is = absurd cc
+rise-at m (x ∷ ns) rise zero n is = let same : x ≡ n = cc is in ap (λ (y : Notice). y.number) (sym same) ∙ rise.0 ∙ (let e : m + 1 ≡ m + (0 + 1) = omega arith in e)
+rise-at m (x ∷ ns) rise (suc k) n is = rise-at (m + 1) ns rise.1 k n is ∙ (let e : m + 1 + (k + 1) ≡ m + (suc k + 1) = omega arith in e)
+
+-- what the notices to the address are, and what is made for it afterwards
+record Gives (a : Jid) (before after : List TallyRow) (ns : List Notice) : Type 0 where
+  rise : RiseFrom (made_for a before) (to_address a ns)
+  makes : made_for a after ≡ made_for a before + length (to_address a ns)
+
+nothing : (a : Jid) (before after : List TallyRow) → made_for a after ≡ made_for a before → Gives a before after []
+nothing a before after same = record { rise = tt; makes = same ∙ (let e : made_for a before ≡ made_for a before + 0 = omega arith in e) }
+
+one_more : (a to : Jid) (t : Tree) (place : ℕ) (tallies : List TallyRow) (more : List (Jid × Tree)) → Gives a (more_made to 1 tallies) (tallied (more_made to 1 tallies) more) (numbered place (more_made to 1 tallies) more)
+    → (b : Bool) → same_bare to a ≡ b → Gives a tallies (tallied tallies ((to, t) ∷ more)) (numbered place tallies ((to, t) ∷ more))
+one_more a to t place tallies more gives true same =
+    let turned : same_bare a to ≡ true = same_bare-turned a to ∙ same in
+    let up : made_for a (more_made to 1 tallies) ≡ made_for a tallies + 1 = made-more a to 1 tallies turned in
+    let rest = to_address a (numbered place (more_made to 1 tallies) more) in
+    record {
+      rise = rw same (ap (λ k. k + 1) (sym (made-like a to tallies turned)), subst (λ k. RiseFrom k rest) up gives.rise);
+      makes = rw same (gives.makes ∙ ap (λ k. k + length rest) up ∙ (let e : made_for a tallies + 1 + length rest ≡ made_for a tallies + suc (length rest) = omega arith in e));
+    }
+one_more a to t place tallies more gives false same =
+    let turned : same_bare a to ≡ false = same_bare-turned a to ∙ same in
+    let stays : made_for a (more_made to 1 tallies) ≡ made_for a tallies = made-kept a to _ _ tallies turned in
+    let rest = to_address a (numbered place (more_made to 1 tallies) more) in
+    record {
+      rise = rw same (subst (λ k. RiseFrom k rest) stays gives.rise);
+      makes = rw same (gives.makes ∙ ap (λ k. k + length rest) stays);
+    }
+
+numbered-gives : (a : Jid) (place : ℕ) (tallies : List TallyRow) (due : List (Jid × Tree)) → Gives a tallies (tallied tallies due) (numbered place tallies due)
+numbered-gives a place tallies [] = nothing a tallies tallies refl
+numbered-gives a place tallies (d ∷ more) = one_more a d.0 d.1 place tallies more (numbered-gives a place (more_made d.0 1 tallies) more) (same_bare d.0 a) refl
+
+-- ---- one entry
+
+-- what the entry makes of the number from which later notices would be numbered
+abbrev ahead : Entry → Jid → ℕ → ℕ
+ahead (Base row) a other = counter_in (row_of row) a other
+ahead e a other = other
+
+record IsPlain (a : Jid) (before after : List TallyRow) (ns : List Notice) (over : ℕ → ℕ) : Type 0 where
+  gives : Gives a before after ns
+  skips : (x : ℕ) → over x ≡ x
+
+record IsCounted (a : Jid) (before after : List TallyRow) (ns : List Notice) (over : ℕ → ℕ) : Type 0 where
+  number : ℕ
+  none_before : made_for a before ≡ 0
+  no_notices : to_address a ns ≡ []
+  now : made_for a after ≡ number
+  some : 0 < number
+  takes : (x : ℕ) → over x ≡ number
+
+Stepped : Jid → List TallyRow → List TallyRow → List Notice → (ℕ → ℕ) → Type 0
+Stepped a before after ns over = IsPlain a before after ns over ⊎ IsCounted a before after ns over
+
+due-stepped : (a : Jid) (place : ℕ) (tallies : List TallyRow) (due : List (Jid × Tree)) → Stepped a tallies (tallied tallies due) (numbered place tallies due) (λ x. x)
+unfolding Stepped
+due-stepped a place tallies due = inl (record { gives = numbered-gives a place tallies due; skips = λ x. refl })
+
+same-stepped : (a : Jid) (tallies : List TallyRow) → Stepped a tallies tallies [] (λ x. x)
+unfolding Stepped
+same-stepped a tallies = inl (record { gives = nothing a tallies tallies refl; skips = λ x. refl })
+
+line-notice : ℕ → List TallyRow → Jid → List ℕ → Notice
+line-notice place tallies to line = record { to = to; place = place; number = made_for to tallies + 1; line = line }
+
+line-gives : (a to : Jid) (line : List ℕ) (place : ℕ) (tallies : List TallyRow) (b : Bool) → same_bare to a ≡ b → Gives a tallies (more_made to 1 tallies) (line-notice place tallies to line ∷ [])
+unfolding line-notice
+line-gives a to line place tallies true same =
+    let turned : same_bare a to ≡ true = same_bare-turned a to ∙ same in
+    record { rise = rw same (ap (λ k. k + 1) (sym (made-like a to tallies turned)), tt); makes = rw same (made-more a to 1 tallies turned) }
+line-gives a to line place tallies false same =
+    let turned : same_bare a to ≡ false = same_bare-turned a to ∙ same in
+    record { rise = rw same tt; makes = rw same (made-kept a to _ _ tallies turned ∙ (let e : made_for a tallies ≡ made_for a tallies + 0 = omega arith in e)) }
+
+counter-stepped : (a who : Jid) (n : ℕ) (tallies : List TallyRow) → 0 < n → made_for who tallies ≡ 0 → (b : Bool) → same_bare who a ≡ b → Stepped a tallies (row_tallies (Some (counter who n)) tallies) [] (λ x. cond b n x)
+unfolding Stepped
+counter-stepped a who n tallies some none true same =
+    let turned : same_bare a who ≡ true = same_bare-turned a who ∙ same in
+    inr (record { number = n; none_before = made-like a who tallies turned ∙ none; no_notices = refl; now = made-set a who n n tallies turned; some = some; takes = λ x. refl })
+counter-stepped a who n tallies some none false same =
+    let turned : same_bare a who ≡ false = same_bare-turned a who ∙ same in
+    inl (record { gives = nothing a tallies (row_tallies (Some (counter who n)) tallies) (made-kept a who n n tallies turned); skips = λ x. refl })
+
+all_three : (x y z : Bool) → (x && y && z) ≡ true → (y ≡ true) × (z ≡ true)
+all_three true true true e = (refl, refl)
+all_three true true false e = absurd (true≢false (sym e))
+all_three true false z e = absurd (true≢false (sym e))
+all_three false y z e = absurd (true≢false (sym e))
+
+counter-fits : (who : Jid) (n : ℕ) (s : State) → row_accepted (Some (counter who n)) s ≡ true → (0 < n) × (made_for who s.tallies ≡ 0)
+counter-fits who n s is =
+    let p = all_three (is_bare who) (is_number n) (made_for who s.tallies == 0) is in
+    (ltb-true 0 n (and_parts (nat_lt 0 n) (nat_lt n (2 ^ 62)) p.0).0, eqb-true (made_for who s.tallies) 0 p.1)
+
+row-stepped : (a : Jid) (s : State) (o : Option BaseRow) → row_accepted o s ≡ true → Stepped a s.tallies (row_tallies o s.tallies) (row_notices s.count s.tallies o) (counter_in o a)
+unfolding Stepped line-notice
+row-stepped a s None is = absurd (true≢false (sym is))
+row-stepped a s (Some (notice to line)) is = inl (record { gives = line-gives a to line s.count s.tallies (same_bare to a) refl; skips = λ x. refl })
+row-stepped a s (Some (counter who n)) is = let p = counter-fits who n s is in counter-stepped a who n s.tallies p.0 p.1 (same_bare who a) refl
+row-stepped a s (Some (node r)) is = same-stepped a s.tallies
+row-stepped a s (Some (affiliation r)) is = same-stepped a s.tallies
+row-stepped a s (Some (subscription r)) is = same-stepped a s.tallies
+row-stepped a s (Some (item r)) is = same-stepped a s.tallies
+row-stepped a s (Some (link r)) is = same-stepped a s.tallies
+row-stepped a s (Some (contact r)) is = same-stepped a s.tallies
+row-stepped a s (Some (ver r)) is = same-stepped a s.tallies
+row-stepped a s (Some (made r)) is = same-stepped a s.tallies
+
+handed-stepped : (a : Jid) (s : State) (to : Jid) → Stepped a s.tallies (after s (Handed to)).tallies [] (λ x. x)
+unfolding Stepped
+handed-stepped a s to = inl (record { gives = nothing a s.tallies (after s (Handed to)).tallies (made-handed a to s.tallies); skips = λ x. refl })
+
+entry-stepped : (a : Jid) (s : State) (e : Entry) → accepted s e ≡ true → Stepped a s.tallies (after s e).tallies (step.notices_at is_built_event s e) (ahead e a)
+entry-stepped a s (Boot service) is = due-stepped a s.count s.tallies (step.handed_out is_built_event s (Boot service))
+entry-stepped a s (Change host line moment t) is = due-stepped a s.count s.tallies (step.handed_out is_built_event s (Change host line moment t))
+entry-stepped a s (Gone host) is = due-stepped a s.count s.tallies (step.handed_out is_built_event s (Gone host))
+entry-stepped a s (Handed to) is = handed-stepped a s to
+entry-stepped a s (Base row) is = row-stepped a s (row_of row) (and_parts (not (is_booted s)) (row_accepted (row_of row) s) (and_parts (is_built_entry (Base row)) (accepted_at s (Base row)) is).1).1
+
+-- the number that the first notice of a list follows, where it would be m
+start : ℕ → List Entry → Jid → ℕ
+start m [] a = m
+start m (e ∷ E) a = ahead e a (start m E a)
+
+-- ---- whole lists
+
+-- where some were made there is no counter any more
+past-some : (a : Jid) (before after : List TallyRow) (ns : List Notice) (over : ℕ → ℕ) → 0 < made_for a before → Stepped a before after ns over → (0 < made_for a after) × ((x : ℕ) → over x ≡ x)
+unfolding Stepped
+past-some a before after ns over some (inl plain) = (let e = plain.gives.makes in omega (arith, e), plain.skips)
+past-some a before after ns over some (inr counted) = absurd (let e = counted.none_before in let no-zero : 0 < 0 = omega (arith, e) in omega (arith, no-zero))
+
+no-counter : (a : Jid) (E : List Entry) (s : State) → IsLawfulFrom s E → 0 < made_for a s.tallies → (m : ℕ) → start m E a ≡ m
+unfolding start
+no-counter a [] s is some m = refl
+no-counter a (e ∷ E) s is some m =
+    let p = past-some a s.tallies (after s e).tallies (step.notices_at is_built_event s e) (ahead e a) some (entry-stepped a s e is.0) in
+    p.1 (start m E a) ∙ no-counter a E (after s e) is.1 p.0 m
+
+-- whether the entry makes a notice for the address, or none
+some-or-none : (a : Jid) (s : State) (e : Entry) (E : List Entry) → IsLawfulFrom (after s e) E → RiseFrom (start (made_for a (after s e).tallies) E a) (notices_from is_built_event (after s e) E a)
+    → (ns : List Notice) → RiseFrom (made_for a s.tallies) ns → made_for a (after s e).tallies ≡ made_for a s.tallies + length ns
+    → RiseFrom (start (made_for a s.tallies) E a) (ns ++ notices_from is_built_event (after s e) E a)
+some-or-none a s e E is later [] rise makes =
+    let rest = notices_from is_built_event (after s e) E a in
+    let same : made_for a (after s e).tallies ≡ made_for a s.tallies = omega (arith, makes) in
+    subst (λ k. RiseFrom (start k E a) rest) same later
+some-or-none a s e E is later (n ∷ ns) rise makes =
+    let rest = notices_from is_built_event (after s e) E a in
+    let some : 0 < made_for a (after s e).tallies = omega (arith, makes) in
+    let later-from : start (made_for a (after s e).tallies) E a ≡ made_for a s.tallies + length (n ∷ ns) = no-counter a E (after s e) is some (made_for a (after s e).tallies) ∙ makes in
+    let from : start (made_for a s.tallies) E a ≡ made_for a s.tallies = no-counter a E (after s e) is some (made_for a s.tallies) in
+    rw from (rise-append (made_for a s.tallies) (n ∷ ns) rest rise (subst (λ k. RiseFrom k rest) later-from later))
+
+-- the notices of an entry, before those of the entries after it
+goes-on : (a : Jid) (s : State) (e : Entry) (E : List Entry) → IsLawfulFrom (after s e) E → RiseFrom (start (made_for a (after s e).tallies) E a) (notices_from is_built_event (after s e) E a)
+    → Stepped a s.tallies (after s e).tallies (step.notices_at is_built_event s e) (ahead e a)
+    → RiseFrom (ahead e a (start (made_for a s.tallies) E a)) (to_address a (step.notices_at is_built_event s e) ++ notices_from is_built_event (after s e) E a)
+unfolding Stepped
+goes-on a s e E is later (inr counted) =
+    let rest = notices_from is_built_event (after s e) E a in
+    let some : 0 < made_for a (after s e).tallies = rw counted.now counted.some in
+    let from : start (made_for a (after s e).tallies) E a ≡ counted.number = no-counter a E (after s e) is some (made_for a (after s e).tallies) ∙ counted.now in
+    rw (counted.no_notices, counted.takes (start (made_for a s.tallies) E a)) (subst (λ k. RiseFrom k rest) from later)
+goes-on a s e E is later (inl plain) =
+    let ns = to_address a (step.notices_at is_built_event s e) in
+    let rest = notices_from is_built_event (after s e) E a in
+    subst (λ k. RiseFrom k (ns ++ rest)) (sym (plain.skips (start (made_for a s.tallies) E a)))
+    (some-or-none a s e E is later ns plain.gives.rise plain.gives.makes)
+
+lawful-rise : (a : Jid) (E : List Entry) (s : State) → IsLawfulFrom s E → RiseFrom (start (made_for a s.tallies) E a) (notices_from is_built_event s E a)
+unfolding start
+lawful-rise a [] s is = tt
+lawful-rise a (e ∷ E) s is = goes-on a s e E is.1 (lawful-rise a E (after s e) is.1) (entry-stepped a s e is.0)
+
+start-is : (E : List Entry) (a : Jid) → start 0 E a ≡ counter_of E a
+unfolding start
+start-is [] a = refl
+start-is (Boot service ∷ E) a = start-is E a
+start-is (Change host line moment t ∷ E) a = start-is E a
+start-is (Handed to ∷ E) a = start-is E a
+start-is (Gone host ∷ E) a = start-is E a
+start-is (Base row ∷ E) a = ap (counter_in (row_of row) a) (start-is E a)
+
+pub numbers-rise : (E : List Entry) (a : Jid) → lawful E → (k : ℕ) (n : Notice) → slice_get (notices E a) k ≡ Some n → n.number ≡ counter_of E a + (k + 1)
+numbers-rise E a is k n at = rise-at (counter_of E a) (notices E a) (subst (λ m. RiseFrom m (notices E a)) (start-is E a) (lawful-rise a E empty_state is)) k n at
