@@ -1,9 +1,5 @@
 -- What an entry leaves: the Book, the events that it gives rise to, the notices that they make, and the numbers beside the Book.
-<<<<<<< HEAD
-use Rattle.std.specs.Prelude.{ℕ, ◌+◌, Bool, List, [], ◌∷◌, Option, Some, None, filter, map, codes}
-=======
 use Rattle.std.specs.Prelude.{ℕ, ◌+◌, Bool, List, [], Option, Some, None, filter, map, codes}
->>>>>>> 9bafed24cb091490f604c605175c99566745209e
 use Rattle.std.specs.List.{filter_map, flat_map}
 use Rattle.ps_types.specs.Resources.{resources_off}
 use Rattle.ps_types.specs.Shape.{attr_text}

@@ -1,21 +1,6 @@
-<<<<<<< HEAD
--- What an accepted request gives rise to, in the order in which it is told (XEP-0060 §7.1, §8; XEP-0163 §4.3.4; XEP-0115 §6.2).
-use Rattle.std.specs.Prelude.{ℕ, Bool, true, false, not, ◌&&◌, ◌||◌, List, [], ◌∷◌, ◌++◌, Option, Some, None, cond, filter, is_some, map, codes, unwrap_or}
-use Rattle.std.specs.Str.{bytes_eq}
-use Rattle.ps_types.specs.Affils.{affils_of, is_owner}
-use Rattle.ps_types.specs.Items.{last_item}
-use Rattle.ps_types.specs.Links.{collection_of}
-use Rattle.ps_types.specs.Nodes.{config_at, stands}
-use Rattle.ps_types.specs.Resources.{caps_in, resource_at, wants}
-use Rattle.ps_types.specs.Subs.{is_pending, is_subscribed, sub_at, subs_with}
-use Rattle.ps_types.specs.Values.{is_true}
-use Rattle.ps_types.specs.Vers.{ver_at}
-use Rattle.ps_types.specs.declared.config.NodeConfig.{NodeConfig}
-=======
 -- What an accepted request gives rise to, in the order in which it is told.
 use Rattle.std.specs.Prelude.{ℕ, List, [], ◌∷◌, ◌++◌, Option}
 use Rattle.ps_types.specs.Subs.{sub_at}
->>>>>>> 9bafed24cb091490f604c605175c99566745209e
 use Rattle.ps_types.specs.declared.event.Event.{Event}
 use Rattle.ps_types.specs.declared.event.Event.TheVariants as event
 use Rattle.ps_types.specs.declared.request.Ask.{Ask}
