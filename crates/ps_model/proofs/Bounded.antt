@@ -1,6 +1,6 @@
 -- No change makes a node hold more items than it may.
-use Rattle.std.proofs.Common.{◌≡◌, ℕ, ◌+◌, ◌<◌, ◌≤◌, Bool, true, false, cond, not, List, [], ◌∷◌, ◌++◌, Option, Some, None, option_map, refl, sym, ap, ◌∙◌, subst, arith}
-use Rattle.std.specs.Prelude.{Result, Ok, Err, count_by}
+use Rattle.std.proofs.Common.{◌≡◌, ℕ, ◌≤◌, Bool, true, false, cond, not, List, [], ◌∷◌, ◌++◌, Option, Some, None, refl, arith}
+use Rattle.std.specs.Prelude.{Result, Ok, Err}
 use Rattle.std.specs.Option.{option_or}
 use Rattle.std.proofs.lemmas.List.Folds.{find-append}
 use Rattle.ps_base.specs.Rows.{without}
@@ -15,7 +15,7 @@ use Rattle.ps_types.specs.declared.rows.NodeRow.{NodeRow}
 use Rattle.ps_types.specs.Config.{config_type}
 use Rattle.ps_types.specs.Defaults.{default_config}
 use Rattle.ps_types.specs.Forms.{form_of}
-use Rattle.ps_types.specs.Items.{is_item_at, is_item_of, item_count, items_with, items_except, items_without}
+use Rattle.ps_types.specs.Items.{is_item_at, is_item_of, item_count, items_with, items_without}
 use Rattle.ps_types.specs.Nodes.{is_node, node_at}
 use Rattle.ps_types.specs.Same.{same_node}
 use Rattle.ps_types.specs.Tree.{Tree}

@@ -1,5 +1,5 @@
 -- Kind by kind: no change makes a node hold more items than it may.
-use Rattle.std.proofs.Common.{◌≡◌, ℕ, Bool, true, false, List, Option, Some, None, refl}
+use Rattle.std.proofs.Common.{ℕ, Bool, true, false, List, Option, Some, None, refl}
 use Rattle.std.specs.Prelude.{Result, Ok, Err}
 use Rattle.ps_types.specs.declared.config.SubOptions.{SubOptions}
 use Rattle.ps_types.specs.declared.denial.Condition.{Condition}

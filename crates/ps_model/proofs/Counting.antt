@@ -1,9 +1,9 @@
 -- How many rows pass a test, where rows go or come.
-use Rattle.std.proofs.Common.{◌≡◌, ℕ, ◌+◌, ◌<◌, ◌≤◌, Bool, true, false, cond, not, List, [], ◌∷◌, ◌++◌, refl, sym, ap, ◌∙◌, arith}
+use Rattle.std.proofs.Common.{◌≡◌, ℕ, ◌+◌, ◌<◌, ◌≤◌, Bool, true, false, cond, not, List, [], ◌∷◌, refl, arith}
 use Rattle.std.specs.Prelude.{filter, count_by, nat_le, ◌&&◌}
 use Rattle.std.proofs.lemmas.Bool.Decides.{nat_tests}
 use Rattle.ps_base.specs.Rows.{without, keep_newest}
-use Rattle.ps_base.proofs.Rows.{count_by-cons, count_by-push}
+use Rattle.ps_base.proofs.Rows.{count_by-cons}
 
 module _ {R : Type 0} (p q : R → Bool) where
   filter-step : (x : R) (xs : List R) (b : Bool) → count_by p (filter q xs) ≤ count_by p xs → count_by p (cond b (x ∷ filter q xs) (filter q xs)) ≤ cond (p x) 1 0 + count_by p xs

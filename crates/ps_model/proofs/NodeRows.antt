@@ -1,7 +1,5 @@
 -- The row of a node where nodes come, go and change.
-use Rattle.std.proofs.Common.{◌≡◌, Bool, true, false, cond, not, List, [], ◌∷◌, ◌++◌, Option, Some, None, option_map, refl, sym, ap, ◌∙◌, subst}
-use Rattle.std.specs.Prelude.{find}
-use Rattle.ps_base.specs.Rows.{without, change_row}
+use Rattle.std.proofs.Common.{◌≡◌, Bool, true, false, cond, not, List, [], ◌∷◌, Some, option_map, refl, sym, ap, ◌∙◌}
 use Rattle.ps_types.specs.declared.config.NodeConfig.{NodeConfig}
 use Rattle.ps_types.specs.declared.node.NodeKey.{NodeKey}
 use Rattle.ps_types.specs.declared.rows.NodeRow.{NodeRow}
