@@ -14,13 +14,8 @@ pub use examples::{
     decided_in_order, deep_notice, last_item, near_notice, one_boot_store, plain_notice,
     sent_again, stamps, wanted_items,
 };
-<<<<<<< HEAD
-pub use laws::{lawful_prefix, notices_grow, numbers_rise, replay_goes_on};
-pub use request_laws::{one_request, spelled_is_taken};
-=======
 pub use laws::{lawful_prefix, nobody_missed, notices_grow, numbers_rise, replay_goes_on};
 pub use request_laws::{line_reads, one_request, spelled_is_taken};
->>>>>>> 14e3e1abe947869f26f21269de52ba2067cefcae
 pub use steps::{Role, Step};
 pub use store_laws::{damaged_has_none, one_damage, one_list};
 pub use worked::{access_cases, denied_cases, node_cases};
