@@ -7,10 +7,17 @@ pub mod OneAt
 pub mod OneList
 pub mod StoreExample
 pub mod TallyLaws
-mod Spelling
-mod SpellingKinds
-mod AccessLaws
-mod Counting
-mod NodeRows
-mod Bounded
-mod ChangedBounded
+pub mod Spelling
+pub mod SpellingKinds
+pub mod AccessLaws
+pub mod Counting
+pub mod NodeRows
+pub mod Bounded
+pub mod ChangedBounded
+pub mod Playing
+pub mod WorkedWhitelist
+pub mod WorkedAuthorize
+pub mod WorkedPresence
+pub mod WorkedRefusals
+pub mod WorkedNodes
+pub mod LineLaws

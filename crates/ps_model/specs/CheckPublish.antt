@@ -22,7 +22,6 @@ use Rattle.ps_types.specs.Print.{print}
 use Rattle.ps_types.specs.Tree.{Tree}
 use Rattle.ps_model.specs.Access.{publish, own, affiliation, is_own_account}
 use Rattle.ps_model.specs.Book.{Book}
-use Rattle.ps_model.specs.Built.{built_config}
 use Rattle.ps_model.specs.CheckCreate.{node_limit_step}
 use Rattle.ps_model.specs.CheckForms.{node_of, is_collection, config_or, collection_step, is_unmoved}
 use Rattle.ps_model.specs.SameRows.{same_config}
@@ -70,10 +69,14 @@ abbrev pub met_step : Result NodeConfig Condition → NodeConfig → Option Cond
 met_step (Err why) base = Some why
 met_step (Ok config) base = first_denial (unless (is_unmoved base config && not (is_collection config.node_type)) C14 ∷ unless (same_config config base) C9 ∷ [])
 
+abbrev pub options_step : Option Tree → NodeConfig → Option Condition
+options_step None base = None
+options_step (Some t) base = met_step (form_options (form_of t) base) base
+
 -- for a node that the publish makes they change the defaults of an account
-abbrev pub made_step : Result NodeConfig Condition → Book → Request → Option Condition
-made_step (Err why) book r = Some why
-made_step (Ok config) book r = first_denial (unless (not (is_collection config.node_type)) C14 ∷ built_config config ∷ collection_step book r config.collection ∷ [])
+abbrev pub made_step : (NodeConfig → Option Condition) → Result NodeConfig Condition → Book → Request → Option Condition
+made_step limits (Err why) book r = Some why
+made_step limits (Ok config) book r = first_denial (unless (not (is_collection config.node_type)) C14 ∷ limits config ∷ collection_step book r config.collection ∷ [])
 
 -- ---- the item
 
@@ -107,21 +110,21 @@ made_item_steps (Ok config) items = item_steps config items
 
 -- ---- the requests
 
-abbrev pub publish_new_steps : Book → Request → List AskItem → Result NodeConfig Condition → List (Option Condition)
-publish_new_steps book r items config = made_step config book r ∷ made_item_steps config items ++ node_limit_step book r ∷ []
+abbrev pub publish_new_steps : (NodeConfig → Option Condition) → Book → Request → List AskItem → Result NodeConfig Condition → List (Option Condition)
+publish_new_steps limits book r items config = made_step limits config book r ∷ made_item_steps config items ++ node_limit_step book r ∷ []
 
 -- an account that publishes to a node of its own that isn't there makes it (XEP-0163 §3)
-abbrev pub publish_by : Option NodeRow → Book → Request → List ℕ → List AskItem → Option Tree → List (Option Condition)
-publish_by None book r node items options =
-    if is_own_account r.target r.from then publish_new_steps book r items (options_config options (default_config true)) else Some C12 ∷ []
-publish_by (Some row) book r node items options =
+abbrev pub publish_by : (NodeConfig → Option Condition) → Option NodeRow → Book → Request → List ℕ → List AskItem → Option Tree → List (Option Condition)
+publish_by limits None book r node items options =
+    if is_own_account r.target r.from then publish_new_steps limits book r items (options_config options (default_config true)) else Some C12 ∷ []
+publish_by limits (Some row) book r node items options =
     leaf_by (Some row)
     ∷ denied_by (publish book (node_of r node) r.from)
-    ∷ met_step (options_config options row.config) row.config
+    ∷ options_step options row.config
     ∷ item_steps row.config items
 
-abbrev pub publish_steps : Book → Request → List ℕ → List AskItem → Option Tree → List (Option Condition)
-publish_steps book r node items options = publish_by (node_at (node_of r node) book.nodes) book r node items options
+abbrev pub publish_steps : (NodeConfig → Option Condition) → Book → Request → List ℕ → List AskItem → Option Tree → List (Option Condition)
+publish_steps limits book r node items options = publish_by limits (node_at (node_of r node) book.nodes) book r node items options
 
 -- an owner and a publisher may take items away
 abbrev pub may_retract : Affil → Bool

@@ -52,10 +52,12 @@ pub mod ItemIds
 pub mod Last
 pub mod Lists
 pub mod Machine
+pub mod Notation
 pub mod NoticeTrees
 pub mod Numbered
 pub mod Numbers
 pub mod Outcome
+pub mod Played
 pub mod Replay
 pub mod Replies
 pub mod SameRows
@@ -78,5 +80,8 @@ pub mod TheCore
 pub mod TwoWorlds
 pub mod Ways
 pub mod Words
+pub mod WorkedAccess
+pub mod WorkedNodes
+pub mod WorkedRefusals
 pub mod Worked
 pub mod World

@@ -7,6 +7,7 @@ mod laws;
 mod request_laws;
 mod steps;
 mod store_laws;
+mod worked;
 
 pub use access_laws::{nodes_stay_bounded, outcast_is_forbidden};
 pub use examples::{
@@ -14,6 +15,7 @@ pub use examples::{
     one_boot_store, plain_notice, sent_again, stamps, wanted_items,
 };
 pub use laws::{lawful_prefix, nobody_missed, notices_grow, numbers_rise, replay_goes_on};
-pub use request_laws::{one_request, spelled_is_taken};
+pub use request_laws::{line_reads, one_request, spelled_is_taken};
 pub use steps::{Role, Step};
 pub use store_laws::{damaged_has_none, one_damage, one_list};
+pub use worked::{access_cases, denied_cases, node_cases};

@@ -1,10 +1,24 @@
 // Laws of what a line is taken as. Each function is its contract.
-ghost use Rattle.std.specs.Prelude.{◌≡◌, List, ℕ};
-ghost use Rattle.ps_types.specs.Tree.{Tree};
+ghost use Rattle.std.specs.Prelude.{◌≡◌, ◌<◌, List, ℕ, None, Some, Ok, Err};
+ghost use Rattle.serde_json.specs.Data.{Data};
+ghost use Rattle.ps_types.specs.declared.denial.LineRefusal.TheVariants.{L2, L3, L4};
+ghost use Rattle.ps_types.specs.Form.{max_levels};
+ghost use Rattle.ps_types.specs.LineTree.{line_tree};
+ghost use Rattle.ps_types.specs.Print.{client};
+ghost use Rattle.ps_types.specs.Reading.{IsJson, Reads, tree_of};
+ghost use Rattle.ps_types.specs.Tree.{Tree, levels};
 ghost use Rattle.ps_types.specs.declared.request.Request.{Request};
 ghost use Rattle.ps_model.specs.Spelled.{SpellsRequest};
 ghost use Rattle.ps_model.specs.Taken.{asked};
 ghost use Rattle.ps_model.specs.Taking.{stanza_taken};
+
+/// The tree that a text reads as is the tree of the line, and the line refusal says why there is none.
+pub fn line_reads()
+    ensures tree { (text : List ℕ) (t : Tree) → Reads text t → line_tree text ≡ Ok t }
+    ensures not_json { (text : List ℕ) → ((d : Data) → ¬ IsJson text d) → line_tree text ≡ Err L2 }
+    ensures not_a_tree { (text : List ℕ) (d : Data) → IsJson text d → tree_of client d ≡ None → line_tree text ≡ Err L3 }
+    ensures too_deep { (text : List ℕ) (d : Data) (t : Tree) → IsJson text d → tree_of client d ≡ Some t → max_levels < levels t → line_tree text ≡ Err L4 }
+{}
 
 /// A tree that spells a request is taken as that request.
 pub fn spelled_is_taken()

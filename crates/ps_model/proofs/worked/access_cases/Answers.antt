@@ -1,0 +1,13 @@
+use Rattle.ps_model.proofs.WorkedAuthorize.{authorize}
+use Rattle.ps_model.proofs.WorkedPresence.{presence}
+use Rattle.ps_model.proofs.WorkedWhitelist.{whitelist}
+use Rattle.ps_model.proofs.worked.access_cases.Goals as goal
+
+pub returns-clause-whitelist : goal.returns-clause-whitelist
+returns-clause-whitelist c = whitelist
+
+pub returns-clause-authorize : goal.returns-clause-authorize
+returns-clause-authorize c = authorize
+
+pub returns-clause-presence : goal.returns-clause-presence
+returns-clause-presence c = presence
