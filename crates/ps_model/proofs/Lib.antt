@@ -1,5 +1,6 @@
 pub mod Asked
 pub mod Computed
+pub mod ComputedBase
 pub mod Going
 pub mod NumberLaws
 pub mod OneAt

@@ -39,6 +39,7 @@ pub mod EventNodes
 pub mod EventPresence
 pub mod EventSubs
 pub mod Events
+pub mod ExampleBase
 pub mod ExampleCollections
 pub mod ExampleCrash
 pub mod ExampleNotice
