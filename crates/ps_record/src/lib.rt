@@ -19,3 +19,6 @@ pub use laws::one_entry;
 pub use raw::u32_at;
 pub use reading::{EntryRefusal, read_entry};
 pub use writing::put_entry;
+
+#[cfg(test)]
+mod tests;
