@@ -1,0 +1,15 @@
+use Rattle.std.proofs.Common.{◌≡◌, List, Option, sym, ap, subst, ◌∙◌, option_map}
+use Rattle.std.specs.Prelude.{option_and_then, IfOk}
+use Rattle.ps_types.specs.Elem.{nodes}
+use Rattle.ps_types.specs.Namespaces.{pubsub_ns}
+use Rattle.ps_types.specs.Tree.{Tree}
+use Rattle.ps_model.specs.Grammar.{form_in}
+use Rattle.ps_request.proofs.Children.{child-next, form-next}
+use Rattle.ps_request.proofs.kids.form_behind.Goals as goal
+
+pub returns-in-Some : goal.returns-in-Some
+returns-in-Some c =
+    subst (λ (form : Option Tree). IfOk c.form_of_part.result (λ (made : Option Tree). made ≡ form)) (form-next c.args.name.now (nodes c.args.rest.now) _ c.in-Some.ensures.next) c.form_of_part.ensures
+
+pub returns-in-None : goal.returns-in-None
+returns-in-None c = form-next c.args.name.now (nodes c.args.rest.now) _ c.in-None.ensures.next

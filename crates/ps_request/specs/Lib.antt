@@ -1,0 +1,3 @@
+pub mod Answer
+pub mod Kids
+pub mod Only
