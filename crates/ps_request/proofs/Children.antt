@@ -2,6 +2,10 @@
 use Rattle.std.proofs.Common.{◌≡◌, ℕ, Bool, true, false, cond, ◌==◌, List, [], ◌∷◌, ◌++◌, length, Option, Some, None, unwrap_or, option_map, filter, map, refl, sym, ap, subst, ◌∙◌, append_assoc, append-nil, arith}
 use Rattle.std.specs.Prelude.{is_none, is_some, not, option_and_then}
 use Rattle.std.proofs.lemmas.Bool.Decides.{nat_tests}
+use Rattle.std.proofs.lemmas.List.Elements.{filter_map-append}
+use Rattle.std.specs.List.{filter_map}
+use Rattle.ps_types.specs.declared.form.Field.{Field}
+use Rattle.ps_types.specs.Forms.{field_of}
 use Rattle.ps_types.specs.declared.request.AskRow.{AskRow}
 use Rattle.ps_types.specs.Namespaces.{pubsub_ns}
 use Rattle.ps_types.specs.Shape.{attr_text, trees_in}
@@ -131,3 +135,13 @@ only-one name ns n r t e f = sym (ap only (found name ns n t r (sym e) ∙ ap (�
 
 pub only-none : (name ns : List ℕ) (n : Nodes) → None ≡ next_named name ns n → None ≡ only (named name ns n)
 only-none name ns n e = sym (ap only (absent name ns n (sym e)))
+
+-- one more field
+pub more-fields : (done new all : List Field) (xs : List Tree) (t : Tree) (rest : List Tree)
+    → xs ≡ t ∷ rest → new ≡ done ++ filter_map field_of (t ∷ []) → done ++ filter_map field_of xs ≡ all → new ++ filter_map field_of rest ≡ all
+more-fields done new all xs t rest e n h =
+    ap (λ (l : List Field). l ++ filter_map field_of rest) n ∙ append_assoc done (filter_map field_of (t ∷ [])) (filter_map field_of rest)
+    ∙ ap (λ (l : List Field). done ++ l) (sym (filter_map-append field_of (t ∷ []) rest)) ∙ ap (λ (l : List Tree). done ++ filter_map field_of l) (sym e) ∙ h
+
+pub no-fields : (done all : List Field) (xs : List Tree) → xs ≡ [] → done ++ filter_map field_of xs ≡ all → done ≡ all
+no-fields done all xs e h = sym (append-nil done) ∙ ap (λ (l : List Tree). done ++ filter_map field_of l) (sym e) ∙ h

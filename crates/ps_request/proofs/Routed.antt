@@ -1,5 +1,5 @@
 -- Capabilities that have all their parts, and one contact.
-use Rattle.std.proofs.Common.{◌≡◌, ℕ, false, ◌==◌, List, [], ◌∷◌, length, Option, Some, refl, subst}
+use Rattle.std.proofs.Common.{◌≡◌, ℕ, false, ◌==◌, List, [], ◌∷◌, length, Option, Some, refl}
 use Rattle.ps_types.specs.declared.rows.Caps.{Caps}
 use Rattle.ps_model.specs.AskRouter.{caps_by}
 

@@ -14,3 +14,5 @@ pub(crate) const ITEMS: &str = "http://jabber.org/protocol/disco#items";
 pub(crate) const CAPS: &str = "http://jabber.org/protocol/caps";
 
 pub(crate) const ROSTER: &str = "jabber:iq:roster";
+
+pub(crate) const AUTHORIZATION: &str = "http://jabber.org/protocol/pubsub#subscribe_authorization";

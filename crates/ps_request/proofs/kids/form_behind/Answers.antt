@@ -1,10 +1,8 @@
-use Rattle.std.proofs.Common.{◌≡◌, List, Option, sym, ap, subst, ◌∙◌, option_map}
-use Rattle.std.specs.Prelude.{option_and_then, IfOk}
+use Rattle.std.proofs.Common.{◌≡◌, Option, subst}
+use Rattle.std.specs.Prelude.{IfOk}
 use Rattle.ps_types.specs.Elem.{nodes}
-use Rattle.ps_types.specs.Namespaces.{pubsub_ns}
 use Rattle.ps_types.specs.Tree.{Tree}
-use Rattle.ps_model.specs.Grammar.{form_in}
-use Rattle.ps_request.proofs.Children.{child-next, form-next}
+use Rattle.ps_request.proofs.Children.{form-next}
 use Rattle.ps_request.proofs.kids.form_behind.Goals as goal
 
 pub returns-in-Some : goal.returns-in-Some

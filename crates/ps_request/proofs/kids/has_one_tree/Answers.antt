@@ -1,4 +1,4 @@
-use Rattle.std.proofs.Common.{◌≡◌, ◌==◌, length, ap, sym, ◌∙◌}
+use Rattle.std.proofs.Common.{◌==◌, length, ap, ◌∙◌}
 use Rattle.std.specs.Prelude.{is_none}
 use Rattle.ps_types.specs.Elem.{nodes}
 use Rattle.ps_types.specs.Shape.{trees_in}

@@ -1,4 +1,4 @@
-use Rattle.std.proofs.Common.{◌≡◌, ℕ, List, Err, subst}
+use Rattle.std.proofs.Common.{ℕ, List, Err, subst}
 use Rattle.ps_types.specs.Address.{Spells}
 use Rattle.ps_types.specs.declared.jid.Jid.{Jid}
 use Rattle.ps_request.proofs.Addresses.{jid-spelled, jid-none}
