@@ -20,3 +20,5 @@ pub mod WorkedPresence
 pub mod WorkedRefusals
 pub mod WorkedNodes
 pub mod LineLaws
+pub mod Splits
+pub mod AskedKinds
