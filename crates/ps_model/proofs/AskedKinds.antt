@@ -31,23 +31,23 @@ module _ (service : List ℕ) (t : Tree) (from target : Jid) where
   abbrev Is : Ask → Type 0
   Is a = IsAsk service t from target a
 
-  made : (m a : Ask) → Is m → given m ≡ given a → Is a
+  pub made : (m a : Ask) → Is m → given m ≡ given a → Is a
   made m a h e = subst Is (given-same m a e) h
 
   -- ---- who publishes
 
-  create-from : (part : Tree) (rest : Nodes) (a : Ask) → IsPubsub (codes "set") pubsub_ns (codes "create") t part rest → create_ask part rest ≡ given a → Is a
+  pub create-from : (part : Tree) (rest : Nodes) (a : Ask) → IsPubsub (codes "set") pubsub_ns (codes "create") t part rest → create_ask part rest ≡ given a → Is a
   create-from part rest a p h =
       let both = unless-given (named_step C27 (node_in part)) (given (ask.Create (node_in part) (form_after (codes "configure") rest))) a h in
       made (ask.Create (node_in part) (form_after (codes "configure") rest)) a (record { part = part; rest = rest; pubsub = p; named = node-named C27 (node_in part) both.0; node_is = refl; form_is = refl }) both.1
 
-  publish-from : (part : Tree) (rest : Nodes) (a : Ask) → IsPubsub (codes "set") pubsub_ns (codes "publish") t part rest → publish_ask part rest ≡ given a → Is a
+  pub publish-from : (part : Tree) (rest : Nodes) (a : Ask) → IsPubsub (codes "set") pubsub_ns (codes "publish") t part rest → publish_ask part rest ≡ given a → Is a
   publish-from part rest a p h =
       let m : Ask = ask.Publish (node_in part) (map item_in (items_in part)) (form_after (codes "publish-options") rest) in
       let both = unless-given (named_step C3 (node_in part)) (given m) a h in
       made m a (record { part = part; rest = rest; pubsub = p; named = node-named C3 (node_in part) both.0; node_is = refl; items_is = refl; options_is = refl }) both.1
 
-  retract-from : (part : Tree) (rest : Nodes) (a : Ask) → IsPubsub (codes "set") pubsub_ns (codes "retract") t part rest → retract_ask part ≡ given a → Is a
+  pub retract-from : (part : Tree) (rest : Nodes) (a : Ask) → IsPubsub (codes "set") pubsub_ns (codes "retract") t part rest → retract_ask part ≡ given a → Is a
   retract-from part rest a p h =
       let m : Ask = ask.Retract (node_in part) (map id_in (items_in part)) (is_true (attr_text (codes "notify") part)) in
       let both = unless-given (named_step C3 (node_in part)) (given m) a h in
@@ -55,33 +55,33 @@ module _ (service : List ℕ) (t : Tree) (from target : Jid) where
 
   -- ---- an owner
 
-  purge-from : (part : Tree) (rest : Nodes) (a : Ask) → IsPubsub (codes "set") owner_ns (codes "purge") t part rest → purge_ask part ≡ given a → Is a
+  pub purge-from : (part : Tree) (rest : Nodes) (a : Ask) → IsPubsub (codes "set") owner_ns (codes "purge") t part rest → purge_ask part ≡ given a → Is a
   purge-from part rest a p h =
       let both = unless-given (named_step C3 (node_in part)) (given (ask.Purge (node_in part))) a h in
       made (ask.Purge (node_in part)) a (part, record { rest = rest; pubsub = p; named = node-named C3 (node_in part) both.0; node_is = refl }) both.1
 
-  delete-from : (part : Tree) (rest : Nodes) (a : Ask) → IsPubsub (codes "set") owner_ns (codes "delete") t part rest → delete_ask part ≡ given a → Is a
+  pub delete-from : (part : Tree) (rest : Nodes) (a : Ask) → IsPubsub (codes "set") owner_ns (codes "delete") t part rest → delete_ask part ≡ given a → Is a
   delete-from part rest a p h =
       let both = unless-given (named_step C3 (node_in part)) (given (ask.Delete (node_in part))) a h in
       made (ask.Delete (node_in part)) a (part, record { rest = rest; pubsub = p; named = node-named C3 (node_in part) both.0; node_is = refl }) both.1
 
-  config-get-from : (part : Tree) (rest : Nodes) (a : Ask) → IsPubsub (codes "get") owner_ns (codes "configure") t part rest → config_get_ask part ≡ given a → Is a
+  pub config-get-from : (part : Tree) (rest : Nodes) (a : Ask) → IsPubsub (codes "get") owner_ns (codes "configure") t part rest → config_get_ask part ≡ given a → Is a
   config-get-from part rest a p h =
       let both = unless-given (named_step C3 (node_in part)) (given (ask.ConfigGet (node_in part))) a h in
       made (ask.ConfigGet (node_in part)) a (part, record { rest = rest; pubsub = p; named = node-named C3 (node_in part) both.0; node_is = refl }) both.1
 
-  config-set-from : (part : Tree) (rest : Nodes) (a : Ask) → IsPubsub (codes "set") owner_ns (codes "configure") t part rest → config_set_ask part ≡ given a → Is a
+  pub config-set-from : (part : Tree) (rest : Nodes) (a : Ask) → IsPubsub (codes "set") owner_ns (codes "configure") t part rest → config_set_ask part ≡ given a → Is a
   config-set-from part rest a p h =
       let m : Ask = ask.ConfigSet (node_in part) (form_in part) in
       let both = unless-given (named_step C3 (node_in part)) (given m) a h in
       made m a (part, record { rest = rest; pubsub = p; named = node-named C3 (node_in part) both.0; node_is = refl }, refl) both.1
 
-  affils-get-from : (part : Tree) (rest : Nodes) (a : Ask) → IsPubsub (codes "get") owner_ns (codes "affiliations") t part rest → affils_get_ask part ≡ given a → Is a
+  pub affils-get-from : (part : Tree) (rest : Nodes) (a : Ask) → IsPubsub (codes "get") owner_ns (codes "affiliations") t part rest → affils_get_ask part ≡ given a → Is a
   affils-get-from part rest a p h =
       let both = unless-given (named_step C3 (node_in part)) (given (ask.AffilsGet (node_in part))) a h in
       made (ask.AffilsGet (node_in part)) a (part, record { rest = rest; pubsub = p; named = node-named C3 (node_in part) both.0; node_is = refl }) both.1
 
-  subs-get-from : (part : Tree) (rest : Nodes) (a : Ask) → IsPubsub (codes "get") owner_ns (codes "subscriptions") t part rest → subs_get_ask part ≡ given a → Is a
+  pub subs-get-from : (part : Tree) (rest : Nodes) (a : Ask) → IsPubsub (codes "get") owner_ns (codes "subscriptions") t part rest → subs_get_ask part ≡ given a → Is a
   subs-get-from part rest a p h =
       let both = unless-given (named_step C3 (node_in part)) (given (ask.SubsGet (node_in part))) a h in
       made (ask.SubsGet (node_in part)) a (part, record { rest = rest; pubsub = p; named = node-named C3 (node_in part) both.0; node_is = refl }) both.1
@@ -94,7 +94,7 @@ module _ (service : List ℕ) (t : Tree) (from target : Jid) where
   affils-by part rest a None p n e h = absurd (cc)
   affils-by part rest a (Some rows) p n e h = made (ask.AffilsSet (node_in part) rows) a (part, record { rest = rest; pubsub = p; named = n; node_is = refl }, rows-spelled (codes "affiliation") (affil_trees part) rows e) h
 
-  affils-set-from : (part : Tree) (rest : Nodes) (a : Ask) → IsPubsub (codes "set") owner_ns (codes "affiliations") t part rest → affils_set_ask part ≡ given a → Is a
+  pub affils-set-from : (part : Tree) (rest : Nodes) (a : Ask) → IsPubsub (codes "set") owner_ns (codes "affiliations") t part rest → affils_set_ask part ≡ given a → Is a
   affils-set-from part rest a p h =
       let both = unless-given (named_step C3 (node_in part)) (affils_by (node_in part) (rows_in (codes "affiliation") (affil_trees part))) a h in
       affils-by part rest a (rows_in (codes "affiliation") (affil_trees part)) p (node-named C3 (node_in part) both.0) refl both.1
@@ -107,24 +107,24 @@ module _ (service : List ℕ) (t : Tree) (from target : Jid) where
   subs-by part rest a None p n e h = absurd (cc)
   subs-by part rest a (Some rows) p n e h = made (ask.SubsSet (node_in part) rows) a (part, record { rest = rest; pubsub = p; named = n; node_is = refl }, rows-spelled (codes "subscription") (sub_trees part) rows e) h
 
-  subs-set-from : (part : Tree) (rest : Nodes) (a : Ask) → IsPubsub (codes "set") owner_ns (codes "subscriptions") t part rest → subs_set_ask part ≡ given a → Is a
+  pub subs-set-from : (part : Tree) (rest : Nodes) (a : Ask) → IsPubsub (codes "set") owner_ns (codes "subscriptions") t part rest → subs_set_ask part ≡ given a → Is a
   subs-set-from part rest a p h =
       let both = unless-given (named_step C3 (node_in part)) (subs_by (node_in part) (rows_in (codes "subscription") (sub_trees part))) a h in
       subs-by part rest a (rows_in (codes "subscription") (sub_trees part)) p (node-named C3 (node_in part) both.0) refl both.1
 
   -- ---- who subscribes or reads
 
-  my-affils-from : (part : Tree) (rest : Nodes) (a : Ask) → IsPubsub (codes "get") pubsub_ns (codes "affiliations") t part rest → my_affils_ask part ≡ given a → Is a
+  pub my-affils-from : (part : Tree) (rest : Nodes) (a : Ask) → IsPubsub (codes "get") pubsub_ns (codes "affiliations") t part rest → my_affils_ask part ≡ given a → Is a
   my-affils-from part rest a p h =
       let both = unless-given (node_step (node_in part)) (given (ask.MyAffils (node_in part))) a h in
       made (ask.MyAffils (node_in part)) a (record { part = part; rest = rest; pubsub = p; short = node-short (node_in part) both.0; node_is = refl }) both.1
 
-  my-subs-from : (part : Tree) (rest : Nodes) (a : Ask) → IsPubsub (codes "get") pubsub_ns (codes "subscriptions") t part rest → my_subs_ask part ≡ given a → Is a
+  pub my-subs-from : (part : Tree) (rest : Nodes) (a : Ask) → IsPubsub (codes "get") pubsub_ns (codes "subscriptions") t part rest → my_subs_ask part ≡ given a → Is a
   my-subs-from part rest a p h =
       let both = unless-given (node_step (node_in part)) (given (ask.MySubs (node_in part))) a h in
       made (ask.MySubs (node_in part)) a (record { part = part; rest = rest; pubsub = p; short = node-short (node_in part) both.0; node_is = refl }) both.1
 
-  items-get-from : (part : Tree) (rest : Nodes) (a : Ask) → IsPubsub (codes "get") pubsub_ns (codes "items") t part rest → items_get_ask part ≡ given a → Is a
+  pub items-get-from : (part : Tree) (rest : Nodes) (a : Ask) → IsPubsub (codes "get") pubsub_ns (codes "items") t part rest → items_get_ask part ≡ given a → Is a
   items-get-from part rest a p h =
       let m : Ask = ask.ItemsGet (node_in part) (attr_text (codes "max_items") part) (map id_in (children_of (codes "item") pubsub_ns part)) in
       let both = unless-given (named_step C3 (node_in part)) (given m) a h in
@@ -153,7 +153,7 @@ module _ (service : List ℕ) (t : Tree) (from target : Jid) where
       let own = own-by C2 who part (jid_in part) refl e in
       made (ask.Subscribe (node_in part) who (form_after (codes "options") rest)) a (part, rest, record { pubsub = p; named = n; node_is = refl; who_is = jid-spelled (attr_text (codes "jid") part) who own.0; own = own.1 }, refl) h
 
-  subscribe-from : (part : Tree) (rest : Nodes) (a : Ask) → IsPubsub (codes "set") pubsub_ns (codes "subscribe") t part rest → subscribe_ask part rest from ≡ given a → Is a
+  pub subscribe-from : (part : Tree) (rest : Nodes) (a : Ask) → IsPubsub (codes "set") pubsub_ns (codes "subscribe") t part rest → subscribe_ask part rest from ≡ given a → Is a
   subscribe-from part rest a p h =
       let both = unless-given (named_step C3 (node_in part)) (subscribe_by (node_in part) (own_address C2 from (jid_in part)) (form_after (codes "options") rest)) a h in
       subscribe-by part rest a (own_address C2 from (jid_in part)) p (node-named C3 (node_in part) both.0) refl both.1
@@ -165,7 +165,7 @@ module _ (service : List ℕ) (t : Tree) (from target : Jid) where
       let own = own-by C11 who part (jid_in part) refl e in
       made (ask.Unsubscribe (node_in part) who (attr_text (codes "subid") part)) a (part, rest, record { pubsub = p; named = n; node_is = refl; who_is = jid-spelled (attr_text (codes "jid") part) who own.0; own = own.1 }, refl) h
 
-  unsubscribe-from : (part : Tree) (rest : Nodes) (a : Ask) → IsPubsub (codes "set") pubsub_ns (codes "unsubscribe") t part rest → unsubscribe_ask part from ≡ given a → Is a
+  pub unsubscribe-from : (part : Tree) (rest : Nodes) (a : Ask) → IsPubsub (codes "set") pubsub_ns (codes "unsubscribe") t part rest → unsubscribe_ask part from ≡ given a → Is a
   unsubscribe-from part rest a p h =
       let both = unless-given (named_step C3 (node_in part)) (unsubscribe_by (node_in part) (own_address C11 from (jid_in part)) (attr_text (codes "subid") part)) a h in
       unsubscribe-by part rest a (own_address C11 from (jid_in part)) p (node-named C3 (node_in part) both.0) refl both.1
@@ -177,7 +177,7 @@ module _ (service : List ℕ) (t : Tree) (from target : Jid) where
       let own = own-by C11 who part (jid_in part) refl e in
       made (ask.OptionsGet (node_in part) who) a (part, rest, record { pubsub = p; named = n; node_is = refl; who_is = jid-spelled (attr_text (codes "jid") part) who own.0; own = own.1 }) h
 
-  options-get-from : (part : Tree) (rest : Nodes) (a : Ask) → IsPubsub (codes "get") pubsub_ns (codes "options") t part rest → options_get_ask part from ≡ given a → Is a
+  pub options-get-from : (part : Tree) (rest : Nodes) (a : Ask) → IsPubsub (codes "get") pubsub_ns (codes "options") t part rest → options_get_ask part from ≡ given a → Is a
   options-get-from part rest a p h =
       let both = unless-given (named_step C3 (node_in part)) (options_get_by (node_in part) (own_address C11 from (jid_in part))) a h in
       options-get-by part rest a (own_address C11 from (jid_in part)) p (node-named C3 (node_in part) both.0) refl both.1
@@ -189,19 +189,19 @@ module _ (service : List ℕ) (t : Tree) (from target : Jid) where
       let own = own-by C11 who part (jid_in part) refl e in
       made (ask.OptionsSet (node_in part) who (form_in part)) a (part, rest, record { pubsub = p; named = n; node_is = refl; who_is = jid-spelled (attr_text (codes "jid") part) who own.0; own = own.1 }, refl) h
 
-  options-set-from : (part : Tree) (rest : Nodes) (a : Ask) → IsPubsub (codes "set") pubsub_ns (codes "options") t part rest → options_set_ask part from ≡ given a → Is a
+  pub options-set-from : (part : Tree) (rest : Nodes) (a : Ask) → IsPubsub (codes "set") pubsub_ns (codes "options") t part rest → options_set_ask part from ≡ given a → Is a
   options-set-from part rest a p h =
       let both = unless-given (named_step C3 (node_in part)) (options_set_by (node_in part) (own_address C11 from (jid_in part)) (form_in part)) a h in
       options-set-by part rest a (own_address C11 from (jid_in part)) p (node-named C3 (node_in part) both.0) refl both.1
 
   -- ---- discovery and rosters
 
-  info-from : (query : Tree) (a : Ask) → IsQuery (codes "get") (codes "query") info_ns t query → info_get_ask query ≡ given a → Is a
+  pub info-from : (query : Tree) (a : Ask) → IsQuery (codes "get") (codes "query") info_ns t query → info_get_ask query ≡ given a → Is a
   info-from query a p h =
       let both = unless-given (node_step (node_in query)) (given (ask.InfoGet (node_in query))) a h in
       made (ask.InfoGet (node_in query)) a (record { query = query; iq = p; short = node-short (node_in query) both.0; node_is = refl }) both.1
 
-  nodes-from : (query : Tree) (a : Ask) → IsQuery (codes "get") (codes "query") items_ns t query → nodes_get_ask query ≡ given a → Is a
+  pub nodes-from : (query : Tree) (a : Ask) → IsQuery (codes "get") (codes "query") items_ns t query → nodes_get_ask query ≡ given a → Is a
   nodes-from query a p h =
       let both = unless-given (node_step (node_in query)) (given (ask.NodesGet (node_in query))) a h in
       made (ask.NodesGet (node_in query)) a (record { query = query; iq = p; short = node-short (node_in query) both.0; node_is = refl }) both.1
@@ -214,7 +214,7 @@ module _ (service : List ℕ) (t : Tree) (from target : Jid) where
   contact-by query item a (Some who) p only e h =
       made (ask.RosterSet (contact item who)) a (record { query = query; item = item; iq = p; only = only; who_is = jid-spelled (attr_text (codes "jid") item) who e; subscription_is = refl; groups_is = refl }) h
 
-  contact-from : (query : Tree) (a : Ask) (items : List Tree) → IsQuery (codes "set") (codes "query") roster_ns t query → children_of (codes "item") roster_ns query ≡ items → contact_in items ≡ given a → Is a
+  pub contact-from : (query : Tree) (a : Ask) (items : List Tree) → IsQuery (codes "set") (codes "query") roster_ns t query → children_of (codes "item") roster_ns query ≡ items → contact_in items ≡ given a → Is a
   contact-from query a [] p e h = absurd (cc)
   contact-from query a (item ∷ []) p e h = contact-by query item a (jid_in item) p e refl h
   contact-from query a (item ∷ next ∷ items) p e h = absurd (cc)

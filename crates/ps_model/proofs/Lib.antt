@@ -22,3 +22,4 @@ pub mod WorkedNodes
 pub mod LineLaws
 pub mod Splits
 pub mod AskedKinds
+pub mod AskedWays
