@@ -23,3 +23,4 @@ pub mod LineLaws
 pub mod Splits
 pub mod AskedKinds
 pub mod AskedWays
+pub mod AskedStanza
