@@ -11,8 +11,9 @@ mod worked;
 
 pub use access_laws::{nodes_stay_bounded, outcast_is_forbidden};
 pub use examples::{
-    compacted_rows, compacted_store, decided_in_order, deep_notice, last_item, near_notice,
-    one_boot_store, plain_notice, sent_again, stamps, wanted_items,
+    approval_is_asked, compacted_rows, compacted_store, decided_in_order, deep_notice,
+    each_kind_is_told, last_item, near_notice, one_boot_store, plain_notice, sent_again, stamps,
+    wanted_items,
 };
 pub use laws::{lawful_prefix, nobody_missed, notices_grow, numbers_rise, replay_goes_on};
 pub use request_laws::{line_reads, one_request, spelled_is_taken};
