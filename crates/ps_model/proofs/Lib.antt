@@ -5,6 +5,7 @@ pub mod Going
 pub mod NumberLaws
 pub mod OneAt
 pub mod OneList
+pub mod StampLaws
 pub mod StoreExample
 pub mod TallyLaws
 pub mod Spelling

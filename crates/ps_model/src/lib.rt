@@ -5,6 +5,7 @@ mod access_laws;
 mod examples;
 mod laws;
 mod request_laws;
+mod stamp_laws;
 mod steps;
 mod store_laws;
 mod worked;
@@ -17,6 +18,7 @@ pub use examples::{
 };
 pub use laws::{lawful_prefix, nobody_missed, notices_grow, numbers_rise, replay_goes_on};
 pub use request_laws::{line_reads, one_request, spelled_is_taken};
+pub use stamp_laws::stamp_is_utc;
 pub use steps::{Role, Step};
 pub use store_laws::{damaged_has_none, one_damage, one_list};
 pub use worked::{access_cases, denied_cases, node_cases};
