@@ -1,9 +1,11 @@
 pub mod Asked
 pub mod Computed
+pub mod ComputedBase
 pub mod Going
 pub mod NumberLaws
 pub mod OneAt
 pub mod OneList
+pub mod StampLaws
 pub mod StoreExample
 pub mod TallyLaws
 pub mod Spelling

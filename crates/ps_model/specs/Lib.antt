@@ -39,10 +39,12 @@ pub mod EventNodes
 pub mod EventPresence
 pub mod EventSubs
 pub mod Events
+pub mod ExampleBase
 pub mod ExampleCollections
 pub mod ExampleCrash
 pub mod ExampleNotice
 pub mod ExampleOrder
+pub mod ExampleOwner
 pub mod ExamplePersonal
 pub mod ExampleStore
 pub mod Given
@@ -79,8 +81,8 @@ pub mod TheCore
 pub mod TwoWorlds
 pub mod Ways
 pub mod Words
+pub mod Worked
 pub mod WorkedAccess
 pub mod WorkedNodes
 pub mod WorkedRefusals
-pub mod Worked
 pub mod World

@@ -1,10 +1,12 @@
 // Worked examples, computed on the definitions. Each function is its contract.
-ghost use Rattle.std.specs.Prelude.{◌≡◌, [], ◌∷◌, codes};
+ghost use Rattle.std.specs.Prelude.{◌≡◌, [], ◌∷◌, ◌++◌, codes, true};
 ghost use Rattle.ps_model.specs.At.{IsDamagedAt};
+ghost use Rattle.ps_model.specs.ExampleBase as compacted;
 ghost use Rattle.ps_model.specs.ExampleCollections as collections;
 ghost use Rattle.ps_model.specs.ExampleCrash as crash;
 ghost use Rattle.ps_model.specs.ExampleNotice as notice;
 ghost use Rattle.ps_model.specs.ExampleOrder as order;
+ghost use Rattle.ps_model.specs.ExampleOwner as owner;
 ghost use Rattle.ps_model.specs.ExamplePersonal as personal;
 ghost use Rattle.ps_model.specs.ExampleStore.{one_boot, store};
 ghost use Rattle.ps_model.specs.Stamp.{stamp};
@@ -59,4 +61,34 @@ pub fn stamps()
     ensures first { stamp 0 ≡ codes "1970-01-01T00:00:00Z" }
     ensures leap { stamp 951782400 ≡ codes "2000-02-29T00:00:00Z" }
     ensures later { stamp 1000000000 ≡ codes "2001-09-09T01:46:40Z" }
+{}
+
+/// The rows that stand for a list, before its notice was handed and after, and how the store goes on.
+pub fn compacted_store()
+    ensures unhanded { compacted.base_by notice.given ≡ compacted.unhanded_rows }
+    ensures handed { compacted.base_by compacted.handed_list ≡ compacted.handed_rows }
+    ensures goes_on { compacted.told_by (compacted.unhanded_rows ++ compacted.more) ≡ (1, notice.line) ∷ compacted.second ∷ [] }
+    ensures goes_on_later { compacted.told_by (compacted.handed_rows ++ compacted.more) ≡ compacted.second ∷ [] }
+{}
+
+/// The rows are accepted at their places, and a store that is compacted twice stays the same.
+pub fn compacted_rows()
+    ensures accepted { compacted.is_base notice.given ≡ true }
+    ensures links_accepted { compacted.is_base compacted.with_links ≡ true }
+    ensures contacts_accepted { compacted.is_base compacted.with_contacts ≡ true }
+    ensures settled { compacted.is_settled notice.given ≡ true }
+    ensures links_settled { compacted.is_settled compacted.with_links ≡ true }
+    ensures contacts_settled { compacted.is_settled compacted.with_contacts ≡ true }
+{}
+
+/// An owner is asked for an approval, and the subscriber is told of it and gets the items from then on.
+pub fn approval_is_asked()
+    ensures asked { handed_by owner.approval owner.ann ≡ owner.asked }
+    ensures approved { handed_by owner.approval bob ≡ owner.approved }
+{}
+
+/// Each kind of event of a node is told, and a new node of a collection to who subscribed to nodes.
+pub fn each_kind_is_told()
+    ensures kinds { handed_by owner.all_kinds bob ≡ owner.told_kinds }
+    ensures new_node { handed_by owner.new_node bob ≡ owner.told_new }
 {}
