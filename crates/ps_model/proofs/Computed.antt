@@ -8,6 +8,7 @@ use Rattle.ps_model.specs.ExampleNotice as notice
 use Rattle.ps_model.specs.ExampleCollections as collections
 use Rattle.ps_model.specs.ExampleCrash as crash
 use Rattle.ps_model.specs.ExampleOrder as order
+use Rattle.ps_model.specs.ExampleOwner as owner
 use Rattle.ps_model.specs.ExamplePersonal as personal
 use Rattle.ps_model.specs.Stamp.{stamp}
 use Rattle.ps_model.specs.TheCore.{the_core}
@@ -56,3 +57,19 @@ stamp-leap = refl
 
 pub stamp-later : stamp 1000000000 ≡ codes "2001-09-09T01:46:40Z"
 stamp-later = refl
+
+pub asked-owner : handed_by owner.approval owner.ann ≡ owner.asked
+unfolding same.same_jid same.same_bare same.same_node text.escape_byte fmt.digits
+asked-owner = refl
+
+pub told-subscriber : handed_by owner.approval bob ≡ owner.approved
+unfolding same.same_jid same.same_bare same.same_node text.escape_byte fmt.digits
+told-subscriber = refl
+
+pub told-kinds : handed_by owner.all_kinds bob ≡ owner.told_kinds
+unfolding same.same_jid same.same_bare same.same_node text.escape_byte fmt.digits
+told-kinds = refl
+
+pub told-new : handed_by owner.new_node bob ≡ owner.told_new
+unfolding same.same_jid same.same_bare same.same_node text.escape_byte fmt.digits
+told-new = refl

@@ -5,6 +5,7 @@ pub mod Going
 pub mod NumberLaws
 pub mod OneAt
 pub mod OneList
+pub mod StampLaws
 pub mod StoreExample
 pub mod TallyLaws
 pub mod Spelling
@@ -21,3 +22,7 @@ pub mod WorkedPresence
 pub mod WorkedRefusals
 pub mod WorkedNodes
 pub mod LineLaws
+pub mod Splits
+pub mod AskedKinds
+pub mod AskedWays
+pub mod AskedStanza

@@ -1,15 +1,14 @@
 -- The tree of a line, and why it is none.
-use Rattle.std.proofs.Common.{◌≡◌, ℕ, ◌<◌, ◌≤◌, List, Bool, true, false, cond, Option, Some, None, refl, sym, ap, ◌∙◌, arith}
-use Rattle.std.specs.Prelude.{Result, Ok, Err, IsUtf8, nat_le}
+use Rattle.std.proofs.Common.{◌≡◌, ℕ, ◌<◌, ◌≤◌, List, Bool, true, false, cond, Option, Some, None, refl, arith}
+use Rattle.std.specs.Prelude.{Ok, Err, nat_le}
 use Rattle.std.specs.Str.{is_utf8}
 use Rattle.std.proofs.lemmas.Bool.Decides.{nat_tests}
 use Rattle.std.proofs.lemmas.Str.{IsUtf8-from_is_utf8, is_utf8-from_IsUtf8}
 use Rattle.serde_json.specs.Data.{Data}
 use Rattle.serde_json.specs.Read.{read}
-use Rattle.ps_types.specs.declared.denial.LineRefusal.{LineRefusal}
 use Rattle.ps_types.specs.declared.denial.LineRefusal.TheVariants.{L2, L3, L4}
 use Rattle.ps_types.specs.Form.{max_levels}
-use Rattle.ps_types.specs.LineTree.{line_tree, json_of, tree_from, shallow}
+use Rattle.ps_types.specs.LineTree.{line_tree, json_of}
 use Rattle.ps_types.specs.Print.{client}
 use Rattle.ps_types.specs.Reading.{IsJson, Reads, tree_of}
 use Rattle.ps_types.specs.Tree.{Tree, levels}

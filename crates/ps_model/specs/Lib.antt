@@ -44,6 +44,7 @@ pub mod ExampleCollections
 pub mod ExampleCrash
 pub mod ExampleNotice
 pub mod ExampleOrder
+pub mod ExampleOwner
 pub mod ExamplePersonal
 pub mod ExampleStore
 pub mod Given
@@ -80,8 +81,8 @@ pub mod TheCore
 pub mod TwoWorlds
 pub mod Ways
 pub mod Words
+pub mod Worked
 pub mod WorkedAccess
 pub mod WorkedNodes
 pub mod WorkedRefusals
-pub mod Worked
 pub mod World

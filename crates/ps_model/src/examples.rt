@@ -6,6 +6,7 @@ ghost use Rattle.ps_model.specs.ExampleCollections as collections;
 ghost use Rattle.ps_model.specs.ExampleCrash as crash;
 ghost use Rattle.ps_model.specs.ExampleNotice as notice;
 ghost use Rattle.ps_model.specs.ExampleOrder as order;
+ghost use Rattle.ps_model.specs.ExampleOwner as owner;
 ghost use Rattle.ps_model.specs.ExamplePersonal as personal;
 ghost use Rattle.ps_model.specs.ExampleStore.{one_boot, store};
 ghost use Rattle.ps_model.specs.Stamp.{stamp};
@@ -78,4 +79,16 @@ pub fn compacted_rows()
     ensures settled { compacted.is_settled notice.given ≡ true }
     ensures links_settled { compacted.is_settled compacted.with_links ≡ true }
     ensures contacts_settled { compacted.is_settled compacted.with_contacts ≡ true }
+{}
+
+/// An owner is asked for an approval, and the subscriber is told of it and gets the items from then on.
+pub fn approval_is_asked()
+    ensures asked { handed_by owner.approval owner.ann ≡ owner.asked }
+    ensures approved { handed_by owner.approval bob ≡ owner.approved }
+{}
+
+/// Each kind of event of a node is told, and a new node of a collection to who subscribed to nodes.
+pub fn each_kind_is_told()
+    ensures kinds { handed_by owner.all_kinds bob ≡ owner.told_kinds }
+    ensures new_node { handed_by owner.new_node bob ≡ owner.told_new }
 {}
