@@ -22,3 +22,7 @@ pub mod WorkedPresence
 pub mod WorkedRefusals
 pub mod WorkedNodes
 pub mod LineLaws
+pub mod Splits
+pub mod AskedKinds
+pub mod AskedWays
+pub mod AskedStanza

@@ -17,7 +17,7 @@ pub use examples::{
     wanted_items,
 };
 pub use laws::{lawful_prefix, nobody_missed, notices_grow, numbers_rise, replay_goes_on};
-pub use request_laws::{line_reads, one_request, spelled_is_taken};
+pub use request_laws::{line_reads, one_request, spelled_is_taken, taken_is_spelled};
 pub use stamp_laws::stamp_is_utc;
 pub use steps::{Role, Step};
 pub use store_laws::{damaged_has_none, one_damage, one_list};

@@ -25,6 +25,11 @@ pub fn spelled_is_taken()
     ensures { (host service : List ℕ) (t : Tree) (r : Request) → SpellsRequest host service t r → stanza_taken host service t ≡ asked t r }
 {}
 
+/// What is taken as a request spells it.
+pub fn taken_is_spelled()
+    ensures { (host service : List ℕ) (t u : Tree) (r : Request) → stanza_taken host service t ≡ asked u r → SpellsRequest host service t r }
+{}
+
 /// A tree spells one request at most.
 pub fn one_request()
     ensures { (host service : List ℕ) (t : Tree) (r s : Request) → SpellsRequest host service t r → SpellsRequest host service t s → r ≡ s }
