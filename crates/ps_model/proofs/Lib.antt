@@ -26,3 +26,4 @@ pub mod Splits
 pub mod AskedKinds
 pub mod AskedWays
 pub mod AskedStanza
+pub mod WorkedRoster
