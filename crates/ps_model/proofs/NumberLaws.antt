@@ -1,6 +1,6 @@
 -- The notices of a bare address are numbered one after the other.
 use Rattle.std.proofs.Common.{◌≡◌, ◌⊎◌, inl, inr, ℕ, zero, suc, ◌+◌, ◌<◌, Bool, true, false, cond, List, [], ◌∷◌, ◌++◌, length, Option, Some, None, refl, sym, ap, subst, ◌∙◌, arith}
-use Rattle.std.specs.Prelude.{slice_get, ◌^◌, ◌&&◌, ◌==◌, not, nat_lt}
+use Rattle.std.specs.Prelude.{filter, slice_get, ◌^◌, ◌&&◌, ◌==◌, not, nat_lt}
 use Rattle.std.proofs.lemmas.Bool.{and_parts, eqb-true, true≢false, ltb-true}
 use Rattle.ps_types.specs.Same.{same_bare}
 use Rattle.ps_types.specs.Tree.{Tree}
@@ -17,9 +17,33 @@ use Rattle.ps_model.specs.BaseRows.{BaseRow, node, affiliation, subscription, it
 use Rattle.ps_model.specs.Book.{State, empty_state}
 use Rattle.ps_model.specs.Built.{is_built_entry, is_built_event}
 use Rattle.ps_model.specs.Numbers.{counter_in, counter_of}
-use Rattle.ps_model.specs.Replay.{IsLawfulFrom, after, accepted, accepted_at, is_booted, lawful, notices, notices_from, row_accepted, to_address}
+use Rattle.ps_model.specs.Replay.{IsLawfulFrom, after, accepted, accepted_at, is_booted, lawful, notices, row_accepted}
+use Rattle.ps_model.specs.Replay as replay
+use Rattle.ps_types.specs.declared.event.Event.{Event}
 use Rattle.ps_model.specs.Tallies.{made_for, more_made}
 use Rattle.ps_model.proofs.TallyLaws.{made-handed, made-kept, made-like, made-more, made-set, same_bare-turned}
+
+-- the notices to a bare address
+abbrev pub to_address : Jid → List Notice → List Notice
+to_address a notices = filter (λ n. same_bare n.to a) notices
+
+abbrev pub notices_from : (Event → Bool) → State → List Entry → Jid → List Notice
+notices_from told s [] a = []
+notices_from told s (e ∷ E) a = to_address a (step.notices_at told s e) ++ notices_from told (step.after told s e) E a
+
+pub of-bare : (told : Event → Bool) (E : List Entry) (s : State) (a : Jid) → a.resource ≡ [] → replay.notices_from told s E a ≡ notices_from told s E a
+of-bare told [] s a bare = refl
+of-bare told (e ∷ E) s a bare =
+    let ns = to_address a (step.notices_at told s e) in
+    let later = replay.notices_from told (step.after told s e) E a in
+    ap (λ (r : List ℕ). replay.of_bare r ns ++ later) bare ∙ ap (λ (more : List Notice). ns ++ more) (of-bare told E (step.after told s e) a bare)
+
+pub of-full : (told : Event → Bool) (E : List Entry) (s : State) (a : Jid) (x : ℕ) (resource : List ℕ) → a.resource ≡ x ∷ resource → replay.notices_from told s E a ≡ []
+of-full told [] s a x resource full = refl
+of-full told (e ∷ E) s a x resource full =
+    let ns = to_address a (step.notices_at told s e) in
+    let later = replay.notices_from told (step.after told s e) E a in
+    ap (λ (r : List ℕ). replay.of_bare r ns ++ later) full ∙ of-full told E (step.after told s e) a x resource full
 
 -- each has the number after the one before it, the first the one after m
 abbrev pub RiseFrom : ℕ → List Notice → Type 0
@@ -220,5 +244,14 @@ start-is (Handed to ∷ E) a = start-is E a
 start-is (Gone host ∷ E) a = start-is E a
 start-is (Base row ∷ E) a = ap (counter_in (row_of row) a) (start-is E a)
 
+numbers-by : (E : List Entry) (a : Jid) → lawful E → (resource : List ℕ) → a.resource ≡ resource → (k : ℕ) (n : Notice) → slice_get (notices E a) k ≡ Some n → n.number ≡ counter_of E a + (k + 1)
+numbers-by E a is [] bare k n at =
+    let same = of-bare is_built_event E empty_state a bare in
+    rise-at (counter_of E a) (notices_from is_built_event empty_state E a) (subst (λ m. RiseFrom m (notices_from is_built_event empty_state E a)) (start-is E a) (lawful-rise a E empty_state is)) k n
+    (sym (ap (λ ns. slice_get ns k) same) ∙ at)
+numbers-by E a is (x ∷ resource) full k n at =
+    let same = of-full is_built_event E empty_state a x resource full in
+    absurd (let no : None ≡ Some n = sym (ap (λ ns. slice_get ns k) same) ∙ at in cc no)
+
 pub numbers-rise : (E : List Entry) (a : Jid) → lawful E → (k : ℕ) (n : Notice) → slice_get (notices E a) k ≡ Some n → n.number ≡ counter_of E a + (k + 1)
-numbers-rise E a is k n at = rise-at (counter_of E a) (notices E a) (subst (λ m. RiseFrom m (notices E a)) (start-is E a) (lawful-rise a E empty_state is)) k n at
+numbers-rise E a is k n at = numbers-by E a is a.resource refl k n at

@@ -1,5 +1,5 @@
 -- A whole list of entries: the State that it leaves, the notices that it makes, and whether each entry is accepted at its place.
-use Rattle.std.specs.Prelude.{◌≡◌, Bool, true, false, not, ◌&&◌, ◌==◌, nat_lt, length, List, [], ◌∷◌, ◌++◌, Option, Some, None, filter}
+use Rattle.std.specs.Prelude.{◌≡◌, Bool, true, false, not, ◌&&◌, ◌==◌, nat_lt, length, List, [], ◌∷◌, ◌++◌, Option, Some, None, filter, ℕ}
 use Rattle.ps_types.specs.Same.{same_bare}
 use Rattle.ps_types.specs.declared.entry.Entry.{Entry}
 use Rattle.ps_types.specs.declared.entry.Entry.TheVariants.{Boot, Change, Handed, Gone, Base}
@@ -17,9 +17,14 @@ use Rattle.ps_model.specs.Commits.{makes_entry}
 use Rattle.ps_model.specs.Taking.{request_in, tree_taken}
 use Rattle.ps_model.specs.Tallies.{handed_to, is_next_line, made_for}
 
--- the notices to the bare address
+-- an address with a resource has no notices of its own
+abbrev pub of_bare : List ℕ → List Notice → List Notice
+of_bare [] notices = notices
+of_bare (x ∷ resource) notices = []
+
+-- the notices to the addresses of a bare address
 abbrev pub to_address : Jid → List Notice → List Notice
-to_address a notices = filter (λ n. same_bare n.to a) notices
+to_address a notices = of_bare a.resource (filter (λ n. same_bare n.to a) notices)
 
 -- ---- where these events are told
 module _ (told : Event → Bool) where
