@@ -27,3 +27,4 @@ pub mod AskedKinds
 pub mod AskedWays
 pub mod AskedStanza
 pub mod WorkedRoster
+pub mod Differs
