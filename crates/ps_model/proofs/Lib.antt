@@ -26,3 +26,5 @@ pub mod Splits
 pub mod AskedKinds
 pub mod AskedWays
 pub mod AskedStanza
+pub mod WorkedRoster
+pub mod Differs
