@@ -1,31 +1,27 @@
 -- What is read as a request of a kind is spelled by that kind's row: `pubsub` and the other queries.
-use Rattle.std.proofs.Common.{◌≡◌, ◌≢◌, ◌⊎◌, inl, inr, ℕ, ◌≤◌, List, [], ◌∷◌, length, Bool, true, false, cond, not, ◌&&◌, ◌||◌, ◌==◌, Option, Some, None, option_map, refl, sym, ap, subst, ◌∙◌, arith}
+use Rattle.std.proofs.Common.{◌≡◌, ℕ, List, [], ◌∷◌, Bool, true, false, cond, Option, Some, None, refl, sym, ap, subst, ◌∙◌}
 use Rattle.std.specs.Prelude.{Result, Ok, Err, codes, map}
-use Rattle.std.specs.List.{list_any}
-use Rattle.std.specs.Str.{bytes_eq}
 use Rattle.ps_types.specs.declared.denial.Condition.{Condition}
-use Rattle.ps_types.specs.declared.denial.Condition.TheVariants.{C2, C3, C11, C25, C26, C27}
+use Rattle.ps_types.specs.declared.denial.Condition.TheVariants.{C2, C3, C11, C27}
 use Rattle.ps_types.specs.declared.jid.Jid.{Jid}
 use Rattle.ps_types.specs.declared.request.Ask.{Ask}
 use Rattle.ps_types.specs.declared.request.Ask.TheVariants as ask
 use Rattle.ps_types.specs.declared.request.AskContact.{AskContact}
 use Rattle.ps_types.specs.declared.request.AskRow.{AskRow}
-use Rattle.ps_types.specs.Address.{Spells}
 use Rattle.ps_types.specs.Namespaces.{pubsub_ns, owner_ns, info_ns, items_ns, roster_ns}
 use Rattle.ps_types.specs.Same.{same_bare}
-use Rattle.ps_types.specs.Shape.{attr_text, children_of, trees_of, tree_text}
-use Rattle.ps_types.specs.Tree.{Tree, Nodes, name_of, ns_of, nodes_of, is_named}
+use Rattle.ps_types.specs.Shape.{attr_text, children_of, tree_text}
+use Rattle.ps_types.specs.Tree.{Tree, Nodes}
 use Rattle.ps_types.specs.Values.{is_true}
 use Rattle.ps_model.specs.AskEntity.{my_affils_ask, my_subs_ask, own_address, subscribe_by, subscribe_ask, unsubscribe_by, unsubscribe_ask, options_get_by, options_get_ask, options_set_by, options_set_ask, items_get_ask, info_get_ask, nodes_get_ask}
 use Rattle.ps_model.specs.AskOwner.{purge_ask, delete_ask, config_get_ask, config_set_ask, affils_get_ask, affils_by, affils_set_ask, subs_get_ask, subs_by, subs_set_ask}
 use Rattle.ps_model.specs.AskPublish.{create_ask, publish_ask, retract_ask, item_in, items_in}
 use Rattle.ps_model.specs.AskRouter.{contact_by, contact_in, roster_set_ask}
-use Rattle.ps_model.specs.Asking.{child_ask, get_ask, owner_get_ask, owner_set_ask, part_ask, pubsub_ask, set_ask}
-use Rattle.ps_model.specs.Grammar.{first_tree, form_after, form_in, id_in, jid_in, node_in, rows_in}
+use Rattle.ps_model.specs.Grammar.{form_after, form_in, id_in, jid_in, node_in, rows_in}
 use Rattle.ps_model.specs.Spelled.{IsAsk}
-use Rattle.ps_model.specs.SpelledParts.{IsIq, IsQuery, IsPubsub, IsNode}
+use Rattle.ps_model.specs.SpelledParts.{IsQuery, IsPubsub, IsNode}
 use Rattle.ps_model.specs.Steps.{named_step, node_step}
-use Rattle.ps_model.proofs.Splits.{split, either-true, both-true, same-text, named-is, given, given-same, unless-given, node-named, node-short, jid-spelled, rows-spelled}
+use Rattle.ps_model.proofs.Splits.{given, given-same, unless-given, node-named, node-short, jid-spelled, rows-spelled}
 
 module _ (service : List ℕ) (t : Tree) (from target : Jid) where
   abbrev Is : Ask → Type 0

@@ -1,6 +1,6 @@
 -- What is taken as a request spells it.
-use Rattle.std.proofs.Common.{◌≡◌, ◌≢◌, ◌⊎◌, inl, inr, ℕ, ◌≤◌, List, [], ◌∷◌, length, Bool, true, false, cond, not, ◌&&◌, ◌||◌, ◌==◌, Option, Some, None, option_map, refl, sym, ap, subst, ◌∙◌}
-use Rattle.std.specs.Prelude.{Result, Ok, Err, codes, map}
+use Rattle.std.proofs.Common.{◌≡◌, ◌⊎◌, inl, inr, ℕ, List, [], length, Bool, true, false, cond, not, ◌&&◌, ◌||◌, ◌==◌, Option, Some, None, refl, ap, subst}
+use Rattle.std.specs.Prelude.{Result, Ok, Err, codes}
 use Rattle.std.specs.Str.{bytes_eq}
 use Rattle.ps_types.specs.declared.denial.Condition.{Condition}
 use Rattle.ps_types.specs.declared.denial.Condition.TheVariants.{C3}
@@ -19,16 +19,14 @@ use Rattle.ps_types.specs.Same.{same_jid}
 use Rattle.ps_types.specs.Shape.{attr_text, trees_of}
 use Rattle.ps_types.specs.Tree.{Tree, name_of, ns_of, child_of}
 use Rattle.ps_model.specs.AskOwner.{approve_by}
-use Rattle.ps_model.specs.AskRouter.{answer_by, answer_ask, caps_in, is_for_service, presence_by}
+use Rattle.ps_model.specs.AskRouter.{answer_by, answer_ask, is_for_service, presence_by}
 use Rattle.ps_model.specs.Asking.{approval_by, approve_ask, ask_of, authorization, form_ask, iq_by, message_ask, message_form, value_in}
-use Rattle.ps_model.specs.Grammar.{node_in}
 use Rattle.ps_model.specs.Spelled.{IsAsk, SpellsRequest}
-use Rattle.ps_model.specs.SpelledParts.{IsIq}
 use Rattle.ps_model.specs.Stanza.{has_type, host_jid, is_answering, is_asking, is_iq, is_message, is_presence, is_served, is_stanza, is_whole_iq, jid_of, target_of, type_of}
 use Rattle.ps_model.specs.Steps.{named_step}
 use Rattle.ps_model.specs.Taken.{Taken, asked}
 use Rattle.ps_model.specs.Taken as taken
-use Rattle.ps_model.specs.Taking.{request_of, sender_taken, shape_taken, target_taken, ask_taken, stanza_taken}
+use Rattle.ps_model.specs.Taking.{sender_taken, shape_taken, target_taken, ask_taken, stanza_taken}
 use Rattle.ps_model.proofs.AskedKinds.{made}
 use Rattle.ps_model.proofs.AskedWays.{iq-way}
 use Rattle.ps_model.proofs.Splits.{split, either-true, both-true, same-text, named-is, given, given-same, unless-given, node-named, jid-spelled}
@@ -45,10 +43,19 @@ module _ (service : List ℕ) (t : Tree) (from target : Jid) where
   approve-step form a None n s e f k y d j h = absurd (cc)
   approve-step form a (Some who) n s e f k y d j h =
       made service t from target (ask.Approve (value_in (codes "pubsub#node") form) who (value_in (codes "pubsub#allow") form)) a
-        (record {
-            form = form; name_is = n; ns_is = s; type_is = e; holds = f; kind_is = k; form_type_is = y; named = node-named C3 (value_in (codes "pubsub#node") form) d; node_is = refl;
-            who_is = jid-spelled (value_in (codes "pubsub#subscriber_jid") form) who j; allow_is = refl
-          }) h
+      (record {
+        form = form;
+        name_is = n;
+        ns_is = s;
+        type_is = e;
+        holds = f;
+        kind_is = k;
+        form_type_is = y;
+        named = node-named C3 (value_in (codes "pubsub#node") form) d;
+        node_is = refl;
+        who_is = jid-spelled (value_in (codes "pubsub#subscriber_jid") form) who j;
+        allow_is = refl;
+      }) h
 
   approve-way : (form : Form) (a : Ask) → name_of t ≡ codes "message" → ns_of t ≡ client → has_type (codes "error") t ≡ false → message_form t ≡ Some form → form.kind ≡ kind.Submit → has_form_type authorization form ≡ true → approve_ask form ≡ given a → Is a
   approve-way form a n s e f k y h =
@@ -194,7 +201,7 @@ module _ (host service : List ℕ) (t u : Tree) (r : Request) where
   ask-taken from target (Err why) f k s g v e h = absurd (cc)
   ask-taken from target (Ok a) f k s g v e h =
       subst (SpellsRequest host service t) (ap request-or h)
-        (record { from_is = f; host_is = k; shape = s; target_is = g; served = v; id_is = refl; ask = ask-way service t from target a s e })
+      (record { from_is = f; host_is = k; shape = s; target_is = g; served = v; id_is = refl; ask = ask-way service t from target a s e })
 
   target-taken : (from : Jid) (found : Option Jid) → Spells (attr_text (codes "from") t) from → from.host ≡ host → is_stanza t ≡ true → target_of t from ≡ found → target_taken service t from found ≡ asked u r → SpellsRequest host service t r
   target-taken from None f k s g h = absurd (cc)

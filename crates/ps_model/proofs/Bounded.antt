@@ -26,7 +26,7 @@ use Rattle.ps_model.specs.ChangeNodes.{created, created_by, deleted, new_node}
 use Rattle.ps_model.specs.ChangeOwner.{configured, configured_by, items_under}
 use Rattle.ps_model.specs.ChangePublish.{item_row, published, published_by, published_new, retract_change}
 use Rattle.ps_model.specs.CheckForms.{config_given}
-use Rattle.ps_model.specs.CheckPublish.{options_config}
+use Rattle.ps_model.specs.CheckOptions.{options_config}
 use Rattle.ps_model.specs.ItemIds.{item_id}
 use Rattle.ps_model.proofs.Counting.{count-filter, count-keep, count-kept, count-without}
 use Rattle.ps_model.proofs.NodeRows.{node_at-without, node_at-with, node_at-configured}

@@ -20,7 +20,9 @@ use Rattle.ps_types.specs.Same.{same_bare, same_jid, same_node}
 use Rattle.ps_types.specs.Shape.{element}
 use Rattle.ps_model.specs.Book.{Book}
 use Rattle.ps_model.specs.Notation.{start, entry}
-use Rattle.ps_model.specs.WorkedNodes.{ConfigCase, IdCase, CollectionCase, OptionCase, CapsCase, one, mid, leaf, bookmarks}
+use Rattle.ps_model.specs.WorkedCollections.{CollectionCase, OptionCase, bookmarks, leaf, mid}
+use Rattle.ps_model.specs.WorkedDiscovery.{CapsCase, DiscoveryCase, RepeatedCase}
+use Rattle.ps_model.specs.WorkedNodes.{ConfigCase, IdCase, one}
 use Rattle.ps_model.specs.WorkedRefusals.{news, top}
 use Rattle.ps_model.proofs.Playing.{account, at_service}
 
@@ -153,3 +155,12 @@ options = (with_room, refl, refl, (with_room, refl, refl, (with_room, refl, refl
 
 pub caps : CapsCase
 caps = refl
+
+pub repeats : RepeatedCase
+repeats = refl
+
+-- ---- discovery
+
+pub discovery : DiscoveryCase
+unfolding same_bare same_jid same_node
+discovery = (with_news, refl, refl, (with_news, refl, refl, (with_news, refl, refl, tt)))

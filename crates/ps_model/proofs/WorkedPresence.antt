@@ -11,7 +11,7 @@ use Rattle.ps_types.specs.Defaults.{account_config}
 use Rattle.ps_types.specs.Same.{same_bare, same_jid, same_node}
 use Rattle.ps_model.specs.Book.{Book}
 use Rattle.ps_model.specs.Notation.{start, entry}
-use Rattle.ps_model.specs.WorkedAccess.{PresenceCase, t}
+use Rattle.ps_model.specs.WorkedHome.{PresenceCase, t}
 use Rattle.ps_model.proofs.Playing.{account}
 
 abbrev ann : Jid

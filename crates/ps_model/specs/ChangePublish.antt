@@ -18,7 +18,7 @@ use Rattle.ps_types.specs.Tree.{Tree}
 use Rattle.ps_model.specs.Book.{Book}
 use Rattle.ps_model.specs.ChangeNodes.{created}
 use Rattle.ps_model.specs.CheckForms.{node_of}
-use Rattle.ps_model.specs.CheckPublish.{options_config}
+use Rattle.ps_model.specs.CheckOptions.{options_config}
 use Rattle.ps_model.specs.ItemIds.{item_id, next_made}
 
 abbrev pub payload_of : List Tree → Option Tree

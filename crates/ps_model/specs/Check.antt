@@ -8,9 +8,10 @@ use Rattle.ps_types.specs.declared.request.Request.{Request}
 use Rattle.ps_types.specs.Tree.{Tree}
 use Rattle.ps_model.specs.Book.{Book}
 use Rattle.ps_model.specs.Built.{built_config, built_outcome}
+use Rattle.ps_model.specs.CheckConfig.{config_set_steps}
 use Rattle.ps_model.specs.CheckCreate.{create_steps}
 use Rattle.ps_model.specs.CheckEntity.{mine_steps, subscribe_steps, unsubscribe_steps, options_get_steps, options_set_steps, items_get_steps, nodes_get_steps}
-use Rattle.ps_model.specs.CheckOwner.{own_steps, delete_steps, config_set_steps, affils_set_steps, subs_set_steps, approve_steps}
+use Rattle.ps_model.specs.CheckOwner.{own_steps, delete_steps, affils_set_steps, subs_set_steps, approve_steps}
 use Rattle.ps_model.specs.CheckPublish.{publish_steps, retract_steps, purge_steps}
 use Rattle.ps_model.specs.CheckRouter.{roster_set_steps}
 use Rattle.ps_model.specs.Children.{publish_child, items_child, affils_child, own_affils_child, subs_child, own_subs_child, subscribe_child, options_child, config_child}

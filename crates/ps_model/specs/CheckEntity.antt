@@ -12,7 +12,7 @@ use Rattle.ps_model.specs.Book.{Book}
 use Rattle.ps_model.specs.ChangeEntity.{sub_options, base_options}
 use Rattle.ps_model.specs.CheckForms.{node_of}
 use Rattle.ps_model.specs.CheckOwner.{max_subs}
-use Rattle.ps_model.specs.CheckPublish.{stands_step, leaf_step}
+use Rattle.ps_model.specs.CheckNode.{leaf_step, stands_step}
 use Rattle.ps_model.specs.Steps.{unless, denied_by, denial_of}
 
 -- a node that is given stands

@@ -1,32 +1,25 @@
 -- The check of an owner's requests (XEP-0060 §8).
-use Rattle.std.specs.Prelude.{ℕ, Bool, true, false, not, nat_le, List, [], ◌∷◌, Option, Some, None, is_some, cond, find, reverse, codes, Result, Ok, Err, if◌then◌else◌}
+use Rattle.std.specs.Prelude.{ℕ, Bool, true, not, nat_le, List, [], ◌∷◌, Option, Some, None, is_some, find, reverse, codes, if◌then◌else◌}
 use Rattle.std.specs.List.{list_all, list_any}
 use Rattle.std.specs.Str.{bytes_eq}
-use Rattle.ps_types.specs.declared.config.NodeConfig.{NodeConfig}
 use Rattle.ps_types.specs.declared.denial.Condition.{Condition}
 use Rattle.ps_types.specs.declared.denial.Condition.TheVariants.{C1, C14, C22, C23}
-use Rattle.ps_types.specs.declared.form.Form.{Form}
 use Rattle.ps_types.specs.declared.jid.Jid.{Jid}
 use Rattle.ps_types.specs.declared.node.NodeKey.{NodeKey}
 use Rattle.ps_types.specs.declared.request.AskRow.{AskRow}
 use Rattle.ps_types.specs.declared.request.Request.{Request}
 use Rattle.ps_types.specs.declared.rows.AffilRow.{AffilRow}
-use Rattle.ps_types.specs.declared.rows.NodeRow.{NodeRow}
 use Rattle.ps_types.specs.Affils.{affils_of, is_owner}
-use Rattle.ps_types.specs.Config.{config_type}
-use Rattle.ps_types.specs.Forms.{form_of, is_cancel}
 use Rattle.ps_types.specs.Links.{has_children}
-use Rattle.ps_types.specs.Nodes.{node_at}
 use Rattle.ps_types.specs.Same.{same_bare}
 use Rattle.ps_types.specs.Subs.{sub_at, sub_count, is_pending}
-use Rattle.ps_types.specs.Tree.{Tree}
 use Rattle.ps_types.specs.Values.{boolean_of}
 use Rattle.ps_model.specs.Access.{own, is_account}
 use Rattle.ps_model.specs.Book.{Book}
 use Rattle.ps_model.specs.ChangeOwner.{affils_asked, subs_asked, asked_affil}
-use Rattle.ps_model.specs.CheckForms.{node_of, config_given, is_unmoved}
-use Rattle.ps_model.specs.CheckPublish.{stands_step}
-use Rattle.ps_model.specs.Steps.{unless, denied_by, first_denial}
+use Rattle.ps_model.specs.CheckForms.{node_of}
+use Rattle.ps_model.specs.CheckNode.{stands_step}
+use Rattle.ps_model.specs.Steps.{unless, denied_by}
 use Rattle.ps_model.specs.Words.{affil_of, sub_of}
 
 -- the node stands and the sender owns it
@@ -39,32 +32,6 @@ delete_steps book r node =
     stands_step book r node
     ∷ denied_by (own book (node_of r node) r.from)
     ∷ unless (not (has_children (node_of r node) book.links)) C14
-    ∷ []
-
--- ---- a configuration
-
-abbrev pub given_step : (NodeConfig → Option Condition) → Result NodeConfig Condition → NodeConfig → Option Condition
-given_step limits (Err why) base = Some why
-given_step limits (Ok config) base = first_denial (unless (is_unmoved base config) C14 ∷ limits config ∷ [])
-
-abbrev pub is_cancelled : Option Form → Bool
-is_cancelled None = false
-is_cancelled (Some form) = is_cancel form.kind
-
--- a cancelled form passes, whatever its fields
-abbrev pub config_step : (NodeConfig → Option Condition) → Option Form → NodeConfig → Option Condition
-config_step limits form base = cond (is_cancelled form) None (given_step limits (config_given config_type base form) base)
-
-abbrev pub config_by : (NodeConfig → Option Condition) → Option NodeRow → Option Tree → Option Condition
-config_by limits None form = None
-config_by limits (Some row) None = Some C1
-config_by limits (Some row) (Some form) = config_step limits (form_of form) row.config
-
-abbrev pub config_set_steps : (NodeConfig → Option Condition) → Book → Request → List ℕ → Option Tree → List (Option Condition)
-config_set_steps limits book r node form =
-    stands_step book r node
-    ∷ denied_by (own book (node_of r node) r.from)
-    ∷ config_by limits (node_at (node_of r node) book.nodes) form
     ∷ []
 
 -- ---- affiliations

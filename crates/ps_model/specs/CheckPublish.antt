@@ -1,82 +1,26 @@
 -- The check of what is published and taken away (XEP-0060 §7, §8.5).
-use Rattle.std.specs.Prelude.{ℕ, Bool, true, false, ◌&&◌, ◌||◌, not, ◌==◌, nat_le, length, List, [], ◌∷◌, ◌++◌, Option, Some, None, is_some, Result, Ok, Err, if◌then◌else◌, codes}
-use Rattle.std.specs.List.{list_all, list_any}
-use Rattle.std.specs.Str.{bytes_eq}
+use Rattle.std.specs.Prelude.{ℕ, Bool, true, false, ◌&&◌, ◌||◌, not, ◌==◌, nat_le, length, List, [], ◌∷◌, ◌++◌, Option, Some, None, is_some, Result, Ok, Err, if◌then◌else◌}
+use Rattle.std.specs.List.{list_all}
 use Rattle.ps_types.specs.declared.config.NodeConfig.{NodeConfig}
 use Rattle.ps_types.specs.declared.denial.Condition.{Condition}
-use Rattle.ps_types.specs.declared.denial.Condition.TheVariants.{C1, C4, C5, C6, C7, C9, C10, C11, C12, C14, C16}
-use Rattle.ps_types.specs.declared.form.Field.{Field}
-use Rattle.ps_types.specs.declared.form.Form.{Form}
+use Rattle.ps_types.specs.declared.denial.Condition.TheVariants.{C1, C4, C5, C6, C7, C11, C12, C14, C16}
 use Rattle.ps_types.specs.declared.request.AskItem.{AskItem}
 use Rattle.ps_types.specs.declared.request.Request.{Request}
 use Rattle.ps_types.specs.declared.rows.Affil.{Affil}
 use Rattle.ps_types.specs.declared.rows.Affil.TheVariants.{Owner, Publisher}
 use Rattle.ps_types.specs.declared.rows.NodeRow.{NodeRow}
-use Rattle.ps_types.specs.Config.{ConfigRow, config_rows, read_config}
 use Rattle.ps_types.specs.Defaults.{default_config}
-use Rattle.ps_types.specs.Forms.{form_of, form_type_var, has_form_type, is_submit}
 use Rattle.ps_types.specs.Items.{item_at}
-use Rattle.ps_types.specs.Namespaces.{pubsub_ns}
-use Rattle.ps_types.specs.Nodes.{node_at, stands}
+use Rattle.ps_types.specs.Nodes.{node_at}
 use Rattle.ps_types.specs.Print.{print}
 use Rattle.ps_types.specs.Tree.{Tree}
 use Rattle.ps_model.specs.Access.{publish, own, affiliation, is_own_account}
 use Rattle.ps_model.specs.Book.{Book}
 use Rattle.ps_model.specs.CheckCreate.{node_limit_step}
-use Rattle.ps_model.specs.CheckForms.{node_of, is_collection, config_or, collection_step, is_unmoved}
-use Rattle.ps_model.specs.SameRows.{same_config}
-use Rattle.ps_model.specs.Steps.{unless, denied_by, first_denial, is_short}
-
--- ---- the node
-
-abbrev pub stands_step : Book → Request → List ℕ → Option Condition
-stands_step book r node = unless (stands (node_of r node) book.nodes) C12
-
-abbrev pub leaf_by : Option NodeRow → Option Condition
-leaf_by None = None
-leaf_by (Some row) = unless (not (is_collection row.config.node_type)) C10
-
--- a collection holds no items
-abbrev pub leaf_step : Book → Request → List ℕ → Option Condition
-leaf_step book r node = leaf_by (node_at (node_of r node) book.nodes)
-
--- ---- the options of a publish (XEP-0060 §7.1.5)
-
-abbrev pub is_var_of : List ℕ → ConfigRow → Bool
-is_var_of var row = bytes_eq row.var var
-
-abbrev pub is_known : Field → Bool
-is_known field = bytes_eq field.var form_type_var || list_any (is_var_of field.var) config_rows
-
-abbrev pub publish_type : List ℕ
-publish_type = pubsub_ns ++ codes "#publish-options"
-
--- every field is one of a configuration
-abbrev pub known_options : Form → NodeConfig → Result NodeConfig Condition
-known_options form base = if list_all is_known form.fields then config_or C14 (read_config form base) else Err C9
-
-abbrev pub form_options : Option Form → NodeConfig → Result NodeConfig Condition
-form_options None base = Err C1
-form_options (Some form) base = if is_submit form.kind && has_form_type publish_type form then known_options form base else Err C1
-
--- the configuration that options make of another
-abbrev pub options_config : Option Tree → NodeConfig → Result NodeConfig Condition
-options_config None base = Ok base
-options_config (Some t) base = form_options (form_of t) base
-
--- on a standing node they are met where they make no other configuration
-abbrev pub met_step : Result NodeConfig Condition → NodeConfig → Option Condition
-met_step (Err why) base = Some why
-met_step (Ok config) base = first_denial (unless (is_unmoved base config && not (is_collection config.node_type)) C14 ∷ unless (same_config config base) C9 ∷ [])
-
-abbrev pub options_step : Option Tree → NodeConfig → Option Condition
-options_step None base = None
-options_step (Some t) base = met_step (form_options (form_of t) base) base
-
--- for a node that the publish makes they change the defaults of an account
-abbrev pub made_step : (NodeConfig → Option Condition) → Result NodeConfig Condition → Book → Request → Option Condition
-made_step limits (Err why) book r = Some why
-made_step limits (Ok config) book r = first_denial (unless (not (is_collection config.node_type)) C14 ∷ limits config ∷ collection_step book r config.collection ∷ [])
+use Rattle.ps_model.specs.CheckForms.{node_of}
+use Rattle.ps_model.specs.CheckNode.{leaf_by, leaf_step, stands_step}
+use Rattle.ps_model.specs.CheckOptions.{made_step, options_config, options_step}
+use Rattle.ps_model.specs.Steps.{unless, denied_by, is_short}
 
 -- ---- the item
 

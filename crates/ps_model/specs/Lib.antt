@@ -21,9 +21,12 @@ pub mod ChangePublish
 pub mod ChangeRouter
 pub mod Changes
 pub mod Check
+pub mod CheckConfig
 pub mod CheckCreate
 pub mod CheckEntity
 pub mod CheckForms
+pub mod CheckNode
+pub mod CheckOptions
 pub mod CheckOwner
 pub mod CheckPublish
 pub mod CheckRouter
@@ -31,6 +34,7 @@ pub mod Children
 pub mod Commits
 pub mod Conditions
 pub mod Core
+pub mod CoreLaws
 pub mod Damage
 pub mod Discovery
 pub mod Due
@@ -83,6 +87,9 @@ pub mod Ways
 pub mod Words
 pub mod Worked
 pub mod WorkedAccess
+pub mod WorkedCollections
+pub mod WorkedDiscovery
+pub mod WorkedHome
 pub mod WorkedNodes
 pub mod WorkedRefusals
 pub mod World

@@ -2,10 +2,9 @@
 use Rattle.std.specs.Prelude.{ℕ, List, [], ◌∷◌, Option, None, codes}
 use Rattle.ps_types.specs.Print.{client}
 use Rattle.ps_types.specs.Shape.{element}
-use Rattle.ps_types.specs.Namespaces.{roster_ns}
-use Rattle.ps_types.specs.Tree.{Tree, tree, words, none}
+use Rattle.ps_types.specs.Tree.{Tree}
 use Rattle.ps_model.specs.Played.{Line, Exchange, Plays}
-use Rattle.ps_model.specs.Notation.{start, the_service, ann, bob, cid, dot, alf, by_ann, by, at_home, result, result_home, failure, failure_home, condition, special, create, publish, get_items, items_of, item, entry, field, form, part, pubsub, affiliation, set_affiliations, set, get}
+use Rattle.ps_model.specs.Notation.{start, the_service, ann, bob, cid, dot, alf, by_ann, by, result, failure, condition, special, create, publish, get_items, items_of, item, entry, field, form, part, pubsub, affiliation, set_affiliations, set, get}
 
 -- ---- a whitelist
 
@@ -71,25 +70,23 @@ authorize_lines =
 abbrev pub AuthorizeCase : Type 0
 AuthorizeCase = Plays authorize_lines start
 
--- ---- a personal node
+-- ---- an open node at which subscribers publish
 
-abbrev pub t : List ℕ
-t = codes "urn:t"
+abbrev pub news : List ℕ
+news = codes "news"
 
-abbrev pub roster_item : List ℕ → List ℕ → Tree
-roster_item subscription group =
-    element (codes "query") roster_ns []
-    (element (codes "item") roster_ns ((codes "jid", codes "bob@b.example") ∷ (codes "subscription", subscription) ∷ []) (tree (codes "group") roster_ns [] (words group none) ∷ []) ∷ [])
+abbrev pub one_item : Tree
+one_item = publish news (item (codes "i") (entry ∷ []) ∷ [])
 
-abbrev pub presence_lines : List Exchange
-presence_lines =
-    (at_home ann set (publish t (item (codes "m") (entry ∷ []) ∷ [])), result_home ann (publish t (item (codes "m") [] ∷ []) ∷ []))
-    ∷ (at_home ann set (roster_item (codes "to") (codes "g")), result_home ann [])
-    ∷ (at_home bob get (get_items t), failure_home bob (codes "auth") (condition (codes "not-authorized") ∷ special (codes "presence-subscription-required") ∷ []))
-    ∷ (at_home ann set (roster_item (codes "from") (codes "g")), result_home ann [])
-    ∷ (at_home bob get (get_items t), result_home bob (items_of t (item (codes "m") (entry ∷ []) ∷ []) ∷ []))
+abbrev pub open_lines : List Exchange
+open_lines =
+    (by_ann set (create news (field (codes "pubsub#publish_model") (codes "subscribers") ∷ [])), result ann [])
+    ∷ (by bob set one_item, failure bob (codes "auth") (condition (codes "forbidden") ∷ []))
+    ∷ (by bob set (subscribe (codes "bob@b.example") news), result bob (pubsub (subscription (codes "bob@b.example") news (codes "subscribed") ∷ []) ∷ []))
+    ∷ (by bob set one_item, result bob (publish news (item (codes "i") [] ∷ []) ∷ []))
+    ∷ (by cid get (get_items news), result cid (items_of news (item (codes "i") (entry ∷ []) ∷ []) ∷ []))
     ∷ []
 
--- a publish makes the node, and who gets the account's presence reads it
-abbrev pub PresenceCase : Type 0
-PresenceCase = Plays presence_lines start
+-- everyone reads, and who has subscribed publishes
+abbrev pub OpenCase : Type 0
+OpenCase = Plays open_lines start

@@ -1,9 +1,17 @@
-//! What the service means: definitions alone, which every contract above cites.
+//! What the service means: definitions that every contract above cites, with laws and worked cases that are proved of them.
+//!
+//! `docs/MODEL.md` and `docs/MODEL-B.md` walk through `specs/` in an order in which one can check them against the XEPs. The words that contracts
+//! above use most: `Book` and `State` (what the service holds), `taken` (what a line is), `check` (whether a request is accepted), `changed` (what it does
+//! to the Book), `commits` (whether it makes an entry), `reply_to` and `entry_of` (what a line comes to), `after` and `replay` (what entries leave),
+//! `notices` (who is told), and `world` (the machine of steps). `Built` says which of it the program does today.
+//!
+//! Each function here has an empty body: its contract is a law, or a case that is computed on the definitions.
 #![tactic(auto)]
 
 mod access_laws;
 mod examples;
 mod laws;
+mod machine_laws;
 mod request_laws;
 mod stamp_laws;
 mod steps;
@@ -17,6 +25,7 @@ pub use examples::{
     wanted_items,
 };
 pub use laws::{lawful_prefix, nobody_missed, notices_grow, numbers_rise, replay_goes_on};
+pub use machine_laws::service_keeps_the_laws;
 pub use request_laws::{line_reads, one_request, spelled_is_taken, taken_is_spelled};
 pub use stamp_laws::stamp_is_utc;
 pub use steps::{Role, Step};

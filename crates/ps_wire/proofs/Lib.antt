@@ -3,3 +3,7 @@ pub mod HeldLemmas
 pub mod Written
 pub mod Pieces
 pub mod Gaining
+pub mod Depths
+pub mod Puts
+pub mod Attrs
+pub mod Kids

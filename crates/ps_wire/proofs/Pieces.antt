@@ -1,5 +1,5 @@
 -- A line taken in pieces.
-use Rattle.std.proofs.Common.{◌≡◌, ◌≢◌, ℕ, suc, ◌+◌, ◌<◌, ◌≤◌, List, [], ◌∷◌, ◌++◌, length, take, drop, Some, None, Option, refl, sym, ◌∙◌, ap, subst, arith, append_assoc, drop-cons, add-one, length-append, length-take}
+use Rattle.std.proofs.Common.{◌≡◌, ◌≢◌, ℕ, suc, ◌+◌, ◌<◌, List, [], ◌∷◌, ◌++◌, length, take, drop, Some, None, Option, refl, sym, ◌∙◌, ap, subst, arith, append_assoc, drop-cons, add-one, length-append, length-take}
 use Rattle.std.specs.Prelude.{slice_index}
 use Rattle.std.specs.Io.KnownBytes.{prepend_known, Consumes}
 use Rattle.std.proofs.lemmas.List.{take-append-drop, append-nil, drop_all, length-drop}
@@ -8,7 +8,7 @@ use Rattle.ps_types.specs.Lines.{first_line, after_line, NoNewline}
 use Rattle.ps_types.proofs.Lines.{first_line_at, after_line_at, first_line_all, after_line_all, first_line_covers}
 use Rattle.ps_wire.specs.AtEnd.{nothing_of}
 use Rattle.ps_wire.specs.Line.{StandsFor, IsFinished, IsFinishedAtEnd}
-use Rattle.ps_wire.specs.Reading.{IsNext, IsNextOf, Takes, IsPastLimit, IsBeforeLimit, LeavesOff}
+use Rattle.ps_wire.specs.Reading.{IsNext, IsNextOf, IsLine, Takes, IsPastLimit, IsBeforeLimit, LeavesOff}
 use Rattle.ps_wire.specs.declared.line.Line.{Line}
 use Rattle.ps_wire.specs.declared.lines.NextLine.{NextLine}
 use Rattle.ps_wire.specs.declared.lines.NextLine.TheVariants.{Line as Whole, TooLong, End}
@@ -52,6 +52,16 @@ takes_at_end (Whole line) (b ∷ bytes) before now is less = (omega (arith, less
 takes_at_end TooLong bytes before now is less = omega (arith, is, less)
 takes_at_end End bytes before now is less = omega (arith, ap length is, less)
 
+is_line : (next : NextLine) (bytes : List ℕ) → NoNewline bytes → IsFinished next bytes → IsLine next
+is_line (Whole line) bytes none is = (subst (λ (l : List ℕ). NoNewline l) (sym is.0) none, omega (arith, is.1, ap length is.0))
+is_line TooLong bytes none is = tt
+is_line End bytes none is = tt
+
+is_line_at_end : (next : NextLine) (bytes : List ℕ) → NoNewline bytes → IsFinishedAtEnd next bytes → IsLine next
+is_line_at_end (Whole line) bytes none is = (subst (λ (l : List ℕ). NoNewline l) (sym is.0) none, omega (arith, is.1, ap length is.0))
+is_line_at_end TooLong bytes none is = tt
+is_line_at_end End bytes none is = tt
+
 -- a piece up to the newline ends the line
 module _ (next : NextLine) (before left : Option (List ℕ)) (held after piece bytes again : List ℕ) (place : ℕ) (line new : Line) (budget_before unread : ℕ)
     (off : LeavesOff line before (prepend_known held left) budget_before (unread + length held))
@@ -92,6 +102,9 @@ module _ (next : NextLine) (before left : Option (List ℕ)) (held after piece b
         told None left taken = tt
         told (Some all) None taken = absurd taken
         told (Some all) (Some left) taken = ended next all whole (after ++ left) (all_is all left taken) clean (finish whole stands)
+
+    pub line_at_newline : IsLine next
+    line_at_newline = is_line next whole clean (finish whole stands)
 
     pub takes_at_newline : Takes next budget_before (unread + length after)
     takes_at_newline =
@@ -138,6 +151,9 @@ module _ (next : NextLine) (before left : Option (List ℕ)) (held after piece b
             (ap (λ (l : List ℕ). l ++ left) (rest ∙ emptied held again same_again) ∙ nothing)
             clean_at_end
             (finish (off.front ++ held) stands_at_end)
+
+    pub line_to_end : IsLine next
+    line_to_end = is_line_at_end next (off.front ++ held) clean_at_end (finish (off.front ++ held) stands_at_end)
 
     pub takes_to_end : Takes next budget_before (unread + length after)
     takes_to_end =

@@ -1,5 +1,5 @@
 -- What contracts see of a reader of lines, and what one call of it does.
-use Rattle.std.specs.Prelude.{ℕ, Bool, false, ◌≡◌, ◌≢◌, ◌<◌, ◌≤◌, ◌+◌, ◌-◌, ◌^◌, List, [], length, Some, None}
+use Rattle.std.specs.Prelude.{ℕ, Bool, false, IsTrue, ◌≡◌, ◌≢◌, ◌<◌, ◌≤◌, ◌+◌, ◌-◌, ◌^◌, List, [], length, Some, None}
 use Rattle.std.specs.declared.option.Option.{Option}
 use Rattle.std.specs.Io.KnownBytes.{prepend_known, Consumes}
 use Rattle.ps_types.specs.Lines.{first_line, after_line, NoNewline}
@@ -45,6 +45,7 @@ pub record IsFresh {S : Type 0} {g : Ghosts S} (lines : Lines S g) : Type 0 wher
   pub given_none : given_of lines ≡ 0
   pub not_ended : ended_of lines ≡ false
   pub going : stopped_of lines ≡ None
+  pub before : rest_of lines ≡ g.left (source_of lines)
 
 -- the answer is the first line of the bytes before it, and the rest stays
 abbrev pub IsNextOf : NextLine → List ℕ → List ℕ → Type 0
@@ -57,11 +58,23 @@ IsNext next None rest = Unit {0}
 IsNext next (Some bytes) None = ⊥
 IsNext next (Some bytes) (Some rest) = IsNextOf next bytes rest
 
+-- a line has no newline, and at most 262,144 bytes
+abbrev pub IsLine : NextLine → Type 0
+IsLine (Whole line) = NoNewline line × (length line ≤ 262144)
+IsLine TooLong = Unit {0}
+IsLine End = Unit {0}
+
 -- a line takes its own bytes at least, and one byte at least
 abbrev pub Takes : NextLine → ℕ → ℕ → Type 0
 Takes (Whole line) before now = (now < before) × (now + length line ≤ before)
 Takes TooLong before now = now + 262144 < before
 Takes End before now = now ≡ before
+
+-- the end comes where no byte is held and the source has answered that the input ended
+abbrev pub Ends : NextLine → List ℕ → Bool → Type 0
+Ends (Whole line) held ended = Unit {0}
+Ends TooLong held ended = Unit {0}
+Ends End held ended = (held ≡ []) × IsTrue ended
 
 -- the bytes that the source gave are those that were counted
 abbrev pub Gave : Option (List ℕ) → Option (List ℕ) → ℕ → ℕ → Type 0

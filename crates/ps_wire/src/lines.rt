@@ -72,7 +72,7 @@ pub struct Lines<S: Source> {
 }
 
 impl<S: Source> Lines<S> {
-    ghost use Rattle.ps_wire.specs.Reading.{source_of, held_of, given_of, ended_of, stopped_of, rest_of, budget_of, IsFresh, IsNext, Takes, Gave, IsPastLimit, IsBeforeLimit, ReadNothing, StandsStill};
+    ghost use Rattle.ps_wire.specs.Reading.{source_of, held_of, given_of, ended_of, stopped_of, rest_of, budget_of, IsFresh, IsNext, IsLine, Takes, Ends, Gave, IsPastLimit, IsBeforeLimit, ReadNothing, StandsStill};
 
     /// A reader over the source, which has read nothing yet.
     pub fn new(alloc: Global, source: S) -> Result<Lines<S>, LinesRefusal<S>>
@@ -108,6 +108,7 @@ impl<S: Source> Lines<S> {
     /// The next line. It reads only while it holds no whole line and the input hasn't ended.
     pub fn next(&mut self, alloc: Global) -> Result<NextLine, NextLineRefusal>
         ensures next { IfOk result (λ next. IsNext next (rest_of self.old) (rest_of self.new)) }
+        ensures line { IfOk result IsLine }
         ensures takes { IfOk result (λ next. Takes next (budget_of self.old) (budget_of self.new)) }
         ensures again { IfSome (stopped_of self.old) (λ why. (result ≡ Err why) × StandsStill self.old self.new) }
         ensures going { OnOk result (stopped_of self.new ≡ None) }
@@ -123,6 +124,9 @@ impl<S: Source> Lines<S> {
         ensures within { given_of self.new ≤ 2 ^ 40 }
         ensures holds_line { Contains (held_of self.old) 10 → ReadNothing self.old self.new }
         ensures input_ended { IsTrue (ended_of self.old) → ReadNothing self.old self.new }
+        ensures answers_line { Contains (held_of self.old) 10 → stopped_of self.old ≡ None → IfErr result (λ why. why ≡ OutOfMemory) }
+        ensures answers_end { IsTrue (ended_of self.old) → stopped_of self.old ≡ None → IfErr result (λ why. why ≡ OutOfMemory) }
+        ensures ends { IfOk result (λ next. Ends next (held_of self.new) (ended_of self.new)) }
     {
         if let Some(why) = self.stopped {
             return Err(why);
@@ -138,6 +142,7 @@ impl<S: Source> Lines<S> {
 
     fn read_line(&mut self, alloc: Global) -> Result<NextLine, NextLineRefusal>
         ensures next { IfOk result (λ next. IsNext next (rest_of self.old) (rest_of self.new)) }
+        ensures line { IfOk result IsLine }
         ensures takes { IfOk result (λ next. Takes next (budget_of self.old) (budget_of self.new)) }
         ensures same { stopped_of self.new ≡ stopped_of self.old }
         ensures later { S.faults (source_of self.old) ≤ S.faults (source_of self.new) }
@@ -148,6 +153,9 @@ impl<S: Source> Lines<S> {
         ensures gave { Gave (S.left (source_of self.old)) (S.left (source_of self.new)) (given_of self.old) (given_of self.new) }
         ensures holds_line { Contains (held_of self.old) 10 → ReadNothing self.old self.new }
         ensures input_ended { IsTrue (ended_of self.old) → ReadNothing self.old self.new }
+        ensures answers_line { Contains (held_of self.old) 10 → IfErr result (λ why. why ≡ OutOfMemory) }
+        ensures answers_end { IsTrue (ended_of self.old) → IfErr result (λ why. why ≡ OutOfMemory) }
+        ensures ends { IfOk result (λ next. Ends next (held_of self.new) (ended_of self.new)) }
     {
         let mut line = Line::new(alloc);
         'pieces: loop {

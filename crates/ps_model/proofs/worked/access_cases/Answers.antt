@@ -1,5 +1,6 @@
 use Rattle.ps_model.proofs.WorkedAuthorize.{authorize}
 use Rattle.ps_model.proofs.WorkedPresence.{presence}
+use Rattle.ps_model.proofs.WorkedRoster.{roster, open_to_all}
 use Rattle.ps_model.proofs.WorkedWhitelist.{whitelist}
 use Rattle.ps_model.proofs.worked.access_cases.Goals as goal
 
@@ -11,3 +12,9 @@ returns-clause-authorize c = authorize
 
 pub returns-clause-presence : goal.returns-clause-presence
 returns-clause-presence c = presence
+
+pub returns-clause-roster : goal.returns-clause-roster
+returns-clause-roster c = roster
+
+pub returns-clause-everyone : goal.returns-clause-everyone
+returns-clause-everyone c = open_to_all

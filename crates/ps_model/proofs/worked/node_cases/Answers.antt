@@ -1,4 +1,4 @@
-use Rattle.ps_model.proofs.WorkedNodes.{config, ids, collections, options, caps}
+use Rattle.ps_model.proofs.WorkedNodes.{config, ids, collections, options, caps, repeats, discovery}
 use Rattle.ps_model.proofs.worked.node_cases.Goals as goal
 
 pub returns-clause-config : goal.returns-clause-config
@@ -15,3 +15,9 @@ returns-clause-options c = options
 
 pub returns-clause-caps : goal.returns-clause-caps
 returns-clause-caps c = caps
+
+pub returns-clause-ill_formed : goal.returns-clause-ill_formed
+returns-clause-ill_formed c = repeats
+
+pub returns-clause-discovery : goal.returns-clause-discovery
+returns-clause-discovery c = discovery

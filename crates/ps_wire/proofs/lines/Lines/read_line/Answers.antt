@@ -1,7 +1,7 @@
 use Rattle.std.proofs.Common.{◌+◌, ◌-◌, ◌^◌, take, refl, sym, ◌∙◌, arith}
 use Rattle.std.proofs.lemmas.Bool.{false≢true}
-use Rattle.ps_wire.proofs.Pieces.{at_newline, takes_at_newline, before_limit_at_newline, at_end, takes_to_end, before_limit_at_end, past_limit, goes_on}
-use Rattle.ps_wire.proofs.Gaining.{gave_none, gave_more, gave_same, no_newline_held}
+use Rattle.ps_wire.proofs.Pieces.{at_newline, line_at_newline, takes_at_newline, before_limit_at_newline, at_end, line_to_end, takes_to_end, before_limit_at_end, past_limit, goes_on}
+use Rattle.ps_wire.proofs.Gaining.{gave_more, no_newline_held}
 use Rattle.ps_wire.proofs.lines.Lines.read_line.Goals as goal
 
 pub returns-in-Some-clause-next : goal.returns-in-Some-clause-next
@@ -58,3 +58,15 @@ returns-then-self-ge-LIMIT-clause-long g c = λ is_long. (
   omega (arith, c.if-self-ge-LIMIT.true, c.pieces.self.within),
   past_limit _ (g.S.Source.left c.pieces.self.source) c.pieces.self.held c.bytes.result.now c.pieces.line _ (2 ^ 40 - c.pieces.self.given) c.pieces.invariant.0 c.bytes.ensures c.in_default.ensures.none (omega (arith, c.if-self-ge-LIMIT.true)),
 )
+
+pub returns-in-Some-clause-line : goal.returns-in-Some-clause-line
+returns-in-Some-clause-line g c =
+    line_at_newline c.finish.result _ (g.S.Source.left c.pieces.self.source) c.pieces.self.held c.drop_front.new.self (take c.in-Some.place c.bytes-in-Some.result.now) c.bytes.result.now c.bytes-in-Some.result.now c.in-Some.place c.pieces.line c.push.new.self _ (2 ^ 40 - c.pieces.self.given)
+    c.pieces.invariant.0 c.bytes.ensures c.bytes-in-Some.ensures c.in-Some.ensures.found.0 c.in-Some.ensures.found.1 c.in-Some.ensures.before
+    c.in_ok-push.ensures refl c.drop_front.ensures c.finish.ensures
+
+pub returns-then-self-clause-line : goal.returns-then-self-clause-line
+returns-then-self-clause-line g c =
+    line_to_end c.finish_at_end.result _ (g.S.Source.left c.pieces.self.source) c.pieces.self.held c.drop_front-in-pieces.new.self c.bytes-in-pieces.result.now c.bytes.result.now c.bytes-in-pieces-2.result.now c.pieces.line c.push-in-pieces.new.self _ (2 ^ 40 - c.pieces.self.given)
+    c.pieces.invariant.0 (c.pieces.self.at_end c.if-self.true) c.bytes.ensures c.bytes-in-pieces-2.ensures c.in_default.ensures.none
+    c.in_ok-push-2.ensures c.bytes-in-pieces.ensures c.drop_front-in-pieces.ensures c.finish_at_end.ensures

@@ -1,0 +1,11 @@
+//! The affiliations of addresses at nodes (XEP-0060 §4.1).
+//!
+//! [`Affils`] is seen as the list of its rows, in order of making, and its spare (`ps_base`, `specs/Rows.antt`). What each call
+//! does with that list is said in `ps_types`, `specs/Affils.antt`: a row is of a node and a bare address, an address without a
+//! row has no affiliation, and where one is set to none its row goes. All other rows stay, in their order.
+#![tactic(auto)]
+
+mod affils;
+mod places;
+
+pub use affils::Affils;

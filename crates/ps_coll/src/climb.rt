@@ -1,0 +1,46 @@
+// From a node up, along the links.
+ghost use Rattle.std.specs.Prelude.{◌≡◌, IfOk};
+ghost use Rattle.ps_types.specs.Links.{above, is_under};
+
+use crate::places::collection_among;
+use ps_types::{LinkRow, Memory, NodeKey};
+use std::alloc::Global;
+
+pub fn is_reached(rows: &[LinkRow], node: &NodeKey, collection: &NodeKey, deep: bool) -> bool
+    ensures { result ≡ is_under node.now collection.now deep rows.now }
+{
+    let mut left = if deep { rows.len() } else { 1 };
+    let mut at = collection_among(rows, node);
+    while left > 0 {
+        match at {
+            None => return false,
+            Some(key) => {
+                if collection.is_same(key) {
+                    return true;
+                }
+                at = collection_among(rows, key);
+                left -= 1;
+            }
+        }
+    }
+    false
+}
+
+pub fn ancestors_of(alloc: Global, rows: &[LinkRow], node: &NodeKey) -> Result<Vec<NodeKey>, Memory>
+    ensures { IfOk result (λ nodes. nodes.items ≡ above node.now rows.now) }
+{
+    let mut nodes = Vec::new(alloc);
+    let mut left = rows.len();
+    let mut at = collection_among(rows, node);
+    while left > 0 {
+        match at {
+            None => return Ok(nodes),
+            Some(key) => {
+                nodes.push(key.clone()?)?;
+                at = collection_among(rows, key);
+                left -= 1;
+            }
+        }
+    }
+    Ok(nodes)
+}

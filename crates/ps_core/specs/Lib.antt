@@ -1,0 +1,4 @@
+pub mod States
+pub mod Stages
+pub mod Answers
+pub mod Lines

@@ -1,0 +1,57 @@
+// Whether an entry is accepted at a State.
+ghost use Rattle.std.specs.Prelude.{◌≡◌, true, IfOk};
+ghost use Rattle.ps_model.specs.Built.{is_read};
+ghost use Rattle.ps_model.specs.Commits.{makes_entry as makes_entry_at};
+ghost use Rattle.ps_model.specs.Replay.{accepted, request_accepted};
+ghost use Rattle.ps_model.specs.Taking.{request_in, tree_taken};
+ghost use Rattle.ps_access.specs.Tables.{book_of};
+ghost use Rattle.ps_core.specs.States.{state_of};
+
+use crate::half::Half;
+use crate::taking::{TakenLine, take_built};
+use ps_access::Tables;
+use ps_base::Memory;
+use ps_owner::plan;
+use ps_types::{Elem, Entry, PlanRefusal, Request, Text};
+use std::alloc::Global;
+
+// Whether a request that is built is accepted and makes an entry.
+fn makes_entry(tables: &Tables, request: &Request) -> Result<bool, Memory>
+    requires built { is_read tables.now.service request.now ≡ true }
+    ensures { IfOk result (λ b. b ≡ makes_entry_at (book_of tables.now) request.now) }
+{
+    match plan(tables, request) {
+        Ok(plan) => Ok(plan.commits),
+        Err(PlanRefusal::Denied(_)) => Ok(false),
+        Err(PlanRefusal::Memory) => Err(Memory),
+    }
+}
+
+// Whether a tree on the stream of the host is a request that is accepted and makes an entry.
+fn is_accepted_tree(alloc: Global, tables: &Tables, host: &Text, tree: &Elem) -> Result<bool, Memory>
+    ensures { IfOk result (λ b. b ≡ request_accepted (request_in (tree_taken host.now tables.now.service tree.now)) (book_of tables.now)) }
+{
+    match take_built(alloc, host, &tables.service, tree)? {
+        TakenLine::Asked(_, request) => makes_entry(tables, &request),
+        TakenLine::Refused(_) => Ok(false),
+        TakenLine::Silent => Ok(false),
+    }
+}
+
+/// Whether the entry is accepted at the State.
+pub fn accepts_at(alloc: Global, half: &Half, entry: &Entry) -> Result<bool, Memory>
+    ensures { IfOk result (λ b. b ≡ accepted (state_of half.now) entry.now) }
+{
+    match entry {
+        Entry::Boot { service } => Ok(!service.is_empty()),
+        Entry::Change { host, line, tree, .. } => {
+            if half.tables.service.is_empty() || !half.lines.is_next(host, *line) {
+                return Ok(false);
+            }
+            is_accepted_tree(alloc, &half.tables, host, tree)
+        }
+        Entry::Handed { .. } => Ok(false),
+        Entry::Gone { .. } => Ok(!half.tables.service.is_empty()),
+        Entry::Base { .. } => Ok(false),
+    }
+}

@@ -1,0 +1,193 @@
+// What a line is answered at a State.
+ghost use Rattle.std.specs.Prelude.{◌≡◌, ◌≢◌, [], true, false, cond, IfOk, Some, None};
+ghost use Rattle.ps_types.specs.declared.entry.Entry.TheVariants.{Change};
+ghost use Rattle.ps_model.specs.Built.{is_read};
+ghost use Rattle.ps_model.specs.Outcome.{denied};
+ghost use Rattle.ps_model.specs.Replies as model;
+ghost use Rattle.ps_model.specs.Replies.{reply_to, entry_of, reply_by, entry_by, moment_of, outcome_reply, feature_of};
+ghost use Rattle.ps_model.specs.Taken.{asked};
+ghost use Rattle.ps_access.specs.Tables.{book_of};
+ghost use Rattle.ps_core.specs.Answers.{full_by, AnswersStanza};
+
+use crate::taking::{TakenLine, take_line};
+use ps_access::Tables;
+use ps_base::Memory;
+use ps_names::{Head, error_reply, refused, result_reply};
+use ps_owner::plan;
+use ps_request::{head_of, is_answered, is_iq, is_presence};
+use ps_types::{Arrival, Ask, Condition, Elem, Entry, Plan, PlanRefusal, Request, Text};
+use std::alloc::Global;
+
+/// The reply to a line, the entry that it makes, and the reply in its place where the entry finds no room in the journal.
+#[derive(Drop)]
+pub struct Answer {
+    pub reply: Option<Elem>,
+    pub entry: Option<Entry>,
+    pub full: Option<Elem>,
+}
+
+fn nothing() -> Answer
+    ensures reply { result.reply ≡ None }
+    ensures entry { result.entry ≡ None }
+    ensures full { result.full ≡ None }
+{
+    Answer {
+        reply: None,
+        entry: None,
+        full: None,
+    }
+}
+
+fn reply_alone(reply: Option<Elem>) -> Answer
+    ensures reply { result.reply ≡ reply }
+    ensures entry { result.entry ≡ None }
+    ensures full { result.full ≡ None }
+{
+    Answer {
+        reply,
+        entry: None,
+        full: None,
+    }
+}
+
+// The feature that a collection doesn't have.
+fn feature_text(ask: &Ask) -> &'static str
+    ensures { result.now ≡ feature_of ask.now }
+{
+    match ask {
+        Ask::Publish { .. } => "publish",
+        Ask::Retract { .. } => "delete-items",
+        Ask::ItemsGet { .. } => "retrieve-items",
+        Ask::Purge { .. } => "purge-nodes",
+        _ => "",
+    }
+}
+
+// What the reply to a request is made of.
+fn reply_head(alloc: Global, tree: &Elem, request: &Request, feature: &str) -> Result<Head, Memory>
+    ensures named { IfOk result (λ h. h.name ≢ []) }
+    ensures head { IfOk result (λ h. AnswersStanza h tree.now request.now feature.now) }
+{
+    tree.know();
+    let sender = request.from.clone()?;
+    let target = request.target.clone()?;
+    let head = head_of(alloc, tree, sender, target)?;
+    Ok(Head {
+        name: head.name,
+        from: head.target,
+        to: head.sender,
+        id: head.id,
+        feature: Text::of(alloc, feature)?,
+    })
+}
+
+fn denied_reply(alloc: Global, tree: &Elem, request: &Request, why: Condition) -> Result<Option<Elem>, Memory>
+    ensures { IfOk result (λ o. o ≡ outcome_reply tree.now request.now false (denied why)) }
+{
+    if !is_answered(tree) {
+        return Ok(None);
+    }
+    let head = reply_head(alloc, tree, request, feature_text(&request.ask))?;
+    let reply = error_reply(alloc, &head, why)?;
+    Ok(Some(reply))
+}
+
+fn accepted_reply(alloc: Global, tree: &Elem, request: &Request, child: Option<Elem>) -> Result<Option<Elem>, Memory>
+    ensures { IfOk result (λ o. o ≡ model.accepted_reply tree.now request.now child) }
+{
+    if !(is_answered(tree) && is_iq(tree)) {
+        return Ok(None);
+    }
+    let head = reply_head(alloc, tree, request, "")?;
+    let reply = result_reply(alloc, &head, child)?;
+    Ok(Some(reply))
+}
+
+fn full_reply(alloc: Global, tree: &Elem, request: &Request) -> Result<Option<Elem>, Memory>
+    ensures { IfOk result (λ o. o ≡ model.full_reply tree.now request.now) }
+{
+    if !(is_answered(tree) || is_presence(tree)) {
+        return Ok(None);
+    }
+    let head = reply_head(alloc, tree, request, "")?;
+    let reply = error_reply(alloc, &head, Condition::C24)?;
+    Ok(Some(reply))
+}
+
+// Where a request comes from: its host, the number of its line, and its moment.
+#[derive(Clone, Copy)]
+struct Origin<'a> {
+    host: &'a Text,
+    line: u64,
+    moment: Option<u64>,
+}
+
+fn accepted_answer(alloc: Global, origin: Origin<'_>, tree: Elem, request: &Request, plan: Plan) -> Result<Answer, Memory>
+    ensures reply { IfOk result (λ a. a.reply ≡ model.accepted_reply tree request.now plan.reply) }
+    ensures entry { IfOk result (λ a. a.entry ≡ cond plan.commits (Some (Change origin.host.now origin.line origin.moment tree)) None) }
+    ensures full { IfOk result (λ a. a.full ≡ cond plan.commits (model.full_reply tree request.now) None) }
+{
+    let commits = plan.commits;
+    let reply = accepted_reply(alloc, &tree, request, plan.reply)?;
+    if !commits {
+        return Ok(reply_alone(reply));
+    }
+    let full = full_reply(alloc, &tree, request)?;
+    let host = origin.host.clone()?;
+    Ok(Answer {
+        reply,
+        entry: Some(Entry::Change {
+            host,
+            line: origin.line,
+            moment: origin.moment,
+            tree,
+        }),
+        full,
+    })
+}
+
+fn asked_answer(alloc: Global, tables: &Tables, origin: Origin<'_>, tree: Elem, request: &Request) -> Result<Answer, Memory>
+    requires built { is_read tables.now.service request.now ≡ true }
+    ensures reply { IfOk result (λ a. a.reply ≡ reply_by (asked tree request.now) (book_of tables.now) origin.line false) }
+    ensures entry { IfOk result (λ a. a.entry ≡ entry_by (asked tree request.now) origin.host.now (book_of tables.now) origin.line origin.moment false) }
+    ensures full { IfOk result (λ a. a.full ≡ full_by a.entry (reply_by (asked tree request.now) (book_of tables.now) origin.line true)) }
+{
+    match plan(tables, request) {
+        Ok(plan) => accepted_answer(alloc, origin, tree, request, plan),
+        Err(PlanRefusal::Denied(why)) => {
+            let reply = denied_reply(alloc, &tree, request, why)?;
+            Ok(reply_alone(reply))
+        }
+        Err(PlanRefusal::Memory) => Err(Memory),
+    }
+}
+
+fn moment_in(arrival: &Arrival) -> Option<u64>
+    ensures { result ≡ moment_of arrival.now }
+{
+    match arrival {
+        Arrival::Line { moment, .. } => *moment,
+        Arrival::TooLong => None,
+    }
+}
+
+/// What the line of that number on the stream of the host is answered over these tables.
+pub fn answer_at(alloc: Global, tables: &Tables, host: &Text, line: u64, arrival: &Arrival) -> Result<Answer, Memory>
+    ensures reply { IfOk result (λ a. a.reply ≡ reply_to host.now (book_of tables.now) line arrival.now false) }
+    ensures entry { IfOk result (λ a. a.entry ≡ entry_of host.now (book_of tables.now) line arrival.now false) }
+    ensures full { IfOk result (λ a. a.full ≡ full_by a.entry (reply_to host.now (book_of tables.now) line arrival.now true)) }
+{
+    let origin = Origin {
+        host,
+        line,
+        moment: moment_in(arrival),
+    };
+    match take_line(alloc, host, &tables.service, arrival)? {
+        TakenLine::Silent => Ok(nothing()),
+        TakenLine::Refused(why) => {
+            let reply = refused(alloc, line, why)?;
+            Ok(reply_alone(Some(reply)))
+        }
+        TakenLine::Asked(tree, request) => asked_answer(alloc, tables, origin, tree, &request),
+    }
+}

@@ -1,0 +1,113 @@
+// One copy of the State, edited in place.
+ghost use Rattle.std.specs.Prelude.{◌≡◌, ◌+◌, ◌<◌, ◌^◌, ℕ, List, [], true, IfOk, OnOk};
+ghost use Rattle.std.specs.declared.option.Option.{Option};
+ghost use Rattle.ps_types.specs.declared.entry.Entry.TheVariants.{Boot, Change, Gone};
+ghost use Rattle.ps_model.specs.Book.{empty_state};
+ghost use Rattle.ps_model.specs.Replay.{after, accepted};
+ghost use Rattle.ps_model.specs.Built.{is_read};
+ghost use Rattle.ps_model.specs.Commits.{makes_entry};
+ghost use Rattle.ps_access.specs.Tables.{book_of};
+ghost use Rattle.ps_core.specs.States.{state_of, changed_state};
+
+use crate::changes::create;
+use crate::lines::Lines;
+use crate::taking::{TakenLine, take_built};
+use ps_access::Tables;
+use ps_base::Memory;
+use ps_types::{Ask, Elem, Entry, LineRow, Request, Text};
+use std::alloc::Global;
+
+/// A copy of the State.
+#[derive(Drop)]
+pub struct Half {
+    pub tables: Tables,
+    pub count: u64,
+    pub lines: Lines,
+}
+
+impl Half {
+    /// The empty State.
+    pub fn new(alloc: Global) -> Result<Half, Memory>
+        ensures state { IfOk result (λ h. state_of h ≡ empty_state) }
+    {
+        Ok(Half {
+            tables: Tables::new(alloc)?,
+            count: 0,
+            lines: Lines::new(alloc),
+        })
+    }
+
+    /// A copy with the same State.
+    pub fn copy(&self) -> Result<Half, Memory>
+        ensures state { IfOk result (λ h. state_of h ≡ state_of self.now) }
+    {
+        Ok(Half {
+            tables: self.tables.copy()?,
+            count: self.count,
+            lines: self.lines.copy()?,
+        })
+    }
+
+    /// Takes an entry that is accepted here.
+    pub fn take(&mut self, alloc: Global, entry: &Entry) -> Result<(), Memory>
+        requires accepted { accepted (state_of self.old) entry.now ≡ true }
+        requires few { self.old.count < 2 ^ 62 }
+        ensures state { OnOk result (state_of self.new ≡ after (state_of self.old) entry.now) }
+    {
+        match entry {
+            Entry::Boot { service } => self.boot(alloc, service),
+            Entry::Change { host, line, tree, .. } => self.take_change(alloc, host, *line, tree),
+            Entry::Gone { .. } => self.leave(),
+            _ => unreachable!(),
+        }
+    }
+
+    fn boot(&mut self, alloc: Global, service: &Text) -> Result<(), Memory>
+        requires few { self.old.count < 2 ^ 62 }
+        ensures state { OnOk result (state_of self.new ≡ after (state_of self.old) (Boot service.now)) }
+    {
+        self.tables.service = service.clone()?;
+        self.lines = Lines::new(alloc);
+        self.count += 1;
+        Ok(())
+    }
+
+    fn leave(&mut self) -> Result<(), Memory>
+        requires few { self.old.count < 2 ^ 62 }
+        ensures state { OnOk result (((host : List ℕ) → state_of self.new ≡ after (state_of self.old) (Gone host))) }
+    {
+        self.count += 1;
+        Ok(())
+    }
+
+    fn take_change(&mut self, alloc: Global, host: &Text, line: u64, tree: &Elem) -> Result<(), Memory>
+        requires accepted { (moment : Option ℕ) → accepted (state_of self.old) (Change host.now line moment tree.now) ≡ true }
+        requires few { self.old.count < 2 ^ 62 }
+        ensures state { OnOk result ((moment : Option ℕ) → state_of self.new ≡ after (state_of self.old) (Change host.now line moment tree.now)) }
+    {
+        match take_built(alloc, host, &self.tables.service, tree)? {
+            TakenLine::Asked(_, request) => self.take_request(alloc, host, line, &request),
+            _ => unreachable!(),
+        }
+    }
+
+    fn take_request(&mut self, alloc: Global, host: &Text, line: u64, request: &Request) -> Result<(), Memory>
+        requires built { is_read self.old.tables.service request.now ≡ true }
+        requires accepted { makes_entry (book_of self.old.tables) request.now ≡ true }
+        requires few { self.old.count < 2 ^ 62 }
+        ensures state { OnOk result ((moment : Option ℕ) → state_of self.new ≡ changed_state request.now moment host.now line (state_of self.old)) }
+    {
+        let row = LineRow {
+            host: host.clone()?,
+            line,
+        };
+        self.lines.reserve(1)?;
+        match &request.ask {
+            Ask::Create { node, .. } => create(&mut self.tables, alloc, request, node)?,
+            _ => unreachable!(),
+        }
+        self.lines.set(row);
+        self.count += 1;
+        Ok(())
+    }
+}

@@ -1,0 +1,22 @@
+//! The service: a State, kept twice, and what it answers.
+//!
+//! [`Service::answer`] is the model's reply and entry of a line at the State. [`Service::accepts`] says whether an entry is accepted
+//! there; [`Service::prepare`] and [`Service::commit`] take it, in two steps, so that nothing fails once the journal has it, and
+//! [`Service::apply`] is both. The second copy is edited while the first one stands, so want of memory changes nothing.
+//! A contract sees a service as its State and the entry that is prepared (`specs/Stages.antt`).
+#![tactic(auto)]
+
+mod accepting;
+mod answers;
+mod changes;
+mod half;
+mod lines;
+mod service;
+mod taking;
+#[cfg(test)]
+mod tests;
+
+pub use answers::Answer;
+pub use half::Half;
+pub use lines::Lines;
+pub use service::{Service, Stage};

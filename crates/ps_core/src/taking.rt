@@ -1,0 +1,117 @@
+// What a line is taken as.
+ghost use Rattle.std.specs.Prelude.{◌≡◌, IfOk};
+ghost use Rattle.std.specs.List.{list_all};
+ghost use Rattle.ps_types.specs.LineTree.{line_tree};
+ghost use Rattle.ps_model.specs.Built.{is_read as is_read_request, built_taken};
+ghost use Rattle.ps_model.specs.Taking.{taken, tree_taken, line_taken, is_white};
+ghost use Rattle.ps_request.specs.Taking.{taken_view};
+ghost use Rattle.ps_core.specs.Lines.{line_view, read_view, IsBuilt};
+
+use ps_base::Memory;
+use ps_request::{TakenTree, take_tree};
+use ps_types::{Arrival, Ask, Elem, LineRefusal, Request, Text};
+use ps_wire::{TreeRefusal, read_tree};
+use std::alloc::Global;
+
+/// What a line is taken as.
+#[derive(Drop)]
+pub enum TakenLine {
+    Silent,
+    Refused(LineRefusal),
+    Asked(Elem, Request),
+}
+
+/// The tree of a line, or why it is none.
+#[derive(Drop)]
+pub enum ReadLine {
+    Tree(Elem),
+    Refused(LineRefusal),
+}
+
+fn is_blank(bytes: &[u8]) -> bool
+    ensures { result ≡ list_all is_white bytes.now }
+{
+    bytes
+        .iter()
+        .all(|byte| *byte == b' ' || *byte == b'\t' || *byte == b'\r')
+}
+
+fn read_line(alloc: Global, bytes: &[u8]) -> Result<ReadLine, Memory>
+    ensures { IfOk result (λ x. read_view x ≡ line_tree bytes.now) }
+{
+    match read_tree(alloc, bytes) {
+        Ok(tree) => Ok(ReadLine::Tree(tree)),
+        Err(TreeRefusal::L2) => Ok(ReadLine::Refused(LineRefusal::L2)),
+        Err(TreeRefusal::L3) => Ok(ReadLine::Refused(LineRefusal::L3)),
+        Err(TreeRefusal::L4) => Ok(ReadLine::Refused(LineRefusal::L4)),
+        Err(TreeRefusal::Memory) => Err(Memory),
+    }
+}
+
+// A node that is made without a form on the service host.
+fn is_read(service: &Text, request: &Request) -> bool
+    ensures { result ≡ is_read_request service.now request.now }
+{
+    match &request.ask {
+        Ask::Create { form: None, .. } => {
+            request.target.local.is_empty()
+                && (request.target.host == *service && request.target.resource.is_empty())
+        }
+        _ => false,
+    }
+}
+
+// Requests of which nothing is built yet are refused as lines.
+fn built(service: &Text, tree: Elem, found: TakenTree) -> TakenLine
+    ensures view { line_view result ≡ built_taken service.now (taken_view tree found) }
+    ensures built { IsBuilt service.now result }
+{
+    match found {
+        TakenTree::Refused(why) => TakenLine::Refused(why),
+        TakenTree::Denied(_, _) => TakenLine::Refused(LineRefusal::L8),
+        TakenTree::Asked(request) => {
+            if is_read(service, &request) {
+                TakenLine::Asked(tree, request)
+            } else {
+                TakenLine::Refused(LineRefusal::L8)
+            }
+        }
+    }
+}
+
+/// What a tree on the stream of the host is taken as.
+pub fn take_built(alloc: Global, host: &Text, service: &Text, tree: &Elem) -> Result<TakenLine, Memory>
+    ensures view { IfOk result (λ x. line_view x ≡ tree_taken host.now service.now tree.now) }
+    ensures built { IfOk result (IsBuilt service.now) }
+{
+    let found = take_tree(alloc, tree, host, service)?;
+    let tree = tree.clone()?;
+    Ok(built(service, tree, found))
+}
+
+fn take_bytes(alloc: Global, host: &Text, service: &Text, bytes: &[u8]) -> Result<TakenLine, Memory>
+    ensures view { IfOk result (λ x. line_view x ≡ line_taken host.now service.now bytes.now) }
+    ensures built { IfOk result (IsBuilt service.now) }
+{
+    if is_blank(bytes) {
+        return Ok(TakenLine::Silent);
+    }
+    match read_line(alloc, bytes)? {
+        ReadLine::Refused(why) => Ok(TakenLine::Refused(why)),
+        ReadLine::Tree(tree) => {
+            let found = take_tree(alloc, &tree, host, service)?;
+            Ok(built(service, tree, found))
+        }
+    }
+}
+
+/// What a line on the stream of the host is taken as.
+pub fn take_line(alloc: Global, host: &Text, service: &Text, arrival: &Arrival) -> Result<TakenLine, Memory>
+    ensures view { IfOk result (λ x. line_view x ≡ taken host.now service.now arrival.now) }
+    ensures built { IfOk result (IsBuilt service.now) }
+{
+    match arrival {
+        Arrival::Line { bytes, .. } => take_bytes(alloc, host, service, bytes.as_slice()),
+        Arrival::TooLong => Ok(TakenLine::Refused(LineRefusal::L1)),
+    }
+}

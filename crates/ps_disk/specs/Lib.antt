@@ -1,0 +1,5 @@
+pub mod Disk
+pub mod Calls
+pub mod Counts
+pub mod Outcomes
+pub mod SeenLeft

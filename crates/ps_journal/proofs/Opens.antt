@@ -1,0 +1,81 @@
+-- What opening finds, and what a crash leaves meanwhile.
+use Rattle.std.proofs.Common.{map, Some, ◌≡◌, ◌⊎◌, inl, inr, ℕ, ◌+◌, ◌<◌, true, false, List, [], ◌∷◌, ◌++◌, length, take, refl, sym, ap, subst, ◌∙◌, arith}
+use Rattle.std.proofs.lemmas.List.{map-append}
+use Rattle.ps_disk.specs.Disk.{MayLeave}
+use Rattle.ps_types.specs.declared.entry.Entry.{Entry}
+use Rattle.ps_model.specs.Entries.{spelling, body}
+use Rattle.ps_model.specs.Store.{is_header, is_second, is_unbegun, gate_at, Begun, Lists, spelled, joined}
+use Rattle.ps_journal.specs.Settled.{Stores, IsSettledAt, IsSettled, IsQuiet, IsUpgrading}
+use Rattle.ps_journal.specs.Judged.{IsFound, FramesRead, BadEntry}
+use Rattle.ps_journal.specs.Places.{places_in, places}
+use Rattle.ps_journal.specs.Places.{entries_in}
+use Rattle.ps_journal.specs.declared.judging.Placed.{Placed}
+use Rattle.ps_journal.proofs.Bodies.{size_of}
+use Rattle.ps_journal.proofs.Lists.{lists_same, parts_upgraded, one_list}
+
+entries_in_body : (at : ℕ) (es : List Entry) → entries_in (places_in at es) ≡ es
+entries_in_body at [] = refl
+entries_in_body at (e ∷ es) = ap (λ (l : List Entry). e ∷ l) (entries_in_body (at + length (spelling e)) es)
+
+entries_in_parts : (at : ℕ) (fs : List (List Entry)) → entries_in (places at fs) ≡ joined fs
+entries_in_parts at [] = refl
+entries_in_parts at (f ∷ fs) =
+    map-append (λ p. p.entry) (places_in (at + 5) f) (places (at + (5 + length (body f))) fs)
+    ∙ (λ i. entries_in_body (at + 5) f i ++ entries_in_parts (at + (5 + length (body f))) fs i)
+
+pub found_spells : (bytes : List ℕ) (placed : List Placed) (gate : ℕ) → IsFound bytes placed gate → spelled bytes (entries_in placed)
+found_spells bytes placed gate found =
+    let all = found.all in
+    lists_same bytes all.parts (entries_in placed) all.each (ap entries_in all.places ∙ entries_in_parts 8 all.parts)
+    (subst (λ (bs : List (List ℕ)). Begun bytes bs) all.are found.begun)
+
+pub found_gate : (bytes : List ℕ) (placed : List Placed) (gate : ℕ) → IsFound bytes placed gate → gate < length bytes
+found_gate bytes placed gate found = omega (arith, size_of bytes found.bodies found.begun, found.stands)
+
+-- the store that opening leaves
+module _ (bytes new : List ℕ) (placed : List Placed) (gate : ℕ) (found : IsFound bytes placed gate) where
+  pub upgraded_spells : (synced : List ℕ) (written : List (ℕ × ℕ)) (len : ℕ) → IsSettledAt found.bodies new synced written len → spelled new (entries_in placed)
+  upgraded_spells synced written len s =
+      let all = found.all in
+      lists_same new all.parts (entries_in placed) (parts_upgraded (is_second bytes) (is_second new) all.parts (λ was. s.stores.second) all.each) (ap entries_in all.places ∙ entries_in_parts 8 all.parts)
+      (subst (λ (bs : List (List ℕ)). Begun new bs) all.are s.stores.begun)
+
+  pub upgraded_settled : (synced : List ℕ) (written : List (ℕ × ℕ)) (len : ℕ) → IsSettledAt found.bodies new synced written len → len ≡ gate_at found.bodies + 1 → IsSettled new synced written (gate + 1)
+  upgraded_settled synced written len s is = ∣ (found.bodies, subst (λ (n : ℕ). IsSettledAt found.bodies new synced written n) (is ∙ ap (λ (n : ℕ). n + 1) (sym found.stands)) s) ∣₁
+
+pub lists_in : (bytes : List ℕ) (E : List Entry) → is_header (take 8 bytes) ≡ true → spelled bytes E → Lists bytes E
+lists_in bytes E header (inl lists) = lists
+lists_in bytes E header (inr unbegun) = absurd (cc (header, unbegun.0))
+
+-- what a crash leaves while it is upgraded
+pub upgrading_spells : (bytes : List ℕ) (E : List Entry) (lists : Lists bytes E) (c : List ℕ) → IsUpgrading bytes (map body lists.parts) c → spelled c E
+upgrading_spells bytes E lists c u = lists_same c lists.parts E (parts_upgraded (is_second bytes) (is_second c) lists.parts u.stays lists.each) lists.are u.begun
+
+-- frames that are right, with an entry that isn't spelled
+pub stopped_damaged : (bytes : List ℕ) (placed : List Placed) (at gate : ℕ) → FramesRead bytes placed (Some at) gate → BadEntry bytes at placed
+stopped_damaged bytes placed at gate read =
+    let s = read.judged in
+    let before = places 8 s.parts in
+    let last = places_in (gate_at (map body s.parts) + 5) s.entries in
+    record {
+      behind = s.behind;
+      read = record {
+        parts = s.parts;
+        entries = s.entries;
+        others = s.others;
+        each = s.each;
+        each_entry = s.each_entry;
+        begun = subst (λ (bs : List (List ℕ)). Begun bytes bs) s.are read.begun;
+        are = ap entries_in s.places ∙ map-append (λ p. p.entry) before last ∙ (λ i. entries_in_parts 8 s.parts i ++ entries_in_body (gate_at (map body s.parts) + 5) s.entries i);
+        stands = s.stops;
+      };
+      bad = s.bad;
+      placed = s.places;
+    }
+
+pub none_before : (bytes : List ℕ) (E : List Entry) → is_header (take 8 bytes) ≡ false → is_unbegun bytes ≡ true → spelled bytes E → E ≡ []
+none_before bytes E header unbegun spells = one_list bytes E [] spells (inr (header, unbegun, refl))
+
+pub same_entries : (bytes : List ℕ) (E : List Entry) (s : List ℕ) (w : List (ℕ × ℕ)) (c : List ℕ) → spelled bytes E → MayLeave s w c ⊎ (c ≡ bytes) → MayLeave s w c ⊎ spelled c E
+same_entries bytes E s w c spells (inl leaves) = inl leaves
+same_entries bytes E s w c spells (inr is) = inr (subst (λ (l : List ℕ). spelled l E) (sym is) spells)

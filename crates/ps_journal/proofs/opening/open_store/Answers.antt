@@ -1,0 +1,77 @@
+use Rattle.std.proofs.Common.{◌≡◌, ◌⊎◌, ◌≤◌, true, inr, ℕ, List, length, map, take, sym, ◌∙◌, ap, subst}
+use Rattle.ps_disk.specs.Disk.{MayLeave}
+use Rattle.ps_disk.proofs.Moments.{then_on, weaker}
+use Rattle.ps_types.specs.declared.entry.Entry.{Entry}
+use Rattle.ps_model.specs.Entries.{body}
+use Rattle.ps_model.specs.Store.{is_header, is_unbegun, Lists, spelled}
+use Rattle.ps_journal.specs.Judged.{IsFound}
+use Rattle.ps_journal.proofs.Opens.{none_before, same_entries, upgraded_spells, lists_in, upgrading_spells}
+use Rattle.ps_journal.proofs.opening.open_store.Goals as goal
+
+pub returns-in-Begun-clause-spells : goal.returns-in-Begun-clause-spells
+returns-in-Begun-clause-spells g c tells =
+    let D = g.D.Disk in
+    let mid = c.settle.new.disk in
+    let new = c.upgrade.new.disk in
+    let same = c.deref.ensures.value ∙ c.in-Ok.ensures.bytes tells ∙ sym (c.settle.ensures.seen tells) in
+    let found = subst (λ (l : List ℕ). IsFound l c.in-Begun.placed.items c.in-Begun.gate) same c.in-Begun.ensures in
+    upgraded_spells (D.seen mid) (D.seen new) c.in-Begun.placed.items c.in-Begun.gate found (D.synced new) (D.written new) _ (c.in-Ok-upgrade.ensures.kept tells found.bodies found.begun)
+
+-- what the bytes spell, after the sync
+lists_of : (bytes seen old : List ℕ) (E : List Entry) → bytes ≡ old → seen ≡ old → is_header (take 8 bytes) ≡ true → spelled old E → Lists seen E
+lists_of bytes seen old E same sync header spells =
+    lists_in seen E (subst (λ (l : List ℕ). is_header (take 8 l) ≡ true) (same ∙ sym sync) header) (subst (λ (l : List ℕ). spelled l E) (sym sync) spells)
+
+pub returns-in-Err-clause-any_moment : goal.returns-in-Err-clause-any_moment
+returns-in-Err-clause-any_moment g c tells E spells short =
+    let D = g.D.Disk in
+    let old = c.args.disk.now in
+    let mid = c.settle.new.disk in
+    let bytes = c.deref.ensures.value ∙ c.in-Ok.ensures.bytes tells in
+    let lists = lists_of c.deref.result.now (D.seen mid) (D.seen old) E bytes (c.settle.ensures.seen tells) c.in-Begun.ensures.begun.header spells in
+    then_on D.moment D.left_since old mid c.upgrade.new.disk _ _ (λ f. MayLeave (D.synced old) (D.written old) f ⊎ spelled f E)
+    (c.settle.ensures.any_moment tells) (c.in-Err.ensures.any_moment tells (map body lists.parts) lists.begun)
+    (λ f left. same_entries (D.seen old) E (D.synced old) (D.written old) f spells left)
+    (λ f left. inr (upgrading_spells (D.seen mid) E lists f left))
+
+pub returns-in-Begun-clause-any_moment : goal.returns-in-Begun-clause-any_moment
+returns-in-Begun-clause-any_moment g c tells E spells short =
+    let D = g.D.Disk in
+    let old = c.args.disk.now in
+    let mid = c.settle.new.disk in
+    let bytes = c.deref.ensures.value ∙ c.in-Ok.ensures.bytes tells in
+    let lists = lists_of c.deref.result.now (D.seen mid) (D.seen old) E bytes (c.settle.ensures.seen tells) c.in-Begun.ensures.begun.header spells in
+    then_on D.moment D.left_since old mid c.upgrade.new.disk _ _ (λ f. MayLeave (D.synced old) (D.written old) f ⊎ spelled f E)
+    (c.settle.ensures.any_moment tells) (c.in-Ok-upgrade.ensures.any_moment tells (map body lists.parts) lists.begun)
+    (λ f left. same_entries (D.seen old) E (D.synced old) (D.written old) f spells left)
+    (λ f left. inr (upgrading_spells (D.seen mid) E lists f left))
+
+pub returns-in-Err-begin-clause-any_moment : goal.returns-in-Err-begin-clause-any_moment
+returns-in-Err-begin-clause-any_moment g c tells E spells short =
+    let D = g.D.Disk in
+    let old = c.args.disk.now in
+    let mid = c.settle.new.disk in
+    let bytes = c.deref.ensures.value ∙ c.in-Ok.ensures.bytes tells in
+    let seen = c.settle.ensures.seen tells in
+    let unbegun = sym (ap is_unbegun bytes) ∙ c.in-Unbegun.ensures.1 in
+    let none = none_before (D.seen old) E (sym (ap (λ (l : List ℕ). is_header (take 8 l)) bytes) ∙ c.in-Unbegun.ensures.0) unbegun spells in
+    let fits = subst (λ (l : List ℕ). length l ≤ 9) (sym seen) (short unbegun) in
+    then_on D.moment D.left_since old mid c.begin.new.disk _ _ (λ f. MayLeave (D.synced old) (D.written old) f ⊎ spelled f E)
+    (c.settle.ensures.any_moment tells) (c.in-Err-begin.ensures.any_moment tells (ap is_unbegun seen ∙ unbegun) fits)
+    (λ f left. same_entries (D.seen old) E (D.synced old) (D.written old) f spells left)
+    (λ f left. inr (subst (λ (l : List Entry). spelled f l) (sym none) left))
+
+pub returns-clause-any_moment : goal.returns-clause-any_moment
+returns-clause-any_moment g c tells E spells short =
+    let D = g.D.Disk in
+    let old = c.args.disk.now in
+    let mid = c.settle.new.disk in
+    let bytes = c.deref.ensures.value ∙ c.in-Ok.ensures.bytes tells in
+    let seen = c.settle.ensures.seen tells in
+    let unbegun = sym (ap is_unbegun bytes) ∙ c.in-Unbegun.ensures.1 in
+    let none = none_before (D.seen old) E (sym (ap (λ (l : List ℕ). is_header (take 8 l)) bytes) ∙ c.in-Unbegun.ensures.0) unbegun spells in
+    let fits = subst (λ (l : List ℕ). length l ≤ 9) (sym seen) (short unbegun) in
+    then_on D.moment D.left_since old mid c.begin.new.disk _ _ (λ f. MayLeave (D.synced old) (D.written old) f ⊎ spelled f E)
+    (c.settle.ensures.any_moment tells) (c.in-Ok-begin.ensures.any_moment tells (ap is_unbegun seen ∙ unbegun) fits)
+    (λ f left. same_entries (D.seen old) E (D.synced old) (D.written old) f spells left)
+    (λ f left. inr (subst (λ (l : List Entry). spelled f l) (sym none) left))

@@ -1,0 +1,35 @@
+-- What came of opening a store.
+use Rattle.std.specs.Prelude.{◌≡◌, ◌⊎◌, ℕ, false, true, List, [], map, take}
+use Rattle.ps_types.specs.declared.entry.Entry.{Entry}
+use Rattle.ps_model.specs.Store.{is_header, is_unbegun, spelled}
+use Rattle.ps_journal.specs.Judged.{IsDamaged, IsFound}
+use Rattle.ps_journal.specs.Places.{entries_in}
+use Rattle.ps_journal.specs.declared.judging.Placed.{Placed}
+use Rattle.ps_journal.specs.declared.opening.JournalWhy.{JournalWhy}
+use Rattle.ps_journal.specs.declared.opening.JournalWhy.TheVariants as why
+use Rattle.ps_journal.specs.declared.opening.Opening.{Opening}
+use Rattle.ps_journal.specs.declared.opening.Opening.TheVariants as openings
+
+abbrev pub IfOpened : Opening → (List Placed → ℕ → Type 0) → Type 0
+IfOpened (openings.Opened placed len) P = P placed.items len
+IfOpened (openings.Refused w) P = Unit {0}
+
+abbrev pub IfWhyDamaged : JournalWhy → (ℕ → List Placed → Type 0) → Type 0
+IfWhyDamaged (why.Damaged at before) P = P at before.items
+IfWhyDamaged why.Store P = Unit {0}
+IfWhyDamaged why.Memory P = Unit {0}
+
+abbrev pub IfDamaged : Opening → (ℕ → List Placed → Type 0) → Type 0
+IfDamaged (openings.Opened placed len) P = Unit {0}
+IfDamaged (openings.Refused w) P = IfWhyDamaged w P
+
+abbrev pub IsStoreFault : Opening → Type 0
+IsStoreFault result = result ≡ openings.Refused why.Store
+
+-- the entries of the bytes, each with its offset
+abbrev pub IsOpened : List ℕ → List Placed → Type 0
+IsOpened bytes placed = ((gate : ℕ) × IsFound bytes placed gate) ⊎ ((is_header (take 8 bytes) ≡ false) × (is_unbegun bytes ≡ true) × (placed ≡ []))
+
+-- the entries of bytes that spell a list; of others those before the first that isn't spelled, and none where the header or a frame is damaged
+abbrev pub BeforeDamage : List ℕ → List Entry → Type 0
+BeforeDamage bytes es = spelled bytes es ⊎ ((at : ℕ) × (before : List Placed) × IsDamaged bytes at before × (es ≡ entries_in before))

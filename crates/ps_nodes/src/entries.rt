@@ -1,0 +1,114 @@
+// The map of the nodes, seen as rows.
+ghost use Rattle.std.specs.Prelude.{◌≡◌, false, ◌+◌, ◌<◌, ◌≤◌, [], ◌∷◌, ◌++◌, IfOk, slice_get, option_copied, option_map, map, count_by};
+ghost use Rattle.indexmap.specs.IndexMap.{spare, values};
+ghost use Rattle.ps_types.specs.Nodes.{node_at, config_at, stands, made_by, nodes_with, nodes_without};
+ghost use Rattle.ps_types.specs.Same.{same_bare};
+ghost use Rattle.ps_nodes.specs.NodeRows.{row_of, row_seen};
+
+use crate::nodes::{NodeRef, NodeRest};
+use indexmap::IndexMap;
+use ps_types::{Jid, NodeConfig, NodeKey, NodeRow};
+use std::alloc::AllocError;
+
+type NodeMap = IndexMap<NodeKey, NodeRest>;
+
+pub fn holds(nodes: &NodeMap, node: &NodeKey) -> bool
+    ensures { result ≡ stands node.now (map row_of nodes.now.entries) }
+{
+    nodes.contains_key(node)
+}
+
+pub fn row_at(nodes: &NodeMap, at: usize) -> Option<NodeRef<'_>>
+    ensures { option_map row_seen result ≡ slice_get (map row_of nodes.now.entries) at }
+{
+    match nodes.get_index(at) {
+        Some((key, rest)) => Some(seen(key, rest)),
+        None => None,
+    }
+}
+
+pub fn row_in<'a>(nodes: &'a NodeMap, node: &NodeKey) -> Option<NodeRef<'a>>
+    ensures { option_map row_seen result ≡ node_at node.now (map row_of nodes.now.entries) }
+{
+    match nodes.get_key_value(node) {
+        Some((key, rest)) => Some(seen(key, rest)),
+        None => None,
+    }
+}
+
+fn seen<'a>(key: &'a NodeKey, rest: &'a NodeRest) -> NodeRef<'a>
+    ensures { row_seen result ≡ row_of (key.now, rest.now) }
+{
+    NodeRef {
+        key,
+        creator: &rest.creator,
+        config: &rest.config,
+    }
+}
+
+pub fn config_in<'a>(nodes: &'a NodeMap, node: &NodeKey) -> Option<&'a NodeConfig>
+    ensures { option_copied result ≡ config_at node.now (map row_of nodes.now.entries) }
+{
+    match nodes.get(node) {
+        Some(rest) => Some(&rest.config),
+        None => None,
+    }
+}
+
+/// A count of all nodes: it takes time with their number.
+pub fn made_in(nodes: &NodeMap, who: &Jid) -> usize
+    ensures { result ≡ made_by who.now (map row_of nodes.now.entries) }
+{
+    made_among(nodes, who)
+}
+
+fn made_among(nodes: &NodeMap, who: &Jid) -> usize
+    ensures { result ≡ count_by (λ rest. same_bare who.now rest.creator) (values nodes.now) }
+{
+    nodes
+        .values()
+        .filter(|rest| who.same_bare(&rest.creator))
+        .count()
+}
+
+pub fn add(nodes: &mut NodeMap, row: NodeRow)
+    requires room { 0 < spare nodes.old }
+    requires absent { stands row.key (map row_of nodes.old.entries) ≡ false }
+    ensures rows { map row_of nodes.new.entries ≡ map row_of nodes.old.entries ++ row ∷ [] }
+    ensures room { spare nodes.old ≤ spare nodes.new + 1 }
+{
+    let NodeRow {
+        key,
+        creator,
+        config,
+    } = row;
+    let _ = nodes.insert(key, NodeRest { creator, config });
+}
+
+pub fn set_config_in(nodes: &mut NodeMap, node: &NodeKey, config: NodeConfig) -> bool
+    ensures there { result ≡ stands node.now (map row_of nodes.old.entries) }
+    ensures rows { map row_of nodes.new.entries ≡ nodes_with node.now config (map row_of nodes.old.entries) }
+    ensures room { spare nodes.old ≤ spare nodes.new }
+{
+    match nodes.get_mut(node) {
+        Some(rest) => {
+            rest.config = config;
+            true
+        }
+        None => false,
+    }
+}
+
+pub fn remove_from(nodes: &mut NodeMap, node: &NodeKey) -> bool
+    ensures there { result ≡ stands node.now (map row_of nodes.old.entries) }
+    ensures rows { map row_of nodes.new.entries ≡ nodes_without node.now (map row_of nodes.old.entries) }
+    ensures room { spare nodes.old ≤ spare nodes.new }
+{
+    nodes.shift_remove(node).is_some()
+}
+
+pub fn copy_of(nodes: &NodeMap) -> Result<NodeMap, AllocError>
+    ensures { IfOk result (λ n. map row_of n.entries ≡ map row_of nodes.now.entries) }
+{
+    nodes.clone()
+}

@@ -1,0 +1,12 @@
+//! The nodes (XEP-0060 §8.1), in the order of their making, found by hash.
+//!
+//! [`Nodes`] is seen as the list of its rows and its spare (`ps_base`, `specs/Rows.antt`). What each call does with that list is
+//! said in `ps_types`, `specs/Nodes.antt`: a row is of a key, a key has at most one row, a new row goes last, and where one goes
+//! the others keep their order. A row lies in memory by its parts, so [`Nodes::row`] and [`Nodes::get`] hand out a [`NodeRef`],
+//! which `row_seen` of `specs/NodeRows.antt` reads as the row.
+#![tactic(auto)]
+
+mod entries;
+mod nodes;
+
+pub use nodes::{Exists, NodeRef, Nodes};

@@ -1,0 +1,162 @@
+// The table.
+ghost use Rattle.std.specs.Prelude.{◌≡◌, ◌+◌, ◌<◌, ◌≤◌, [], ◌∷◌, ◌++◌, IfOk, OnOk, OnErr, length, slice_get, option_copied, option_map, is_err};
+ghost use Rattle.ps_types.specs.Nodes.{node_at, config_at, stands, made_by, nodes_with, nodes_without};
+ghost use Rattle.ps_nodes.specs.NodeRows.{row_seen};
+
+use crate::entries::{
+    add, config_in, copy_of, holds, made_in, remove_from, row_at, row_in, set_config_in,
+};
+use indexmap::IndexMap;
+use ps_types::{Jid, Memory, NodeConfig, NodeKey, NodeRow};
+use std::alloc::Global;
+use std::marker::Model;
+
+/// A node of the key is there already.
+#[derive(Clone, Copy, PartialEq, Eq, Debug)]
+pub struct Exists;
+
+/// What a node has beside its key.
+#[derive(Clone, Drop)]
+pub struct NodeRest {
+    pub creator: Jid,
+    pub config: NodeConfig,
+}
+
+/// A node's row, by its parts.
+#[derive(Clone, Copy)]
+pub struct NodeRef<'a> {
+    pub key: &'a NodeKey,
+    pub creator: &'a Jid,
+    pub config: &'a NodeConfig,
+}
+
+/// The nodes in the order of their making, and how many more are taken without memory.
+#[derive(Drop)]
+pub struct Nodes {
+    nodes: IndexMap<NodeKey, NodeRest>,
+}
+
+impl Model for Nodes {
+    ghost use Rattle.std.specs.Prelude.{map};
+    ghost use Rattle.ps_base.specs.Rows.{Table};
+    ghost use Rattle.ps_types.specs.declared.rows.NodeRow.{NodeRow};
+    ghost use Rattle.indexmap.specs.IndexMap.{spare};
+    ghost use Rattle.ps_nodes.specs.NodeRows.{row_of};
+
+    ghost Value = { Table NodeRow };
+
+    ghost view = { λ t. record { rows = map row_of t.nodes.entries; spare = spare t.nodes } };
+}
+
+impl Nodes {
+    /// The empty table.
+    pub fn new(alloc: Global) -> Result<Nodes, Memory>
+        ensures empty { IfOk result (λ t. t.rows ≡ []) }
+    {
+        Ok(Nodes {
+            nodes: IndexMap::new(alloc),
+        })
+    }
+
+    /// How many nodes there are.
+    pub fn len(&self) -> u64
+        ensures len { result ≡ length self.now.rows }
+    {
+        self.nodes.len() as u64
+    }
+
+    /// The node at a place, counted from 0.
+    pub fn row(&self, at: u64) -> Option<NodeRef<'_>>
+        ensures row { option_map row_seen result ≡ slice_get self.now.rows at }
+    {
+        row_at(&self.nodes, at as usize)
+    }
+
+    /// Makes room, so that at least this many more nodes are taken without memory.
+    pub fn reserve(&mut self, rows: u64) -> Result<(), Memory>
+        ensures rows { self.new.rows ≡ self.old.rows }
+        ensures room { OnOk result (rows ≤ self.new.spare) }
+        ensures kept { self.old.spare ≤ self.new.spare }
+    {
+        self.nodes.reserve(rows as usize)?;
+        Ok(())
+    }
+
+    /// A table with the same rows.
+    pub fn copy(&self) -> Result<Nodes, Memory>
+        ensures rows { IfOk result (λ t. t.rows ≡ self.now.rows) }
+    {
+        Ok(Nodes {
+            nodes: copy_of(&self.nodes)?,
+        })
+    }
+
+    /// Whether a node stands.
+    pub fn has(&self, node: &NodeKey) -> bool
+        ensures there { result ≡ stands node.now self.now.rows }
+    {
+        holds(&self.nodes, node)
+    }
+
+    /// The row of a node.
+    pub fn get(&self, node: &NodeKey) -> Option<NodeRef<'_>>
+        ensures row { option_map row_seen result ≡ node_at node.now self.now.rows }
+    {
+        row_in(&self.nodes, node)
+    }
+
+    /// The configuration of a node.
+    pub fn config(&self, node: &NodeKey) -> Option<&NodeConfig>
+        ensures config { option_copied result ≡ config_at node.now self.now.rows }
+    {
+        config_in(&self.nodes, node)
+    }
+
+    /// How many nodes a bare address made.
+    pub fn made_by(&self, who: &Jid) -> u64
+        ensures made { result ≡ made_by who.now self.now.rows }
+    {
+        made_in(&self.nodes, who) as u64
+    }
+
+    /// Adds a node as the last one, where its key is new. It takes no memory.
+    pub fn create(&mut self, row: NodeRow) -> Result<(), Exists>
+        requires room { 0 < self.old.spare }
+        ensures exists { is_err result ≡ stands row.key self.old.rows }
+        ensures ok { OnOk result (self.new.rows ≡ self.old.rows ++ row ∷ []) }
+        ensures err { OnErr result (self.new.rows ≡ self.old.rows) }
+        ensures room { self.old.spare ≤ self.new.spare + 1 }
+    {
+        if holds(&self.nodes, &row.key) {
+            return Err(Exists);
+        }
+        add(&mut self.nodes, row);
+        Ok(())
+    }
+
+    /// Gives a node a configuration, in its place, and answers whether it stands. It takes no memory.
+    pub fn set_config(&mut self, node: &NodeKey, config: NodeConfig) -> bool
+        ensures there { result ≡ stands node.now self.old.rows }
+        ensures rows { self.new.rows ≡ nodes_with node.now config self.old.rows }
+        ensures room { self.old.spare ≤ self.new.spare }
+    {
+        set_config_in(&mut self.nodes, node, config)
+    }
+
+    /// Takes a node away, and answers whether it stood. The others keep their order. It takes no memory.
+    pub fn delete(&mut self, node: &NodeKey) -> bool
+        ensures there { result ≡ stands node.now self.old.rows }
+        ensures rows { self.new.rows ≡ nodes_without node.now self.old.rows }
+        ensures room { self.old.spare ≤ self.new.spare }
+    {
+        remove_from(&mut self.nodes, node)
+    }
+
+    /// Takes away the row of a node, as every table does. It takes no memory.
+    pub fn drop_node(&mut self, node: &NodeKey)
+        ensures rows { self.new.rows ≡ nodes_without node.now self.old.rows }
+        ensures room { self.old.spare ≤ self.new.spare }
+    {
+        remove_from(&mut self.nodes, node);
+    }
+}

@@ -1,0 +1,24 @@
+//! The outside by names: what the program meets beyond itself.
+//!
+//! A [`World`] opens sources, sinks, stores and clocks by name, takes them back, and takes reports. For each kind and name it tells what
+//! it holds there while that object isn't open (`specs/Held.antt`), which openings were asked for, and what was reported; an opening or a
+//! report answers `Failed` only where the world's own count of faults rose in that call (`specs/World.antt`).
+//!
+//! [`MemWorld`] stands in memory and fails at the calls that it is given. [`RealWorld`] stands over the files, the clock and the standard
+//! output of the system; it tells counts and openings, and nothing of content. A [`Clock`] gives the moment of a line.
+#![tactic(auto)]
+
+mod clock;
+mod mem_clock;
+mod mem_world;
+mod real;
+mod shelf;
+#[cfg(test)]
+mod tests;
+mod world;
+
+pub use clock::{Clock, ConstClock, RealClock};
+pub use mem_clock::MemClock;
+pub use mem_world::MemWorld;
+pub use real::RealWorld;
+pub use world::{Kind, Opening, World, WorldRefusal};

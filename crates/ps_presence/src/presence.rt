@@ -1,0 +1,122 @@
+// The table of resources.
+ghost use Rattle.std.specs.Prelude.{◌≡◌, ◌+◌, ◌<◌, ◌≤◌, [], IfOk, OnOk, length, slice_get, option_copied, is_some};
+ghost use Rattle.ps_types.specs.Resources.{resource_at, is_present, resources_of, resources_with, resources_without, resources_off};
+
+use crate::resources::{is_present_among, put, remove_of, remove_on, resource_among};
+use ps_table::Rows;
+use ps_types::{Jid, Memory, ResourceRow, Text};
+use std::alloc::Global;
+use std::marker::Model;
+
+/// The resources that are present: rows in order of making, and how many more are taken without memory.
+#[derive(Drop)]
+pub struct Presence {
+    rows: Rows<ResourceRow>,
+}
+
+impl Model for Presence {
+    ghost use Rattle.ps_base.specs.Rows.{Table};
+    ghost use Rattle.ps_types.specs.declared.rows.ResourceRow.{ResourceRow};
+
+    ghost Value = { Table ResourceRow };
+
+    ghost view = { λ t. t.rows };
+}
+
+impl Presence {
+    /// The empty table.
+    pub fn new(alloc: Global) -> Result<Presence, Memory>
+        ensures empty { IfOk result (λ t. t.rows ≡ []) }
+    {
+        Ok(Presence {
+            rows: Rows::new(alloc),
+        })
+    }
+
+    /// How many rows there are.
+    pub fn len(&self) -> u64
+        ensures len { result ≡ length self.now.rows }
+    {
+        self.rows.len()
+    }
+
+    /// The row at a place, counted from 0.
+    pub fn row(&self, at: u64) -> Option<&ResourceRow>
+        ensures row { option_copied result ≡ slice_get self.now.rows at }
+    {
+        self.rows.row(at)
+    }
+
+    /// Makes room, so that at least this many more rows are taken without memory.
+    pub fn reserve(&mut self, rows: u64) -> Result<(), Memory>
+        ensures rows { self.new.rows ≡ self.old.rows }
+        ensures room { OnOk result (rows ≤ self.new.spare) }
+        ensures kept { self.old.spare ≤ self.new.spare }
+    {
+        self.rows.reserve(rows)
+    }
+
+    /// A table with the same rows.
+    pub fn copy(&self) -> Result<Presence, Memory>
+        ensures rows { IfOk result (λ t. t.rows ≡ self.now.rows) }
+    {
+        Ok(Presence {
+            rows: self.rows.copy()?,
+        })
+    }
+
+    /// The row of exactly this address.
+    pub fn resource(&self, who: &Jid) -> Option<&ResourceRow>
+        ensures row { option_copied result ≡ resource_at who.now self.now.rows }
+    {
+        resource_among(self.rows.as_slice(), who)
+    }
+
+    /// Whether an address is present: a bare one where some resource of it is.
+    pub fn is_present(&self, who: &Jid) -> bool
+        ensures present { result ≡ is_present who.now self.now.rows }
+    {
+        is_present_among(self.rows.as_slice(), who)
+    }
+
+    /// The resources of a bare address that are present.
+    pub fn resources_of(&self, alloc: Global, bare: &Jid) -> Result<Vec<Jid>, Memory>
+        ensures resources { IfOk result (λ jids. jids.items ≡ resources_of bare.now self.now.rows) }
+    {
+        let mut jids = Vec::new(alloc);
+        for row in self.rows.as_slice() {
+            if bare.same_bare(&row.who) {
+                jids.push(row.who.clone()?)?;
+            }
+        }
+        Ok(jids)
+    }
+
+    /// Sets the row of exactly this address. It takes no memory.
+    pub fn set(&mut self, row: ResourceRow)
+        requires room { 0 < self.old.spare }
+        ensures rows { self.new.rows ≡ resources_with row self.old.rows }
+        ensures room { self.old.spare ≤ self.new.spare + 1 }
+    {
+        put(&mut self.rows, row);
+    }
+
+    /// Takes away the row of exactly this address, and answers whether it was there. It takes no memory.
+    pub fn clear(&mut self, who: &Jid) -> bool
+        ensures there { result ≡ is_some (resource_at who.now self.old.rows) }
+        ensures rows { self.new.rows ≡ resources_without who.now self.old.rows }
+        ensures room { self.old.spare ≤ self.new.spare }
+    {
+        let there = self.resource(who).is_some();
+        remove_of(&mut self.rows, who);
+        there
+    }
+
+    /// Takes away all resources of a host. It takes no memory.
+    pub fn clear_host(&mut self, host: &Text)
+        ensures rows { self.new.rows ≡ resources_off host.now self.old.rows }
+        ensures room { self.old.spare ≤ self.new.spare }
+    {
+        remove_on(&mut self.rows, host);
+    }
+}

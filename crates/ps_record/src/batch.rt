@@ -1,0 +1,102 @@
+// Entries that are written at once.
+ghost use Rattle.std.specs.Prelude.{◌≡◌, ◌++◌, ◌∷◌, ◌+◌, ◌-◌, ◌≤◌, ◌^◌, [], length, slice_range, IfOk, OnOk, OnErr};
+ghost use Rattle.std.specs.Int.{w32, to_be_bytes};
+ghost use Rattle.ps_model.specs.Entries.{body, spelling, IsEntry, AreEntries};
+ghost use Rattle.ps_record.specs.Batch.{piece};
+
+use crate::put_entry;
+use ps_base::Memory;
+use ps_types::Entry;
+use std::alloc::Global;
+use std::marker::Model;
+
+/// Entries in order, with their bytes, 2^30 at most. A contract sees it as the list of its entries.
+#[derive(Drop)]
+pub struct Batch {
+    alloc: Global,
+    entries: Vec<Entry>,
+    frame: Vec<u8>,
+}
+
+impl Model for Batch {
+    ghost use Rattle.std.specs.Prelude.{List};
+    ghost use Rattle.ps_types.specs.declared.entry.Entry.{Entry};
+    ghost use Rattle.ps_types.specs.contracts.entry.Entry as entry;
+    ghost use Rattle.std.specs.Coded.{codes};
+
+    ghost Value = { List Entry };
+
+    ghost coded = { Prim.hlevel (codes, entry.the_row.coded) };
+
+    ghost use Rattle.ps_record.specs.Batch.{IsFramed};
+
+    ghost view = { λ b. b.entries.items };
+
+    ghost invariant = { λ b. IsFramed b.entries.items b.frame.items };
+}
+
+fn copy_of(entry: &Entry) -> Result<Entry, Memory>
+    ensures { IfOk result (λ e. e ≡ entry.now) }
+{
+    Ok(entry.clone()?)
+}
+
+// The frame with one entry more.
+fn frame_with(alloc: Global, frame: &[u8], entry: &[u8]) -> Result<Vec<u8>, Memory>
+    requires long { 5 ≤ length frame.now }
+    requires fits { length frame.now + length entry.now ≤ 2 ^ 30 + 5 }
+    ensures { IfOk result (λ v. v.items ≡ to_be_bytes w32 (length frame.now + length entry.now - 5) ++ slice_range frame.now 4 (length frame.now - 1) ++ entry.now ++ 0 ∷ []) }
+{
+    let len = frame.len() + entry.len() - 5;
+    let mut next = Vec::new(alloc);
+    next.extend_from_slice(&(len as u32).to_be_bytes())?;
+    next.extend_from_slice(&frame[4..frame.len() - 1])?;
+    next.extend_from_slice(entry)?;
+    next.push(0)?;
+    Ok(next)
+}
+
+impl Batch {
+    /// No entries.
+    pub fn new(alloc: Global) -> Result<Batch, Memory>
+        ensures { IfOk result (λ b. b ≡ []) }
+    {
+        let frame = [0, 0, 0, 0, 0].to_vec(alloc)?;
+        Ok(Batch {
+            alloc,
+            entries: Vec::new(alloc),
+            frame,
+        })
+    }
+
+    /// Adds an entry. Where memory runs out, the batch is as before.
+    pub fn push(&mut self, entry: &Entry) -> Result<(), Memory>
+        requires spelled { IsEntry entry.now }
+        requires fits { length (body self.old) + length (spelling entry.now) ≤ 2 ^ 30 }
+        ensures ok { OnOk result (self.new ≡ self.old ++ entry.now ∷ []) }
+        ensures err { OnErr result (self.new ≡ self.old) }
+    {
+        let bytes = put_entry(self.alloc, entry)?;
+        let frame = frame_with(self.alloc, &self.frame, bytes.as_slice())?;
+        let entry = copy_of(entry)?;
+        self.entries.push(entry)?;
+        self.frame = frame;
+        Ok(())
+    }
+
+    /// How many bytes its entries have, each of which is spelled.
+    pub fn len(&self) -> u64
+        ensures length { result ≡ length (body self.now) }
+        ensures fits { result ≤ 2 ^ 30 }
+        ensures each { AreEntries self.now }
+    {
+        (self.frame.len() - 5) as u64
+    }
+
+    /// What a frame has behind its gate: a length of four bytes, the entries, and a closed gate.
+    pub fn frame(&self) -> &[u8]
+        ensures { result.now ≡ piece self.now }
+    {
+        &self.frame
+    }
+}

@@ -1,0 +1,24 @@
+//! Entries of the journal as bytes, both ways, and batches of them.
+//!
+//! `specs/Entries.antt` of ps_model says which entries have a spelling and which bytes it is. [`put_entry`] writes it, and [`read_entry`]
+//! reads an entry exactly where one is spelled: the host, address or tree that it reads is one whose printed form stands there, and what
+//! is printed otherwise is refused. [`one_entry`] is the law that bytes begin with one entry at most.
+//!
+//! A [`Batch`] is a list of entries with the bytes of their frame: the length, the entries, and a closed gate (`specs/Batch.antt`).
+#![tactic(auto)]
+
+mod batch;
+mod fields;
+mod laws;
+mod raw;
+mod reading;
+mod writing;
+
+pub use batch::Batch;
+pub use laws::one_entry;
+pub use raw::u32_at;
+pub use reading::{EntryRefusal, read_entry};
+pub use writing::put_entry;
+
+#[cfg(test)]
+mod tests;

@@ -1,0 +1,14 @@
+use Rattle.std.proofs.Common.{◌≡◌, ◌++◌, map, length}
+use Rattle.std.specs.Prelude.{codes}
+use Rattle.ps_types.specs.Elem.{nodes}
+use Rattle.ps_types.specs.Namespaces.{pubsub_ns}
+use Rattle.ps_model.specs.AskPublish.{items_in}
+use Rattle.ps_model.specs.Grammar.{id_in}
+use Rattle.ps_request.proofs.Children.{named}
+use Rattle.ps_request.proofs.kids.ids_of.Given as goal
+
+abbrev pub invariant-loop-item : goal.invariant-loop-item
+invariant-loop-item l = l.ids ++ map id_in (named (codes "item") pubsub_ns (nodes l.rest)) ≡ map id_in (items_in l.part)
+
+abbrev pub decreases-loop-item : goal.decreases-loop-item
+decreases-loop-item l = length l.rest

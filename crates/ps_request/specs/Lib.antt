@@ -1,0 +1,5 @@
+pub mod Answer
+pub mod Kids
+pub mod Only
+pub mod Heads
+pub mod Taking

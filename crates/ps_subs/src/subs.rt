@@ -1,0 +1,141 @@
+// The table.
+ghost use Rattle.std.specs.Prelude.{◌≡◌, ◌+◌, ◌<◌, ◌≤◌, [], IfOk, OnOk, length, slice_get, option_copied};
+ghost use Rattle.ps_types.specs.Subs.{sub_row, sub_at, sub_count, subscribed_in, subs_with, subs_of, subs_held, subs_without};
+
+use crate::places::{any_subscribed, count, put, remove_all_of, remove_of, row_among, state_among};
+use ps_table::Rows;
+use ps_types::{Jid, Memory, NodeKey, SubRow, SubState};
+use std::alloc::Global;
+use std::marker::Model;
+
+/// The subscriptions: rows in order of making, and how many more are taken without memory.
+#[derive(Drop)]
+pub struct Subs {
+    rows: Rows<SubRow>,
+}
+
+impl Model for Subs {
+    ghost use Rattle.ps_base.specs.Rows.{Table};
+    ghost use Rattle.ps_types.specs.declared.rows.SubRow.{SubRow};
+
+    ghost Value = { Table SubRow };
+
+    ghost view = { λ t. t.rows };
+}
+
+impl Subs {
+    /// The empty table.
+    pub fn new(alloc: Global) -> Result<Subs, Memory>
+        ensures empty { IfOk result (λ t. t.rows ≡ []) }
+    {
+        Ok(Subs {
+            rows: Rows::new(alloc),
+        })
+    }
+
+    /// How many rows there are.
+    pub fn len(&self) -> u64
+        ensures len { result ≡ length self.now.rows }
+    {
+        self.rows.len()
+    }
+
+    /// The row at a place, counted from 0.
+    pub fn row(&self, at: u64) -> Option<&SubRow>
+        ensures row { option_copied result ≡ slice_get self.now.rows at }
+    {
+        self.rows.row(at)
+    }
+
+    /// Makes room, so that at least this many more rows are taken without memory.
+    pub fn reserve(&mut self, rows: u64) -> Result<(), Memory>
+        ensures rows { self.new.rows ≡ self.old.rows }
+        ensures room { OnOk result (rows ≤ self.new.spare) }
+        ensures kept { self.old.spare ≤ self.new.spare }
+    {
+        self.rows.reserve(rows)
+    }
+
+    /// A table with the same rows.
+    pub fn copy(&self) -> Result<Subs, Memory>
+        ensures rows { IfOk result (λ t. t.rows ≡ self.now.rows) }
+    {
+        Ok(Subs {
+            rows: self.rows.copy()?,
+        })
+    }
+
+    /// How far the subscription of exactly this address has come.
+    pub fn get(&self, node: &NodeKey, who: &Jid) -> SubState
+        ensures state { result ≡ sub_at node.now who.now self.now.rows }
+    {
+        state_among(self.rows.as_slice(), node, who)
+    }
+
+    /// The subscription of exactly this address, with its options.
+    pub fn row_of(&self, node: &NodeKey, who: &Jid) -> Option<&SubRow>
+        ensures row { option_copied result ≡ sub_row node.now who.now self.now.rows }
+    {
+        row_among(self.rows.as_slice(), node, who)
+    }
+
+    /// Whether an address of this bare address is subscribed to the node.
+    pub fn is_subscribed(&self, node: &NodeKey, who: &Jid) -> bool
+        ensures subscribed { result ≡ subscribed_in node.now who.now self.now.rows }
+    {
+        any_subscribed(self.rows.as_slice(), node, who)
+    }
+
+    /// How many subscriptions there are at a node, pending ones among them.
+    pub fn count(&self, node: &NodeKey) -> u64
+        ensures count { result ≡ sub_count node.now self.now.rows }
+    {
+        count(self.rows.as_slice(), node) as u64
+    }
+
+    /// Sets the subscription of exactly this address. It takes no memory.
+    pub fn set(&mut self, row: SubRow)
+        requires room { 0 < self.old.spare }
+        ensures rows { self.new.rows ≡ subs_with row self.old.rows }
+        ensures room { self.old.spare ≤ self.new.spare + 1 }
+    {
+        match row.state {
+            SubState::Nothing => remove_of(&mut self.rows, &row.node, &row.who),
+            _ => put(&mut self.rows, row),
+        }
+    }
+
+    /// The rows of a node.
+    pub fn of_node(&self, alloc: Global, node: &NodeKey) -> Result<Vec<SubRow>, Memory>
+        ensures rows { IfOk result (λ rows. rows.items ≡ subs_of node.now self.now.rows) }
+    {
+        let mut rows = Vec::new(alloc);
+        for row in self.rows.as_slice() {
+            if node.is_same(&row.node) {
+                rows.push(row.clone()?)?;
+            }
+        }
+        Ok(rows)
+    }
+
+    /// The rows of a bare address, whatever their resources.
+    pub fn of_address(&self, alloc: Global, who: &Jid) -> Result<Vec<SubRow>, Memory>
+        ensures rows { IfOk result (λ rows. rows.items ≡ subs_held who.now self.now.rows) }
+    {
+        let mut rows = Vec::new(alloc);
+        for row in self.rows.as_slice() {
+            if who.same_bare(&row.who) {
+                rows.push(row.clone()?)?;
+            }
+        }
+        Ok(rows)
+    }
+
+    /// Takes away the rows of a node. It takes no memory.
+    pub fn drop_node(&mut self, node: &NodeKey)
+        ensures rows { self.new.rows ≡ subs_without node.now self.old.rows }
+        ensures room { self.old.spare ≤ self.new.spare }
+    {
+        remove_all_of(&mut self.rows, node);
+    }
+}
