@@ -5,9 +5,11 @@ pub mod Going
 pub mod NumberLaws
 pub mod OneAt
 pub mod OneList
+pub mod ServiceStays
 pub mod StampLaws
 pub mod StoreExample
 pub mod TallyLaws
+pub mod TheLaws
 pub mod Spelling
 pub mod SpellingKinds
 pub mod AccessLaws

@@ -1,8 +1,8 @@
 -- The notices of a bare address are numbered one after the other.
-use Rattle.std.proofs.Common.{◌≡◌, ◌⊎◌, inl, inr, ℕ, zero, suc, ◌+◌, ◌<◌, Bool, true, false, cond, List, [], ◌∷◌, ◌++◌, length, Option, Some, None, refl, sym, ap, subst, ◌∙◌, arith}
+use Rattle.std.proofs.Common.{◌≡◌, ◌⊎◌, inl, inr, ℕ, zero, suc, ◌+◌, ◌<◌, Bool, true, false, cond, List, [], ◌∷◌, ◌++◌, length, Option, Some, None, refl, sym, ap, subst, ◌∙◌, arith, length-append}
 use Rattle.std.specs.Prelude.{filter, slice_get, ◌^◌, ◌&&◌, ◌==◌, not, nat_lt}
 use Rattle.std.proofs.lemmas.Bool.{and_parts, eqb-true, true≢false, ltb-true}
-use Rattle.ps_types.specs.Same.{same_bare}
+use Rattle.ps_types.specs.Same.{same_bare, same_jid}
 use Rattle.ps_types.specs.Tree.{Tree}
 use Rattle.ps_types.specs.declared.entry.Entry.{Entry}
 use Rattle.ps_types.specs.declared.entry.Entry.TheVariants.{Boot, Change, Handed, Gone, Base}
@@ -16,12 +16,14 @@ use Rattle.ps_model.specs.BaseRead.{row_of}
 use Rattle.ps_model.specs.BaseRows.{BaseRow, node, affiliation, subscription, item, link, contact, ver, made, counter, notice}
 use Rattle.ps_model.specs.Book.{State, empty_state}
 use Rattle.ps_model.specs.Built.{is_built_entry, is_built_event}
+use Rattle.ps_model.specs.Core.{handed}
 use Rattle.ps_model.specs.Numbers.{counter_in, counter_of}
-use Rattle.ps_model.specs.Replay.{IsLawfulFrom, after, accepted, accepted_at, is_booted, lawful, notices, row_accepted}
+use Rattle.ps_model.specs.Replay.{IsLawfulFrom, after, replay_from, accepted, accepted_at, is_booted, lawful, notices, row_accepted}
 use Rattle.ps_model.specs.Replay as replay
 use Rattle.ps_types.specs.declared.event.Event.{Event}
-use Rattle.ps_model.specs.Tallies.{made_for, more_made}
-use Rattle.ps_model.proofs.TallyLaws.{made-handed, made-kept, made-like, made-more, made-set, same_bare-turned}
+use Rattle.ps_model.specs.Tallies.{handed_to, made_for, more_made}
+use Rattle.ps_types.proofs.Same.{same_jid-Decides, same_parts}
+use Rattle.ps_model.proofs.TallyLaws.{handed-kept, handed-made, handed-one, handed-set, same_bare-Decides, made-handed, made-kept, made-like, made-more, made-set, same_bare-turned}
 
 -- the notices to a bare address
 abbrev pub to_address : Jid → List Notice → List Notice
@@ -180,7 +182,7 @@ entry-stepped a s (Handed to) is = handed-stepped a s to
 entry-stepped a s (Base row) is = row-stepped a s (row_of row) (and_parts (not (is_booted s)) (row_accepted (row_of row) s) (and_parts (is_built_entry (Base row)) (accepted_at s (Base row)) is).1).1
 
 -- the number that the first notice of a list follows, where it would be m
-start : ℕ → List Entry → Jid → ℕ
+pub start : ℕ → List Entry → Jid → ℕ
 start m [] a = m
 start m (e ∷ E) a = ahead e a (start m E a)
 
@@ -255,3 +257,195 @@ numbers-by E a is (x ∷ resource) full k n at =
 
 pub numbers-rise : (E : List Entry) (a : Jid) → lawful E → (k : ℕ) (n : Notice) → slice_get (notices E a) k ≡ Some n → n.number ≡ counter_of E a + (k + 1)
 numbers-rise E a is k n at = numbers-by E a is a.resource refl k n at
+
+-- ---- how many were made and handed in all
+
+some-made : (a : Jid) (s : State) (e : Entry) (E : List Entry) → IsLawfulFrom (after s e) E
+    → made_for a (replay_from is_built_event (after s e) E).tallies ≡ start (made_for a (after s e).tallies) E a + length (notices_from is_built_event (after s e) E a)
+    → (ns : List Notice) → made_for a (after s e).tallies ≡ made_for a s.tallies + length ns
+    → made_for a (replay_from is_built_event (after s e) E).tallies ≡ start (made_for a s.tallies) E a + length (ns ++ notices_from is_built_event (after s e) E a)
+some-made a s e E is later [] makes =
+    let rest = notices_from is_built_event (after s e) E a in
+    let same : made_for a (after s e).tallies ≡ made_for a s.tallies = omega (arith, makes) in
+    later ∙ ap (λ k. start k E a + length rest) same
+some-made a s e E is later (n ∷ ns) makes =
+    let rest = notices_from is_built_event (after s e) E a in
+    let some : 0 < made_for a (after s e).tallies = omega (arith, makes) in
+    let one = no-counter a E (after s e) is some (made_for a (after s e).tallies) in
+    let two = no-counter a E (after s e) is some (made_for a s.tallies) in
+    omega (arith, later, one, two, makes, length-append (n ∷ ns) rest)
+
+made-total-by : (a : Jid) (s : State) (e : Entry) (E : List Entry) → IsLawfulFrom (after s e) E
+    → made_for a (replay_from is_built_event (after s e) E).tallies ≡ start (made_for a (after s e).tallies) E a + length (notices_from is_built_event (after s e) E a)
+    → Stepped a s.tallies (after s e).tallies (step.notices_at is_built_event s e) (ahead e a)
+    → made_for a (replay_from is_built_event (after s e) E).tallies ≡ ahead e a (start (made_for a s.tallies) E a) + length (to_address a (step.notices_at is_built_event s e) ++ notices_from is_built_event (after s e) E a)
+unfolding Stepped
+made-total-by a s e E is later (inr counted) =
+    let m = made_for a (after s e).tallies in
+    let rest = notices_from is_built_event (after s e) E a in
+    let some : 0 < m = rw counted.now counted.some in
+    let from : start m E a ≡ counted.number = no-counter a E (after s e) is some m ∙ counted.now in
+    later ∙ ap (λ k. k + length rest) (from ∙ sym (counted.takes (start (made_for a s.tallies) E a)))
+    ∙ ap (λ (ns : List Notice). ahead e a (start (made_for a s.tallies) E a) + length (ns ++ rest)) (sym counted.no_notices)
+made-total-by a s e E is later (inl plain) =
+    let ns = to_address a (step.notices_at is_built_event s e) in
+    let rest = notices_from is_built_event (after s e) E a in
+    some-made a s e E is later ns plain.gives.makes ∙ ap (λ k. k + length (ns ++ rest)) (sym (plain.skips (start (made_for a s.tallies) E a)))
+
+pub made-total : (a : Jid) (E : List Entry) (s : State) → IsLawfulFrom s E → made_for a (replay_from is_built_event s E).tallies ≡ start (made_for a s.tallies) E a + length (notices_from is_built_event s E a)
+unfolding start
+made-total a [] s is = (let e : made_for a s.tallies ≡ made_for a s.tallies + 0 = omega arith in e)
+made-total a (e ∷ E) s is = made-total-by a s e E is.1 (made-total a E (after s e) is.1) (entry-stepped a s e is.0)
+
+-- ---- the same of what was handed
+
+-- one more where the entry records a notice of the address
+abbrev one : Entry → Jid → ℕ
+one (Handed to) a = cond (same_jid to a) 1 0
+one e a = 0
+
+record KeepsHanded (a : Jid) (before after : List TallyRow) (more : ℕ) (over : ℕ → ℕ) : Type 0 where
+  keeps : handed_to a after ≡ handed_to a before + more
+  skips : (x : ℕ) → over x ≡ x
+
+record SetsHanded (a : Jid) (after : List TallyRow) (more : ℕ) (over : ℕ → ℕ) : Type 0 where
+  number : ℕ
+  now : handed_to a after ≡ number
+  made_now : made_for a after ≡ number
+  some : 0 < number
+  none_more : more ≡ 0
+  takes : (x : ℕ) → over x ≡ number
+
+HandedStep : Jid → List TallyRow → List TallyRow → ℕ → (ℕ → ℕ) → Type 0
+HandedStep a before after more over = KeepsHanded a before after more over ⊎ SetsHanded a after more over
+
+tallied-handed : (a : Jid) (due : List (Jid × Tree)) (tallies : List TallyRow) → handed_to a (tallied tallies due) ≡ handed_to a tallies
+tallied-handed a [] tallies = refl
+tallied-handed a (d ∷ more) tallies = tallied-handed a more (more_made d.0 1 tallies) ∙ handed-made a d.0 1 tallies
+
+kept-handed : (a : Jid) (before after : List TallyRow) → handed_to a after ≡ handed_to a before → HandedStep a before after 0 (λ x. x)
+unfolding HandedStep
+kept-handed a before after same = inl (record { keeps = same ∙ (let e : handed_to a before ≡ handed_to a before + 0 = omega arith in e); skips = λ x. refl })
+
+counter-handed : (a who : Jid) (n : ℕ) (tallies : List TallyRow) → 0 < n → (b : Bool) → same_bare who a ≡ b → HandedStep a tallies (row_tallies (Some (counter who n)) tallies) 0 (λ x. cond b n x)
+unfolding HandedStep
+counter-handed a who n tallies some true same =
+    let turned : same_bare a who ≡ true = same_bare-turned a who ∙ same in
+    inr (record { number = n; now = handed-set a who n n tallies turned; made_now = made-set a who n n tallies turned; some = some; none_more = refl; takes = λ x. refl })
+counter-handed a who n tallies some false same =
+    let turned : same_bare a who ≡ false = same_bare-turned a who ∙ same in
+    inl (record { keeps = handed-kept a who n n tallies turned ∙ (let e : handed_to a tallies ≡ handed_to a tallies + 0 = omega arith in e); skips = λ x. refl })
+
+row-handed : (a : Jid) (s : State) (o : Option BaseRow) → row_accepted o s ≡ true → HandedStep a s.tallies (row_tallies o s.tallies) 0 (counter_in o a)
+row-handed a s None is = absurd (true≢false (sym is))
+row-handed a s (Some (notice to line)) is = kept-handed a s.tallies (more_made to 1 s.tallies) (handed-made a to 1 s.tallies)
+row-handed a s (Some (counter who n)) is = counter-handed a who n s.tallies (counter-fits who n s is).0 (same_bare who a) refl
+row-handed a s (Some (node r)) is = kept-handed a s.tallies s.tallies refl
+row-handed a s (Some (affiliation r)) is = kept-handed a s.tallies s.tallies refl
+row-handed a s (Some (subscription r)) is = kept-handed a s.tallies s.tallies refl
+row-handed a s (Some (item r)) is = kept-handed a s.tallies s.tallies refl
+row-handed a s (Some (link r)) is = kept-handed a s.tallies s.tallies refl
+row-handed a s (Some (contact r)) is = kept-handed a s.tallies s.tallies refl
+row-handed a s (Some (ver r)) is = kept-handed a s.tallies s.tallies refl
+row-handed a s (Some (made r)) is = kept-handed a s.tallies s.tallies refl
+
+-- of bare addresses the two tests are one
+bare-tests : (a to : Jid) → a.resource ≡ [] → to.resource ≡ [] → (x y : Bool) → same_bare a to ≡ x → same_jid to a ≡ y → x ≡ y
+bare-tests a to bare bare' true true p q = refl
+bare-tests a to bare bare' false false p q = refl
+bare-tests a to bare bare' true false p q = let d = (same_bare-Decides a to).0 p in absurd (true≢false (sym ((same_jid-Decides to a).1 (same_parts to a (sym d.0) (sym d.1) (bare' ∙ sym bare))) ∙ q))
+bare-tests a to bare bare' false true p q = let d = (same_jid-Decides to a).0 q in absurd (true≢false (sym ((same_bare-Decides a to).1 (ap (λ (j : Jid). j.local) (sym d), ap (λ (j : Jid). j.host) (sym d))) ∙ p))
+
+length-zero : (xs : List ℕ) → length xs ≡ 0 → xs ≡ []
+length-zero [] e = refl
+length-zero (x ∷ xs) e = absurd (let no : 0 < 0 = omega (arith, e) in omega (arith, no))
+
+pub handed-is-bare : (s : State) (to : Jid) → accepted s (Handed to) ≡ true → to.resource ≡ []
+handed-is-bare s to is =
+    let p = (and_parts (is_built_entry (Handed to)) (accepted_at s (Handed to)) is).1 in
+    let q = all_three (is_booted s) (length to.resource == 0) (nat_lt (handed_to to s.tallies) (made_for to s.tallies)) p in
+    length-zero to.resource (eqb-true (length to.resource) 0 q.0)
+
+pub handed-has-one : (s : State) (to : Jid) → accepted s (Handed to) ≡ true → handed_to to s.tallies < made_for to s.tallies
+handed-has-one s to is =
+    let p = (and_parts (is_built_entry (Handed to)) (accepted_at s (Handed to)) is).1 in
+    let q = all_three (is_booted s) (length to.resource == 0) (nat_lt (handed_to to s.tallies) (made_for to s.tallies)) p in
+    ltb-true (handed_to to s.tallies) (made_for to s.tallies) q.1
+
+entry-handed : (a : Jid) → a.resource ≡ [] → (s : State) (e : Entry) → accepted s e ≡ true → HandedStep a s.tallies (after s e).tallies (one e a) (ahead e a)
+unfolding HandedStep
+entry-handed a bare s (Boot service) is = kept-handed a s.tallies (after s (Boot service)).tallies (tallied-handed a (step.handed_out is_built_event s (Boot service)) s.tallies)
+entry-handed a bare s (Change host line moment t) is = kept-handed a s.tallies (after s (Change host line moment t)).tallies (tallied-handed a (step.handed_out is_built_event s (Change host line moment t)) s.tallies)
+entry-handed a bare s (Gone host) is = kept-handed a s.tallies (after s (Gone host)).tallies (tallied-handed a (step.handed_out is_built_event s (Gone host)) s.tallies)
+entry-handed a bare s (Handed to) is =
+    let same = bare-tests a to bare (handed-is-bare s to is) (same_bare a to) (same_jid to a) refl refl in
+    inl (record { keeps = handed-one a to s.tallies (same_bare a to) refl ∙ ap (λ b. handed_to a s.tallies + cond b 1 0) same; skips = λ x. refl })
+entry-handed a bare s (Base row) is = row-handed a s (row_of row) (and_parts (not (is_booted s)) (row_accepted (row_of row) s) (and_parts (is_built_entry (Base row)) (accepted_at s (Base row)) is).1).1
+
+-- where a record is accepted some notice was made
+no-zero : 0 < 0 → ⊥
+no-zero h = omega (arith, h)
+
+one-made : (a : Jid) → a.resource ≡ [] → (s : State) (e : Entry) → accepted s e ≡ true → 0 < one e a → 0 < made_for a s.tallies
+one-made a bare s (Handed to) is some = by (same_jid to a) refl some
+  where
+    by : (b : Bool) → same_jid to a ≡ b → 0 < cond b 1 0 → 0 < made_for a s.tallies
+    by true e some = subst (λ (j : Jid). 0 < made_for j s.tallies) ((same_jid-Decides to a).0 e) (let has = handed-has-one s to is in omega (arith, has))
+    by false e some = absurd (no-zero some)
+one-made a bare s (Boot service) is some = absurd (no-zero some)
+one-made a bare s (Change host line moment t) is some = absurd (no-zero some)
+one-made a bare s (Gone host) is some = absurd (no-zero some)
+one-made a bare s (Base row) is some = absurd (no-zero some)
+
+handed-more : (e : Entry) (E : List Entry) (a : Jid) → handed (e ∷ E) a ≡ one e a + handed E a
+handed-more (Boot service) E a = (let z : handed E a ≡ 0 + handed E a = omega arith in z)
+handed-more (Change host line moment t) E a = (let z : handed E a ≡ 0 + handed E a = omega arith in z)
+handed-more (Gone host) E a = (let z : handed E a ≡ 0 + handed E a = omega arith in z)
+handed-more (Base row) E a = (let z : handed E a ≡ 0 + handed E a = omega arith in z)
+handed-more (Handed to) E a = by (same_jid to a)
+  where
+    by : (b : Bool) → cond b (suc (handed E a)) (handed E a) ≡ cond b 1 0 + handed E a
+    by true = (let z : suc (handed E a) ≡ 1 + handed E a = omega arith in z)
+    by false = (let z : handed E a ≡ 0 + handed E a = omega arith in z)
+
+handed-by : (a : Jid) → a.resource ≡ [] → (s : State) (e : Entry) (E : List Entry) → accepted s e ≡ true → IsLawfulFrom (after s e) E
+    → handed_to a (replay_from is_built_event (after s e) E).tallies ≡ start (handed_to a (after s e).tallies) E a + handed E a
+    → HandedStep a s.tallies (after s e).tallies (one e a) (ahead e a) → (0 < made_for a s.tallies → 0 < made_for a (after s e).tallies)
+    → handed_to a (replay_from is_built_event (after s e) E).tallies ≡ ahead e a (start (handed_to a s.tallies) E a) + (one e a + handed E a)
+unfolding HandedStep
+handed-by a bare s e E ok is later (inr sets) grows =
+    let n = handed_to a (after s e).tallies in
+    let some : 0 < made_for a (after s e).tallies = rw sets.made_now sets.some in
+    let from : start n E a ≡ sets.number = no-counter a E (after s e) is some n ∙ sets.now in
+    let takes = sets.takes (start (handed_to a s.tallies) E a) in
+    let none = sets.none_more in
+    omega (arith, later, from, takes, none)
+handed-by a bare s e E ok is later (inl keeps) grows = at (one e a) refl
+  where
+    skips : ahead e a (start (handed_to a s.tallies) E a) ≡ start (handed_to a s.tallies) E a
+    skips = keeps.skips (start (handed_to a s.tallies) E a)
+
+    at : (k : ℕ) → one e a ≡ k → handed_to a (replay_from is_built_event (after s e) E).tallies ≡ ahead e a (start (handed_to a s.tallies) E a) + (one e a + handed E a)
+    at zero none =
+        let same : handed_to a (after s e).tallies ≡ handed_to a s.tallies = omega (arith, keeps.keeps, none) in
+        omega (arith, later, ap (λ k. start k E a) same, skips, none)
+    at (suc k) more =
+        let some : 0 < made_for a (after s e).tallies = grows (one-made a bare s e ok (omega (arith, more))) in
+        omega (arith, later, no-counter a E (after s e) is some (handed_to a (after s e).tallies), no-counter a E (after s e) is some (handed_to a s.tallies), keeps.keeps, skips)
+
+pub handed-total : (a : Jid) → a.resource ≡ [] → (E : List Entry) (s : State) → IsLawfulFrom s E → handed_to a (replay_from is_built_event s E).tallies ≡ start (handed_to a s.tallies) E a + handed E a
+unfolding start
+handed-total a bare [] s is = (let e : handed_to a s.tallies ≡ handed_to a s.tallies + 0 = omega arith in e)
+handed-total a bare (e ∷ E) s is =
+    handed-by a bare s e E is.0 is.1 (handed-total a bare E (after s e) is.1) (entry-handed a bare s e is.0)
+    (λ some. (past-some a s.tallies (after s e).tallies (step.notices_at is_built_event s e) (ahead e a) some (entry-stepped a s e is.0)).0)
+    ∙ ap (λ k. ahead e a (start (handed_to a s.tallies) E a) + k) (sym (handed-more e E a))
+
+-- so the two numbers of the State compare as the notices and the records of the list do
+pub totals : (a : Jid) → a.resource ≡ [] → (E : List Entry) → lawful E
+    → (m : ℕ) × (made_for a (replay.replay E).tallies ≡ m + length (notices E a)) × (handed_to a (replay.replay E).tallies ≡ m + handed E a)
+totals a bare E is = (
+  start 0 E a,
+  made-total a E empty_state is ∙ ap (λ (ns : List Notice). start 0 E a + length ns) (sym (of-bare is_built_event E empty_state a bare)),
+  handed-total a bare E empty_state is,
+)

@@ -1,5 +1,5 @@
 -- What a change of one address's numbers does to those of another.
-use Rattle.std.proofs.Common.{◌≡◌, ℕ, ◌+◌, Bool, true, false, cond, List, [], ◌∷◌, Option, Some, refl, sym, ap, ◌∙◌}
+use Rattle.std.proofs.Common.{◌≡◌, ℕ, ◌+◌, Bool, true, false, cond, List, [], ◌∷◌, Option, Some, refl, sym, ap, ◌∙◌, arith}
 use Rattle.std.specs.Prelude.{find, bytes_eq, ◌&&◌, Decides}
 use Rattle.std.proofs.lemmas.Bool.{true≢false}
 use Rattle.std.proofs.lemmas.Bool.Decides.{Decides-and}
@@ -9,7 +9,7 @@ use Rattle.ps_types.specs.Address.{bare}
 use Rattle.ps_types.specs.Same.{same_bare}
 use Rattle.ps_types.specs.declared.jid.Jid.{Jid}
 use Rattle.ps_types.specs.declared.rows.TallyRow.{TallyRow}
-use Rattle.ps_model.specs.Tallies.{is_tally_of, made_in, made_for, handed_to, tallies_with, more_made, one_handed}
+use Rattle.ps_model.specs.Tallies.{is_tally_of, made_in, handed_in, made_for, handed_to, tallies_with, more_made, one_handed}
 
 -- ---- bare addresses
 
@@ -42,7 +42,7 @@ module _ {R : Type 0} (test other : R → Bool) (row : R) where
   found_at is x rows more true e = rw is refl
   found_at is x rows more false e = rw e more
 
-  found : test row ≡ true → (rows : List R) → find test (put_row test row rows) ≡ Some row
+  pub found : test row ≡ true → (rows : List R) → find test (put_row test row rows) ≡ Some row
   found is [] = rw is refl
   found is (x ∷ rows) = found_at is x rows (found is rows) (test x) refl
 
@@ -51,7 +51,7 @@ module _ {R : Type 0} (test other : R → Bool) (row : R) where
   kept_at is apart x rows more true e = rw (is, apart x e) refl
   kept_at is apart x rows more false e = ap (λ (r : Option R). cond (other x) (Some x) r) more
 
-  kept : other row ≡ false → ((x : R) → test x ≡ true → other x ≡ false) → (rows : List R) → find other (put_row test row rows) ≡ find other rows
+  pub kept : other row ≡ false → ((x : R) → test x ≡ true → other x ≡ false) → (rows : List R) → find other (put_row test row rows) ≡ find other rows
   kept is apart [] = rw is refl
   kept is apart (x ∷ rows) = kept_at is apart x rows (kept is apart rows) (test x) refl
 
@@ -93,3 +93,30 @@ made-handed a who rows = at (same_bare a who) refl
     at : (b : Bool) → same_bare a who ≡ b → made_for a (one_handed who rows) ≡ made_for a rows
     at true e = made-set a who (made_for who rows) (handed_to who rows + 1) rows e ∙ sym (made-like a who rows e)
     at false e = made-kept a who (made_for who rows) (handed_to who rows + 1) rows e
+
+-- ---- the numbers that were handed
+
+pub handed-like : (a who : Jid) (rows : List TallyRow) → same_bare a who ≡ true → handed_to a rows ≡ handed_to who rows
+handed-like a who rows same = ap (λ (test : TallyRow → Bool). handed_in (find test rows)) (λ i x. like a who same x i)
+
+pub handed-set : (a who : Jid) (made handed : ℕ) (rows : List TallyRow) → same_bare a who ≡ true → handed_to a (tallies_with who made handed rows) ≡ handed
+handed-set a who made handed rows same =
+    ap (λ (test : TallyRow → Bool). handed_in (find test (tallies_with who made handed rows))) (λ i x. like a who same x i)
+    ∙ ap handed_in (found (is_tally_of who) (is_tally_of who) (record { who = bare who; made = made; handed = handed }) (bare_is who) rows)
+
+pub handed-kept : (a who : Jid) (made handed : ℕ) (rows : List TallyRow) → same_bare a who ≡ false → handed_to a (tallies_with who made handed rows) ≡ handed_to a rows
+handed-kept a who made handed rows differ =
+    let row : TallyRow = record { who = bare who; made = made; handed = handed } in
+    let is : is_tally_of a row ≡ false = apart_from a who differ row (bare_is who) in
+    ap handed_in (kept (is_tally_of who) (is_tally_of a) row is (apart_from a who differ) rows)
+
+pub handed-made : (a who : Jid) (more : ℕ) (rows : List TallyRow) → handed_to a (more_made who more rows) ≡ handed_to a rows
+handed-made a who more rows = at (same_bare a who) refl
+  where
+    at : (b : Bool) → same_bare a who ≡ b → handed_to a (more_made who more rows) ≡ handed_to a rows
+    at true e = handed-set a who (made_for who rows + more) (handed_to who rows) rows e ∙ sym (handed-like a who rows e)
+    at false e = handed-kept a who (made_for who rows + more) (handed_to who rows) rows e
+
+pub handed-one : (a who : Jid) (rows : List TallyRow) (b : Bool) → same_bare a who ≡ b → handed_to a (one_handed who rows) ≡ handed_to a rows + cond b 1 0
+handed-one a who rows true e = handed-set a who (made_for who rows) (handed_to who rows + 1) rows e ∙ ap (λ n. n + 1) (sym (handed-like a who rows e))
+handed-one a who rows false e = handed-kept a who (made_for who rows) (handed_to who rows + 1) rows e ∙ (let z : handed_to a rows ≡ handed_to a rows + 0 = omega arith in z)

@@ -34,6 +34,7 @@ pub mod Children
 pub mod Commits
 pub mod Conditions
 pub mod Core
+pub mod CoreLaws
 pub mod Damage
 pub mod Discovery
 pub mod Due

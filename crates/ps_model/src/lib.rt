@@ -11,6 +11,7 @@
 mod access_laws;
 mod examples;
 mod laws;
+mod machine_laws;
 mod request_laws;
 mod stamp_laws;
 mod steps;
@@ -24,6 +25,7 @@ pub use examples::{
     wanted_items,
 };
 pub use laws::{lawful_prefix, nobody_missed, notices_grow, numbers_rise, replay_goes_on};
+pub use machine_laws::service_keeps_the_laws;
 pub use request_laws::{line_reads, one_request, spelled_is_taken, taken_is_spelled};
 pub use stamp_laws::stamp_is_utc;
 pub use steps::{Role, Step};

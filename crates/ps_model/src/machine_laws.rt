@@ -1,0 +1,8 @@
+// What the machine of steps may rest on. The function is its contract.
+ghost use Rattle.ps_model.specs.CoreLaws.{Laws};
+ghost use Rattle.ps_model.specs.TheCore.{the_core};
+
+/// The service keeps what the laws of the machine rest on: which entries a line makes and which are accepted, the greatest lines, and that notices only grow.
+pub fn service_keeps_the_laws()
+    ensures { Laws the_core }
+{}
