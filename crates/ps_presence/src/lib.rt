@@ -10,6 +10,8 @@ mod cache;
 mod presence;
 mod resources;
 mod vers;
+#[cfg(test)]
+mod tests;
 
 pub use cache::Cache;
 pub use presence::Presence;
