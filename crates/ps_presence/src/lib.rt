@@ -9,9 +9,9 @@
 mod cache;
 mod presence;
 mod resources;
-mod vers;
 #[cfg(test)]
 mod tests;
+mod vers;
 
 pub use cache::Cache;
 pub use presence::Presence;
