@@ -140,7 +140,7 @@ fn accepted_answer(
     plan: Plan,
 ) -> Result<Answer, Memory>
     ensures reply { IfOk result (λ a. a.reply ≡ model.accepted_reply tree request.now plan.reply) }
-    ensures entry { IfOk result (λ a. a.entry ≡ cond plan.commits (Some (Change origin.host.now origin.line origin.moment tree)) None) }
+    ensures entry { IfOk result (λ a. a.entry ≡ cond plan.commits (Some (Change origin.entry.host.now origin.entry.line origin.entry.moment tree)) None) }
     ensures full { IfOk result (λ a. a.full ≡ cond plan.commits (model.full_reply tree request.now) None) }
 {
     let commits = plan.commits;
@@ -170,9 +170,9 @@ fn asked_answer(
     request: &Request,
 ) -> Result<Answer, Memory>
     requires built { is_read tables.now.service request.now ≡ true }
-    ensures reply { IfOk result (λ a. a.reply ≡ reply_by (asked tree request.now) (book_of tables.now) origin.line false) }
-    ensures entry { IfOk result (λ a. a.entry ≡ entry_by (asked tree request.now) origin.host.now (book_of tables.now) origin.line origin.moment false) }
-    ensures full { IfOk result (λ a. a.full ≡ full_by a.entry (reply_by (asked tree request.now) (book_of tables.now) origin.line true)) }
+    ensures reply { IfOk result (λ a. a.reply ≡ reply_by (asked tree request.now) (book_of tables.now) origin.entry.line false) }
+    ensures entry { IfOk result (λ a. a.entry ≡ entry_by (asked tree request.now) origin.entry.host.now (book_of tables.now) origin.entry.line origin.entry.moment false) }
+    ensures full { IfOk result (λ a. a.full ≡ full_by a.entry (reply_by (asked tree request.now) (book_of tables.now) origin.entry.line true)) }
 {
     match plan(tables, request) {
         Ok(plan) => accepted_answer(alloc, origin, tree, request, plan),

@@ -1,5 +1,5 @@
 // The service: what it answers, and the entry that it prepares and commits.
-ghost use Rattle.std.specs.Prelude.{◌≡◌, ◌<◌, ◌^◌, true, IfOk, OnOk, OnErr, IfSome, IsSome, Some, None};
+ghost use Rattle.std.specs.Prelude.{◌≡◌, ◌<◌, ◌^◌, true, false, IfOk, OnOk, OnErr, IfSome, IsSome, Some, None};
 ghost use Rattle.ps_model.specs.Book.{empty_state};
 ghost use Rattle.ps_model.specs.Replay.{after, accepted};
 ghost use Rattle.ps_model.specs.Replies.{reply_to, entry_of};
@@ -59,6 +59,11 @@ impl Model for Service {
     ghost use Rattle.ps_core.specs.Stages.{Held, prepared_in, IsStage};
 
     ghost Value = { Held };
+
+    ghost use Rattle.std.specs.Coded.{codes};
+    ghost use Rattle.ps_types.specs.TreeCode.{tree_code};
+
+    ghost coded = { Prim.hlevel (codes, tree_code) };
 
     ghost view = { λ s. record { state = state_of s.front; prepared = prepared_in s.stage } };
 

@@ -49,13 +49,14 @@ fn read_line(alloc: Global, bytes: &[u8]) -> Result<ReadLine, Memory>
 }
 
 // A node that is made without a form on the service host.
+#[tactic(auto, unfolding(ps_types::specs::Same::same_jid))]
 fn is_read(service: &Text, request: &Request) -> bool
     ensures { result ≡ is_read_request service.now request.now }
 {
     match &request.ask {
         Ask::Create { form: None, .. } => {
-            request.target.local.is_empty()
-                && (request.target.host == *service && request.target.resource.is_empty())
+            request.target.local.is("")
+                && (request.target.host.is(service.as_str()) && request.target.resource.is(""))
         }
         _ => false,
     }
