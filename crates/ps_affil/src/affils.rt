@@ -1,8 +1,8 @@
 // The table.
-ghost use Rattle.std.specs.Prelude.{◌≡◌, ◌+◌, ◌<◌, ◌≤◌, [], IfOk, OnOk, length, slice_get, option_copied};
-ghost use Rattle.ps_types.specs.Affils.{affil_at, affils_with, affils_of, affils_held, affils_without};
+ghost use Rattle.std.specs.Prelude.{◌≡◌, ◌+◌, ◌<◌, ◌≤◌, [], ◌∷◌, ◌++◌, IfOk, OnOk, length, slice_get, option_copied, find};
+ghost use Rattle.ps_types.specs.Affils.{is_affil_of, affil_at, affils_with, affils_of, affils_held, affils_without};
 
-use crate::places::{affil_among, put, remove_of, remove_all_of};
+use crate::places::{affil_among, put, remove_all_of, remove_of, row_among};
 use ps_table::Rows;
 use ps_types::{Affil, AffilRow, Jid, Memory, NodeKey};
 use std::alloc::Global;
@@ -70,6 +70,22 @@ impl Affils {
         ensures affil { result ≡ affil_at node.now who.now self.now.rows }
     {
         affil_among(self.rows.as_slice(), node, who)
+    }
+
+    /// The row of a bare address at a node.
+    pub fn row_of(&self, node: &NodeKey, who: &Jid) -> Option<&AffilRow>
+        ensures row { option_copied result ≡ find (is_affil_of node.now who.now) self.now.rows }
+    {
+        row_among(self.rows.as_slice(), node, who)
+    }
+
+    /// Adds a row as the last one, as a list of rows is read back. It takes no memory.
+    pub fn add(&mut self, row: AffilRow)
+        requires room { 0 < self.old.spare }
+        ensures rows { self.new.rows ≡ self.old.rows ++ row ∷ [] }
+        ensures room { self.old.spare ≤ self.new.spare + 1 }
+    {
+        self.rows.put_at(None, row);
     }
 
     /// Sets what an address is at a node. It takes no memory.

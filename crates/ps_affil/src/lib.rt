@@ -7,5 +7,7 @@
 
 mod affils;
 mod places;
+#[cfg(test)]
+mod tests;
 
 pub use affils::Affils;

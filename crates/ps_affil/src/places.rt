@@ -15,7 +15,7 @@ pub fn affil_among(rows: &[AffilRow], node: &NodeKey, who: &Jid) -> Affil
     }
 }
 
-fn row_among<'a>(rows: &'a [AffilRow], node: &NodeKey, who: &Jid) -> Option<&'a AffilRow>
+pub fn row_among<'a>(rows: &'a [AffilRow], node: &NodeKey, who: &Jid) -> Option<&'a AffilRow>
     ensures { option_copied result ≡ find (is_affil_of node.now who.now) rows.now }
 {
     rows.iter()

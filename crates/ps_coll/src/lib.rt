@@ -9,5 +9,7 @@
 mod climb;
 mod links;
 mod places;
+#[cfg(test)]
+mod tests;
 
 pub use links::{Links, NotCollection};

@@ -28,7 +28,12 @@ fn makes_entry(tables: &Tables, request: &Request) -> Result<bool, Memory>
 }
 
 // Whether a tree on the stream of the host is a request that is accepted and makes an entry.
-fn is_accepted_tree(alloc: Global, tables: &Tables, host: &Text, tree: &Elem) -> Result<bool, Memory>
+fn is_accepted_tree(
+    alloc: Global,
+    tables: &Tables,
+    host: &Text,
+    tree: &Elem,
+) -> Result<bool, Memory>
     ensures { IfOk result (λ b. b ≡ request_accepted (request_in (tree_taken host.now tables.now.service tree.now)) (book_of tables.now)) }
 {
     match take_built(alloc, host, &tables.service, tree)? {
@@ -44,7 +49,12 @@ pub fn accepts_at(alloc: Global, half: &Half, entry: &Entry) -> Result<bool, Mem
 {
     match entry {
         Entry::Boot { service } => Ok(!service.is_empty()),
-        Entry::Change { host, line, tree, .. } => {
+        Entry::Change {
+            host,
+            line,
+            tree,
+            ..
+        } => {
             if half.tables.service.is_empty() || !half.lines.is_next(host, *line) {
                 return Ok(false);
             }

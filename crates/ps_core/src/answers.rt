@@ -81,7 +81,12 @@ fn reply_head(alloc: Global, tree: &Elem, request: &Request, feature: &str) -> R
     })
 }
 
-fn denied_reply(alloc: Global, tree: &Elem, request: &Request, why: Condition) -> Result<Option<Elem>, Memory>
+fn denied_reply(
+    alloc: Global,
+    tree: &Elem,
+    request: &Request,
+    why: Condition,
+) -> Result<Option<Elem>, Memory>
     ensures { IfOk result (λ o. o ≡ outcome_reply tree.now request.now false (denied why)) }
 {
     if !is_answered(tree) {
@@ -92,7 +97,12 @@ fn denied_reply(alloc: Global, tree: &Elem, request: &Request, why: Condition) -
     Ok(Some(reply))
 }
 
-fn accepted_reply(alloc: Global, tree: &Elem, request: &Request, child: Option<Elem>) -> Result<Option<Elem>, Memory>
+fn accepted_reply(
+    alloc: Global,
+    tree: &Elem,
+    request: &Request,
+    child: Option<Elem>,
+) -> Result<Option<Elem>, Memory>
     ensures { IfOk result (λ o. o ≡ model.accepted_reply tree.now request.now child) }
 {
     if !(is_answered(tree) && is_iq(tree)) {
@@ -122,7 +132,13 @@ struct Origin<'a> {
     moment: Option<u64>,
 }
 
-fn accepted_answer(alloc: Global, origin: Origin<'_>, tree: Elem, request: &Request, plan: Plan) -> Result<Answer, Memory>
+fn accepted_answer(
+    alloc: Global,
+    origin: Origin<'_>,
+    tree: Elem,
+    request: &Request,
+    plan: Plan,
+) -> Result<Answer, Memory>
     ensures reply { IfOk result (λ a. a.reply ≡ model.accepted_reply tree request.now plan.reply) }
     ensures entry { IfOk result (λ a. a.entry ≡ cond plan.commits (Some (Change origin.host.now origin.line origin.moment tree)) None) }
     ensures full { IfOk result (λ a. a.full ≡ cond plan.commits (model.full_reply tree request.now) None) }
@@ -146,7 +162,13 @@ fn accepted_answer(alloc: Global, origin: Origin<'_>, tree: Elem, request: &Requ
     })
 }
 
-fn asked_answer(alloc: Global, tables: &Tables, origin: Origin<'_>, tree: Elem, request: &Request) -> Result<Answer, Memory>
+fn asked_answer(
+    alloc: Global,
+    tables: &Tables,
+    origin: Origin<'_>,
+    tree: Elem,
+    request: &Request,
+) -> Result<Answer, Memory>
     requires built { is_read tables.now.service request.now ≡ true }
     ensures reply { IfOk result (λ a. a.reply ≡ reply_by (asked tree request.now) (book_of tables.now) origin.line false) }
     ensures entry { IfOk result (λ a. a.entry ≡ entry_by (asked tree request.now) origin.host.now (book_of tables.now) origin.line origin.moment false) }
@@ -172,7 +194,13 @@ fn moment_in(arrival: &Arrival) -> Option<u64>
 }
 
 /// What the line of that number on the stream of the host is answered over these tables.
-pub fn answer_at(alloc: Global, tables: &Tables, host: &Text, line: u64, arrival: &Arrival) -> Result<Answer, Memory>
+pub fn answer_at(
+    alloc: Global,
+    tables: &Tables,
+    host: &Text,
+    line: u64,
+    arrival: &Arrival,
+) -> Result<Answer, Memory>
     ensures reply { IfOk result (λ a. a.reply ≡ reply_to host.now (book_of tables.now) line arrival.now false) }
     ensures entry { IfOk result (λ a. a.entry ≡ entry_of host.now (book_of tables.now) line arrival.now false) }
     ensures full { IfOk result (λ a. a.full ≡ full_by a.entry (reply_to host.now (book_of tables.now) line arrival.now true)) }

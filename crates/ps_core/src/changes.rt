@@ -46,7 +46,12 @@ fn owner_row(alloc: Global, request: &Request, name: &Text) -> Result<AffilRow, 
 }
 
 /// Makes a node of the service host, which its maker owns.
-pub fn create(tables: &mut Tables, alloc: Global, request: &Request, name: &Text) -> Result<(), Memory>
+pub fn create(
+    tables: &mut Tables,
+    alloc: Global,
+    request: &Request,
+    name: &Text,
+) -> Result<(), Memory>
     requires absent { stands (node_of request.now name.now) tables.old.nodes.rows ≡ false }
     ensures book { OnOk result (book_of tables.new ≡ created (node_of request.now name.now) request.now.from service_config (book_of tables.old)) }
 {

@@ -56,7 +56,12 @@ impl Half {
     {
         match entry {
             Entry::Boot { service } => self.boot(alloc, service),
-            Entry::Change { host, line, tree, .. } => self.take_change(alloc, host, *line, tree),
+            Entry::Change {
+                host,
+                line,
+                tree,
+                ..
+            } => self.take_change(alloc, host, *line, tree),
             Entry::Gone { .. } => self.leave(),
             _ => unreachable!(),
         }
@@ -80,7 +85,13 @@ impl Half {
         Ok(())
     }
 
-    fn take_change(&mut self, alloc: Global, host: &Text, line: u64, tree: &Elem) -> Result<(), Memory>
+    fn take_change(
+        &mut self,
+        alloc: Global,
+        host: &Text,
+        line: u64,
+        tree: &Elem,
+    ) -> Result<(), Memory>
         requires accepted { (moment : Option ℕ) → accepted (state_of self.old) (Change host.now line moment tree.now) ≡ true }
         requires few { self.old.count < 2 ^ 62 }
         ensures state { OnOk result ((moment : Option ℕ) → state_of self.new ≡ after (state_of self.old) (Change host.now line moment tree.now)) }
@@ -91,7 +102,13 @@ impl Half {
         }
     }
 
-    fn take_request(&mut self, alloc: Global, host: &Text, line: u64, request: &Request) -> Result<(), Memory>
+    fn take_request(
+        &mut self,
+        alloc: Global,
+        host: &Text,
+        line: u64,
+        request: &Request,
+    ) -> Result<(), Memory>
         requires built { is_read self.old.tables.service request.now ≡ true }
         requires accepted { makes_entry (book_of self.old.tables) request.now ≡ true }
         requires few { self.old.count < 2 ^ 62 }

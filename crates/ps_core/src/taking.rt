@@ -80,7 +80,12 @@ fn built(service: &Text, tree: Elem, found: TakenTree) -> TakenLine
 }
 
 /// What a tree on the stream of the host is taken as.
-pub fn take_built(alloc: Global, host: &Text, service: &Text, tree: &Elem) -> Result<TakenLine, Memory>
+pub fn take_built(
+    alloc: Global,
+    host: &Text,
+    service: &Text,
+    tree: &Elem,
+) -> Result<TakenLine, Memory>
     ensures view { IfOk result (λ x. line_view x ≡ tree_taken host.now service.now tree.now) }
     ensures built { IfOk result (IsBuilt service.now) }
 {
@@ -106,7 +111,12 @@ fn take_bytes(alloc: Global, host: &Text, service: &Text, bytes: &[u8]) -> Resul
 }
 
 /// What a line on the stream of the host is taken as.
-pub fn take_line(alloc: Global, host: &Text, service: &Text, arrival: &Arrival) -> Result<TakenLine, Memory>
+pub fn take_line(
+    alloc: Global,
+    host: &Text,
+    service: &Text,
+    arrival: &Arrival,
+) -> Result<TakenLine, Memory>
     ensures view { IfOk result (λ x. line_view x ≡ taken host.now service.now arrival.now) }
     ensures built { IfOk result (IsBuilt service.now) }
 {

@@ -7,5 +7,7 @@
 
 mod counts;
 mod places;
+#[cfg(test)]
+mod tests;
 
 pub use counts::Counts;

@@ -1,6 +1,6 @@
 -- A form's tree: its children as they are built, and that it reads as the form.
-use Rattle.std.proofs.Common.{◌≡◌, ◌≢◌, ℕ, List, [], ◌∷◌, ◌++◌, Option, Some, None, filter, map, refl, sym, ap, ap₂, ◌∙◌, append-nil}
-use Rattle.std.specs.Prelude.{option_map, codes}
+use Rattle.std.proofs.Common.{◌≡◌, ◌≢◌, ℕ, List, [], ◌∷◌, Some, filter, map, refl, ap, ap₂, append-nil}
+use Rattle.std.specs.Prelude.{codes}
 use Rattle.std.specs.List.{filter_map, cons_option}
 use Rattle.ps_types.specs.declared.form.Field.{Field}
 use Rattle.ps_types.specs.declared.form.Form.{Form}
@@ -9,9 +9,9 @@ use Rattle.ps_types.specs.declared.form.FormKind.TheVariants as kind
 use Rattle.ps_types.specs.declared.tree.Child.{Child}
 use Rattle.ps_types.specs.declared.tree.Child.TheVariants as child
 use Rattle.ps_types.specs.Elem.{nodes}
-use Rattle.ps_types.specs.Forms.{kind_of, kind_text, field_by, field_of, fields_of, form_of, value_tree, field_tree, form_tree}
+use Rattle.ps_types.specs.Forms.{field_by, field_of, form_of, value_tree, field_tree, form_tree}
 use Rattle.ps_types.specs.Namespaces.{data_ns}
-use Rattle.ps_types.specs.Shape.{attr_text, children_of, trees_in, tree_text, holding}
+use Rattle.ps_types.specs.Shape.{attr_text, trees_in, tree_text, holding}
 use Rattle.ps_types.specs.Tree.{Tree, is_named}
 use Rattle.ps_forms.specs.Vars.{HaveVars}
 

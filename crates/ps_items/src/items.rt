@@ -1,5 +1,5 @@
 // The table.
-ghost use Rattle.std.specs.Prelude.{◌≡◌, ◌+◌, ◌<◌, ◌≤◌, [], IfOk, OnOk, length, slice_get, option_copied, is_some};
+ghost use Rattle.std.specs.Prelude.{◌≡◌, ◌+◌, ◌<◌, ◌≤◌, [], ◌∷◌, ◌++◌, IfOk, OnOk, length, slice_get, option_copied, is_some};
 ghost use Rattle.ps_types.specs.Items.{item_at, items_of, item_count, items_with, items_except, items_without, items_kept, last_item};
 
 use crate::places::{count, item_of, last_of, put, remove_all_of, remove_of, trim};
@@ -108,6 +108,15 @@ impl Items {
             }
         }
         Ok(rows)
+    }
+
+    /// Adds a row as the last one, as a list of rows is read back. It takes no memory.
+    pub fn add(&mut self, row: ItemRow)
+        requires room { 0 < self.old.spare }
+        ensures rows { self.new.rows ≡ self.old.rows ++ row ∷ [] }
+        ensures room { self.old.spare ≤ self.new.spare + 1 }
+    {
+        self.rows.put_at(None, row);
     }
 
     /// Publishes an item. Of the node's items the newest stay, at most as many as given. It takes no memory.

@@ -8,5 +8,7 @@
 
 mod items;
 mod places;
+#[cfg(test)]
+mod tests;
 
 pub use items::Items;

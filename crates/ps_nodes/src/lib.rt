@@ -8,5 +8,7 @@
 
 mod entries;
 mod nodes;
+#[cfg(test)]
+mod tests;
 
 pub use nodes::{Exists, NodeRef, Nodes};

@@ -157,6 +157,6 @@ impl Nodes {
         ensures rows { self.new.rows ≡ nodes_without node.now self.old.rows }
         ensures room { self.old.spare ≤ self.new.spare }
     {
-        remove_from(&mut self.nodes, node);
+        self.delete(node);
     }
 }

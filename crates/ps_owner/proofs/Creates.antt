@@ -13,6 +13,7 @@ use Rattle.ps_types.specs.Same.{same_jid}
 use Rattle.ps_types.specs.Tree.{Tree}
 use Rattle.ps_types.proofs.Same.{same_jid-Decides}
 use Rattle.ps_model.specs.Book.{Book}
+use Rattle.ps_model.specs.Built.{built_config}
 use Rattle.ps_model.specs.Check.{check}
 use Rattle.ps_model.specs.CheckCreate.{create_steps}
 use Rattle.ps_model.specs.Commits.{commits}
@@ -22,12 +23,12 @@ use Rattle.ps_model.specs.Steps.{first_denial}
 use Rattle.ps_owner.specs.Plans.{Agrees, Passes, is_planned}
 
 IsSteps : Book → List ℕ → Request → Type 0
-IsSteps book node r = (check book r ≡ outcome (first_denial (create_steps book r node None)) None) × (commits book r ≡ true)
+IsSteps book node r = (check book r ≡ outcome (first_denial (create_steps built_config book r node None)) None) × (commits book r ≡ true)
 
 with_ask : Request → Ask → Request
 with_ask r a = record r { ask = a }
 
-at_host : (book : Book) (r : Request) (node : List ℕ) (b : Bool) → b ≡ true → cond (not b) (check book r) (outcome (first_denial (create_steps book r node None)) None) ≡ outcome (first_denial (create_steps book r node None)) None
+at_host : (book : Book) (r : Request) (node : List ℕ) (b : Bool) → b ≡ true → cond (not b) (check book r) (outcome (first_denial (create_steps built_config book r node None)) None) ≡ outcome (first_denial (create_steps built_config book r node None)) None
 at_host book r node true is = refl
 at_host book r node false is = absurd (cc)
 
@@ -37,7 +38,7 @@ without_form book r node at =
     let same : same_jid r.target (host_jid book.service) ≡ true = (same_jid-Decides r.target (host_jid book.service)).1 at in
     (rw same refl, rw same refl)
 
-pub create_check : (book : Book) (r : Request) (node : List ℕ) (form : Option Tree) → r.ask ≡ ask.Create node form → is_planned r.ask ≡ true → r.target ≡ host_jid book.service → (check book r ≡ outcome (first_denial (create_steps book r node None)) None) × (commits book r ≡ true)
+pub create_check : (book : Book) (r : Request) (node : List ℕ) (form : Option Tree) → r.ask ≡ ask.Create node form → is_planned r.ask ≡ true → r.target ≡ host_jid book.service → (check book r ≡ outcome (first_denial (create_steps built_config book r node None)) None) × (commits book r ≡ true)
 unfolding IsSteps with_ask
 create_check book r node None is planned at = subst (λ (a : Ask). IsSteps book node (with_ask r a)) (sym is) (without_form book r node at)
 create_check book r node (Some form) is planned at = (let no : false ≡ true = subst (λ (a : Ask). is_planned a ≡ true) is planned in absurd (cc))

@@ -1,6 +1,7 @@
 // How a node is made (XEP-0060 §8.1).
 ghost use Rattle.std.specs.Prelude.{◌≡◌, false, IfOk, None};
 ghost use Rattle.ps_types.specs.Defaults as defaults;
+ghost use Rattle.ps_model.specs.Built.{built_config};
 ghost use Rattle.ps_model.specs.CheckCreate as model;
 ghost use Rattle.ps_model.specs.CheckCreate.{create_steps};
 ghost use Rattle.ps_model.specs.Access.{is_account as is_account_address};
@@ -66,7 +67,7 @@ pub(crate) fn check_create(
     node: &Text,
 ) -> Result<(), PlanRefusal>
     requires { is_account_address request.now.target ≡ false }
-    ensures { Passes result (first_denial (create_steps (book_of tables.now) request.now node.now None)) }
+    ensures { Passes result (first_denial (create_steps built_config (book_of tables.now) request.now node.now None)) }
 {
     let key = key_of(request, node)?;
     if tables.nodes.has(&key) {

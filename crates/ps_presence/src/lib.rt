@@ -9,6 +9,8 @@
 mod cache;
 mod presence;
 mod resources;
+#[cfg(test)]
+mod tests;
 mod vers;
 
 pub use cache::Cache;

@@ -6,8 +6,8 @@ ghost use Rattle.ps_request.specs.Heads.{head_view};
 use crate::forms::holds_cancel;
 use crate::parts::{id_of, is_of_type};
 use crate::stanza::{is_asking, is_iq, is_message};
-use ps_types::{Elem, Jid, Text};
-use std::alloc::{AllocError, Global};
+use ps_types::{Elem, Jid, Memory, Text};
+use std::alloc::Global;
 
 /// What the reply to a stanza is made of: the stanza's name, its sender, whom the reply is from, the stanza's id (empty where it
 /// has none), and whether it gets a reply at all.
@@ -29,7 +29,7 @@ pub fn is_answered(tree: &Elem) -> bool
 }
 
 /// What the reply to the stanza is made of, where it is from the sender and the reply from the target.
-pub fn head_of(alloc: Global, tree: &Elem, sender: Jid, target: Jid) -> Result<Head, AllocError>
+pub fn head_of(alloc: Global, tree: &Elem, sender: Jid, target: Jid) -> Result<Head, Memory>
     ensures { IfOk result (λ head. head_view head ≡ head_of_tree tree.now sender target) }
 {
     let name = tree.name.clone()?;

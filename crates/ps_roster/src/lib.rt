@@ -7,5 +7,7 @@
 
 mod places;
 mod roster;
+#[cfg(test)]
+mod tests;
 
 pub use roster::Roster;

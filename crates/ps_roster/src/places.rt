@@ -12,15 +12,13 @@ pub fn contact_among<'a>(
 ) -> Option<&'a RosterRow>
     ensures { option_copied result ≡ contact_at account.now contact.now rows.now }
 {
-    rows.iter()
-        .find(|row| account.same_bare(&row.account) && contact.same_bare(&row.contact))
+    rows.iter().find(|row| account.same_bare(&row.account) && contact.same_bare(&row.contact))
 }
 
 fn place_of(rows: &[RosterRow], account: &Jid, contact: &Jid) -> Option<usize>
     ensures { result ≡ position (is_contact_of account.now contact.now) rows.now }
 {
-    rows.iter()
-        .position(|row| account.same_bare(&row.account) && contact.same_bare(&row.contact))
+    rows.iter().position(|row| account.same_bare(&row.account) && contact.same_bare(&row.contact))
 }
 
 pub fn count(rows: &[RosterRow], account: &Jid) -> usize

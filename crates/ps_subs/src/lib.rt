@@ -7,5 +7,7 @@
 
 mod places;
 mod subs;
+#[cfg(test)]
+mod tests;
 
 pub use subs::Subs;

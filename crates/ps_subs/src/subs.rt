@@ -1,5 +1,5 @@
 // The table.
-ghost use Rattle.std.specs.Prelude.{◌≡◌, ◌+◌, ◌<◌, ◌≤◌, [], IfOk, OnOk, length, slice_get, option_copied};
+ghost use Rattle.std.specs.Prelude.{◌≡◌, ◌+◌, ◌<◌, ◌≤◌, [], ◌∷◌, ◌++◌, IfOk, OnOk, length, slice_get, option_copied};
 ghost use Rattle.ps_types.specs.Subs.{sub_row, sub_at, sub_count, subscribed_in, subs_with, subs_of, subs_held, subs_without};
 
 use crate::places::{any_subscribed, count, put, remove_all_of, remove_of, row_among, state_among};
@@ -91,6 +91,15 @@ impl Subs {
         ensures count { result ≡ sub_count node.now self.now.rows }
     {
         count(self.rows.as_slice(), node) as u64
+    }
+
+    /// Adds a row as the last one, as a list of rows is read back. It takes no memory.
+    pub fn add(&mut self, row: SubRow)
+        requires room { 0 < self.old.spare }
+        ensures rows { self.new.rows ≡ self.old.rows ++ row ∷ [] }
+        ensures room { self.old.spare ≤ self.new.spare + 1 }
+    {
+        self.rows.put_at(None, row);
     }
 
     /// Sets the subscription of exactly this address. It takes no memory.

@@ -7,5 +7,7 @@
 #![tactic(auto)]
 
 mod rows;
+#[cfg(test)]
+mod tests;
 
 pub use rows::Rows;

@@ -1,8 +1,7 @@
-use Rattle.std.proofs.Common.{arith, ◌≡◌, map, take, ap, ◌∙◌}
+use Rattle.std.proofs.Common.{arith, ◌≡◌, map, ap, ◌∙◌}
 use Rattle.std.proofs.lemmas.Grind.{common_steps}
 use Rattle.ps_types.specs.Elem.{nodes}
 use Rattle.ps_types.specs.Forms.{value_tree}
-use Rattle.ps_types.specs.Shape.{holding}
 use Rattle.ps_forms.proofs.Printed.{trees, nodes-trees}
 use Rattle.ps_forms.proofs.print.value_kids.Goals as goal
 

@@ -1,9 +1,7 @@
-use Rattle.std.proofs.Common.{sym, subst, List}
+use Rattle.std.proofs.Common.{sym, subst}
 use Rattle.std.specs.Prelude.{codes}
-use Rattle.ps_types.specs.Forms.{fields_of}
 use Rattle.ps_types.specs.Namespaces.{data_ns}
 use Rattle.ps_types.specs.Shape.{children_of}
-use Rattle.ps_types.specs.declared.form.Field.{Field}
 use Rattle.ps_forms.specs.Vars.{HaveVars}
 use Rattle.ps_forms.proofs.Printed.{vars-kept}
 use Rattle.ps_forms.proofs.read.read_form.Goals as goal

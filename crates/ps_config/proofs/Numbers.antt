@@ -1,0 +1,78 @@
+-- Numbers that are written in digits.
+use Rattle.std.proofs.Common.{◌≡◌, ◌≢◌, ◌<◌, ◌≤◌, ◌^◌, ℕ, zero, suc, Bool, true, false, cond, ◌&&◌, List, [], ◌∷◌, length, Option, Some, None, Result, Ok, refl, sym, ap, ◌∙◌, arith}
+use Rattle.std.specs.Prelude.{not, ◌==◌, nat_le, min}
+use Rattle.std.specs.Char.{is_ascii_digit}
+use Rattle.std.specs.List.{list_all}
+use Rattle.std.specs.Str.{all_ascii_digits}
+use Rattle.std.specs.Str.Parse.{digits_value, ParsesUnsigned}
+use Rattle.std.proofs.lemmas.Bool.Decides.{nat_tests}
+use Rattle.std.proofs.lemmas.Str.Parse.{IsNumeralModel, numerals_by_value, tells_all_ascii_digits, parse_gives, digits_value_short}
+use Rattle.ps_types.specs.Values.{are_digits, number_of}
+use Rattle.ps_config.specs.Digits.{value_in}
+
+pub digits_each : (text : List ℕ) → list_all is_ascii_digit text ≡ all_ascii_digits text
+digits_each [] = refl
+digits_each (x ∷ text) = ap (λ (b : Bool). is_ascii_digit x && b) (digits_each text)
+
+own : IsNumeralModel (λ ds. all_ascii_digits ds ≡ true) (digits_value 10)
+own = numerals_by_value _ tells_all_ascii_digits
+
+and-left : (a b : Bool) → (a && b) ≡ true → a ≡ true
+and-left true b h = refl
+and-left false b h = h
+
+and-right : (a b : Bool) → (a && b) ≡ true → b ≡ true
+and-right true b h = h
+and-right false true h = refl
+and-right false false h = h
+
+positive : (n : ℕ) → not (n == 0) ≡ true → 0 < n
+positive zero h = absurd (cc)
+positive (suc n) h = omega arith
+
+-- what 1 to 20 digits parse as
+pub number-read : {E : Type 0} (text : List ℕ) (r : Result ℕ E) → are_digits 20 text ≡ true → ParsesUnsigned 128 10 text r → r ≡ Ok (digits_value 10 text)
+number-read text r digits h =
+    let some : Bool = not (length text == 0) in
+    let few : Bool = nat_le (length text) 20 in
+    let all : Bool = all_ascii_digits text in
+    let b : (some && few) ≡ true = and-left (some && few) all digits in
+    let d : all ≡ true = and-right (some && few) all digits in
+    let a : some ≡ true = and-left some few b in
+    let short : few ≡ true = and-right some few b in
+    let n : length text ≤ 20 = grind (arith, nat_tests, short) in
+    let v : digits_value 10 text < 10 ^ 20 = digits_value_short own text 20 d n in
+    parse_gives own 128 text r h d (positive (length text) a) (omega arith)
+
+-- as the number that they write
+pub read-value : {E : Type 0} (text : List ℕ) (n : ℕ) (r : Result ℕ E) → are_digits 20 text ≡ true → ParsesUnsigned 128 10 text r → r ≡ Ok n → Some n ≡ value_in text
+read-value text n r digits h is =
+    let m : n ≡ digits_value 10 text = cc (number-read text r digits h) in
+    ap (λ (k : ℕ). Some k) m ∙ ap (λ (b : Bool). cond b (Some (digits_value 10 text)) None) (sym digits)
+
+-- a number that isn't 0, no more than the bound
+zero-by : (d : Bool) (n bound : ℕ) → Some 0 ≡ cond d (Some n) None → None ≡ cond (d && not (n == 0)) (Some (min bound n)) None
+zero-by true zero bound h = refl
+zero-by true (suc n) bound h = absurd (cc)
+zero-by false n bound h = refl
+
+pub zero-none : (bound : ℕ) (text : List ℕ) → Some 0 ≡ value_in text → None ≡ number_of bound text
+zero-none bound text h = zero-by (are_digits 20 text) (digits_value 10 text) bound h
+
+suc-test : (n : ℕ) → (suc n == 0) ≡ false
+suc-test n = grind (arith, nat_tests)
+
+some-by : (d : Bool) (n m bound : ℕ) → m ≢ 0 → Some m ≡ cond d (Some n) None → Some (min bound m) ≡ cond (d && not (n == 0)) (Some (min bound n)) None
+some-by true zero m bound k h = absurd (k (cc))
+some-by true (suc n) m bound k h = let e : m ≡ suc n = cc in ap (λ (i : ℕ). Some (min bound i)) e ∙ ap (λ (b : Bool). cond (not b) (Some (min bound (suc n))) None) (sym (suc-test n))
+some-by false n m bound k h = absurd (cc)
+
+pub some-number : (bound : ℕ) (text : List ℕ) (m : ℕ) → m ≢ 0 → Some m ≡ value_in text → Some (min bound m) ≡ number_of bound text
+some-number bound text m k h = some-by (are_digits 20 text) (digits_value 10 text) m bound k h
+
+none-by : (d : Bool) (n bound : ℕ) → None ≡ cond d (Some n) None → None ≡ cond (d && not (n == 0)) (Some (min bound n)) None
+none-by true n bound h = absurd (cc)
+none-by false n bound h = refl
+
+pub no-number : (bound : ℕ) (text : List ℕ) → None ≡ value_in text → None ≡ number_of bound text
+no-number bound text h = none-by (are_digits 20 text) (digits_value 10 text) bound h

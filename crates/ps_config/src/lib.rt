@@ -1,0 +1,22 @@
+//! The configuration of a node, and the options of a subscription, as data forms (XEP-0060 §16.4).
+//!
+//! [`read_config`] and [`read_options`] read a form against a base, exactly as `Config` and `Options` in ps_types say, and name the first
+//! row that isn't readable. [`config_form`] and [`options_form`] give exactly the forms of these definitions, and [`default_config`]
+//! the configuration of a node that is made without a form. The seventeen rows stand in `row.rt`, which says of each what it is
+//! called and what it holds, and in `change.rt`, which says what its values make of a configuration.
+//!
+//! `specs/Rows.antt` ties the names of the rows to the table in ps_types, and `specs/Cause.antt` says what a refusal means.
+#![tactic(auto)]
+
+mod change;
+mod defaults;
+mod options;
+mod print;
+mod read;
+mod row;
+mod values;
+
+pub use defaults::default_config;
+pub use options::{OptionsRefusal, options_form, read_options};
+pub use print::config_form;
+pub use read::{ConfigRefusal, read_config};
