@@ -10,6 +10,7 @@ use Rattle.ps_model.specs.ExampleCrash as crash
 use Rattle.ps_model.specs.ExampleOrder as order
 use Rattle.ps_model.specs.ExampleOwner as owner
 use Rattle.ps_model.specs.ExamplePersonal as personal
+use Rattle.ps_model.specs.ExamplePresence as presence
 use Rattle.ps_model.specs.Stamp.{stamp}
 use Rattle.ps_model.specs.TheCore.{the_core}
 
@@ -73,3 +74,7 @@ told-kinds = refl
 pub told-new : handed_by owner.new_node bob ≡ owner.told_new
 unfolding same.same_jid same.same_bare same.same_node text.escape_byte fmt.digits
 told-new = refl
+
+pub while-present : handed_by presence.given bob ≡ presence.handed
+unfolding same.same_jid same.same_bare same.same_node text.escape_byte fmt.digits
+while-present = refl

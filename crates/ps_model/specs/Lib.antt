@@ -50,6 +50,7 @@ pub mod ExampleNotice
 pub mod ExampleOrder
 pub mod ExampleOwner
 pub mod ExamplePersonal
+pub mod ExamplePresence
 pub mod ExampleStore
 pub mod Given
 pub mod Grammar

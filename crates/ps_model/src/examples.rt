@@ -8,6 +8,7 @@ ghost use Rattle.ps_model.specs.ExampleNotice as notice;
 ghost use Rattle.ps_model.specs.ExampleOrder as order;
 ghost use Rattle.ps_model.specs.ExampleOwner as owner;
 ghost use Rattle.ps_model.specs.ExamplePersonal as personal;
+ghost use Rattle.ps_model.specs.ExamplePresence as presence;
 ghost use Rattle.ps_model.specs.ExampleStore.{one_boot, store};
 ghost use Rattle.ps_model.specs.Stamp.{stamp};
 ghost use Rattle.ps_model.specs.Store.{spelled};
@@ -91,4 +92,9 @@ pub fn approval_is_asked()
 pub fn each_kind_is_told()
     ensures kinds { handed_by owner.all_kinds bob ≡ owner.told_kinds }
     ensures new_node { handed_by owner.new_node bob ≡ owner.told_new }
+{}
+
+/// Delivery that is based on presence lasts until the end of the host's stream, or the next boot.
+pub fn told_while_present()
+    ensures { handed_by presence.given bob ≡ presence.handed }
 {}

@@ -22,7 +22,7 @@ pub use access_laws::{nodes_stay_bounded, outcast_is_forbidden};
 pub use examples::{
     approval_is_asked, compacted_rows, compacted_store, decided_in_order, deep_notice,
     each_kind_is_told, last_item, near_notice, one_boot_store, plain_notice, sent_again, stamps,
-    wanted_items,
+    told_while_present, wanted_items,
 };
 pub use laws::{lawful_prefix, nobody_missed, notices_grow, numbers_rise, replay_goes_on};
 pub use machine_laws::service_keeps_the_laws;
