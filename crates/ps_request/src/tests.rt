@@ -1,7 +1,5 @@
 // Each kind of request as it is spelled, and each refusal that a tree alone can have.
-use crate::{
-    TakenTree, head_of, is_answered, is_iq, is_message, is_presence, read_request, take_tree,
-};
+use crate::{TakenTree, read_request, take_tree};
 use ps_types::{Ask, Condition, Elem, Text};
 use ps_wire::read_tree;
 use std::alloc::Global;
@@ -181,12 +179,16 @@ fn each_name_in_pubsub_spells_its_kind_or_is_denied(rt: HostRuntime) -> Result<(
     Ok(())
 }
 
+fn in_iq(alloc: Global, row: &str) -> Result<String, Fail> {
+    let (kind, child) = cut(row);
+    iq(alloc, kind, child)
+}
+
 #[test]
 fn each_other_iq_spells_its_kind_or_is_denied(rt: HostRuntime) -> Result<(), Fail> {
     for row in IN_IQ.lines() {
         let (want, rest) = cut(row);
-        let (kind, child) = cut(rest);
-        let line = iq(rt.alloc(), kind, child)?;
+        let line = in_iq(rt.alloc(), rest)?;
         let found = told(rt.alloc(), line.as_str())?;
         assert_eq!(rt; found.as_str(), want, "{row}");
     }
@@ -203,75 +205,67 @@ fn each_other_stanza_is_taken_refused_or_denied(rt: HostRuntime) -> Result<(), F
     Ok(())
 }
 
-#[test]
-fn a_node_name_has_512_bytes_at_most(rt: HostRuntime) -> Result<(), Fail> {
-    let alloc = rt.alloc();
-    let mut name = String::new(alloc);
-    for _ in 0..512 {
-        name.push('n')?;
-    }
+// What a request to make a node of that name is taken as.
+fn created(alloc: Global, name: &str) -> Result<String, Fail> {
     let kid = format!(in alloc; "{{\"a\":{{\"node\":\"{name}\"}},\"n\":\"create\"}}")?;
     let child = pubsub(alloc, "", kid.as_str())?;
     let line = iq(alloc, "set", child.as_str())?;
-    assert_eq!(rt; told(alloc, line.as_str())?.as_str(), "Create");
-    let kid = format!(in alloc; "{{\"a\":{{\"node\":\"n{name}\"}},\"n\":\"create\"}}")?;
-    let child = pubsub(alloc, "", kid.as_str())?;
-    let line = iq(alloc, "set", child.as_str())?;
-    assert_eq!(rt; told(alloc, line.as_str())?.as_str(), "Denied(C14)");
+    told(alloc, line.as_str())
+}
+
+#[test]
+fn a_node_name_has_512_bytes_at_most(rt: HostRuntime) -> Result<(), Fail> {
+    let mut name = String::new(rt.alloc());
+    for _ in 0..512 {
+        name.push('n')?;
+    }
+    assert_eq!(rt; created(rt.alloc(), name.as_str())?.as_str(), "Create");
+    name.push('n')?;
+    assert_eq!(rt; created(rt.alloc(), name.as_str())?.as_str(), "Denied(C14)");
     Ok(())
+}
+
+fn taken(alloc: Global, line: &str) -> Result<TakenTree, Fail> {
+    let tree = tree_of(alloc, line)?;
+    let host = Text::of(alloc, "a.example")?;
+    let service = Text::of(alloc, "pubsub.example")?;
+    Ok(take_tree(alloc, &tree, &host, &service)?)
+}
+
+// Whether it is a denied message with the id 7, whose reply goes from the service host to Ann.
+fn is_denied_message(taken: &TakenTree) -> bool {
+    match taken {
+        TakenTree::Denied(head, why) => {
+            *why == Condition::C13
+                && head.name.is("message")
+                && head.sender.local.is("ann")
+                && head.target.host.is("pubsub.example")
+                && head.id.is("7")
+                && head.is_answered
+        }
+        _ => false,
+    }
 }
 
 #[test]
 fn a_denied_stanza_has_the_head_of_its_reply(rt: HostRuntime) -> Result<(), Fail> {
-    let alloc = rt.alloc();
-    let host = Text::of(alloc, "a.example")?;
-    let service = Text::of(alloc, "pubsub.example")?;
     let line =
         "{\"a\":{\"from\":\"Ann@A.example/1\",\"id\":\"7\",\"to\":\"a b@c\"},\"n\":\"message\"}";
-    let tree = tree_of(alloc, line)?;
-    match take_tree(alloc, &tree, &host, &service)? {
-        TakenTree::Denied(head, why) => {
-            assert_eq!(rt; why, Condition::C13);
-            assert!(rt; head.name.is("message"));
-            assert!(rt; head.sender.local.is("ann"));
-            assert!(rt; head.target.host.is("pubsub.example"));
-            assert!(rt; head.id.is("7"));
-            assert!(rt; head.is_answered);
-            assert!(rt; is_answered(&tree));
-            assert!(rt; is_message(&tree));
-            assert!(rt; !is_iq(&tree) && !is_presence(&tree));
-            let again = head_of(alloc, &tree, head.sender, head.target)?;
-            assert!(rt; again.id.is("7"));
-        }
-        _ => return Err(Fail::from("it isn't denied")),
-    }
-    Ok(())
-}
-
-#[test]
-fn a_request_holds_what_its_tree_spells(rt: HostRuntime) -> Result<(), Fail> {
-    let alloc = rt.alloc();
-    let host = Text::of(alloc, "a.example")?;
-    let service = Text::of(alloc, "pubsub.example")?;
-    let kids =
-        "{\"a\":{\"node\":\"news\"},\"c\":[{\"a\":{\"id\":\"i1\"},\"c\":[{\"n\":\"entry\",\"ns\":\"urn:t\"}],\"n\":\"item\"},{\"n\":\"item\"}],\"n\":\"publish\"},{\"c\":[{\"a\":{\"type\":\"submit\"},\"n\":\"x\",\"ns\":\"jabber:x:data\"}],\"n\":\"publish-options\"}";
-    let child = pubsub(alloc, "", kids)?;
-    let line = iq(alloc, "set", child.as_str())?;
-    let tree = tree_of(alloc, line.as_str())?;
-    match read_request(alloc, &tree, &host, &service) {
-        Ok(request) => {
-            assert!(rt; request.from.resource.is("1"));
-            assert!(rt; request.target.host.is("pubsub.example"));
-            assert!(rt; request.id.is("1"));
-            assert!(rt; is_two_items(&request.ask));
-        }
-        Err(_) => return Err(Fail::from("it is no request")),
-    }
+    assert!(rt; is_denied_message(&taken(rt.alloc(), line)?));
     Ok(())
 }
 
 // Whether it publishes to `news` an item of the id `i1` with a payload and one without either, with options.
-fn is_two_items(ask: &Ask) -> bool {
+fn is_two_items(taken: &TakenTree) -> bool {
+    match taken {
+        TakenTree::Asked(request) => {
+            request.from.resource.is("1") && request.id.is("1") && are_two_items(&request.ask)
+        }
+        _ => false,
+    }
+}
+
+fn are_two_items(ask: &Ask) -> bool {
     match ask {
         Ask::Publish {
             node,
@@ -290,4 +284,14 @@ fn is_two_items(ask: &Ask) -> bool {
         },
         _ => false,
     }
+}
+
+#[test]
+fn a_request_holds_what_its_tree_spells(rt: HostRuntime) -> Result<(), Fail> {
+    let kids =
+        "{\"a\":{\"node\":\"news\"},\"c\":[{\"a\":{\"id\":\"i1\"},\"c\":[{\"n\":\"entry\",\"ns\":\"urn:t\"}],\"n\":\"item\"},{\"n\":\"item\"}],\"n\":\"publish\"},{\"c\":[{\"a\":{\"type\":\"submit\"},\"n\":\"x\",\"ns\":\"jabber:x:data\"}],\"n\":\"publish-options\"}";
+    let child = pubsub(rt.alloc(), "", kids)?;
+    let line = iq(rt.alloc(), "set", child.as_str())?;
+    assert!(rt; is_two_items(&taken(rt.alloc(), line.as_str())?));
+    Ok(())
 }
