@@ -1,3 +1,5 @@
 pub mod Numbers
 pub mod Rows
 pub mod Changing
+pub mod Again
+pub mod Kept

@@ -14,19 +14,19 @@ pub digits_each : (text : List ℕ) → list_all is_ascii_digit text ≡ all_asc
 digits_each [] = refl
 digits_each (x ∷ text) = ap (λ (b : Bool). is_ascii_digit x && b) (digits_each text)
 
-own : IsNumeralModel (λ ds. all_ascii_digits ds ≡ true) (digits_value 10)
+pub own : IsNumeralModel (λ ds. all_ascii_digits ds ≡ true) (digits_value 10)
 own = numerals_by_value _ tells_all_ascii_digits
 
-and-left : (a b : Bool) → (a && b) ≡ true → a ≡ true
+pub and-left : (a b : Bool) → (a && b) ≡ true → a ≡ true
 and-left true b h = refl
 and-left false b h = h
 
-and-right : (a b : Bool) → (a && b) ≡ true → b ≡ true
+pub and-right : (a b : Bool) → (a && b) ≡ true → b ≡ true
 and-right true b h = h
 and-right false true h = refl
 and-right false false h = h
 
-positive : (n : ℕ) → not (n == 0) ≡ true → 0 < n
+pub positive : (n : ℕ) → not (n == 0) ≡ true → 0 < n
 positive zero h = absurd (cc)
 positive (suc n) h = omega arith
 

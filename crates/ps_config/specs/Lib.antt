@@ -2,3 +2,4 @@ pub mod Rows
 pub mod Cells
 pub mod Cause
 pub mod Digits
+pub mod Bounds

@@ -5,18 +5,25 @@
 //! the configuration of a node that is made without a form. The seventeen rows stand in `row.rt`, which says of each what it is
 //! called and what it holds, and in `change.rt`, which says what its values make of a configuration.
 //!
-//! `specs/Rows.antt` ties the names of the rows to the table in ps_types, and `specs/Cause.antt` says what a refusal means.
+//! [`printed_config_reads_back`], [`configs_stay_bounded`] and [`printed_options_read_back`] are the laws on these.
+//!
+//! `specs/Rows.antt` ties the names of the rows to the table in ps_types, and `specs/Cause.antt` says what a refusal means;
+//! `specs/Bounds.antt` has the bounds of a configuration, and `specs/Cells.antt` what a row holds.
 #![tactic(auto)]
 
 mod change;
 mod defaults;
+mod laws;
 mod options;
 mod print;
 mod read;
 mod row;
+#[cfg(test)]
+mod tests;
 mod values;
 
 pub use defaults::default_config;
+pub use laws::{configs_stay_bounded, printed_config_reads_back, printed_options_read_back};
 pub use options::{OptionsRefusal, options_form, read_options};
 pub use print::config_form;
 pub use read::{ConfigRefusal, read_config};
