@@ -55,10 +55,9 @@ pub fn accepts_at(alloc: Global, half: &Half, entry: &Entry) -> Result<bool, Mem
             tree,
             ..
         } => {
-            if half.tables.service.is_empty() || !half.lines.is_next(host, *line) {
-                return Ok(false);
-            }
-            is_accepted_tree(alloc, &half.tables, host, tree)
+            let asked = is_accepted_tree(alloc, &half.tables, host, tree)?;
+            let booted = !half.tables.service.is_empty();
+            Ok(booted && asked && half.lines.is_next(host, *line))
         }
         Entry::Handed { .. } => Ok(false),
         Entry::Gone { .. } => Ok(!half.tables.service.is_empty()),

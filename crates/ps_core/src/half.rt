@@ -59,10 +59,10 @@ impl Half {
             Entry::Change {
                 host,
                 line,
+                moment,
                 tree,
-                ..
-            } => self.take_change(alloc, host, *line, tree),
-            Entry::Gone { .. } => self.leave(),
+            } => self.take_change(alloc, host, *line, *moment, tree),
+            Entry::Gone { host } => self.leave(host),
             _ => unreachable!(),
         }
     }
@@ -77,9 +77,10 @@ impl Half {
         Ok(())
     }
 
-    fn leave(&mut self) -> Result<(), Memory>
+    // No row is of a host yet.
+    fn leave(&mut self, _host: &Text) -> Result<(), Memory>
         requires few { self.old.count < 2 ^ 62 }
-        ensures state { OnOk result (((host : List ℕ) → state_of self.new ≡ after (state_of self.old) (Gone host))) }
+        ensures state { OnOk result (state_of self.new ≡ after (state_of self.old) (Gone _host.now)) }
     {
         self.count += 1;
         Ok(())
@@ -90,23 +91,26 @@ impl Half {
         alloc: Global,
         host: &Text,
         line: u64,
+        moment: Option<u64>,
         tree: &Elem,
     ) -> Result<(), Memory>
-        requires accepted { (moment : Option ℕ) → accepted (state_of self.old) (Change host.now line moment tree.now) ≡ true }
+        requires accepted { accepted (state_of self.old) (Change host.now line moment tree.now) ≡ true }
         requires few { self.old.count < 2 ^ 62 }
-        ensures state { OnOk result ((moment : Option ℕ) → state_of self.new ≡ after (state_of self.old) (Change host.now line moment tree.now)) }
+        ensures state { OnOk result (state_of self.new ≡ after (state_of self.old) (Change host.now line moment tree.now)) }
     {
         match take_built(alloc, host, &self.tables.service, tree)? {
-            TakenLine::Asked(_, request) => self.take_request(alloc, host, line, &request),
-            _ => unreachable!(),
+            TakenLine::Asked(_, request) => self.take_request(host, line, alloc, &request),
+            TakenLine::Refused(_) => unreachable!(),
+            TakenLine::Silent => unreachable!(),
         }
     }
 
+    // Nothing of what is built looks at the moment.
     fn take_request(
         &mut self,
-        alloc: Global,
         host: &Text,
         line: u64,
+        alloc: Global,
         request: &Request,
     ) -> Result<(), Memory>
         requires built { is_read self.old.tables.service request.now ≡ true }
