@@ -1,6 +1,6 @@
 -- What is printed for a configuration reads as that configuration.
-use Rattle.std.proofs.Common.{◌≡◌, ◌≤◌, ◌<◌, ◌+◌, ◌^◌, ℕ, Bool, true, false, not, cond, ◌&&◌, List, [], ◌∷◌, length, map, Option, Some, None, option_map, Result, Ok, refl, sym, ap, ap₂, subst, ◌∙◌, arith}
-use Rattle.std.specs.Prelude.{codes, nat_le, min, ◌==◌, bytes_eq, if◌then◌else◌}
+use Rattle.std.proofs.Common.{◌≡◌, ◌≤◌, ◌<◌, ◌+◌, ◌^◌, ℕ, Bool, true, false, not, cond, ◌&&◌, List, [], ◌∷◌, length, map, Option, Some, None, option_map, Ok, refl, sym, ap, ap₂, subst, ◌∙◌, arith}
+use Rattle.std.specs.Prelude.{codes, nat_le, min, ◌==◌, bytes_eq}
 use Rattle.std.specs.Fmt.{decimal}
 use Rattle.std.specs.Str.{all_ascii_digits}
 use Rattle.std.specs.Str.Parse.{digits_value}
@@ -19,9 +19,7 @@ use Rattle.ps_types.specs.declared.config.PublishModel.TheVariants as model
 use Rattle.ps_types.specs.declared.config.SendLast.{SendLast}
 use Rattle.ps_types.specs.declared.config.SendLast.TheVariants as send
 use Rattle.ps_types.specs.declared.config.SubOptions.{SubOptions}
-use Rattle.ps_types.specs.declared.form.Form.{Form}
-use Rattle.ps_types.specs.Config.{ConfigRow, config_rows, row_change, after_row, read_rows, read_config, config_form, access_choices, access_text, model_choices, model_text, send_choices, send_text, notice_choices, notice_text, kind_choices, kind_text, most_of, name_of}
-use Rattle.ps_types.specs.Forms.{values_of}
+use Rattle.ps_types.specs.Config.{ConfigRow, after_row, read_rows, read_config, config_form, access_choices, access_text, model_choices, model_text, send_choices, send_text, notice_choices, notice_text, kind_choices, kind_text, most_of, name_of}
 use Rattle.ps_types.specs.Options.{read_options, options_form}
 use Rattle.ps_types.specs.Values.{boolean_in, boolean_text, are_digits, number_of, choice_in}
 use Rattle.ps_config.specs.Bounds.{IsConfig}

@@ -1,5 +1,5 @@
 -- A row that is put, or refused, by its name.
-use Rattle.std.proofs.Common.{◌≡◌, ℕ, List, Option, Some, None, option_map, Result, Ok, Err, refl, sym, ap, ◌∙◌}
+use Rattle.std.proofs.Common.{◌≡◌, ℕ, List, Option, Some, None, option_map, Result, Ok, Err, sym, ap, ◌∙◌}
 use Rattle.std.specs.Prelude.{OnOk, IsErrOf}
 use Rattle.ps_types.specs.declared.config.NodeConfig.{NodeConfig}
 use Rattle.ps_config.specs.declared.row.Row.{Row}

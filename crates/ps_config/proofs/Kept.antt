@@ -1,5 +1,5 @@
 -- What is read against a configuration within the bounds is within them.
-use Rattle.std.proofs.Common.{◌≡◌, ◌≤◌, ℕ, ◌+◌, Bool, true, false, cond, not, ◌&&◌, List, [], ◌∷◌, length, map, Option, Some, None, option_map, Result, Ok, refl, sym, ap, subst, ◌∙◌, arith}
+use Rattle.std.proofs.Common.{◌≡◌, ◌≤◌, ℕ, ◌+◌, Bool, true, false, cond, not, ◌&&◌, List, [], ◌∷◌, length, map, Option, Some, None, option_map, Ok, refl, sym, ap, subst, ◌∙◌, arith}
 use Rattle.std.specs.Prelude.{codes, nat_le, min, ◌==◌, bytes_eq, option_and_then}
 use Rattle.std.specs.Str.Parse.{digits_value}
 use Rattle.std.proofs.lemmas.Bool.Decides.{nat_tests}
@@ -11,9 +11,9 @@ use Rattle.ps_types.specs.declared.config.NoticeKind.{NoticeKind}
 use Rattle.ps_types.specs.declared.config.PublishModel.{PublishModel}
 use Rattle.ps_types.specs.declared.config.SendLast.{SendLast}
 use Rattle.ps_types.specs.declared.form.Form.{Form}
-use Rattle.ps_types.specs.Config.{ConfigRow, config_rows, row_change, after_row, read_rows, read_config, access_choices, model_choices, send_choices, notice_choices, kind_choices, most_of, name_of}
+use Rattle.ps_types.specs.Config.{ConfigRow, row_change, after_row, read_rows, read_config, access_choices, model_choices, send_choices, notice_choices, kind_choices, most_of, name_of}
 use Rattle.ps_types.specs.Forms.{values_of}
-use Rattle.ps_types.specs.Values.{single, boolean_in, are_digits, number_of, number_in, choice_in}
+use Rattle.ps_types.specs.Values.{single, boolean_in, are_digits, number_of, choice_in}
 use Rattle.ps_config.specs.Bounds.{IsConfig}
 use Rattle.ps_config.specs.declared.row.Row.{Row}
 use Rattle.ps_config.specs.declared.row.Row.TheVariants as row

@@ -1,5 +1,7 @@
 -- The rows, read one after the other.
-use Rattle.std.proofs.Common.{◌≡◌, ℕ, ◌+◌, ◌<◌, suc, List, [], ◌∷◌, drop, get_or, map, length, Option, Some, None, Result, Ok, Err, refl, sym, ap, ◌∙◌, arith, add-one, drop-cons}
+use Rattle.std.specs.Prelude.{bytes_eq, ◌||◌}
+use Rattle.std.specs.List.{list_any}
+use Rattle.std.proofs.Common.{◌≡◌, ℕ, ◌+◌, ◌<◌, suc, List, [], ◌∷◌, drop, get_or, map, length, Option, None, Result, Ok, Err, refl, sym, ap, ◌∙◌, drop-cons, Bool}
 use Rattle.ps_types.specs.declared.config.NodeConfig.{NodeConfig}
 use Rattle.ps_types.specs.declared.form.Field.{Field}
 use Rattle.ps_types.specs.declared.form.Form.{Form}
@@ -38,3 +40,12 @@ pub all-printed : (c : NodeConfig) (fields : List Field) → fields ≡ type_fie
 all-printed c fields e =
     let all : fields ≡ type_field config_type ∷ map (config_field c) config_rows = e ∙ ap (λ (l : List ConfigRow). type_field config_type ∷ map (config_field c) l) rows_named in
     ap (λ (l : List Field). record { kind = form.Form; fields = l }) all
+
+-- ---- looked up
+
+any-mapped : (var : List ℕ) (rows : List Row) → list_any (λ row. bytes_eq row.var var) (map row_of rows) ≡ list_any (λ row. bytes_eq (row_of row).var var) rows
+any-mapped var [] = refl
+any-mapped var (r ∷ rows) = ap (λ (b : Bool). bytes_eq (row_of r).var var || b) (any-mapped var rows)
+
+pub any_named : (var : List ℕ) → list_any (λ row. bytes_eq (row_of row).var var) all_rows ≡ list_any (λ row. bytes_eq row.var var) config_rows
+any_named var = sym (any-mapped var all_rows) ∙ ap (λ (l : List ConfigRow). list_any (λ row. bytes_eq row.var var) l) rows_named

@@ -1,5 +1,5 @@
 -- Which configurations there are.
-use Rattle.std.specs.Prelude.{◌≤◌, ℕ, length}
+use Rattle.std.specs.Prelude.{◌≤◌, length}
 use Rattle.ps_types.specs.declared.config.NodeConfig.{NodeConfig}
 
 -- at least one item and one byte, and no more than a form may ask for

@@ -1,7 +1,7 @@
 // Forms that are read as configurations and options, and what is printed for them.
 use crate::{
-    ConfigRefusal, OptionsRefusal, config_form, default_config, options_form, read_config,
-    read_options,
+    ConfigRefusal, OptionsRefusal, config_form, configs_stay_bounded, default_config, has_row,
+    options_form, printed_config_reads_back, printed_options_read_back, read_config, read_options,
 };
 use ps_forms::{form_type, get};
 use ps_types::{
@@ -201,5 +201,17 @@ fn options_are_printed(rt: HostRuntime) -> Result<(), Fail> {
     assert!(rt; form_type(&form).is_some());
     shows(&rt, &form, "pubsub#subscription_type", "items");
     shows(&rt, &form, "pubsub#subscription_depth", "all");
+    Ok(())
+}
+
+#[test]
+fn the_rows_are_known_by_their_vars(rt: HostRuntime) -> Result<(), Fail> {
+    assert!(rt; has_row("pubsub#title"));
+    assert!(rt; has_row("pubsub#collection"));
+    assert!(rt; !has_row("title"));
+    assert!(rt; !has_row("FORM_TYPE"));
+    printed_config_reads_back();
+    configs_stay_bounded();
+    printed_options_read_back();
     Ok(())
 }

@@ -1,6 +1,4 @@
-use Rattle.std.proofs.Common.{◌≡◌, ℕ, Bool, List, Some, refl, ap}
-use Rattle.std.specs.Prelude.{OnOk}
-use Rattle.ps_types.specs.declared.config.NodeConfig.{NodeConfig}
+use Rattle.std.proofs.Common.{ℕ, Bool, List, refl}
 use Rattle.ps_types.specs.declared.config.Access.{Access}
 use Rattle.ps_types.specs.declared.config.PublishModel.{PublishModel}
 use Rattle.ps_types.specs.declared.config.SendLast.{SendLast}

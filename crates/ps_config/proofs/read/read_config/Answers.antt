@@ -1,4 +1,4 @@
-use Rattle.std.proofs.Common.{◌≡◌, ◌≤◌, length, refl, sym, ◌∙◌, drop, [], arith, rules}
+use Rattle.std.proofs.Common.{sym, ◌∙◌, arith, rules}
 use Rattle.std.proofs.lemmas.List.{drop_all}
 use Rattle.ps_config.proofs.Rows.{bad-row, end-rows, all-read}
 use Rattle.ps_config.proofs.read.read_config.Goals as goal

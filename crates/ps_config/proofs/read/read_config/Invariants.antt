@@ -1,4 +1,4 @@
-use Rattle.std.proofs.Common.{◌≡◌, ◌+◌}
+use Rattle.std.proofs.Common.{◌≡◌}
 use Rattle.ps_config.proofs.Rows.{from_row}
 use Rattle.ps_config.proofs.read.read_config.Given as goal
 

@@ -1,4 +1,4 @@
-use Rattle.std.proofs.Common.{◌≡◌, true, refl, sym, ◌∙◌}
+use Rattle.std.proofs.Common.{◌≡◌, true}
 use Rattle.ps_types.specs.Values.{are_digits}
 use Rattle.ps_config.proofs.Numbers.{number-read, read-value}
 use Rattle.ps_config.proofs.values.value_of.Goals as goal
