@@ -1,0 +1,104 @@
+use crate::Service;
+use ps_types::{Arrival, Bytes, Entry, Text};
+use ps_wire::print_tree;
+use std::alloc::Global;
+use std::process::Abort;
+use std::test::Fail;
+
+const FIRST: &str =
+    r#"{"a":{"from":"ann@a.example/1","id":"1","to":"pubsub.example","type":"set"},"c":[{"c":[{"a":{"node":"news"},"n":"create"}],"n":"pubsub","ns":"http://jabber.org/protocol/pubsub"}],"n":"iq"}"#;
+
+const AGAIN: &str =
+    r#"{"a":{"from":"ann@a.example/1","id":"2","to":"pubsub.example","type":"set"},"c":[{"c":[{"a":{"node":"news"},"n":"create"}],"n":"pubsub","ns":"http://jabber.org/protocol/pubsub"}],"n":"iq"}"#;
+
+const MADE: &str =
+    r#"{"a":{"from":"pubsub.example","id":"1","to":"ann@a.example/1","type":"result"},"n":"iq"}"#;
+
+const CONFLICT: &str =
+    r#"{"a":{"from":"pubsub.example","id":"2","to":"ann@a.example/1","type":"error"},"c":[{"a":{"type":"cancel"},"c":[{"n":"conflict","ns":"urn:ietf:params:xml:ns:xmpp-stanzas"}],"n":"error"}],"n":"iq"}"#;
+
+fn arrived(alloc: Global, line: &str) -> Result<Arrival, Fail> {
+    let bytes = line.as_bytes().to_vec(alloc)?;
+    Ok(Arrival::Line {
+        bytes: Bytes::from_vec(bytes),
+        moment: None,
+    })
+}
+
+// Takes an entry that is accepted.
+fn take(rt: &impl Abort, service: &mut Service, entry: &Entry) -> Result<(), Fail> {
+    let accepted = service.accepts(entry)?;
+    assert!(rt; accepted);
+    assert!(rt; service.count() < 1000);
+    service.apply(entry)?;
+    Ok(())
+}
+
+fn booted(rt: &impl Abort, alloc: Global) -> Result<Service, Fail> {
+    let mut service = Service::new(alloc)?;
+    let boot = Entry::Boot {
+        service: Text::of(alloc, "pubsub.example")?,
+    };
+    take(rt, &mut service, &boot)?;
+    Ok(service)
+}
+
+// Answers the line and takes the entry that it makes.
+fn answered(
+    rt: &impl Abort,
+    alloc: Global,
+    service: &mut Service,
+    line: u64,
+    text: &str,
+) -> Result<Bytes, Fail> {
+    let host = Text::of(alloc, "a.example")?;
+    let arrival = arrived(alloc, text)?;
+    let answer = service.answer(&host, line, &arrival)?;
+    if let Some(entry) = &answer.entry {
+        take(rt, service, entry)?;
+    }
+    match &answer.reply {
+        Some(reply) => Ok(print_tree(alloc, reply)?),
+        None => Ok(Bytes::from_vec(Vec::new(alloc))),
+    }
+}
+
+fn says(rt: &impl Abort, bytes: &Bytes, text: &str) {
+    assert!(rt; bytes.as_slice() == text.as_bytes());
+}
+
+#[test]
+fn a_node_is_made_once(rt: HostRuntime) -> Result<(), Fail> {
+    let alloc = rt.alloc();
+    let mut service = booted(&rt, alloc)?;
+    let reply = answered(&rt, alloc, &mut service, 1, FIRST)?;
+    says(&rt, &reply, MADE);
+    assert_eq!(rt; service.count(), 2);
+    let reply = answered(&rt, alloc, &mut service, 2, AGAIN)?;
+    says(&rt, &reply, CONFLICT);
+    assert_eq!(rt; service.count(), 2);
+    Ok(())
+}
+
+#[test]
+fn other_lines_are_refused_or_silent(rt: HostRuntime) -> Result<(), Fail> {
+    let alloc = rt.alloc();
+    let mut service = booted(&rt, alloc)?;
+    for (line, why) in [
+        ("{", "not-json"),
+        ("[]", "not-a-tree"),
+        (r#"{"n":"iq"}"#, "bad-address"),
+        (r#"{"a":{"from":"x@b.example"},"n":"iq"}"#, "foreign-from"),
+        (r#"{"a":{"from":"x@a.example"},"n":"iq"}"#, "bad-stanza"),
+        (r#"{"a":{"from":"x@a.example"},"n":"message"}"#, "not-built"),
+    ] {
+        let reply = answered(&rt, alloc, &mut service, 1, line)?;
+        let wanted = format!(in alloc;
+            "{{\"a\":{{\"line\":\"1\",\"why\":\"{why}\"}},\"n\":\"refused\",\"ns\":\"urn:pubsubd:line\"}}"
+        )?;
+        says(&rt, &reply, wanted.as_str());
+    }
+    let reply = answered(&rt, alloc, &mut service, 1, " \t")?;
+    says(&rt, &reply, "");
+    Ok(())
+}
