@@ -12,7 +12,8 @@ here=$(cd "$(dirname "$0")" && pwd)
 top=$here/../..
 rounds=${ROUNDS:-5}
 kills=${KILLS:-20}
-scratch=$(mktemp -d)
+# Beside a checkout whose crates are proved, a scratch repository begins with what was kept there: SCRATCH names the folder for it.
+scratch=$(mktemp -d "${SCRATCH:-${TMPDIR:-/tmp}}/journal_bench.XXXXXX")
 store=${STORE:-$(mktemp -d /var/tmp/journal.XXXXXX)}
 trap 'rm -rf "$scratch" "$store"' EXIT
 
