@@ -37,10 +37,10 @@ fn each_kind_is_read_and_written_back(rt: HostRuntime) -> Result<(), Fail> {
         line,
         moment,
         tree,
-    } = entry
+    } = &entry
     {
         assert_eq!(rt; host.as_str(), "a.example");
-        assert_eq!(rt; (line, moment), (2, Some(1_000_000_000)));
+        assert_eq!(rt; (*line, *moment), (2, Some(1_000_000_000)));
         assert_eq!(rt; tree.name.as_str(), "presence");
     }
     Ok(())
