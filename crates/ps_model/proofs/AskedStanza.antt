@@ -26,7 +26,7 @@ use Rattle.ps_model.specs.Stanza.{has_type, host_jid, is_answering, is_asking, i
 use Rattle.ps_model.specs.Steps.{named_step}
 use Rattle.ps_model.specs.Taken.{Taken, asked}
 use Rattle.ps_model.specs.Taken as taken
-use Rattle.ps_model.specs.Taking.{sender_taken, shape_taken, target_taken, ask_taken, stanza_taken}
+use Rattle.ps_model.specs.Taking.{sender_taken, shape_taken, target_taken, ask_taken, tree_taken}
 use Rattle.ps_model.proofs.AskedKinds.{made}
 use Rattle.ps_model.proofs.AskedWays.{iq-way}
 use Rattle.ps_model.proofs.Splits.{split, either-true, both-true, same-text, named-is, given, given-same, unless-given, node-named, jid-spelled}
@@ -224,5 +224,5 @@ module _ (host service : List ℕ) (t u : Tree) (r : Request) where
       ]
 
   -- what is taken as a request spells it
-  pub taken-spelled : stanza_taken host service t ≡ asked u r → SpellsRequest host service t r
+  pub taken-spelled : tree_taken host service t ≡ asked u r → SpellsRequest host service t r
   taken-spelled h = sender-taken (jid_of (attr_text (codes "from") t)) refl h

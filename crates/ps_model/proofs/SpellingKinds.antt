@@ -30,7 +30,7 @@ use Rattle.ps_model.specs.SpelledRouter.{IsRosterSet, IsPresent, IsAbsent, IsCap
 use Rattle.ps_model.specs.Stanza.{host_jid, type_of, has_type}
 use Rattle.ps_model.specs.Taken.{Taken, asked}
 use Rattle.ps_model.specs.Taken as taken
-use Rattle.ps_model.specs.Taking.{stanza_taken}
+use Rattle.ps_model.specs.Taking.{tree_taken}
 use Rattle.ps_model.proofs.Spelling.{spells-jid, short-step, named-step, set-is, get-is, set-part, get-part, owner-set-part, owner-get-part}
 
 abbrev given : Ask → Result Ask Condition
@@ -224,7 +224,7 @@ module _ (service : List ℕ) (t : Tree) (from target : Jid) where
   ask-is ask.Silent h = silent-is h
 
 -- a tree that spells a request is taken as that request, and so spells no other
-pub spelled-taken : (host service : List ℕ) (t : Tree) (r : Request) → SpellsRequest host service t r → stanza_taken host service t ≡ asked t r
+pub spelled-taken : (host service : List ℕ) (t : Tree) (r : Request) → SpellsRequest host service t r → tree_taken host service t ≡ asked t r
 spelled-taken host service t r h =
     let same : bytes_eq r.from.host host ≡ true = rw h.host_is ((bytes_eq-Decides host host).1 refl) in
     rw (spells-jid (attr_text (codes "from") t) r.from h.from_is, same, h.shape, h.target_is, h.served, ask-is service t r.from r.target r.ask h.ask, h.id_is) refl

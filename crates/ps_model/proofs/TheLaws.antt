@@ -32,10 +32,9 @@ use Rattle.ps_types.specs.LineTree.{line_tree}
 use Rattle.ps_types.specs.Shape.{attr_text}
 use Rattle.ps_types.specs.declared.denial.Condition.{Condition}
 use Rattle.ps_types.specs.declared.denial.Condition.TheVariants.{C25}
-use Rattle.ps_types.specs.declared.denial.LineRefusal.TheVariants.{L6, L7, L8}
+use Rattle.ps_types.specs.declared.denial.LineRefusal.TheVariants.{L6, L7}
 use Rattle.ps_types.specs.declared.request.Ask.{Ask}
 use Rattle.ps_model.specs.Asking.{ask_of}
-use Rattle.ps_model.specs.Built.{built_taken, is_read}
 use Rattle.ps_model.specs.Check.{check}
 use Rattle.ps_model.specs.Commits.{commits}
 use Rattle.ps_model.specs.Outcome.{Outcome, is_accepted}
@@ -255,20 +254,10 @@ sender-tree host service (Some from) u t r e = by (bytes_eq from.host host) (is_
     by true false e = absurd (cc e)
     by false c e = absurd (cc e)
 
-built-asked : (service : List ℕ) (x : Taken) (t : Tree) (r : Request) → built_taken service x ≡ taken.asked t r → x ≡ taken.asked t r
-built-asked service taken.silent t r e = absurd (cc e)
-built-asked service (taken.refused why) t r e = absurd (cc e)
-built-asked service (taken.denied head why) t r e = absurd (cc e)
-built-asked service (taken.asked u q) t r e = by (is_read service q) e
-  where
-    by : (b : Bool) → cond b (taken.asked u q) (taken.refused L8) ≡ taken.asked t r → taken.asked u q ≡ taken.asked t r
-    by true e = e
-    by false e = absurd (cc e)
-
 tree-tree : (host service : List ℕ) (u t : Tree) (r : Request) → tree_taken host service u ≡ taken.asked t r → u ≡ t
 tree-tree host service u t r e =
     let o = jid_of (attr_text (codes "from") u) in
-    sender-tree host service o u t r (built-asked service (sender_taken host service u o) t r e)
+    sender-tree host service o u t r e
 
 line-tree : (host service : List ℕ) (o : Result Tree LineRefusal) (t : Tree) (r : Request) → result_taken host service o ≡ taken.asked t r → tree_taken host service t ≡ taken.asked t r
 line-tree host service (Err why) t r e = absurd (cc e)

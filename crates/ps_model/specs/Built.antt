@@ -9,7 +9,6 @@ use Rattle.ps_types.specs.declared.config.PublishModel.{PublishModel}
 use Rattle.ps_types.specs.declared.config.PublishModel.TheVariants.{Publishers, Subscribers, Anyone}
 use Rattle.ps_types.specs.declared.denial.Condition.{Condition}
 use Rattle.ps_types.specs.declared.denial.Condition.TheVariants.{C14, C26}
-use Rattle.ps_types.specs.declared.denial.LineRefusal.TheVariants.{L8}
 use Rattle.ps_types.specs.declared.entry.Entry.{Entry}
 use Rattle.ps_types.specs.declared.entry.Entry.TheVariants.{Boot, Change, Handed, Gone, Base}
 use Rattle.ps_types.specs.declared.event.Event.{Event}
@@ -22,25 +21,6 @@ use Rattle.ps_types.specs.Same.{same_jid}
 use Rattle.ps_model.specs.Outcome.{Outcome, denied, accepted}
 use Rattle.ps_model.specs.Stanza.{host_jid}
 use Rattle.ps_model.specs.Steps.{unless}
-use Rattle.ps_model.specs.Taken as taken
-use Rattle.ps_model.specs.Taken.{Taken}
-
--- ---- lines of which nothing is built yet are refused as such
-
--- the request is built: to make a node without a form
-abbrev pub is_read_ask : Ask → Bool
-is_read_ask (ask.Create node None) = true
-is_read_ask _ = false
-
--- and its target is: the service host
-abbrev pub is_read : List ℕ → Request → Bool
-is_read service r = is_read_ask r.ask && same_jid r.target (host_jid service)
-
-abbrev pub built_taken : List ℕ → Taken → Taken
-built_taken service taken.silent = taken.silent
-built_taken service (taken.refused why) = taken.refused why
-built_taken service (taken.denied head why) = taken.refused L8
-built_taken service (taken.asked t r) = cond (is_read service r) (taken.asked t r) (taken.refused L8)
 
 -- ---- requests that are read and not built yet are denied
 

@@ -12,7 +12,7 @@ use Rattle.ps_model.specs.Outcome as outcome
 use Rattle.ps_model.specs.Replies.{error_reply, if_answered, outcome_reply}
 use Rattle.ps_model.specs.Taken.{Taken}
 use Rattle.ps_model.specs.Taken as taken
-use Rattle.ps_model.specs.Taking.{stanza_taken}
+use Rattle.ps_model.specs.Taking.{tree_taken}
 
 -- a line: the host of its stream, and its tree
 abbrev pub Line : Type 0
@@ -38,7 +38,7 @@ book_in (taken.denied head why) book = book
 book_in (taken.asked t r) book = book_by (judged no_limits book r) r book
 
 abbrev pub line_in : Line → Book → Taken
-line_in line book = stanza_taken line.0 book.service line.1
+line_in line book = tree_taken line.0 book.service line.1
 
 -- a line and its reply, if it gets one
 abbrev pub Exchange : Type 0

@@ -4,7 +4,7 @@ use Rattle.std.specs.Fmt.{decimal}
 use Rattle.ps_types.specs.declared.denial.Condition.{Condition}
 use Rattle.ps_types.specs.declared.denial.Condition.TheVariants.{C24}
 use Rattle.ps_types.specs.declared.denial.LineRefusal.{LineRefusal}
-use Rattle.ps_types.specs.declared.denial.LineRefusal.TheVariants.{L1, L2, L3, L4, L5, L6, L7, L8}
+use Rattle.ps_types.specs.declared.denial.LineRefusal.TheVariants.{L1, L2, L3, L4, L5, L6, L7}
 use Rattle.ps_types.specs.declared.entry.Arrival.{Arrival}
 use Rattle.ps_types.specs.declared.entry.Arrival.TheVariants as arrival
 use Rattle.ps_types.specs.declared.entry.Entry.{Entry}
@@ -58,7 +58,6 @@ why_text L4 = codes "too-deep"
 why_text L5 = codes "bad-address"
 why_text L6 = codes "foreign-from"
 why_text L7 = codes "bad-stanza"
-why_text L8 = codes "not-built"
 
 -- what a line that is no stanza of its stream is answered
 abbrev pub refused_tree : ℕ → LineRefusal → Tree

@@ -17,7 +17,6 @@ use Rattle.ps_types.specs.LineTree.{line_tree}
 use Rattle.ps_types.specs.Shape.{attr_text}
 use Rattle.ps_types.specs.Tree.{Tree, name_of}
 use Rattle.ps_model.specs.Asking.{ask_of, message_form}
-use Rattle.ps_model.specs.Built.{built_taken}
 use Rattle.ps_model.specs.Grammar.{id_in}
 use Rattle.ps_model.specs.Stanza.{jid_of, host_jid, is_iq, is_message, is_asking, has_type, is_stanza, target_of, is_served}
 use Rattle.ps_model.specs.Taken.{Head, Taken, silent, refused, denied, asked}
@@ -53,12 +52,8 @@ sender_taken host service t None = refused L5
 sender_taken host service t (Some from) = if bytes_eq from.host host then shape_taken service t from else refused L6
 
 -- what a tree on the stream of the host is
-abbrev pub stanza_taken : List ℕ → List ℕ → Tree → Taken
-stanza_taken host service t = sender_taken host service t (jid_of (attr_text (codes "from") t))
-
--- what it is taken as, as far as it is built
 abbrev pub tree_taken : List ℕ → List ℕ → Tree → Taken
-tree_taken host service t = built_taken service (stanza_taken host service t)
+tree_taken host service t = sender_taken host service t (jid_of (attr_text (codes "from") t))
 
 abbrev pub result_taken : List ℕ → List ℕ → Result Tree LineRefusal → Taken
 result_taken host service (Err why) = refused why

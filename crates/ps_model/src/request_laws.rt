@@ -10,7 +10,7 @@ ghost use Rattle.ps_types.specs.Tree.{Tree, levels};
 ghost use Rattle.ps_types.specs.declared.request.Request.{Request};
 ghost use Rattle.ps_model.specs.Spelled.{SpellsRequest};
 ghost use Rattle.ps_model.specs.Taken.{asked};
-ghost use Rattle.ps_model.specs.Taking.{stanza_taken};
+ghost use Rattle.ps_model.specs.Taking.{tree_taken};
 
 /// The tree that a text reads as is the tree of the line, and the line refusal says why there is none.
 pub fn line_reads()
@@ -22,12 +22,12 @@ pub fn line_reads()
 
 /// A tree that spells a request is taken as that request.
 pub fn spelled_is_taken()
-    ensures { (host service : List ℕ) (t : Tree) (r : Request) → SpellsRequest host service t r → stanza_taken host service t ≡ asked t r }
+    ensures { (host service : List ℕ) (t : Tree) (r : Request) → SpellsRequest host service t r → tree_taken host service t ≡ asked t r }
 {}
 
 /// What is taken as a request spells it.
 pub fn taken_is_spelled()
-    ensures { (host service : List ℕ) (t u : Tree) (r : Request) → stanza_taken host service t ≡ asked u r → SpellsRequest host service t r }
+    ensures { (host service : List ℕ) (t u : Tree) (r : Request) → tree_taken host service t ≡ asked u r → SpellsRequest host service t r }
 {}
 
 /// A tree spells one request at most.

@@ -135,7 +135,6 @@ fn why_text(why: LineRefusal) -> &'static str
         LineRefusal::L5 => "bad-address",
         LineRefusal::L6 => "foreign-from",
         LineRefusal::L7 => "bad-stanza",
-        LineRefusal::L8 => "not-built",
     }
 }
 
