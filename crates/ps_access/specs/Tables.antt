@@ -1,5 +1,4 @@
--- The tables as a Book. A list whose table isn't built yet is empty.
-use Rattle.std.specs.Prelude.{[]}
+-- The tables as a Book.
 use Rattle.ps_model.specs.Book.{Book}
 use Rattle.ps_access.specs.declared.tables.Tables.{Tables}
 
@@ -8,11 +7,11 @@ book_of t = record {
   service = t.service;
   nodes = t.nodes.rows;
   affils = t.affils.rows;
-  subs = [];
-  items = [];
-  links = [];
-  rosters = [];
-  resources = [];
-  vers = [];
-  counts = [];
+  subs = t.subs.rows;
+  items = t.items.rows;
+  links = t.links.rows;
+  rosters = t.roster.rows;
+  resources = t.presence.rows;
+  vers = t.cache.rows;
+  counts = t.counts.rows;
 }

@@ -5,7 +5,13 @@ ghost use Rattle.ps_access.specs.Tables.{book_of};
 
 use ps_affil::Affils;
 use ps_base::Memory;
+use ps_coll::Links;
+use ps_counts::Counts;
+use ps_items::Items;
 use ps_nodes::Nodes;
+use ps_presence::{Cache, Presence};
+use ps_roster::Roster;
+use ps_subs::Subs;
 use ps_types::Text;
 use std::alloc::Global;
 
@@ -16,6 +22,17 @@ pub struct Tables {
     pub service: Text,
     pub nodes: Nodes,
     pub affils: Affils,
+    pub subs: Subs,
+    pub items: Items,
+    /// Which node is in which collection.
+    pub links: Links,
+    pub roster: Roster,
+    /// The resources that are present.
+    pub presence: Presence,
+    /// The verified capability strings.
+    pub cache: Cache,
+    /// The ids that were made.
+    pub counts: Counts,
 }
 
 impl Tables {
@@ -27,6 +44,13 @@ impl Tables {
             service: Text::of(alloc, "")?,
             nodes: Nodes::new(alloc)?,
             affils: Affils::new(alloc)?,
+            subs: Subs::new(alloc)?,
+            items: Items::new(alloc)?,
+            links: Links::new(alloc)?,
+            roster: Roster::new(alloc)?,
+            presence: Presence::new(alloc)?,
+            cache: Cache::new(alloc)?,
+            counts: Counts::new(alloc)?,
         })
     }
 
@@ -38,6 +62,13 @@ impl Tables {
             service: self.service.clone()?,
             nodes: self.nodes.copy()?,
             affils: self.affils.copy()?,
+            subs: self.subs.copy()?,
+            items: self.items.copy()?,
+            links: self.links.copy()?,
+            roster: self.roster.copy()?,
+            presence: self.presence.copy()?,
+            cache: self.cache.copy()?,
+            counts: self.counts.copy()?,
         })
     }
 }
