@@ -1,5 +1,5 @@
 -- What is built today. As a kind of request, a target, an event or an entry is built, its lines here go, and nothing else changes.
-use Rattle.std.specs.Prelude.{ℕ, Bool, true, false, ◌&&◌, ◌||◌, not, ◌==◌, length, List, [], ◌∷◌, Option, None, cond, is_some}
+use Rattle.std.specs.Prelude.{ℕ, Bool, true, false, ◌&&◌, ◌||◌, not, ◌==◌, length, List, Option, None, cond, is_some}
 use Rattle.ps_types.specs.declared.config.Access.{Access}
 use Rattle.ps_types.specs.declared.config.Access.TheVariants.{Everyone, Presence, Roster, Authorize, Whitelist}
 use Rattle.ps_types.specs.declared.config.NodeConfig.{NodeConfig}
@@ -15,7 +15,6 @@ use Rattle.ps_types.specs.declared.event.Event.{Event}
 use Rattle.ps_types.specs.declared.event.Event.TheVariants as event
 use Rattle.ps_types.specs.declared.request.Ask.{Ask}
 use Rattle.ps_types.specs.declared.request.Ask.TheVariants as ask
-use Rattle.ps_types.specs.declared.request.AskItem.{AskItem}
 use Rattle.ps_types.specs.declared.request.Request.{Request}
 use Rattle.ps_types.specs.Same.{same_jid}
 use Rattle.ps_model.specs.Outcome.{Outcome, denied, accepted}
@@ -24,16 +23,8 @@ use Rattle.ps_model.specs.Steps.{unless}
 
 -- ---- requests that are read and not built yet are denied
 
--- one item, with an id and one payload
-abbrev pub is_plain_item : List AskItem → Bool
-is_plain_item [] = false
-is_plain_item (item ∷ []) = not (length item.id == 0) && (length item.payloads == 1)
-is_plain_item (item ∷ next ∷ items) = false
-
 abbrev pub is_unbuilt_ask : Ask → Bool
-is_unbuilt_ask (ask.Create node form) = false
-is_unbuilt_ask (ask.Publish node items options) = is_some options || not (is_plain_item items)
-is_unbuilt_ask (ask.ItemsGet node max ids) = not (length max == 0 && (length ids == 0))
+is_unbuilt_ask (ask.Create node form) = is_some form
 is_unbuilt_ask ask.Silent = false
 is_unbuilt_ask _ = true
 

@@ -7,8 +7,8 @@ ghost use Rattle.ps_model.specs.CheckCreate.{create_steps};
 ghost use Rattle.ps_model.specs.Access.{is_account as is_account_address};
 ghost use Rattle.ps_model.specs.CheckForms.{node_of};
 ghost use Rattle.ps_model.specs.Steps.{first_denial};
+ghost use Rattle.ps_access.specs.Plans.{Passes};
 ghost use Rattle.ps_access.specs.Tables.{book_of};
-ghost use Rattle.ps_owner.specs.Plans.{Passes};
 
 use ps_access::Tables;
 use ps_base::{Listed, Memory};
