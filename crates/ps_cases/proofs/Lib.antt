@@ -1,0 +1,10 @@
+pub mod Computed
+pub mod ComputedBase
+pub mod Playing
+pub mod StoreExample
+pub mod WorkedAuthorize
+pub mod WorkedNodes
+pub mod WorkedPresence
+pub mod WorkedRefusals
+pub mod WorkedRoster
+pub mod WorkedWhitelist
