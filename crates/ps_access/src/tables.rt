@@ -1,6 +1,7 @@
 // The tables of the service.
-ghost use Rattle.std.specs.Prelude.{◌≡◌, IfOk};
+ghost use Rattle.std.specs.Prelude.{◌≡◌, [], IfOk};
 ghost use Rattle.ps_model.specs.Book.{empty_book};
+ghost use Rattle.ps_access.specs.Joined.{joined_book};
 ghost use Rattle.ps_access.specs.Tables.{book_of};
 
 use ps_affil::Affils;
@@ -35,40 +36,152 @@ pub struct Tables {
     pub counts: Counts,
 }
 
+// Tables are made in three parts, since each of many fields that may fail costs the proof of all before it.
+#[derive(Drop)]
+struct Places {
+    nodes: Nodes,
+    links: Links,
+    counts: Counts,
+}
+
+#[derive(Drop)]
+struct Uses {
+    affils: Affils,
+    subs: Subs,
+    items: Items,
+}
+
+#[derive(Drop)]
+struct People {
+    roster: Roster,
+    presence: Presence,
+    cache: Cache,
+}
+
+fn no_places(alloc: Global) -> Result<Places, Memory>
+    ensures nodes { IfOk result (λ p. p.nodes.rows ≡ []) }
+    ensures links { IfOk result (λ p. p.links.rows ≡ []) }
+    ensures counts { IfOk result (λ p. p.counts.rows ≡ []) }
+{
+    Ok(Places {
+        nodes: Nodes::new(alloc)?,
+        links: Links::new(alloc)?,
+        counts: Counts::new(alloc)?,
+    })
+}
+
+fn no_uses(alloc: Global) -> Result<Uses, Memory>
+    ensures affils { IfOk result (λ u. u.affils.rows ≡ []) }
+    ensures subs { IfOk result (λ u. u.subs.rows ≡ []) }
+    ensures items { IfOk result (λ u. u.items.rows ≡ []) }
+{
+    Ok(Uses {
+        affils: Affils::new(alloc)?,
+        subs: Subs::new(alloc)?,
+        items: Items::new(alloc)?,
+    })
+}
+
+fn no_people(alloc: Global) -> Result<People, Memory>
+    ensures roster { IfOk result (λ p. p.roster.rows ≡ []) }
+    ensures presence { IfOk result (λ p. p.presence.rows ≡ []) }
+    ensures cache { IfOk result (λ p. p.cache.rows ≡ []) }
+{
+    Ok(People {
+        roster: Roster::new(alloc)?,
+        presence: Presence::new(alloc)?,
+        cache: Cache::new(alloc)?,
+    })
+}
+
+fn copied_places(tables: &Tables) -> Result<Places, Memory>
+    ensures nodes { IfOk result (λ p. p.nodes.rows ≡ tables.now.nodes.rows) }
+    ensures links { IfOk result (λ p. p.links.rows ≡ tables.now.links.rows) }
+    ensures counts { IfOk result (λ p. p.counts.rows ≡ tables.now.counts.rows) }
+{
+    Ok(Places {
+        nodes: tables.nodes.copy()?,
+        links: tables.links.copy()?,
+        counts: tables.counts.copy()?,
+    })
+}
+
+fn copied_uses(tables: &Tables) -> Result<Uses, Memory>
+    ensures affils { IfOk result (λ u. u.affils.rows ≡ tables.now.affils.rows) }
+    ensures subs { IfOk result (λ u. u.subs.rows ≡ tables.now.subs.rows) }
+    ensures items { IfOk result (λ u. u.items.rows ≡ tables.now.items.rows) }
+{
+    Ok(Uses {
+        affils: tables.affils.copy()?,
+        subs: tables.subs.copy()?,
+        items: tables.items.copy()?,
+    })
+}
+
+fn copied_people(tables: &Tables) -> Result<People, Memory>
+    ensures roster { IfOk result (λ p. p.roster.rows ≡ tables.now.roster.rows) }
+    ensures presence { IfOk result (λ p. p.presence.rows ≡ tables.now.presence.rows) }
+    ensures cache { IfOk result (λ p. p.cache.rows ≡ tables.now.cache.rows) }
+{
+    Ok(People {
+        roster: tables.roster.copy()?,
+        presence: tables.presence.copy()?,
+        cache: tables.cache.copy()?,
+    })
+}
+
+fn joined(service: Text, places: Places, uses: Uses, people: People) -> Tables
+    ensures { book_of result ≡ joined_book service places uses people }
+{
+    let Places {
+        nodes,
+        links,
+        counts,
+    } = places;
+    let Uses {
+        affils,
+        subs,
+        items,
+    } = uses;
+    let People {
+        roster,
+        presence,
+        cache,
+    } = people;
+    Tables {
+        service,
+        nodes,
+        affils,
+        subs,
+        items,
+        links,
+        roster,
+        presence,
+        cache,
+        counts,
+    }
+}
+
 impl Tables {
     /// The empty tables.
     pub fn new(alloc: Global) -> Result<Tables, Memory>
         ensures empty { IfOk result (λ t. book_of t ≡ empty_book) }
     {
-        Ok(Tables {
-            service: Text::of(alloc, "")?,
-            nodes: Nodes::new(alloc)?,
-            affils: Affils::new(alloc)?,
-            subs: Subs::new(alloc)?,
-            items: Items::new(alloc)?,
-            links: Links::new(alloc)?,
-            roster: Roster::new(alloc)?,
-            presence: Presence::new(alloc)?,
-            cache: Cache::new(alloc)?,
-            counts: Counts::new(alloc)?,
-        })
+        let places = no_places(alloc)?;
+        let uses = no_uses(alloc)?;
+        let people = no_people(alloc)?;
+        let service = Text::of(alloc, "")?;
+        Ok(joined(service, places, uses, people))
     }
 
     /// Tables with the same rows.
     pub fn copy(&self) -> Result<Tables, Memory>
         ensures same { IfOk result (λ t. book_of t ≡ book_of self.now) }
     {
-        Ok(Tables {
-            service: self.service.clone()?,
-            nodes: self.nodes.copy()?,
-            affils: self.affils.copy()?,
-            subs: self.subs.copy()?,
-            items: self.items.copy()?,
-            links: self.links.copy()?,
-            roster: self.roster.copy()?,
-            presence: self.presence.copy()?,
-            cache: self.cache.copy()?,
-            counts: self.counts.copy()?,
-        })
+        let places = copied_places(self)?;
+        let uses = copied_uses(self)?;
+        let people = copied_people(self)?;
+        let service = self.service.clone()?;
+        Ok(joined(service, places, uses, people))
     }
 }
