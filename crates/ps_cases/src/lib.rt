@@ -1,16 +1,29 @@
-//! Worked cases: what the definitions of `ps_model` say in some fifty exchanges, computed on them.
+//! Worked cases: what the definitions of `ps_model` say of some lists of lines, computed on them.
 //!
-//! Each function here has an empty body: its contract is the case. So a definition that says something else doesn't pass the check. The words of `specs/`:
-//! `Plays` (lines, one after the other, and the reply to each), `handed_by` (the notices that a list of entries makes for an address), `Notation` and `Worked`
-//! (trees in short).
+//! Each function here has an empty body, and its contract is the case. So a definition that says something else doesn't pass the check. Nothing stands on this
+//! crate.
+//!
+//! The words of `specs/`: `Case.Holds given told` says of a list of lines, one after the other from the first boot on, that they get exactly the replies that
+//! `given` names and make exactly the entries that it marks, and that of these entries each address is handed exactly its part of `told`. `Running` is the
+//! service in it: the model's own steps, where every kind of request is built and every event is told. `Words`, `Denials`, `Forms` and `Handed` are lines,
+//! replies and notices in short; the lines of each case stand in the files `..Cases`. `Compacted`, `Crashed` and `OneBoot` go on from entries of these.
 #![tactic(auto)]
 
-mod examples;
-mod worked;
+mod access;
+mod capabilities;
+mod collections;
+mod home;
+mod nodes;
+mod notices;
+mod stores;
 
-pub use examples::{
-    approval_is_asked, compacted_rows, compacted_store, decided_in_order, deep_notice,
-    each_kind_is_told, last_item, near_notice, one_boot_store, plain_notice, sent_again, stamps,
-    told_while_present, wanted_items,
+pub use access::{approval_is_asked, refusal_is_told, subscribers_publish, whitelist_in_order};
+pub use capabilities::{exact_answer_counts, example_hash, repeated_feature};
+pub use collections::{collections_stay, deep_notice, near_notice, new_node_is_told};
+pub use home::{last_item, roster_groups, wanted_items};
+pub use nodes::{
+    bookmarks_are_kept, configuration_shown, item_denials, item_ids, last_owner, nodes_are_found,
+    numbers_and_names, other_subscribers,
 };
-pub use worked::{access_cases, denied_cases, node_cases};
+pub use notices::{each_kind_is_told, item_is_handed, retraction_on_request, told_while_present};
+pub use stores::{compacted_rows, compacted_store, one_boot_store, sent_again, stamps};

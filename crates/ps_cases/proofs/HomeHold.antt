@@ -1,0 +1,20 @@
+-- Cases of personal nodes, computed.
+use Rattle.std.specs.Prelude.{refl, []}
+use Rattle.json.specs.Print as text
+use Rattle.std.specs.Fmt as fmt
+use Rattle.ps_types.specs.Same as same
+use Rattle.ps_cases.specs.HomeCases as it
+use Rattle.ps_cases.specs.Case.{Holds}
+use Rattle.ps_cases.proofs.Parts.{each-part}
+
+pub last-holds : Holds it.last it.last_told
+unfolding same.same_jid same.same_bare same.same_node text.escape_byte fmt.digits
+last-holds = record { replies = refl; entries = refl; notices = each-part it.last it.last_told refl }
+
+pub wanting-holds : Holds it.wanting it.wanting_told
+unfolding same.same_jid same.same_bare same.same_node text.escape_byte fmt.digits
+wanting-holds = record { replies = refl; entries = refl; notices = each-part it.wanting it.wanting_told refl }
+
+pub groups-holds : Holds it.groups []
+unfolding same.same_jid same.same_bare same.same_node text.escape_byte fmt.digits
+groups-holds = record { replies = refl; entries = refl; notices = each-part it.groups [] refl }

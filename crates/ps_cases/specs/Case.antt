@@ -1,0 +1,52 @@
+-- A worked case: lines, what each comes to, and what is handed to whom.
+use Rattle.std.specs.Prelude.{◌≡◌, List, [], ◌∷◌, Option, codes}
+use Rattle.ps_types.specs.Tree.{Tree}
+use Rattle.ps_types.specs.declared.entry.Entry.{Entry}
+use Rattle.ps_types.specs.declared.entry.Entry.TheVariants.{Boot}
+use Rattle.ps_types.specs.declared.entry.Notice.{Notice}
+use Rattle.ps_types.specs.declared.jid.Jid.{Jid}
+use Rattle.ps_model.specs.Book.{State}
+use Rattle.ps_model.specs.Replay.{to_address}
+use Rattle.ps_cases.specs.Running.{Line, Step, comes, makes, change_of, entries, handed_by, left_by, replies}
+
+-- a line that makes an entry, and one that makes none, each with its reply, if it gets one; or an entry that the service makes by itself
+pub data Exchange : Type 0 where
+  kept : Line → Option Tree → Exchange
+  answered : Line → Option Tree → Exchange
+  own : Entry → Exchange
+
+-- what comes
+abbrev pub steps : List Exchange → List Step
+steps [] = []
+steps (kept line reply ∷ rest) = comes line ∷ steps rest
+steps (answered line reply ∷ rest) = comes line ∷ steps rest
+steps (own e ∷ rest) = makes e ∷ steps rest
+
+-- and what it is said to come to
+abbrev pub said : List Exchange → List (Option Tree)
+said [] = []
+said (kept line reply ∷ rest) = reply ∷ said rest
+said (answered line reply ∷ rest) = reply ∷ said rest
+said (own e ∷ rest) = said rest
+
+abbrev pub made : List Exchange → List Entry
+made [] = []
+made (kept line reply ∷ rest) = change_of line ∷ made rest
+made (answered line reply ∷ rest) = made rest
+made (own e ∷ rest) = e ∷ made rest
+
+-- the service boots first
+abbrev pub boot : Entry
+boot = Boot (codes "pubsub.example")
+
+abbrev pub booted : State
+booted = left_by (boot ∷ [])
+
+abbrev pub list_of : List Exchange → List Entry
+list_of given = boot ∷ made given
+
+-- the lines get exactly those replies and make exactly those entries, and of these each bare address is handed exactly its own of those notices
+pub record Holds (given : List Exchange) (told : List Notice) : Type 0 where
+  pub replies : replies booted (steps given) ≡ said given
+  pub entries : entries booted (steps given) ≡ made given
+  pub notices : (a : Jid) → handed_by (list_of given) a ≡ to_address a told

@@ -1,0 +1,91 @@
+-- What the service does with lines, given as trees, where every kind of request is built and every event is told.
+use Rattle.std.specs.Prelude.{ℕ, Bool, true, false, List, [], ◌∷◌, ◌++◌, Option, Some, None}
+use Rattle.ps_types.specs.Tree.{Tree}
+use Rattle.ps_types.specs.declared.config.NodeConfig.{NodeConfig}
+use Rattle.ps_types.specs.declared.denial.Condition.{Condition}
+use Rattle.ps_types.specs.declared.entry.Entry.{Entry}
+use Rattle.ps_types.specs.declared.entry.Entry.TheVariants.{Change}
+use Rattle.ps_types.specs.declared.entry.Notice.{Notice}
+use Rattle.ps_types.specs.declared.event.Event.{Event}
+use Rattle.ps_types.specs.declared.jid.Jid.{Jid}
+use Rattle.ps_types.specs.declared.request.Request.{Request}
+use Rattle.ps_model.specs.Book.{Book, State, empty_state}
+use Rattle.ps_model.specs.Changes.{changed}
+use Rattle.ps_model.specs.Check.{judged}
+use Rattle.ps_model.specs.Commits.{commits_by}
+use Rattle.ps_model.specs.Replay.{replay_from, notices_from}
+use Rattle.ps_model.specs.Replies.{outcome_entry, outcome_reply, reply_by}
+use Rattle.ps_model.specs.Taken.{Taken, asked}
+use Rattle.ps_model.specs.Taking.{tree_taken}
+
+-- ---- nothing is kept out as not built
+
+abbrev pub no_limits : NodeConfig → Option Condition
+no_limits config = None
+
+abbrev pub every : Event → Bool
+every event = true
+
+-- the State that a list of entries leaves, and the notices that it makes for a bare address
+abbrev pub left_by : List Entry → State
+left_by E = replay_from every empty_state E
+
+abbrev pub handed_by : List Entry → Jid → List Notice
+handed_by E a = notices_from every empty_state E a
+
+-- ---- one line
+
+-- the host of its stream, its number there, its moment if there is a clock, and its tree
+pub record Line : Type 0 where
+  pub host : List ℕ
+  pub number : ℕ
+  pub moment : Option ℕ
+  pub tree : Tree
+
+abbrev pub taken_in : Line → Book → Taken
+taken_in line book = tree_taken line.host book.service line.tree
+
+abbrev pub reply_in : Taken → Book → Line → Option Tree
+reply_in (asked t r) book line = outcome_reply t r false (judged no_limits book r)
+reply_in other book line = reply_by other book line.number false
+
+abbrev pub change_of : Line → Entry
+change_of line = Change line.host line.number line.moment line.tree
+
+abbrev pub keeps : Book → Request → Bool
+keeps book r = commits_by r.ask book (changed r None book)
+
+abbrev pub entry_in : Taken → Book → Line → Option Entry
+entry_in (asked t r) book line = outcome_entry (keeps book r) (change_of line) (judged no_limits book r)
+entry_in other book line = None
+
+-- ---- one after the other
+
+-- a line, or an entry that the service makes by itself: a boot, or the end of a host's stream
+pub data Step : Type 0 where
+  comes : Line → Step
+  makes : Entry → Step
+
+abbrev pub replies_of : Step → Book → List (Option Tree)
+replies_of (comes line) book = reply_in (taken_in line book) book line ∷ []
+replies_of (makes e) book = []
+
+abbrev pub in_list : Option Entry → List Entry
+in_list None = []
+in_list (Some e) = e ∷ []
+
+abbrev pub entries_of : Step → Book → List Entry
+entries_of (comes line) book = in_list (entry_in (taken_in line book) book line)
+entries_of (makes e) book = e ∷ []
+
+abbrev pub after_step : State → Step → State
+after_step s step = replay_from every s (entries_of step s.book)
+
+-- the replies to the lines, in their order, and the entries that the steps make
+abbrev pub replies : State → List Step → List (Option Tree)
+replies s [] = []
+replies s (step ∷ steps) = replies_of step s.book ++ replies (after_step s step) steps
+
+abbrev pub entries : State → List Step → List Entry
+entries s [] = []
+entries s (step ∷ steps) = entries_of step s.book ++ entries (after_step s step) steps
