@@ -1,0 +1,10 @@
+-- The kinds of request that are planned here.
+use Rattle.std.specs.Prelude.{Bool, true, false}
+use Rattle.ps_types.specs.declared.request.Ask.{Ask}
+use Rattle.ps_types.specs.declared.request.Ask.TheVariants as ask
+
+abbrev pub is_planned : Ask → Bool
+is_planned (ask.ItemsGet node max ids) = true
+is_planned (ask.MyAffils node) = true
+is_planned (ask.MySubs node) = true
+is_planned _ = false

@@ -1,0 +1,14 @@
+//! The requests of those who subscribe and read (XEP-0060 §5, §6): what each is checked by, and what an accepted one answers.
+//!
+//! [`plan`] is the model's check for the kinds that are planned here (`specs/Plans.antt`): the first step that fails denies, by its
+//! condition, and else the plan has the child of the result and says whether an entry is made.
+#![tactic(auto)]
+
+mod affils;
+mod build;
+mod items;
+mod mine;
+mod plans;
+mod subs;
+
+pub use plans::plan;
