@@ -4,8 +4,10 @@ pub mod Bytes
 pub mod CapabilitiesHold
 pub mod CollectionsHold
 pub mod HomeHold
+pub mod LinesHold
 pub mod Moments
 pub mod NodesHold
 pub mod NoticesHold
 pub mod Parts
 pub mod Rows
+pub mod Serving

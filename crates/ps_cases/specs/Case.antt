@@ -2,12 +2,12 @@
 use Rattle.std.specs.Prelude.{◌≡◌, List, [], ◌∷◌, Option, codes}
 use Rattle.ps_types.specs.Tree.{Tree}
 use Rattle.ps_types.specs.declared.entry.Entry.{Entry}
-use Rattle.ps_types.specs.declared.entry.Entry.TheVariants.{Boot}
+use Rattle.ps_types.specs.declared.entry.Entry.TheVariants.{Boot, Change}
 use Rattle.ps_types.specs.declared.entry.Notice.{Notice}
 use Rattle.ps_types.specs.declared.jid.Jid.{Jid}
 use Rattle.ps_model.specs.Book.{State}
 use Rattle.ps_model.specs.Replay.{to_address}
-use Rattle.ps_cases.specs.Running.{Line, Step, comes, makes, change_of, entries, handed_by, left_by, replies}
+use Rattle.ps_cases.specs.Running.{Line, Step, comes, makes, entries, handed_by, left_by, replies}
 
 -- a line that makes an entry, and one that makes none, each with its reply, if it gets one; or an entry that the service makes by itself
 pub data Exchange : Type 0 where
@@ -28,6 +28,9 @@ said [] = []
 said (kept line reply ∷ rest) = reply ∷ said rest
 said (answered line reply ∷ rest) = reply ∷ said rest
 said (own e ∷ rest) = said rest
+
+abbrev pub change_of : Line → Entry
+change_of line = Change line.host line.number line.moment line.tree
 
 abbrev pub made : List Exchange → List Entry
 made [] = []

@@ -12,13 +12,13 @@ use Rattle.ps_model.specs.Base as base
 use Rattle.ps_model.specs.Book.{State, empty_state}
 use Rattle.ps_model.specs.Entries.{body}
 use Rattle.ps_model.specs.Replay.{accepted_at}
-use Rattle.ps_cases.specs.Case.{boot, list_of}
+use Rattle.ps_cases.specs.Case.{boot, change_of, list_of}
 use Rattle.ps_cases.specs.CollectionCases.{deep}
 use Rattle.ps_cases.specs.Handed.{event_of, message}
 use Rattle.ps_cases.specs.HomeCases.{t, wanting}
 use Rattle.ps_cases.specs.NodeCases.{unnamed}
 use Rattle.ps_cases.specs.NoticeCases.{i2, item_line, published_item}
-use Rattle.ps_cases.specs.Running.{change_of, every, handed_by}
+use Rattle.ps_cases.specs.Running.{every, handed_by}
 use Rattle.ps_cases.specs.Words.{Iq, ann, at_home, line_of, news, publish, service, sets, to_bob}
 
 abbrev pub base_by : List Entry → List Entry

@@ -7,10 +7,10 @@ use Rattle.ps_model.specs.Machine as machine
 use Rattle.ps_model.specs.TheCore.{the_core}
 use Rattle.ps_model.specs.declared.steps.Step.{Step}
 use Rattle.ps_model.specs.declared.steps.Step.TheVariants.{Crash, Emit, Flush, Record}
-use Rattle.ps_cases.specs.Case.{list_of}
+use Rattle.ps_cases.specs.Case.{change_of, list_of}
 use Rattle.ps_cases.specs.Handed.{event_of, headline}
 use Rattle.ps_cases.specs.NoticeCases.{i2, published_item}
-use Rattle.ps_cases.specs.Running.{change_of, handed_by}
+use Rattle.ps_cases.specs.Running.{handed_by}
 use Rattle.ps_cases.specs.Words.{ann, line_of, news, publish, service, sets, to_bob}
 
 -- the service where every event is told

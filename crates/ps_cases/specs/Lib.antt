@@ -9,8 +9,10 @@ pub mod Denials
 pub mod Forms
 pub mod Handed
 pub mod HomeCases
+pub mod LineCases
 pub mod NodeCases
 pub mod NoticeCases
 pub mod OneBoot
 pub mod Running
+pub mod Today
 pub mod Words

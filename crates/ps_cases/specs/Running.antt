@@ -49,14 +49,11 @@ abbrev pub reply_in : Taken → Book → Line → Option Tree
 reply_in (asked t r) book line = outcome_reply t r false (judged no_limits book r)
 reply_in other book line = reply_by other book line.number false
 
-abbrev pub change_of : Line → Entry
-change_of line = Change line.host line.number line.moment line.tree
-
 abbrev pub keeps : Book → Request → Bool
 keeps book r = commits_by r.ask book (changed r None book)
 
 abbrev pub entry_in : Taken → Book → Line → Option Entry
-entry_in (asked t r) book line = outcome_entry (keeps book r) (change_of line) (judged no_limits book r)
+entry_in (asked t r) book line = outcome_entry (keeps book r) (Change line.host line.number line.moment t) (judged no_limits book r)
 entry_in other book line = None
 
 -- ---- one after the other
