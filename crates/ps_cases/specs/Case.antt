@@ -1,6 +1,8 @@
 -- A worked case: lines, what each comes to, and what is handed to whom.
-use Rattle.std.specs.Prelude.{◌≡◌, List, [], ◌∷◌, Option, codes}
+use Rattle.std.specs.Prelude.{◌≡◌, ℕ, List, [], ◌∷◌, Option, codes}
+use Rattle.ps_types.specs.Print.{print}
 use Rattle.ps_types.specs.Tree.{Tree}
+use Rattle.ps_types.specs.declared.entry.Arrival.TheVariants.{Line as Bytes}
 use Rattle.ps_types.specs.declared.entry.Entry.{Entry}
 use Rattle.ps_types.specs.declared.entry.Entry.TheVariants.{Boot, Change}
 use Rattle.ps_types.specs.declared.entry.Notice.{Notice}
@@ -9,33 +11,44 @@ use Rattle.ps_model.specs.Book.{State}
 use Rattle.ps_model.specs.Replay.{to_address}
 use Rattle.ps_cases.specs.Running.{Line, Step, comes, makes, entries, handed_by, left_by, replies}
 
--- a line that makes an entry, and one that makes none, each with its reply, if it gets one; or an entry that the service makes by itself
+-- a stanza: the host of its stream, the number of its line, its moment if there is a clock, and its tree
+pub record Sent : Type 0 where
+  pub host : List ℕ
+  pub number : ℕ
+  pub moment : Option ℕ
+  pub tree : Tree
+
+-- the line has the tree's print
+abbrev pub line_of : Sent → Line
+line_of sent = record { host = sent.host; number = sent.number; arrival = Bytes (print sent.tree) sent.moment }
+
+-- a stanza that makes an entry, and one that makes none, each with its reply, if it gets one; or an entry that the service makes by itself
 pub data Exchange : Type 0 where
-  kept : Line → Option Tree → Exchange
-  answered : Line → Option Tree → Exchange
+  kept : Sent → Option Tree → Exchange
+  answered : Sent → Option Tree → Exchange
   own : Entry → Exchange
 
 -- what comes
 abbrev pub steps : List Exchange → List Step
 steps [] = []
-steps (kept line reply ∷ rest) = comes line ∷ steps rest
-steps (answered line reply ∷ rest) = comes line ∷ steps rest
+steps (kept sent reply ∷ rest) = comes (line_of sent) ∷ steps rest
+steps (answered sent reply ∷ rest) = comes (line_of sent) ∷ steps rest
 steps (own e ∷ rest) = makes e ∷ steps rest
 
 -- and what it is said to come to
 abbrev pub said : List Exchange → List (Option Tree)
 said [] = []
-said (kept line reply ∷ rest) = reply ∷ said rest
-said (answered line reply ∷ rest) = reply ∷ said rest
+said (kept sent reply ∷ rest) = reply ∷ said rest
+said (answered sent reply ∷ rest) = reply ∷ said rest
 said (own e ∷ rest) = said rest
 
-abbrev pub change_of : Line → Entry
-change_of line = Change line.host line.number line.moment line.tree
+abbrev pub change_of : Sent → Entry
+change_of sent = Change sent.host sent.number sent.moment sent.tree
 
 abbrev pub made : List Exchange → List Entry
 made [] = []
-made (kept line reply ∷ rest) = change_of line ∷ made rest
-made (answered line reply ∷ rest) = made rest
+made (kept sent reply ∷ rest) = change_of sent ∷ made rest
+made (answered sent reply ∷ rest) = made rest
 made (own e ∷ rest) = e ∷ made rest
 
 -- the service boots first

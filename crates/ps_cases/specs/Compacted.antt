@@ -19,13 +19,13 @@ use Rattle.ps_cases.specs.HomeCases.{t, wanting}
 use Rattle.ps_cases.specs.NodeCases.{unnamed}
 use Rattle.ps_cases.specs.NoticeCases.{i2, item_line, published_item}
 use Rattle.ps_cases.specs.Running.{every, handed_by}
-use Rattle.ps_cases.specs.Words.{Iq, ann, at_home, line_of, news, publish, service, sets, to_bob}
+use Rattle.ps_cases.specs.Words.{Iq, ann, at_home, sent_by, news, publish, service, sets, to_bob}
 
 abbrev pub base_by : List Entry → List Entry
 base_by E = base.base_of every E
 
 abbrev pub made_by : Iq → Entry
-made_by q = change_of (line_of q)
+made_by q = change_of (sent_by q)
 
 -- ---- the rows of a node, a subscription and an item
 

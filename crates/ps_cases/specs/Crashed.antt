@@ -11,7 +11,7 @@ use Rattle.ps_cases.specs.Case.{change_of, list_of}
 use Rattle.ps_cases.specs.Handed.{event_of, headline}
 use Rattle.ps_cases.specs.NoticeCases.{i2, published_item}
 use Rattle.ps_cases.specs.Running.{handed_by}
-use Rattle.ps_cases.specs.Words.{ann, line_of, news, publish, service, sets, to_bob}
+use Rattle.ps_cases.specs.Words.{ann, sent_by, news, publish, service, sets, to_bob}
 
 -- the service where every event is told
 abbrev pub core : Core
@@ -19,7 +19,7 @@ core = record the_core { notices = handed_by }
 
 -- one more item after the first
 abbrev pub given : List Entry
-given = list_of published_item ++ change_of (line_of (sets ann 6 (publish news i2))) ∷ []
+given = list_of published_item ++ change_of (sent_by (sets ann 6 (publish news i2))) ∷ []
 
 abbrev pub second : Notice
 second = headline to_bob 4 2 (event_of news i2 ∷ [])

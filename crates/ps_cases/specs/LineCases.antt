@@ -6,7 +6,6 @@ use Rattle.ps_types.specs.declared.entry.Arrival.{Arrival}
 use Rattle.ps_types.specs.declared.entry.Arrival.TheVariants.{Line as Bytes, TooLong}
 use Rattle.ps_types.specs.declared.entry.Entry.{Entry}
 use Rattle.ps_types.specs.declared.entry.Entry.TheVariants.{Change}
-use Rattle.ps_model.specs.Book.{Book}
 use Rattle.ps_model.specs.Replay.{replay}
 use Rattle.ps_model.specs.Replies.{entry_of, reply_to}
 use Rattle.ps_cases.specs.Case.{boot}

@@ -1,8 +1,9 @@
--- What the service does with lines, given as trees, where every kind of request is built and every event is told.
+-- What the service does with lines, where every kind of request is built and every event is told.
 use Rattle.std.specs.Prelude.{ℕ, Bool, true, false, List, [], ◌∷◌, ◌++◌, Option, Some, None}
 use Rattle.ps_types.specs.Tree.{Tree}
 use Rattle.ps_types.specs.declared.config.NodeConfig.{NodeConfig}
 use Rattle.ps_types.specs.declared.denial.Condition.{Condition}
+use Rattle.ps_types.specs.declared.entry.Arrival.{Arrival}
 use Rattle.ps_types.specs.declared.entry.Entry.{Entry}
 use Rattle.ps_types.specs.declared.entry.Entry.TheVariants.{Change}
 use Rattle.ps_types.specs.declared.entry.Notice.{Notice}
@@ -14,9 +15,9 @@ use Rattle.ps_model.specs.Changes.{changed}
 use Rattle.ps_model.specs.Check.{judged}
 use Rattle.ps_model.specs.Commits.{commits_by}
 use Rattle.ps_model.specs.Replay.{replay_from, notices_from}
-use Rattle.ps_model.specs.Replies.{outcome_entry, outcome_reply, reply_by}
+use Rattle.ps_model.specs.Replies.{moment_of, outcome_entry, outcome_reply, reply_by}
 use Rattle.ps_model.specs.Taken.{Taken, asked}
-use Rattle.ps_model.specs.Taking.{tree_taken}
+use Rattle.ps_model.specs.Taking.{taken}
 
 -- ---- nothing is kept out as not built
 
@@ -35,25 +36,25 @@ handed_by E a = notices_from every empty_state E a
 
 -- ---- one line
 
--- the host of its stream, its number there, its moment if there is a clock, and its tree
+-- the host of its stream, its number there, and what came
 pub record Line : Type 0 where
   pub host : List ℕ
   pub number : ℕ
-  pub moment : Option ℕ
-  pub tree : Tree
+  pub arrival : Arrival
 
 abbrev pub taken_in : Line → Book → Taken
-taken_in line book = tree_taken line.host book.service line.tree
+taken_in line book = taken line.host book.service line.arrival
 
 abbrev pub reply_in : Taken → Book → Line → Option Tree
 reply_in (asked t r) book line = outcome_reply t r false (judged no_limits book r)
 reply_in other book line = reply_by other book line.number false
 
+-- the Book differs afterwards, or the kind makes an entry always
 abbrev pub keeps : Book → Request → Bool
 keeps book r = commits_by r.ask book (changed r None book)
 
 abbrev pub entry_in : Taken → Book → Line → Option Entry
-entry_in (asked t r) book line = outcome_entry (keeps book r) (Change line.host line.number line.moment t) (judged no_limits book r)
+entry_in (asked t r) book line = outcome_entry (keeps book r) (Change line.host line.number (moment_of line.arrival) t) (judged no_limits book r)
 entry_in other book line = None
 
 -- ---- one after the other

@@ -6,8 +6,7 @@ use Rattle.ps_types.specs.Print.{client}
 use Rattle.ps_types.specs.Shape.{element}
 use Rattle.ps_types.specs.Tree.{Tree, tree, words, none}
 use Rattle.ps_types.specs.declared.jid.Jid.{Jid}
-use Rattle.ps_cases.specs.Case.{Exchange, kept, answered}
-use Rattle.ps_cases.specs.Running.{Line}
+use Rattle.ps_cases.specs.Case.{Exchange, Sent, kept, answered}
 
 abbrev pub service : List ℕ
 service = codes "pubsub.example"
@@ -69,8 +68,8 @@ abbrev pub iq : List ℕ → List ℕ → List ℕ → List ℕ → List Tree �
 iq from id to type kids = element (codes "iq") client ((codes "from", from) ∷ (codes "id", id) ∷ (codes "to", to) ∷ (codes "type", type) ∷ []) kids
 
 -- its id is its number
-abbrev pub line_of : Iq → Line
-line_of q = record { host = q.user.host; number = q.number; moment = q.moment; tree = iq q.user.address (decimal q.number) q.to q.type (q.child ∷ []) }
+abbrev pub sent_by : Iq → Sent
+sent_by q = record { host = q.user.host; number = q.number; moment = q.moment; tree = iq q.user.address (decimal q.number) q.to q.type (q.child ∷ []) }
 
 abbrev pub sets : User → ℕ → Tree → Iq
 sets user number child = record { user = user; number = number; moment = None; to = service; from = service; type = codes "set"; child = child }
@@ -86,7 +85,7 @@ abbrev pub at_time : ℕ → Iq → Iq
 at_time moment q = record q { moment = Some moment }
 
 -- a stanza of another kind
-abbrev pub sends : User → ℕ → Tree → Line
+abbrev pub sends : User → ℕ → Tree → Sent
 sends user number t = record { host = user.host; number = number; moment = None; tree = t }
 
 -- ---- what they are answered
@@ -96,17 +95,17 @@ reply q type kids = Some (iq q.from (decimal q.number) q.user.address type kids)
 
 -- accepted and kept; accepted, where nothing is kept; and denied
 abbrev pub done : Iq → List Tree → Exchange
-done q kids = kept (line_of q) (reply q (codes "result") kids)
+done q kids = kept (sent_by q) (reply q (codes "result") kids)
 
 abbrev pub shown : Iq → List Tree → Exchange
-shown q kids = answered (line_of q) (reply q (codes "result") kids)
+shown q kids = answered (sent_by q) (reply q (codes "result") kids)
 
 -- the type of an error and what stands in it
 abbrev pub Denial : Type 0
 Denial = List ℕ × List Tree
 
 abbrev pub denied : Iq → Denial → Exchange
-denied q (type, kids) = answered (line_of q) (reply q (codes "error") (element (codes "error") client ((codes "type", type) ∷ []) kids ∷ []))
+denied q (type, kids) = answered (sent_by q) (reply q (codes "error") (element (codes "error") client ((codes "type", type) ∷ []) kids ∷ []))
 
 -- ---- `pubsub` and its parts
 

@@ -3,16 +3,18 @@
 //! Each function here has an empty body, and its contract is the case. So a definition that says something else doesn't pass the check. Nothing stands on this
 //! crate.
 //!
-//! The words of `specs/`: `Case.Holds given told` says of a list of lines, one after the other from the first boot on, that they get exactly the replies that
-//! `given` names and make exactly the entries that it marks, and that of these entries each address is handed exactly its part of `told`. `Running` is the
-//! service in it: the model's own steps, where every kind of request is built and every event is told. `Words`, `Denials`, `Forms` and `Handed` are lines,
-//! replies and notices in short; the lines of each case stand in the files `..Cases`. `Compacted`, `Crashed` and `OneBoot` go on from entries of these.
+//! The words of `specs/`: `Case.Holds given told` says of a list of stanzas, whose printed lines come one after the other from the first boot on, that they get
+//! exactly the replies that `given` names and make exactly the entries that it marks, and that of these entries each address is handed exactly its part of
+//! `told`. `Running` is the service in it: the model's own steps, where every kind of request is built and every event is told; `Today` compares it with what is
+//! built. `Words`, `Denials`, `Forms` and `Handed` are stanzas, replies and notices in short; the stanzas of each case stand in the files `..Cases`.
+//! `Compacted`, `Crashed` and `OneBoot` go on from entries of these.
 #![tactic(auto)]
 
 mod access;
 mod capabilities;
 mod collections;
 mod home;
+mod lines;
 mod nodes;
 mod notices;
 mod stores;
@@ -21,6 +23,7 @@ pub use access::{approval_is_asked, refusal_is_told, subscribers_publish, whitel
 pub use capabilities::{exact_answer_counts, example_hash, repeated_feature};
 pub use collections::{collections_stay, deep_notice, near_notice, new_node_is_told};
 pub use home::{last_item, roster_groups, wanted_items};
+pub use lines::{bad_lines, first_lines, served_as_in_cases};
 pub use nodes::{
     bookmarks_are_kept, configuration_shown, item_denials, item_ids, last_owner, nodes_are_found,
     numbers_and_names, other_subscribers,
