@@ -1,5 +1,6 @@
 -- How a plan answers for a check.
 use Rattle.std.specs.Prelude.{◌≡◌, Bool, Option, Some, None, Result, Ok, Err}
+use Rattle.ps_types.specs.declared.config.NodeConfig.{NodeConfig}
 use Rattle.ps_types.specs.declared.denial.Condition.{Condition}
 use Rattle.ps_types.specs.declared.plan.Plan.{Plan}
 use Rattle.ps_types.specs.declared.plan.PlanRefusal.{PlanRefusal}
@@ -19,6 +20,12 @@ Agrees (Ok plan) (denied why) kept = ⊥
 Agrees (Err (Denied given)) (denied why) kept = given ≡ why
 Agrees (Err (Denied given)) (accepted child) kept = ⊥
 Agrees (Err Memory) outcome kept = Unit {0}
+
+-- a configuration is given, or refused by the condition that denies it
+abbrev pub Gives : Result NodeConfig PlanRefusal → Result NodeConfig Condition → Type 0
+Gives (Ok config) given = given ≡ Ok config
+Gives (Err (Denied why)) given = given ≡ Err why
+Gives (Err Memory) given = Unit {0}
 
 -- the plan is the check of the request over the Book, and says whether an accepted one makes an entry
 abbrev pub Plans : Result Plan PlanRefusal → Book → Request → Type 0

@@ -25,6 +25,16 @@ pub fn key_of(request: &Request, name: &Text) -> Result<NodeKey, Memory>
     })
 }
 
+/// A step that passes unless there is a condition that denies.
+pub fn pass(denial: Option<Condition>) -> Result<(), PlanRefusal>
+    ensures passes { Passes result denial }
+{
+    match denial {
+        Some(why) => Err(PlanRefusal::Denied(why)),
+        None => Ok(()),
+    }
+}
+
 /// A step that passes where its test holds.
 pub fn pass_if(holds: bool, why: Condition) -> Result<(), PlanRefusal>
     ensures passes { Passes result (unless holds why) }

@@ -1,7 +1,7 @@
 // Who may do what.
 ghost use Rattle.std.specs.Prelude.{◌≡◌, true};
 ghost use Rattle.ps_types.specs.Nodes.{stands};
-ghost use Rattle.ps_model.specs.Access.{read, subscribe, publish, own, granted_if, subscribed, read_by_model, subscribe_by_model, publish_by_model};
+ghost use Rattle.ps_model.specs.Access.{read, subscribe, publish, own, own_by, granted_if, subscribed, read_by_model, subscribe_by_model, publish_by_model};
 ghost use Rattle.ps_nodes.specs.NodeRows.{row_seen};
 ghost use Rattle.ps_access.specs.Tables.{book_of};
 
@@ -115,13 +115,20 @@ pub fn verdict_publish(tables: &Tables, node: &NodeKey, who: &Jid) -> Verdict
     }
 }
 
+/// Whether one of that affiliation owns a node.
+pub(crate) fn own_verdict(affil: Affil) -> Verdict
+    ensures { result ≡ own_by affil }
+{
+    match affil {
+        Affil::Owner => Verdict::Granted(Rule::ByAffiliation),
+        _ => Verdict::Denied(Condition::C11),
+    }
+}
+
 /// Whether an address owns a node.
 pub fn verdict_own(tables: &Tables, node: &NodeKey, who: &Jid) -> Verdict
     requires stands { stands node.now tables.now.nodes.rows ≡ true }
     ensures verdict { result ≡ own (book_of tables.now) node.now who.now }
 {
-    match affiliation_of(tables, node, who) {
-        Affil::Owner => Verdict::Granted(Rule::ByAffiliation),
-        _ => Verdict::Denied(Condition::C11),
-    }
+    own_verdict(affiliation_of(tables, node, who))
 }
