@@ -1,3 +1,4 @@
 pub mod Answered
 pub mod Built
+pub mod Named
 pub mod Taken

@@ -1,6 +1,7 @@
 -- A change that is accepted: the request that it is, and the State that it leaves.
 use Rattle.std.proofs.Common.{◌≡◌, ℕ, ◌+◌, Bool, true, false, cond, List, [], ◌∷◌, refl, sym, ◌∙◌, ap, subst}
 use Rattle.std.specs.Prelude.{◌&&◌, filter, Option, Some, None}
+use Rattle.ps_types.specs.declared.denial.Condition.{Condition}
 use Rattle.ps_types.specs.declared.denial.LineRefusal.{LineRefusal}
 use Rattle.ps_types.specs.declared.entry.Entry.TheVariants.{Change}
 use Rattle.ps_types.specs.declared.event.Event.{Event}
@@ -10,22 +11,15 @@ use Rattle.ps_types.specs.Tree.{Tree}
 use Rattle.ps_model.specs.After.{all_due, book_after, book_changed, request_on, events, tallies_after}
 use Rattle.ps_model.specs.Numbered.{tallied}
 use Rattle.ps_model.specs.Book.{Book, State}
-use Rattle.ps_model.specs.Built.{built_taken, is_built_event, is_read}
+use Rattle.ps_model.specs.Built.{is_built_event}
 use Rattle.ps_model.specs.Changes.{changed}
 use Rattle.ps_model.specs.Commits.{makes_entry}
 use Rattle.ps_model.specs.Replay.{accepted, after, is_booted, request_accepted}
-use Rattle.ps_model.specs.Taken.{Taken, silent, refused, denied, asked}
+use Rattle.ps_model.specs.Taken.{Head, Taken, silent, refused, denied, asked}
 use Rattle.ps_model.specs.Taking.{request_in, tree_taken}
 use Rattle.ps_model.specs.Tallies.{is_next_line, lines_with}
 use Rattle.ps_core.specs.States.{changed_state}
-
-and_left : (a b : Bool) → (a && b) ≡ true → a ≡ true
-and_left true b h = refl
-and_left false b h = absurd (cc)
-
-and_right : (a b : Bool) → (a && b) ≡ true → b ≡ true
-and_right true b h = h
-and_right false b h = absurd (cc)
+use Rattle.ps_core.proofs.Built.{and_left, and_right}
 
 -- what is accepted is a request that is accepted and makes an entry
 pub accepted_request : (s : State) (host : List ℕ) (line : ℕ) (moment : Option ℕ) (t : Tree) → accepted s (Change host line moment t) ≡ true → request_accepted (request_in (tree_taken host s.book.service t)) s.book ≡ true
@@ -39,21 +33,15 @@ accepted_refused s host line moment t why h e =
     let no : false ≡ true = subst (λ (x : Taken). request_accepted (request_in x) s.book ≡ true) (sym e) (accepted_request s host line moment t h) in
     absurd (cc)
 
+pub accepted_denied : (s : State) (host : List ℕ) (line : ℕ) (moment : Option ℕ) (t : Tree) (head : Head) (why : Condition) → accepted s (Change host line moment t) ≡ true → denied head why ≡ tree_taken host s.book.service t → ⊥
+accepted_denied s host line moment t head why h e =
+    let no : false ≡ true = subst (λ (x : Taken). request_accepted (request_in x) s.book ≡ true) (sym e) (accepted_request s host line moment t h) in
+    absurd (cc)
+
 pub accepted_silent : (s : State) (host : List ℕ) (line : ℕ) (moment : Option ℕ) (t : Tree) → accepted s (Change host line moment t) ≡ true → silent ≡ tree_taken host s.book.service t → ⊥
 accepted_silent s host line moment t h e =
     let no : false ≡ true = subst (λ (x : Taken). request_accepted (request_in x) s.book ≡ true) (sym e) (accepted_request s host line moment t h) in
     absurd (cc)
-
--- a request that is built is what the tree is taken as
-read_so : (b : Bool) (t u : Tree) (q r : Request) (why : LineRefusal) → cond b (asked t q) (refused why) ≡ asked u r → asked t q ≡ asked u r
-read_so true t u q r why e = e
-read_so false t u q r why e = absurd (cc)
-
-unbuilt : (service : List ℕ) (x : Taken) (u : Tree) (r : Request) → built_taken service x ≡ asked u r → x ≡ asked u r
-unbuilt service silent u r e = absurd (cc)
-unbuilt service (refused why) u r e = absurd (cc)
-unbuilt service (denied head why) u r e = absurd (cc)
-unbuilt service (asked t q) u r e = read_so (is_read service q) t u q r _ e
 
 -- no event is told of yet
 none_told : (evs : List Event) → filter is_built_event evs ≡ []
@@ -72,7 +60,6 @@ none_told (event.Question to caps ∷ evs) = none_told evs
 -- the State after a request that is taken from a line
 pub change_after : (s : State) (host : List ℕ) (line : ℕ) (moment : Option ℕ) (t u : Tree) (r : Request) → s.tallies ≡ [] → asked u r ≡ tree_taken host s.book.service t → after s (Change host line moment t) ≡ changed_state r moment host line s
 change_after s host line moment t u r none e =
-    let spelled = unbuilt s.book.service _ u r (sym e) in
-    let b : book_after s.book (Change host line moment t) ≡ changed r moment s.book = ap (λ (x : Taken). book_changed (request_in x) moment s.book) spelled in
+    let b : book_after s.book (Change host line moment t) ≡ changed r moment s.book = ap (λ (x : Taken). book_changed (request_in x) moment s.book) (sym e) in
     let k : tallies_after is_built_event s (Change host line moment t) ≡ [] = ap (λ (evs : List Event). tallied s.tallies (all_due s.book (book_after s.book (Change host line moment t)) evs)) (none_told (events s.book (Change host line moment t))) ∙ none in
     λ i. record { book = b i; count = s.count + 1; tallies = k i; lines = lines_with host line s.lines }

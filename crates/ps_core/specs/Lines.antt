@@ -1,10 +1,10 @@
 -- What a line is taken as, as the code holds it.
-use Rattle.std.specs.Prelude.{◌≡◌, ℕ, true, List, Result, Ok, Err}
+use Rattle.std.specs.Prelude.{◌≢◌, List, [], Result, Ok, Err}
 use Rattle.ps_types.specs.declared.denial.LineRefusal.{LineRefusal}
 use Rattle.ps_types.specs.Tree.{Tree}
-use Rattle.ps_model.specs.Built.{is_read}
 use Rattle.ps_model.specs.Taken as model
 use Rattle.ps_model.specs.Taken.{Taken}
+use Rattle.ps_request.specs.Heads.{head_view}
 use Rattle.ps_core.specs.declared.taking.TakenLine.{TakenLine}
 use Rattle.ps_core.specs.declared.taking.TakenLine.TheVariants as line
 use Rattle.ps_core.specs.declared.taking.ReadLine.{ReadLine}
@@ -13,13 +13,15 @@ use Rattle.ps_core.specs.declared.taking.ReadLine.TheVariants as read
 abbrev pub line_view : TakenLine → Taken
 line_view line.Silent = model.silent
 line_view (line.Refused why) = model.refused why
+line_view (line.Denied head why) = model.denied (head_view head) why
 line_view (line.Asked t r) = model.asked t r
 
--- a request that is taken is one that is built
-abbrev pub IsBuilt : List ℕ → TakenLine → Type 0
-IsBuilt service line.Silent = Unit {0}
-IsBuilt service (line.Refused why) = Unit {0}
-IsBuilt service (line.Asked t r) = is_read service r ≡ true
+-- a stanza that is denied has a name
+abbrev pub HasName : TakenLine → Type 0
+HasName line.Silent = Unit {0}
+HasName (line.Refused why) = Unit {0}
+HasName (line.Denied head why) = head.name ≢ []
+HasName (line.Asked t r) = Unit {0}
 
 abbrev pub read_view : ReadLine → Result Tree LineRefusal
 read_view (read.Tree t) = Ok t

@@ -1,6 +1,5 @@
 // Whether an entry is accepted at a State.
 ghost use Rattle.std.specs.Prelude.{◌≡◌, true, IfOk};
-ghost use Rattle.ps_model.specs.Built.{is_read};
 ghost use Rattle.ps_model.specs.Commits.{makes_entry as makes_entry_at};
 ghost use Rattle.ps_model.specs.Replay.{accepted, request_accepted};
 ghost use Rattle.ps_model.specs.Taking.{request_in, tree_taken};
@@ -8,16 +7,15 @@ ghost use Rattle.ps_access.specs.Tables.{book_of};
 ghost use Rattle.ps_core.specs.States.{state_of};
 
 use crate::half::Half;
-use crate::taking::{TakenLine, take_built};
+use crate::plans::plan;
+use crate::taking::{TakenLine, take_stanza};
 use ps_access::Tables;
 use ps_base::Memory;
-use ps_owner::plan;
 use ps_types::{Elem, Entry, PlanRefusal, Request, Text};
 use std::alloc::Global;
 
-// Whether a request that is built is accepted and makes an entry.
+// Whether a request is accepted and makes an entry.
 fn makes_entry(tables: &Tables, request: &Request) -> Result<bool, Memory>
-    requires built { is_read tables.now.service request.now ≡ true }
     ensures { IfOk result (λ b. b ≡ makes_entry_at (book_of tables.now) request.now) }
 {
     match plan(tables, request) {
@@ -36,9 +34,10 @@ fn is_accepted_tree(
 ) -> Result<bool, Memory>
     ensures { IfOk result (λ b. b ≡ request_accepted (request_in (tree_taken host.now tables.now.service tree.now)) (book_of tables.now)) }
 {
-    match take_built(alloc, host, &tables.service, tree)? {
+    match take_stanza(alloc, host, &tables.service, tree)? {
         TakenLine::Asked(_, request) => makes_entry(tables, &request),
         TakenLine::Refused(_) => Ok(false),
+        TakenLine::Denied(_, _) => Ok(false),
         TakenLine::Silent => Ok(false),
     }
 }

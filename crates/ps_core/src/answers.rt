@@ -1,20 +1,20 @@
 // What a line is answered at a State.
 ghost use Rattle.std.specs.Prelude.{◌≡◌, ◌≢◌, [], true, false, cond, IfOk, Some, None};
 ghost use Rattle.ps_types.specs.declared.entry.Entry.TheVariants.{Change};
-ghost use Rattle.ps_model.specs.Built.{is_read};
 ghost use Rattle.ps_model.specs.Outcome.{denied};
 ghost use Rattle.ps_model.specs.Replies as model;
-ghost use Rattle.ps_model.specs.Replies.{reply_to, entry_of, reply_by, entry_by, moment_of, outcome_reply, feature_of};
+ghost use Rattle.ps_model.specs.Replies.{reply_to, entry_of, reply_by, entry_by, if_answered, moment_of, outcome_reply, feature_of};
 ghost use Rattle.ps_model.specs.Taken.{asked};
 ghost use Rattle.ps_access.specs.Tables.{book_of};
+ghost use Rattle.ps_request.specs.Heads.{head_view};
 ghost use Rattle.ps_core.specs.Answers.{full_by, AnswersStanza};
 
+use crate::plans::plan;
 use crate::taking::{TakenLine, take_line};
 use ps_access::Tables;
 use ps_base::Memory;
 use ps_names::{Head, error_reply, refused, result_reply};
-use ps_owner::plan;
-use ps_request::{head_of, is_answered, is_iq, is_presence};
+use ps_request::{Head as StanzaHead, head_of, is_answered, is_iq, is_presence};
 use ps_types::{Arrival, Ask, Condition, Elem, Entry, Plan, PlanRefusal, Request, Text};
 use std::alloc::Global;
 
@@ -79,6 +79,25 @@ fn reply_head(alloc: Global, tree: &Elem, request: &Request, feature: &str) -> R
         id: head.id,
         feature: Text::of(alloc, feature)?,
     })
+}
+
+// The reply to a stanza that is denied before it is a request.
+fn denied_stanza(alloc: Global, head: StanzaHead, why: Condition) -> Result<Option<Elem>, Memory>
+    requires named { head.name ≢ [] }
+    ensures { IfOk result (λ o. o ≡ if_answered head.is_answered (model.error_reply (head_view head) [] why)) }
+{
+    if !head.is_answered {
+        return Ok(None);
+    }
+    let head = Head {
+        name: head.name,
+        from: head.target,
+        to: head.sender,
+        id: head.id,
+        feature: Text::of(alloc, "")?,
+    };
+    let reply = error_reply(alloc, &head, why)?;
+    Ok(Some(reply))
 }
 
 fn denied_reply(
@@ -169,7 +188,6 @@ fn asked_answer(
     tree: Elem,
     request: &Request,
 ) -> Result<Answer, Memory>
-    requires built { is_read tables.now.service request.now ≡ true }
     ensures reply { IfOk result (λ a. a.reply ≡ reply_by (asked tree request.now) (book_of tables.now) origin.entry.line false) }
     ensures entry { IfOk result (λ a. a.entry ≡ entry_by (asked tree request.now) origin.entry.host.now (book_of tables.now) origin.entry.line origin.entry.moment false) }
     ensures full { IfOk result (λ a. a.full ≡ full_by a.entry (reply_by (asked tree request.now) (book_of tables.now) origin.entry.line true)) }
@@ -215,6 +233,10 @@ pub fn answer_at(
         TakenLine::Refused(why) => {
             let reply = refused(alloc, line, why)?;
             Ok(reply_alone(Some(reply)))
+        }
+        TakenLine::Denied(head, why) => {
+            let reply = denied_stanza(alloc, head, why)?;
+            Ok(reply_alone(reply))
         }
         TakenLine::Asked(tree, request) => asked_answer(alloc, tables, origin, tree, &request),
     }

@@ -3,7 +3,6 @@ ghost use Rattle.std.specs.Prelude.{◌≡◌, true, false, OnOk, IfOk, Some, No
 ghost use Rattle.ps_types.specs.declared.request.Ask.TheVariants.{Create};
 ghost use Rattle.ps_types.specs.Address.{bare};
 ghost use Rattle.ps_types.specs.Nodes.{stands};
-ghost use Rattle.ps_model.specs.Built.{is_read};
 ghost use Rattle.ps_model.specs.ChangeNodes.{created, new_node, owner_row as owner_row_of};
 ghost use Rattle.ps_model.specs.Changes.{changed};
 ghost use Rattle.ps_model.specs.CheckForms.{node_of};

@@ -4,16 +4,16 @@ ghost use Rattle.std.specs.declared.option.Option.{Option};
 ghost use Rattle.ps_types.specs.declared.entry.Entry.TheVariants.{Boot, Change, Gone};
 ghost use Rattle.ps_model.specs.Book.{empty_state};
 ghost use Rattle.ps_model.specs.Replay.{after, accepted};
-ghost use Rattle.ps_model.specs.Built.{is_read};
 ghost use Rattle.ps_model.specs.Commits.{makes_entry};
 ghost use Rattle.ps_access.specs.Tables.{book_of};
 ghost use Rattle.ps_core.specs.States.{state_of, changed_state};
 
 use crate::changes::create;
 use crate::lines::Lines;
-use crate::taking::{TakenLine, take_built};
+use crate::taking::{TakenLine, take_stanza};
 use ps_access::Tables;
 use ps_base::Memory;
+use ps_presence::Presence;
 use ps_types::{Ask, Elem, Entry, LineRow, Request, Text};
 use std::alloc::Global;
 
@@ -72,16 +72,17 @@ impl Half {
         ensures state { OnOk result (state_of self.new ≡ after (state_of self.old) (Boot service.now)) }
     {
         self.tables.service = service.clone()?;
+        self.tables.presence = Presence::new(alloc)?;
         self.lines = Lines::new(alloc);
         self.count += 1;
         Ok(())
     }
 
-    // No row is of a host yet.
-    fn leave(&mut self, _host: &Text) -> Result<(), Memory>
+    fn leave(&mut self, host: &Text) -> Result<(), Memory>
         requires few { self.old.count < 2 ^ 62 }
-        ensures state { OnOk result (state_of self.new ≡ after (state_of self.old) (Gone _host.now)) }
+        ensures state { OnOk result (state_of self.new ≡ after (state_of self.old) (Gone host.now)) }
     {
+        self.tables.presence.clear_host(host);
         self.count += 1;
         Ok(())
     }
@@ -98,8 +99,9 @@ impl Half {
         requires few { self.old.count < 2 ^ 62 }
         ensures state { OnOk result (state_of self.new ≡ after (state_of self.old) (Change host.now line moment tree.now)) }
     {
-        match take_built(alloc, host, &self.tables.service, tree)? {
+        match take_stanza(alloc, host, &self.tables.service, tree)? {
             TakenLine::Asked(_, request) => self.take_request(host, line, alloc, &request),
+            TakenLine::Denied(_, _) => unreachable!(),
             TakenLine::Refused(_) => unreachable!(),
             TakenLine::Silent => unreachable!(),
         }
@@ -113,7 +115,6 @@ impl Half {
         alloc: Global,
         request: &Request,
     ) -> Result<(), Memory>
-        requires built { is_read self.old.tables.service request.now ≡ true }
         requires accepted { makes_entry (book_of self.old.tables) request.now ≡ true }
         requires few { self.old.count < 2 ^ 62 }
         ensures state { OnOk result ((moment : Option ℕ) → state_of self.new ≡ changed_state request.now moment host.now line (state_of self.old)) }

@@ -11,6 +11,7 @@ mod answers;
 mod changes;
 mod half;
 mod lines;
+mod plans;
 mod service;
 mod taking;
 #[cfg(test)]

@@ -2,14 +2,13 @@
 ghost use Rattle.std.specs.Prelude.{◌≡◌, IfOk};
 ghost use Rattle.std.specs.List.{list_all};
 ghost use Rattle.ps_types.specs.LineTree.{line_tree};
-ghost use Rattle.ps_model.specs.Built.{is_read as is_read_request, built_taken};
 ghost use Rattle.ps_model.specs.Taking.{taken, tree_taken, line_taken, is_white};
-ghost use Rattle.ps_request.specs.Taking.{taken_view};
-ghost use Rattle.ps_core.specs.Lines.{line_view, read_view, IsBuilt};
+ghost use Rattle.ps_request.specs.Taking.{taken_of, taken_view};
+ghost use Rattle.ps_core.specs.Lines.{line_view, read_view, HasName};
 
 use ps_base::Memory;
-use ps_request::{TakenTree, take_tree};
-use ps_types::{Arrival, Ask, Elem, LineRefusal, Request, Text};
+use ps_request::{Head, TakenTree, take_tree};
+use ps_types::{Arrival, Condition, Elem, LineRefusal, Request, Text};
 use ps_wire::{TreeRefusal, read_tree};
 use std::alloc::Global;
 
@@ -18,6 +17,7 @@ use std::alloc::Global;
 pub enum TakenLine {
     Silent,
     Refused(LineRefusal),
+    Denied(Head, Condition),
     Asked(Elem, Request),
 }
 
@@ -48,56 +48,38 @@ fn read_line(alloc: Global, bytes: &[u8]) -> Result<ReadLine, Memory>
     }
 }
 
-// A node that is made without a form on the service host.
-#[tactic(auto, unfolding(ps_types::specs::Same::same_jid))]
-fn is_read(service: &Text, request: &Request) -> bool
-    ensures { result ≡ is_read_request service.now request.now }
+// What was found of a tree, with the tree.
+fn found_in(host: &Text, service: &Text, tree: Elem, found: TakenTree) -> TakenLine
+    requires { taken_view tree found ≡ taken_of host.now service.now tree }
+    ensures view { line_view result ≡ tree_taken host.now service.now tree }
+    ensures named { HasName result }
 {
-    match &request.ask {
-        Ask::Create { form: None, .. } => {
-            request.target.local.is("")
-                && (request.target.host.is(service.as_str()) && request.target.resource.is(""))
-        }
-        _ => false,
-    }
-}
-
-// Requests of which nothing is built yet are refused as lines.
-fn built(service: &Text, tree: Elem, found: TakenTree) -> TakenLine
-    ensures view { line_view result ≡ built_taken service.now (taken_view tree found) }
-    ensures built { IsBuilt service.now result }
-{
+    tree.know();
     match found {
         TakenTree::Refused(why) => TakenLine::Refused(why),
-        TakenTree::Denied(_, _) => TakenLine::Refused(LineRefusal::L8),
-        TakenTree::Asked(request) => {
-            if is_read(service, &request) {
-                TakenLine::Asked(tree, request)
-            } else {
-                TakenLine::Refused(LineRefusal::L8)
-            }
-        }
+        TakenTree::Denied(head, why) => TakenLine::Denied(head, why),
+        TakenTree::Asked(request) => TakenLine::Asked(tree, request),
     }
 }
 
 /// What a tree on the stream of the host is taken as.
-pub fn take_built(
+pub fn take_stanza(
     alloc: Global,
     host: &Text,
     service: &Text,
     tree: &Elem,
 ) -> Result<TakenLine, Memory>
     ensures view { IfOk result (λ x. line_view x ≡ tree_taken host.now service.now tree.now) }
-    ensures built { IfOk result (IsBuilt service.now) }
+    ensures named { IfOk result HasName }
 {
     let found = take_tree(alloc, tree, host, service)?;
     let tree = tree.clone()?;
-    Ok(built(service, tree, found))
+    Ok(found_in(host, service, tree, found))
 }
 
 fn take_bytes(alloc: Global, host: &Text, service: &Text, bytes: &[u8]) -> Result<TakenLine, Memory>
     ensures view { IfOk result (λ x. line_view x ≡ line_taken host.now service.now bytes.now) }
-    ensures built { IfOk result (IsBuilt service.now) }
+    ensures named { IfOk result HasName }
 {
     if is_blank(bytes) {
         return Ok(TakenLine::Silent);
@@ -106,7 +88,7 @@ fn take_bytes(alloc: Global, host: &Text, service: &Text, bytes: &[u8]) -> Resul
         ReadLine::Refused(why) => Ok(TakenLine::Refused(why)),
         ReadLine::Tree(tree) => {
             let found = take_tree(alloc, &tree, host, service)?;
-            Ok(built(service, tree, found))
+            Ok(found_in(host, service, tree, found))
         }
     }
 }
@@ -119,7 +101,7 @@ pub fn take_line(
     arrival: &Arrival,
 ) -> Result<TakenLine, Memory>
     ensures view { IfOk result (λ x. line_view x ≡ taken host.now service.now arrival.now) }
-    ensures built { IfOk result (IsBuilt service.now) }
+    ensures named { IfOk result HasName }
 {
     match arrival {
         Arrival::Line { bytes, .. } => take_bytes(alloc, host, service, bytes.as_slice()),
