@@ -7,30 +7,16 @@ ghost use Rattle.ps_model.specs.Children as model;
 ghost use Rattle.ps_model.specs.Lists as lists;
 ghost use Rattle.ps_model.specs.Outcome.{outcome};
 ghost use Rattle.ps_model.specs.Steps.{first_denial};
-ghost use Rattle.ps_model.specs.Words as words;
 ghost use Rattle.ps_access.specs.Plans.{Agrees};
 ghost use Rattle.ps_access.specs.Tables.{book_of};
 
-use crate::build::{PUBSUB, about};
+use crate::build::PUBSUB;
 use crate::mine::{check_mine, is_asked};
-use ps_access::Tables;
+use ps_access::{Tables, about, affil_text};
 use ps_base::Memory;
 use ps_names::{element, put_pair};
-use ps_types::{Affil, AffilRow, Attrs, Child, Elem, Kids, Plan, PlanRefusal, Request, Text};
+use ps_types::{AffilRow, Attrs, Child, Elem, Kids, Plan, PlanRefusal, Request, Text};
 use std::alloc::Global;
-
-fn affil_text(affil: Affil) -> &'static str
-    ensures { result.now ≡ words.affil_text affil }
-{
-    match affil {
-        Affil::Owner => "owner",
-        Affil::Publisher => "publisher",
-        Affil::PublishOnly => "publish-only",
-        Affil::Member => "member",
-        Affil::Outcast => "outcast",
-        Affil::Nothing => "none",
-    }
-}
 
 fn row_tree(alloc: Global, row: &AffilRow) -> Result<Elem, Memory>
     ensures { IfOk result (λ t. t ≡ model.own_affil_tree row.now) }
@@ -63,7 +49,7 @@ fn child(alloc: Global, tables: &Tables, request: &Request, node: &Text) -> Resu
     let mut rows = tables.affils.of_address(alloc, &request.from)?;
     keep_asked(&mut rows, request, node);
     let kids = row_kids(alloc, &rows)?;
-    about(alloc, "affiliations", "", kids)
+    about(alloc, PUBSUB, "affiliations", "", kids)
 }
 
 /// The sender's affiliations at the target, at all nodes or at one.

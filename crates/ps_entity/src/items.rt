@@ -14,8 +14,8 @@ ghost use Rattle.ps_access.specs.Plans.{Agrees, Passes};
 ghost use Rattle.ps_model.specs.Lists as lists;
 ghost use Rattle.ps_access.specs.Tables.{book_of};
 
-use crate::build::{PUBSUB, about};
-use ps_access::{Tables, allow, key_of, must_be_leaf, must_stand, pass_if, verdict_read};
+use crate::build::PUBSUB;
+use ps_access::{Tables, about, allow, key_of, must_be_leaf, must_stand, pass_if, verdict_read};
 use ps_base::Memory;
 use ps_names::{element, only, put_pair};
 use ps_types::{
@@ -115,7 +115,7 @@ fn child(
     let mut rows = tables.items.list(alloc, key)?;
     keep_named(&mut rows, ids.as_slice());
     let kids = row_kids(alloc, newest(&rows, max))?;
-    about(alloc, "items", key.name.as_str(), kids)
+    about(alloc, PUBSUB, "items", key.name.as_str(), kids)
 }
 
 fn check(tables: &Tables, request: &Request, key: &NodeKey, max: &Text) -> Result<(), PlanRefusal>

@@ -6,9 +6,16 @@
 
 mod affils;
 mod build;
+mod change;
 mod items;
 mod mine;
+mod options;
+mod options_get;
+mod options_set;
 mod plans;
 mod subs;
+mod subscribe;
+mod unsubscribe;
 
 pub use plans::plan;
+pub use subscribe::max_subs;

@@ -6,7 +6,11 @@ ghost use Rattle.ps_entity.specs.Plans.{is_planned};
 
 use crate::affils::plan_my_affils;
 use crate::items::plan_items;
+use crate::options_get::plan_options_get;
+use crate::options_set::plan_options_set;
 use crate::subs::plan_my_subs;
+use crate::subscribe::plan_subscribe;
+use crate::unsubscribe::plan_unsubscribe;
 use ps_access::Tables;
 use ps_types::{Ask, Plan, PlanRefusal, Request};
 use std::alloc::Global;
@@ -19,9 +23,19 @@ pub fn plan(alloc: Global, tables: &Tables, request: &Request) -> Result<Plan, P
     ensures { Plans result (book_of tables.now) request.now }
 {
     match &request.ask {
-        Ask::ItemsGet { node, max, ids } => plan_items(alloc, tables, request, node, max, ids),
         Ask::MyAffils { node } => plan_my_affils(alloc, tables, request, node),
         Ask::MySubs { node } => plan_my_subs(alloc, tables, request, node),
+        Ask::Subscribe { node, who, form } => {
+            plan_subscribe(alloc, tables, request, node, who, form)
+        }
+        Ask::Unsubscribe { node, who, subid } => {
+            plan_unsubscribe(tables, request, node, who, subid)
+        }
+        Ask::OptionsGet { node, who } => plan_options_get(alloc, tables, request, node, who),
+        Ask::OptionsSet { node, who, form } => {
+            plan_options_set(alloc, tables, request, node, who, form)
+        }
+        Ask::ItemsGet { node, max, ids } => plan_items(alloc, tables, request, node, max, ids),
         _ => unreachable!(),
     }
 }

@@ -7,27 +7,16 @@ ghost use Rattle.ps_model.specs.Children as model;
 ghost use Rattle.ps_model.specs.Lists as lists;
 ghost use Rattle.ps_model.specs.Outcome.{outcome};
 ghost use Rattle.ps_model.specs.Steps.{first_denial};
-ghost use Rattle.ps_model.specs.Words as words;
 ghost use Rattle.ps_access.specs.Plans.{Agrees};
 ghost use Rattle.ps_access.specs.Tables.{book_of};
 
-use crate::build::{PUBSUB, about};
+use crate::build::PUBSUB;
 use crate::mine::{check_mine, is_asked};
-use ps_access::Tables;
+use ps_access::{Tables, about, sub_text};
 use ps_base::Memory;
 use ps_names::{element, put_pair};
 use ps_types::{Attrs, Child, Elem, Jid, Kids, Plan, PlanRefusal, Request, SubRow, SubState, Text};
 use std::alloc::Global;
-
-fn sub_text(state: SubState) -> &'static str
-    ensures { result.now ≡ words.sub_text state }
-{
-    match state {
-        SubState::Nothing => "none",
-        SubState::Pending => "pending",
-        SubState::Subscribed => "subscribed",
-    }
-}
 
 /// The subscription of an address to a node.
 pub(crate) fn sub_tree(
@@ -68,7 +57,7 @@ fn child(alloc: Global, tables: &Tables, request: &Request, node: &Text) -> Resu
     let mut rows = tables.subs.of_address(alloc, &request.from)?;
     keep_asked(&mut rows, request, node);
     let kids = row_kids(alloc, &rows)?;
-    about(alloc, "subscriptions", "", kids)
+    about(alloc, PUBSUB, "subscriptions", "", kids)
 }
 
 /// The sender's subscriptions at the target, to all nodes or to one.

@@ -1,0 +1,68 @@
+// The options of a subscription: those that it has, and those that a form makes of them (XEP-0060 §6.3).
+ghost use Rattle.std.specs.Prelude.{◌≡◌};
+ghost use Rattle.ps_types.specs.Options as table;
+ghost use Rattle.ps_model.specs.ChangeEntity as model;
+ghost use Rattle.ps_model.specs.Steps.{denial_of};
+ghost use Rattle.ps_access.specs.Tables.{book_of};
+ghost use Rattle.ps_entity.specs.Passing.{PassesWith};
+
+use ps_access::{Tables, form_in, is_submitted};
+use ps_config::read_options;
+use ps_types::{Condition, Elem, Form, Jid, NodeKey, PlanRefusal, SubOptions};
+use std::alloc::Global;
+
+const SUBSCRIBE_OPTIONS: &str = "http://jabber.org/protocol/pubsub#subscribe_options";
+
+/// The options of exactly this address's subscription, or the defaults.
+pub(crate) fn base_options(tables: &Tables, node: &NodeKey, who: &Jid) -> SubOptions
+    ensures { result ≡ model.base_options (book_of tables.now) node.now who.now }
+{
+    match tables.subs.row_of(node, who) {
+        Some(row) => row.options,
+        None => SubOptions {
+            items: true,
+            deep: false,
+        },
+    }
+}
+
+fn options_in(form: &Form, base: SubOptions) -> Result<SubOptions, PlanRefusal>
+    ensures { PassesWith result (denial_of (model.options_or (table.read_options form.now base))) (model.options_or (table.read_options form.now base)) }
+{
+    match read_options(form, base) {
+        Ok(options) => Ok(options),
+        Err(_) => Err(PlanRefusal::Denied(Condition::C28)),
+    }
+}
+
+fn options_given(form: &Option<Form>, base: SubOptions) -> Result<SubOptions, PlanRefusal>
+    ensures { PassesWith result (denial_of (model.options_given form.now base)) (model.options_given form.now base) }
+{
+    match form {
+        Some(form) => {
+            if is_submitted(form, SUBSCRIBE_OPTIONS) {
+                options_in(form, base)
+            } else {
+                Err(PlanRefusal::Denied(Condition::C28))
+            }
+        }
+        None => Err(PlanRefusal::Denied(Condition::C28)),
+    }
+}
+
+/// The options that a form makes of others; without a form they stay.
+pub(crate) fn given_options(
+    alloc: Global,
+    form: &Option<Elem>,
+    base: SubOptions,
+) -> Result<SubOptions, PlanRefusal>
+    ensures { PassesWith result (denial_of (model.sub_options form.now base)) (model.sub_options form.now base) }
+{
+    match form {
+        Some(tree) => {
+            let form = form_in(alloc, tree)?;
+            options_given(&form, base)
+        }
+        None => Ok(base),
+    }
+}
