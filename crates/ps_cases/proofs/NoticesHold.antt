@@ -16,6 +16,10 @@ pub published-item-holds : Holds it.published_item (it.item_notice ∷ [])
 unfolding same.same_jid same.same_bare same.same_node text.escape_byte fmt.digits str.is_utf8 str.chars utf8.encode json.value lex.punctuate lex.lex content.content
 published-item-holds = record { replies = refl; entries = refl; notices = each-part it.published_item (it.item_notice ∷ []) refl }
 
+pub addresses-holds : Holds it.addresses it.addresses_told
+unfolding same.same_jid same.same_bare same.same_node text.escape_byte fmt.digits str.is_utf8 str.chars utf8.encode json.value lex.punctuate lex.lex content.content
+addresses-holds = record { replies = refl; entries = refl; notices = each-part it.addresses it.addresses_told refl }
+
 pub retracted-holds : Holds it.retracted it.retracted_told
 unfolding same.same_jid same.same_bare same.same_node text.escape_byte fmt.digits str.is_utf8 str.chars utf8.encode json.value lex.punctuate lex.lex content.content
 retracted-holds = record { replies = refl; entries = refl; notices = each-part it.retracted it.retracted_told refl }

@@ -8,7 +8,7 @@ use Rattle.ps_types.specs.declared.entry.Notice.{Notice}
 use Rattle.ps_cases.specs.Case.{Exchange, kept}
 use Rattle.ps_cases.specs.Denials.{closed_node, forbidden, not_authorized}
 use Rattle.ps_cases.specs.Handed.{event_of, headline, plain}
-use Rattle.ps_cases.specs.Words.{bare_bob, news, one_of, ann, bob, cid, dot, alf, service, to_ann, to_bob, sets, gets, sends, done, shown, denied, pubsub, part, form, field, value, create_with, publish, published, get_items, items_of, subscribe, subscribed, subscription, affiliation, affiliate}
+use Rattle.ps_cases.specs.Words.{bare_bob, bare_cid, news, one_of, ann, bob, cid, dot, alf, service, to_ann, to_bob, sets, gets, sends, done, shown, denied, pubsub, part, form, field, value, create_with, publish, published, get_items, items_of, subscribe, subscribed, subscription, affiliation, affiliate}
 
 -- the subscriptions of who asks
 abbrev pub get_subscriptions : Tree
@@ -27,7 +27,7 @@ abbrev pub whitelist : List Exchange
 whitelist =
     done (sets ann 1 (create_with w (field (codes "access_model") (codes "whitelist") ∷ []))) []
     ∷ done (sets ann 2 (publish w (codes "x"))) (published w (codes "x"))
-    ∷ done (sets ann 3 (affiliate w (affiliation bare_bob (codes "member") ∷ affiliation (codes "cid@b.example") (codes "publish-only") ∷ affiliation (codes "dot@b.example") (codes "outcast") ∷ []))) []
+    ∷ done (sets ann 3 (affiliate w (affiliation bare_bob (codes "member") ∷ affiliation bare_cid (codes "publish-only") ∷ affiliation (codes "dot@b.example") (codes "outcast") ∷ []))) []
     ∷ denied (gets alf 1 (get_items w)) closed_node
     ∷ shown (gets bob 2 (get_items w)) (one_of w (codes "x"))
     ∷ denied (gets cid 3 (get_items w)) forbidden

@@ -8,7 +8,7 @@ use Rattle.ps_cases.specs.Case.{Exchange}
 use Rattle.ps_cases.specs.Denials.{no_such_item, not_acceptable}
 use Rattle.ps_cases.specs.Forms.{form_shown}
 use Rattle.ps_cases.specs.Handed.{event, event_of, from_collection, headline}
-use Rattle.ps_cases.specs.Words.{ann, bob, cid, bare_bob, news, to_bob, to_cid, sets, gets, done, shown, denied, pubsub, part, owner, owner_part, at_node, of_subscriber, form, field, value, create, create_with, configure, get_configuration, delete, publish, published, subscribe, subscribed}
+use Rattle.ps_cases.specs.Words.{ann, bob, cid, bare_bob, bare_cid, news, to_bob, to_cid, sets, gets, done, shown, denied, pubsub, part, owner, owner_part, at_node, of_subscriber, form, field, value, create, create_with, configure, get_configuration, delete, publish, published, subscribe, subscribed}
 
 abbrev pub top : List ℕ
 top = codes "top"
@@ -96,9 +96,6 @@ kept_together =
 
 abbrev pub n2 : List ℕ
 n2 = codes "n2"
-
-abbrev pub bare_cid : List ℕ
-bare_cid = codes "cid@b.example"
 
 abbrev pub to_nodes : Tree
 to_nodes =

@@ -11,7 +11,7 @@ use Rattle.ps_types.specs.declared.jid.Jid.{Jid}
 use Rattle.ps_cases.specs.Case.{Exchange, kept}
 use Rattle.ps_cases.specs.Denials.{no_such_item, not_authorized}
 use Rattle.ps_cases.specs.Handed.{event_of, from_ann, notice}
-use Rattle.ps_cases.specs.Words.{User, ann, bob, bare_bob, service, to_bob, to_b, at_home, at_time, sets, gets, sends, iq, done, shown, denied, field, create_with, publish, published, get_items, one_of, subscribe, subscribed}
+use Rattle.ps_cases.specs.Words.{User, ann, bob, bare_bob, service, to_bob, to_bob_1, at_home, at_time, sets, gets, sends, iq, done, shown, denied, field, create_with, publish, published, get_items, one_of, subscribe, subscribed}
 
 -- ---- a personal node
 
@@ -30,9 +30,6 @@ abbrev pub has_bob : ℕ → List ℕ → Exchange
 has_bob number state = done (at_home (sets ann number (contact state []))) []
 
 -- ---- a resource
-
-abbrev pub to_bob_1 : Jid
-to_bob_1 = to_b (codes "bob") (codes "1")
 
 -- present with capabilities
 abbrev pub presence : User → List ℕ → Tree

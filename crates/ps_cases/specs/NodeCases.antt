@@ -6,7 +6,7 @@ use Rattle.ps_types.specs.Tree.{Tree, tree, none, words}
 use Rattle.ps_cases.specs.Case.{Exchange}
 use Rattle.ps_cases.specs.Denials.{bad, forbidden, no_such_item, not_acceptable, nothing_to_end, refused_as, unsupported}
 use Rattle.ps_cases.specs.Forms.{form_shown}
-use Rattle.ps_cases.specs.Words.{ann, bob, cid, bare_bob, news, service, sets, gets, done, shown, denied, pubsub, part, owner, owner_part, at_node, field, create, create_with, get_configuration, payload, item, publish, publish_these, published, get_items, items_of, one_of, subscribe, affiliation, affiliate}
+use Rattle.ps_cases.specs.Words.{ann, bob, cid, bare_bob, bare_cid, news, service, sets, gets, done, shown, denied, pubsub, part, owner, owner_part, at_node, field, create, create_with, get_configuration, payload, item, publish, publish_these, published, get_items, items_of, one_of, subscribe, affiliation, affiliate}
 
 -- ---- ids are made in order, and the oldest item goes
 
@@ -84,7 +84,7 @@ others =
     ∷ denied (sets bob 1 (unsubscribe [])) nothing_to_end
     ∷ denied (sets bob 2 (unsubscribe ((codes "subid", codes "1") ∷ []))) (refused_as (codes "invalid-subid"))
     ∷ denied (sets cid 3 (unsubscribe [])) forbidden
-    ∷ denied (sets bob 4 (subscribe (codes "cid@b.example") news)) (bad (codes "invalid-jid"))
+    ∷ denied (sets bob 4 (subscribe bare_cid news)) (bad (codes "invalid-jid"))
     ∷ []
 
 -- ---- its owner is shown the seventeen fields, and another is forbidden

@@ -9,13 +9,13 @@ use Rattle.ps_types.specs.declared.entry.Notice.{Notice}
 use Rattle.ps_cases.specs.Case.{Exchange, boot, kept, own}
 use Rattle.ps_cases.specs.Denials.{conflict, forbidden}
 use Rattle.ps_cases.specs.Handed.{event, event_of, headline, notice, plain, retraction_of}
-use Rattle.ps_cases.specs.Words.{bare_bob, news, User, ann, bob, to_bob, sets, gets, sends, done, shown, denied, pubsub, owner, part, at_node, field, create, create_with, configure, delete, item, publish, publish_these, published, get_items, items_of, subscribe, subscribed}
+use Rattle.ps_cases.specs.Words.{bare_bob, bare_cid, to_bob_1, to_cid, cid, news, User, ann, bob, to_bob, sets, gets, sends, done, shown, denied, pubsub, owner, part, at_node, field, create, create_with, configure, delete, item, publish, publish_these, published, get_items, items_of, subscribe, subscribed}
 
 -- ---- an item
 
 -- another of ann's host
-abbrev pub cid : User
-cid = record { host = codes "a.example"; address = codes "cid@a.example/1" }
+abbrev pub neighbour : User
+neighbour = record { host = codes "a.example"; address = codes "cid@a.example/1" }
 
 abbrev pub i1 : List ℕ
 i1 = codes "i1"
@@ -29,8 +29,8 @@ published_item =
     ∷ denied (sets ann 2 (create news)) conflict
     ∷ done (sets bob 1 (subscribe bare_bob news)) (subscribed bare_bob news)
     ∷ done (sets ann 3 (publish_these news (hi ∷ []))) (published news i1)
-    ∷ denied (sets cid 4 (publish_these news (hi ∷ []))) forbidden
-    ∷ shown (gets cid 5 (get_items news)) (items_of news (hi ∷ []))
+    ∷ denied (sets neighbour 4 (publish_these news (hi ∷ []))) forbidden
+    ∷ shown (gets neighbour 5 (get_items news)) (items_of news (hi ∷ []))
     ∷ []
 
 abbrev pub item_line : List ℕ
@@ -38,6 +38,24 @@ item_line = codes "{\"a\":{\"from\":\"pubsub.example\",\"id\":\"n-1\",\"to\":\"b
 
 abbrev pub item_notice : Notice
 item_notice = notice to_bob 3 1 item_line
+
+-- ---- each address gets one of its own, in the order of their octets, and those of one bare address have one count
+
+abbrev pub addresses : List Exchange
+addresses =
+    done (sets ann 1 (create news)) []
+    ∷ done (sets cid 1 (subscribe bare_cid news)) (subscribed bare_cid news)
+    ∷ done (sets bob 2 (subscribe bob.address news)) (subscribed bob.address news)
+    ∷ done (sets bob 3 (subscribe bare_bob news)) (subscribed bare_bob news)
+    ∷ done (sets ann 2 (publish news i1)) (published news i1)
+    ∷ []
+
+abbrev pub addresses_told : List Notice
+addresses_told =
+    headline to_bob 5 1 (event_of news i1 ∷ [])
+    ∷ headline to_bob_1 5 2 (event_of news i1 ∷ [])
+    ∷ headline to_cid 5 1 (event_of news i1 ∷ [])
+    ∷ []
 
 -- ---- a retraction
 

@@ -39,6 +39,9 @@ alf = of_b (codes "alf@b.example/1")
 abbrev pub bare_bob : List ℕ
 bare_bob = codes "bob@b.example"
 
+abbrev pub bare_cid : List ℕ
+bare_cid = codes "cid@b.example"
+
 -- as addresses that notices are to
 abbrev pub to_ann : Jid
 to_ann = record { local = codes "ann"; host = codes "a.example"; resource = [] }
@@ -48,6 +51,9 @@ to_b local resource = record { local = local; host = codes "b.example"; resource
 
 abbrev pub to_bob : Jid
 to_bob = to_b (codes "bob") []
+
+abbrev pub to_bob_1 : Jid
+to_bob_1 = to_b (codes "bob") (codes "1")
 
 abbrev pub to_cid : Jid
 to_cid = to_b (codes "cid") []

@@ -28,5 +28,7 @@ pub use nodes::{
     bookmarks_are_kept, configuration_shown, item_denials, item_ids, last_owner, nodes_are_found,
     numbers_and_names, other_subscribers,
 };
-pub use notices::{each_kind_is_told, item_is_handed, retraction_on_request, told_while_present};
+pub use notices::{
+    each_address_once, each_kind_is_told, item_is_handed, retraction_on_request, told_while_present,
+};
 pub use stores::{compacted_rows, compacted_store, one_boot_store, sent_again, stamps};

@@ -8,6 +8,11 @@ pub fn item_is_handed()
     ensures { Holds cases.published_item (cases.item_notice ∷ []) }
 {}
 
+/// Each address that has subscribed gets a notice of its own, in the order of their octets; those of one bare address are numbered one after the other.
+pub fn each_address_once()
+    ensures { Holds cases.addresses cases.addresses_told }
+{}
+
 /// Where a node doesn't tell of retractions, one is told if its request asks for it.
 pub fn retraction_on_request()
     ensures { Holds cases.retracted cases.retracted_told }
