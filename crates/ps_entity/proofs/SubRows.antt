@@ -1,6 +1,7 @@
 -- When two subscriptions are the same.
-use Rattle.std.proofs.Common.{◌≡◌, ◌≢◌, Bool, true, false, not, ◌&&◌, List, Option, Some, None, refl, sym, ap, ◌∙◌}
+use Rattle.std.proofs.Common.{◌≡◌, ◌≢◌, Bool, true, false, not, ◌&&◌, List, Some, None, refl, sym, ap, ◌∙◌}
 use Rattle.std.specs.Prelude.{is_some}
+use Rattle.ps_base.specs.Rows.{put_row}
 use Rattle.ps_types.specs.declared.rows.SubRow.{SubRow}
 use Rattle.ps_types.specs.declared.rows.SubState.{SubState}
 use Rattle.ps_types.specs.declared.rows.SubState.TheVariants as sub
@@ -15,10 +16,10 @@ use Rattle.ps_types.specs.Subs.{is_sub_of, sub_row, subs_with}
 use Rattle.ps_types.proofs.Same.{same_node-itself, same_jid-Decides}
 use Rattle.ps_model.specs.SameRows.{same_subs}
 use Rattle.ps_entity.specs.Kept.{has_them}
-use Rattle.ps_entity.proofs.Rows.{is_kept, put_row-kept, without-kept, find-passes}
+use Rattle.ps_entity.proofs.Rows.{put-changes, put-adds, removal-changes, find-passes}
 
 -- by their parts
-pub same_sub-parts : (a b : SubRow) → row.eq-value.it a b ≡ (same_node a.node b.node && (same_jid a.who b.who && (state.eq-value.it a.state b.state && options.eq-value.it a.options b.options)))
+same_sub-parts : (a b : SubRow) → row.eq-value.it a b ≡ (same_node a.node b.node && (same_jid a.who b.who && (state.eq-value.it a.state b.state && options.eq-value.it a.options b.options)))
 unfolding same_node same_jid
 same_sub-parts a b = refl
 
@@ -36,14 +37,14 @@ options_itself true false = refl
 options_itself false true = refl
 options_itself false false = refl
 
-pub same_sub-itself : (a : SubRow) → row.eq-value.it a a ≡ true
+same_sub-itself : (a : SubRow) → row.eq-value.it a a ≡ true
 same_sub-itself a =
     same_sub-parts a a ∙ all_true (same_node a.node a.node) (same_jid a.who a.who) (state.eq-value.it a.state a.state) (options.eq-value.it a.options a.options)
     (same_node-itself a.node) ((same_jid-Decides a.who a.who).1 refl) (state_itself a.state) (options_itself a.options.items a.options.deep)
 
 -- ---- set
 
-abbrev pub new_row : NodeKey → Jid → SubState → SubOptions → SubRow
+abbrev new_row : NodeKey → Jid → SubState → SubOptions → SubRow
 new_row node who s o = record { node = node; who = who; state = s; options = o }
 
 both_true : (a b c : Bool) → (a && b) ≡ true → (a && (b && c)) ≡ c
@@ -52,30 +53,28 @@ both_true true false c h = absurd (cc)
 both_true false b c h = absurd (cc)
 
 -- the row that is there already has the same node and address
-pub found-same : (node : NodeKey) (who : Jid) (s : SubState) (o : SubOptions) (rows : List SubRow) (old : SubRow) → sub_row node who rows ≡ Some old → row.eq-value.it (new_row node who s o) old ≡ has_them s o old
-found-same node who s o rows old h =
+found_same : (node : NodeKey) (who : Jid) (s : SubState) (o : SubOptions) (rows : List SubRow) (old : SubRow) → sub_row node who rows ≡ Some old → row.eq-value.it (new_row node who s o) old ≡ has_them s o old
+found_same node who s o rows old h =
     same_sub-parts (new_row node who s o) old ∙ both_true (same_node node old.node) (same_jid who old.who) (has_them s o old) (find-passes (is_sub_of node who) rows old h)
-
-pub set-kept : (node : NodeKey) (who : Jid) (s : SubState) (o : SubOptions) (rows : List SubRow) → s ≢ sub.Nothing → same_subs (subs_with (new_row node who s o) rows) rows ≡ is_kept row.eq-value.it (new_row node who s o) (sub_row node who rows)
-set-kept node who sub.Nothing o rows some = absurd (some refl)
-set-kept node who sub.Pending o rows some = put_row-kept row.eq-value.it same_sub-itself (is_sub_of node who) (new_row node who sub.Pending o) rows
-set-kept node who sub.Subscribed o rows some = put_row-kept row.eq-value.it same_sub-itself (is_sub_of node who) (new_row node who sub.Subscribed o) rows
-
-twice : (b : Bool) → b ≡ not (not b)
-twice true = refl
-twice false = refl
 
 -- ---- what setting a row changes
 
-pub removal-changes : (node : NodeKey) (who : Jid) (s : SubState) (o : SubOptions) (rows : List SubRow) → s ≡ sub.Nothing → is_some (sub_row node who rows) ≡ not (same_subs (subs_with (new_row node who s o) rows) rows)
-removal-changes node who sub.Nothing o rows e = twice (is_some (sub_row node who rows)) ∙ ap not (sym (without-kept row.eq-value.it same_sub-itself (is_sub_of node who) rows))
-removal-changes node who sub.Pending o rows e = absurd (cc)
-removal-changes node who sub.Subscribed o rows e = absurd (cc)
+pub sub-removed : (node : NodeKey) (who : Jid) (s : SubState) (o : SubOptions) (rows : List SubRow) → s ≡ sub.Nothing → is_some (sub_row node who rows) ≡ not (same_subs (subs_with (new_row node who s o) rows) rows)
+sub-removed node who sub.Nothing o rows e = removal-changes row.eq-value.it same_sub-itself (is_sub_of node who) rows
+sub-removed node who sub.Pending o rows e = absurd (cc)
+sub-removed node who sub.Subscribed o rows e = absurd (cc)
 
-pub change-found : (node : NodeKey) (who : Jid) (s : SubState) (o : SubOptions) (rows : List SubRow) (old : SubRow) → s ≢ sub.Nothing → Some old ≡ sub_row node who rows → not (has_them s o old) ≡ not (same_subs (subs_with (new_row node who s o) rows) rows)
-change-found node who s o rows old some h =
-    ap not (sym (found-same node who s o rows old (sym h)) ∙ ap (λ (found : Option SubRow). is_kept row.eq-value.it (new_row node who s o) found) h ∙ sym (set-kept node who s o rows some))
+-- a state that is set puts the row
+put : (node : NodeKey) (who : Jid) (s : SubState) (o : SubOptions) (rows : List SubRow) → s ≢ sub.Nothing → put_row (is_sub_of node who) (new_row node who s o) rows ≡ subs_with (new_row node who s o) rows
+put node who sub.Nothing o rows some = absurd (some refl)
+put node who sub.Pending o rows some = refl
+put node who sub.Subscribed o rows some = refl
 
-pub change-absent : (node : NodeKey) (who : Jid) (s : SubState) (o : SubOptions) (rows : List SubRow) → s ≢ sub.Nothing → None ≡ sub_row node who rows → true ≡ not (same_subs (subs_with (new_row node who s o) rows) rows)
-change-absent node who s o rows some h =
-    ap not (ap (λ (found : Option SubRow). is_kept row.eq-value.it (new_row node who s o) found) h ∙ sym (set-kept node who s o rows some))
+pub sub-found : (node : NodeKey) (who : Jid) (s : SubState) (o : SubOptions) (rows : List SubRow) (old : SubRow) → s ≢ sub.Nothing → Some old ≡ sub_row node who rows → not (has_them s o old) ≡ not (same_subs (subs_with (new_row node who s o) rows) rows)
+sub-found node who s o rows old some h =
+    ap not (sym (found_same node who s o rows old (sym h))) ∙ put-changes row.eq-value.it same_sub-itself (is_sub_of node who) (new_row node who s o) old rows h
+    ∙ ap (λ (after : List SubRow). not (same_subs after rows)) (put node who s o rows some)
+
+pub sub-absent : (node : NodeKey) (who : Jid) (s : SubState) (o : SubOptions) (rows : List SubRow) → s ≢ sub.Nothing → None ≡ sub_row node who rows → true ≡ not (same_subs (subs_with (new_row node who s o) rows) rows)
+sub-absent node who s o rows some h =
+    put-adds row.eq-value.it same_sub-itself (is_sub_of node who) (new_row node who s o) rows h ∙ ap (λ (after : List SubRow). not (same_subs after rows)) (put node who s o rows some)

@@ -11,4 +11,7 @@ is_planned (ask.Unsubscribe node who subid) = true
 is_planned (ask.OptionsGet node who) = true
 is_planned (ask.OptionsSet node who form) = true
 is_planned (ask.ItemsGet node max ids) = true
+is_planned (ask.RosterSet item) = true
+is_planned (ask.Present caps) = true
+is_planned ask.Absent = true
 is_planned _ = false

@@ -13,9 +13,12 @@ mod options;
 mod options_get;
 mod options_set;
 mod plans;
+mod presence;
+mod roster;
 mod subs;
 mod subscribe;
 mod unsubscribe;
 
 pub use plans::plan;
+pub use roster::max_contacts;
 pub use subscribe::max_subs;

@@ -8,6 +8,8 @@ use crate::affils::plan_my_affils;
 use crate::items::plan_items;
 use crate::options_get::plan_options_get;
 use crate::options_set::plan_options_set;
+use crate::presence::{plan_absent, plan_present};
+use crate::roster::plan_roster_set;
 use crate::subs::plan_my_subs;
 use crate::subscribe::plan_subscribe;
 use crate::unsubscribe::plan_unsubscribe;
@@ -36,6 +38,9 @@ pub fn plan(alloc: Global, tables: &Tables, request: &Request) -> Result<Plan, P
             plan_options_set(alloc, tables, request, node, who, form)
         }
         Ask::ItemsGet { node, max, ids } => plan_items(alloc, tables, request, node, max, ids),
+        Ask::RosterSet { item } => plan_roster_set(tables, request, item),
+        Ask::Present { caps } => Ok(plan_present(tables, request, caps)),
+        Ask::Absent => Ok(plan_absent(tables, request)),
         _ => unreachable!(),
     }
 }
