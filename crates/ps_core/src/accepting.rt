@@ -15,10 +15,10 @@ use ps_types::{Elem, Entry, PlanRefusal, Request, Text};
 use std::alloc::Global;
 
 // Whether a request is accepted and makes an entry.
-fn makes_entry(tables: &Tables, request: &Request) -> Result<bool, Memory>
+fn makes_entry(alloc: Global, tables: &Tables, request: &Request) -> Result<bool, Memory>
     ensures { IfOk result (λ b. b ≡ makes_entry_at (book_of tables.now) request.now) }
 {
-    match plan(tables, request) {
+    match plan(alloc, tables, request) {
         Ok(plan) => Ok(plan.commits),
         Err(PlanRefusal::Denied(_)) => Ok(false),
         Err(PlanRefusal::Memory) => Err(Memory),
@@ -35,7 +35,7 @@ fn is_accepted_tree(
     ensures { IfOk result (λ b. b ≡ request_accepted (request_in (tree_taken host.now tables.now.service tree.now)) (book_of tables.now)) }
 {
     match take_stanza(alloc, host, &tables.service, tree)? {
-        TakenLine::Asked(_, request) => makes_entry(tables, &request),
+        TakenLine::Asked(_, request) => makes_entry(alloc, tables, &request),
         TakenLine::Refused(_) => Ok(false),
         TakenLine::Denied(_, _) => Ok(false),
         TakenLine::Silent => Ok(false),

@@ -192,7 +192,7 @@ fn asked_answer(
     ensures entry { IfOk result (λ a. a.entry ≡ entry_by (asked tree request.now) origin.entry.host.now (book_of tables.now) origin.entry.line origin.entry.moment false) }
     ensures full { IfOk result (λ a. a.full ≡ full_by a.entry (reply_by (asked tree request.now) (book_of tables.now) origin.entry.line true)) }
 {
-    match plan(tables, request) {
+    match plan(alloc, tables, request) {
         Ok(plan) => accepted_answer(alloc, origin, tree, request, plan),
         Err(PlanRefusal::Denied(why)) => {
             let reply = denied_reply(alloc, &tree, request, why)?;

@@ -11,7 +11,7 @@ ghost use Rattle.ps_access.specs.Tables.{book_of};
 
 use ps_access::Tables;
 use ps_base::Memory;
-use ps_owner::default_config;
+use ps_config::default_config;
 use ps_types::{Affil, AffilRow, Ask, NodeKey, NodeRow, Request, Text};
 use std::alloc::Global;
 
@@ -30,7 +30,7 @@ fn node_row(alloc: Global, request: &Request, name: &Text) -> Result<NodeRow, Me
     Ok(NodeRow {
         key: key_of(request, name)?,
         creator: request.from.to_bare(alloc)?,
-        config: default_config(alloc)?,
+        config: default_config(alloc, false)?,
     })
 }
 

@@ -8,6 +8,7 @@ ghost use Rattle.ps_access.specs.Tables.{book_of};
 
 use ps_access::Tables;
 use ps_types::{Ask, Condition, Plan, PlanRefusal, Request, Text};
+use std::alloc::Global;
 
 fn is_unbuilt_ask(ask: &Ask) -> bool
     ensures { result ≡ is_unbuilt_kind ask.now }
@@ -51,14 +52,14 @@ fn unbuilt_plan(ask: &Ask) -> Result<Plan, PlanRefusal>
 }
 
 /// The plan of a request: what it is denied by, or the child of its result, and whether it makes an entry.
-pub fn plan(tables: &Tables, request: &Request) -> Result<Plan, PlanRefusal>
+pub fn plan(alloc: Global, tables: &Tables, request: &Request) -> Result<Plan, PlanRefusal>
     ensures { Agrees result (check (book_of tables.now) request.now) (commits (book_of tables.now) request.now) }
 {
     if is_unbuilt(&tables.service, request) {
         return unbuilt_plan(&request.ask);
     }
     match &request.ask {
-        Ask::Create { .. } => ps_owner::plan(tables, request),
+        Ask::Create { .. } => ps_owner::plan(alloc, tables, request),
         _ => Ok(nothing_said()),
     }
 }

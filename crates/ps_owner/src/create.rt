@@ -1,80 +1,70 @@
 // How a node is made (XEP-0060 §8.1).
-ghost use Rattle.std.specs.Prelude.{◌≡◌, false, IfOk, None};
-ghost use Rattle.ps_types.specs.Defaults as defaults;
+ghost use Rattle.std.specs.Prelude.{◌≡◌, ◌||◌, not, true, None};
+ghost use Rattle.ps_types.specs.Same.{same_bare};
+ghost use Rattle.ps_model.specs.Access.{is_account};
 ghost use Rattle.ps_model.specs.Built.{built_config};
-ghost use Rattle.ps_model.specs.CheckCreate as model;
-ghost use Rattle.ps_model.specs.CheckCreate.{create_steps};
-ghost use Rattle.ps_model.specs.Access.{is_account as is_account_address};
-ghost use Rattle.ps_model.specs.CheckForms.{node_of};
+ghost use Rattle.ps_model.specs.CheckCreate.{create_steps, new_node_step};
+ghost use Rattle.ps_model.specs.CheckForms as model;
+ghost use Rattle.ps_model.specs.Outcome.{outcome};
 ghost use Rattle.ps_model.specs.Steps.{first_denial};
-ghost use Rattle.ps_access.specs.Plans.{Passes};
+ghost use Rattle.ps_access.specs.Plans.{Agrees, Passes};
 ghost use Rattle.ps_access.specs.Tables.{book_of};
 
-use ps_access::Tables;
-use ps_base::{Listed, Memory};
-use ps_types::{
-    Access, Condition, Most, NodeConfig, NodeKey, NodeKind, NoticeKind, PlanRefusal, PublishModel,
-    Request, SendLast, Text,
+use crate::plans::entry_plan;
+use ps_access::{
+    Tables, built_limit, is_account_address, key_of, must_be_collection, must_have_room,
+    new_config, pass, pass_if,
 };
+use ps_types::{Condition, Elem, Jid, Plan, PlanRefusal, Request, Text};
 use std::alloc::Global;
 
-/// The nodes that a bare address makes at most.
-pub fn max_nodes() -> u64
-    ensures { result ≡ model.max_nodes }
+// An account's nodes are made by itself.
+fn may_make_at(target: &Jid, who: &Jid) -> bool
+    ensures { result ≡ (not (is_account target.now) || same_bare target.now who.now) }
 {
-    10_000
+    !is_account_address(target) || target.same_bare(who)
 }
 
-/// The configuration of a node of the service host that is made without a form.
-pub fn default_config(alloc: Global) -> Result<NodeConfig, Memory>
-    ensures { IfOk result (λ c. c ≡ defaults.service_config) }
+// The configuration of the node is one that is built, and its collection can take it.
+fn check_config(
+    alloc: Global,
+    tables: &Tables,
+    request: &Request,
+    form: &Option<Elem>,
+) -> Result<(), PlanRefusal>
+    ensures { Passes result (new_node_step built_config (model.new_config request.now.target form.now) (book_of tables.now) request.now) }
 {
-    Ok(NodeConfig {
-        title: Text::of(alloc, "")?,
-        deliver_notifications: true,
-        deliver_payloads: true,
-        notify_config: false,
-        notify_delete: false,
-        notify_retract: false,
-        persist_items: true,
-        max_items: Most::new(10),
-        access_model: Access::Everyone,
-        publish_model: PublishModel::Publishers,
-        roster_groups_allowed: Listed::new(alloc),
-        send_last_published_item: SendLast::Never,
-        presence_based_delivery: false,
-        notification_type: NoticeKind::Headline,
-        max_payload_size: 65_536,
-        node_type: NodeKind::Leaf,
-        collection: Text::of(alloc, "")?,
-    })
+    let config = new_config(alloc, &request.target, form)?;
+    pass(built_limit(&config))?;
+    must_be_collection(tables, request, &config.collection)
 }
 
-// The key of the node of that name at the request's target.
-fn key_of(request: &Request, name: &Text) -> Result<NodeKey, Memory>
-    ensures { IfOk result (λ key. key ≡ node_of request.now name.now) }
-{
-    Ok(NodeKey {
-        service: request.target.clone()?,
-        name: name.clone()?,
-    })
-}
-
-/// The steps of a node that is to be made on the service host without a form.
-pub(crate) fn check_create(
+fn check_create(
+    alloc: Global,
     tables: &Tables,
     request: &Request,
     node: &Text,
+    form: &Option<Elem>,
 ) -> Result<(), PlanRefusal>
-    requires { is_account_address request.now.target ≡ false }
-    ensures { Passes result (first_denial (create_steps built_config (book_of tables.now) request.now node.now None)) }
+    ensures { Passes result (first_denial (create_steps built_config (book_of tables.now) request.now node.now form.now)) }
 {
     let key = key_of(request, node)?;
-    if tables.nodes.has(&key) {
-        return Err(PlanRefusal::Denied(Condition::C8));
-    }
-    if tables.nodes.made_by(&request.from) >= max_nodes() {
-        return Err(PlanRefusal::Denied(Condition::C24));
-    }
-    Ok(())
+    pass_if(!tables.nodes.has(&key), Condition::C8)?;
+    pass_if(may_make_at(&request.target, &request.from), Condition::C11)?;
+    check_config(alloc, tables, request, form)?;
+    must_have_room(tables, request)
+}
+
+/// The plan of a node that is to be made.
+pub fn plan_create(
+    alloc: Global,
+    tables: &Tables,
+    request: &Request,
+    node: &Text,
+    form: &Option<Elem>,
+) -> Result<Plan, PlanRefusal>
+    ensures { Agrees result (outcome (first_denial (create_steps built_config (book_of tables.now) request.now node.now form.now)) None) true }
+{
+    check_create(alloc, tables, request, node, form)?;
+    Ok(entry_plan(true))
 }

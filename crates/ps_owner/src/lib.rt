@@ -1,12 +1,25 @@
 //! The requests of node owners (XEP-0060 §8): what each is checked by, and what an accepted one answers.
 //!
-//! [`plan`] is the model's check for the kinds that are planned here (`specs/Plans.antt`): the first step that fails denies, by its
-//! condition, and else the plan has the child of the result and says whether an entry is made. [`default_config`] is the
-//! configuration that a node of the service host is made with.
+//! [`plan`] is the model's check for the kinds that are planned here (`specs/Plans.antt`), at the service host and at accounts: the
+//! first step that fails denies, by its condition, and else the plan has the child of the result and says whether an entry is made.
+//!
+//! Where affiliations and subscriptions are set, an entry is made where the table differs afterwards, also in the order of its rows.
+//! That is decided by the rows of the one node, in two parts (`specs/Parted.antt`): those before the last row of another node, and those
+//! after it. A row that goes and comes back is the last one of the table, so the table is as it was exactly where both parts are.
 #![tactic(auto)]
 
+mod affil_rows;
+mod affils_set;
+mod approve;
+mod config_set;
+mod configs;
 mod create;
+mod going;
+mod listing;
 mod plans;
+mod rows;
+mod sub_rows;
+mod subs_set;
 
-pub use create::{default_config, max_nodes};
 pub use plans::plan;
+pub use subs_set::max_subs;

@@ -1,0 +1,7 @@
+use Rattle.std.proofs.Common.{◌≡◌, map, take}
+use Rattle.ps_forms.proofs.Printed.{trees}
+use Rattle.ps_model.specs.Children.{sub_tree}
+use Rattle.ps_owner.proofs.listing.sub_kids.Given as goal
+
+abbrev pub invariant-loop-row : goal.invariant-loop-row
+invariant-loop-row l = l.kids ≡ trees (map sub_tree (take l.row-index l.rows))
