@@ -1,0 +1,12 @@
+pub mod Shape
+pub mod Left
+pub mod Stand
+pub mod Rows
+pub mod Laying
+pub mod Go
+pub mod Passes
+pub mod Opened
+pub mod Arrive
+pub mod Next
+pub mod Gone
+pub mod Recorded
