@@ -1,5 +1,5 @@
 -- The reply and the entry of a request, by what its plan is.
-use Rattle.std.proofs.Common.{◌≡◌, ℕ, Bool, true, false, cond, List, refl, sym, ◌∙◌, ap, subst}
+use Rattle.std.proofs.Common.{◌≡◌, Bool, true, false, cond, refl, sym, ◌∙◌, ap}
 use Rattle.std.specs.Prelude.{◌&&◌, not, IfOk, Option, Some, None, Result, Ok, Err}
 use Rattle.ps_types.specs.declared.denial.Condition.{Condition}
 use Rattle.ps_types.specs.declared.entry.Entry.{Entry}

@@ -1,12 +1,7 @@
 -- What is known of a request that is built.
-use Rattle.std.proofs.Common.{◌≡◌, ℕ, Bool, true, false, cond, List, refl, sym, ◌∙◌, subst}
-use Rattle.std.specs.Prelude.{◌&&◌, ◌||◌, not, Some, None}
-use Rattle.ps_types.specs.declared.plan.PlanRefusal.{PlanRefusal}
-use Rattle.ps_types.specs.declared.plan.Plan.{Plan}
-use Rattle.ps_types.specs.declared.request.Ask.{Ask}
-use Rattle.ps_types.specs.declared.request.Ask.TheVariants as ask
+use Rattle.std.proofs.Common.{◌≡◌, ℕ, Bool, true, false, List, refl}
+use Rattle.std.specs.Prelude.{◌&&◌, ◌||◌, not}
 use Rattle.ps_types.specs.declared.request.Request.{Request}
-use Rattle.ps_types.specs.Same.{same_jid}
 use Rattle.ps_types.proofs.Same.{same_jid-Decides}
 use Rattle.ps_model.specs.Book.{Book}
 use Rattle.ps_model.specs.Built.{is_unbuilt, is_unbuilt_ask}

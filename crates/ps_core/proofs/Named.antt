@@ -1,9 +1,9 @@
 -- A stanza that is denied has the name of its tree.
-use Rattle.std.proofs.Common.{◌≡◌, ◌≢◌, ℕ, [], Bool, true, false, cond, List, refl, sym, ◌∙◌, ap, subst}
+use Rattle.std.proofs.Common.{◌≡◌, ◌≢◌, ℕ, [], Bool, true, false, cond, List, sym, ap, subst}
 use Rattle.std.specs.Prelude.{Option, Some, None, Result, Ok, Err, codes}
 use Rattle.std.specs.Str.{bytes_eq}
 use Rattle.ps_types.specs.declared.denial.Condition.{Condition}
-use Rattle.ps_types.specs.declared.denial.Condition.TheVariants.{C13, C25}
+use Rattle.ps_types.specs.declared.denial.Condition.TheVariants.{C25}
 use Rattle.ps_types.specs.declared.denial.LineRefusal.TheVariants.{L6, L7}
 use Rattle.ps_types.specs.declared.jid.Jid.{Jid}
 use Rattle.ps_types.specs.declared.request.Ask.{Ask}
@@ -12,7 +12,7 @@ use Rattle.ps_types.specs.Form.{HasForm}
 use Rattle.ps_types.specs.Tree.{Tree, name_of, tree}
 use Rattle.ps_model.specs.Asking.{ask_of}
 use Rattle.ps_model.specs.Stanza.{host_jid, is_served, is_stanza, jid_of, target_of}
-use Rattle.ps_model.specs.Taken.{Head, Taken, refused, denied}
+use Rattle.ps_model.specs.Taken.{Head, refused, denied}
 use Rattle.ps_model.specs.Taking.{ask_taken, head_of, sender_taken, target_taken, tree_taken}
 
 by_ask : (o : Result Ask Condition) (t : Tree) (from target : Jid) (head : Head) (why : Condition) → ask_taken t from target o ≡ denied head why → head.name ≡ name_of t

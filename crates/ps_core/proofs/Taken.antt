@@ -1,6 +1,6 @@
 -- A change that is accepted: the request that it is, and the State that it leaves.
-use Rattle.std.proofs.Common.{◌≡◌, ℕ, ◌+◌, Bool, true, false, cond, List, [], ◌∷◌, refl, sym, ◌∙◌, ap, subst}
-use Rattle.std.specs.Prelude.{◌&&◌, filter, Option, Some, None}
+use Rattle.std.proofs.Common.{◌≡◌, ℕ, ◌+◌, true, false, List, [], ◌∷◌, refl, sym, ◌∙◌, ap, subst}
+use Rattle.std.specs.Prelude.{◌&&◌, filter, Option}
 use Rattle.ps_types.specs.declared.denial.Condition.{Condition}
 use Rattle.ps_types.specs.declared.denial.LineRefusal.{LineRefusal}
 use Rattle.ps_types.specs.declared.entry.Entry.TheVariants.{Change}
@@ -8,9 +8,9 @@ use Rattle.ps_types.specs.declared.event.Event.{Event}
 use Rattle.ps_types.specs.declared.event.Event.TheVariants as event
 use Rattle.ps_types.specs.declared.request.Request.{Request}
 use Rattle.ps_types.specs.Tree.{Tree}
-use Rattle.ps_model.specs.After.{all_due, book_after, book_changed, request_on, events, tallies_after}
+use Rattle.ps_model.specs.After.{all_due, book_after, book_changed, events, tallies_after}
 use Rattle.ps_model.specs.Numbered.{tallied}
-use Rattle.ps_model.specs.Book.{Book, State}
+use Rattle.ps_model.specs.Book.{State}
 use Rattle.ps_model.specs.Built.{is_built_event}
 use Rattle.ps_model.specs.Changes.{changed}
 use Rattle.ps_model.specs.Commits.{makes_entry}

@@ -1,5 +1,5 @@
 -- What a line is taken as, as the code holds it.
-use Rattle.std.specs.Prelude.{◌≢◌, List, [], Result, Ok, Err}
+use Rattle.std.specs.Prelude.{◌≢◌, [], Result, Ok, Err}
 use Rattle.ps_types.specs.declared.denial.LineRefusal.{LineRefusal}
 use Rattle.ps_types.specs.Tree.{Tree}
 use Rattle.ps_model.specs.Taken as model

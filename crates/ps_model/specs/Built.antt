@@ -25,6 +25,11 @@ use Rattle.ps_model.specs.Steps.{unless}
 
 abbrev pub is_unbuilt_ask : Ask → Bool
 is_unbuilt_ask (ask.Create node form) = is_some form
+is_unbuilt_ask (ask.Publish node items options) = false
+is_unbuilt_ask (ask.Retract node ids notify) = false
+is_unbuilt_ask (ask.ItemsGet node max ids) = false
+is_unbuilt_ask (ask.MyAffils node) = false
+is_unbuilt_ask (ask.MySubs node) = false
 is_unbuilt_ask ask.Silent = false
 is_unbuilt_ask _ = true
 

@@ -1,0 +1,18 @@
+//! What an accepted request does to the tables.
+//!
+//! [`change`] leaves the tables as the model's `changed` leaves the Book (`Changes` in ps_model, and the files that it names, one for
+//! each group of kinds). It makes room first and then edits in place; only memory fails, and what it then leaves of the tables is no
+//! Book to go on with. `specs/Kinds.antt` names the kinds that it knows and what it asks of a Book.
+#![tactic(auto)]
+
+mod changes;
+mod create;
+mod delete;
+mod ids;
+mod items;
+mod subs;
+#[cfg(test)]
+mod tests;
+
+pub use changes::change;
+pub use ids::item_id;
