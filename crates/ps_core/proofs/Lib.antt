@@ -1,4 +1,7 @@
 pub mod Answered
 pub mod Built
+pub mod Counted
+pub mod Known
 pub mod Named
+pub mod Staged
 pub mod Taken

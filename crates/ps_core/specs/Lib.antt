@@ -1,3 +1,4 @@
+pub mod Counted
 pub mod States
 pub mod Stages
 pub mod Answers

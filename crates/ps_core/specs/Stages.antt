@@ -3,6 +3,7 @@ use Rattle.std.specs.Prelude.{◌≡◌, ◌<◌, ◌^◌, true, Option, Some, N
 use Rattle.ps_types.specs.declared.entry.Entry.{Entry}
 use Rattle.ps_model.specs.Book.{State}
 use Rattle.ps_model.specs.Replay.{after, accepted}
+use Rattle.ps_core.specs.Counted.{AreCounted}
 use Rattle.ps_core.specs.declared.service.Stage.{Stage}
 use Rattle.ps_core.specs.declared.service.Stage.TheVariants.{Even, Prepared, Behind, Stale}
 
@@ -21,6 +22,7 @@ prepared_in Stale = None
 pub record Follows (old : State) (entry : Entry) (new : State) : Type 0 where
   pub is_accepted : accepted old entry ≡ true
   pub few : old.count < 2 ^ 62
+  pub is_counted : AreCounted old
   pub is_after : new ≡ after old entry
 
 abbrev pub IsStage : Stage → State → State → Type 0
@@ -28,6 +30,10 @@ IsStage Even front back = back ≡ front
 IsStage (Prepared kept) front back = Follows front kept.entry back
 IsStage (Behind kept) front back = Follows back kept.entry front
 IsStage Stale front back = Unit {0}
+
+-- the first copy is a State that entries leave, and the second is what the stage says
+abbrev pub IsKept : Stage → State → State → Type 0
+IsKept stage front back = AreCounted front × IsStage stage front back
 
 -- the stage after the copies changed places
 abbrev pub stage_committed : Stage → Stage

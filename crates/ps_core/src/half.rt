@@ -1,20 +1,20 @@
 // One copy of the State, edited in place.
-ghost use Rattle.std.specs.Prelude.{◌≡◌, ◌+◌, ◌<◌, ◌^◌, ℕ, List, [], true, IfOk, OnOk};
-ghost use Rattle.std.specs.declared.option.Option.{Option};
+ghost use Rattle.std.specs.Prelude.{◌≡◌, ◌<◌, ◌^◌, true, IfOk, OnOk};
 ghost use Rattle.ps_types.specs.declared.entry.Entry.TheVariants.{Boot, Change, Gone};
 ghost use Rattle.ps_model.specs.Book.{empty_state};
 ghost use Rattle.ps_model.specs.Replay.{after, accepted};
 ghost use Rattle.ps_model.specs.Commits.{makes_entry};
 ghost use Rattle.ps_access.specs.Tables.{book_of};
+ghost use Rattle.ps_core.specs.Counted.{AreCounted};
 ghost use Rattle.ps_core.specs.States.{state_of, changed_state};
 
-use crate::changes::create;
 use crate::lines::Lines;
 use crate::taking::{TakenLine, take_stanza};
 use ps_access::Tables;
 use ps_base::Memory;
+use ps_change::change;
 use ps_presence::Presence;
-use ps_types::{Ask, Elem, Entry, LineRow, Request, Text};
+use ps_types::{Elem, Entry, LineRow, Request, Text};
 use std::alloc::Global;
 
 /// A copy of the State.
@@ -52,6 +52,7 @@ impl Half {
     pub fn take(&mut self, alloc: Global, entry: &Entry) -> Result<(), Memory>
         requires accepted { accepted (state_of self.old) entry.now ≡ true }
         requires few { self.old.count < 2 ^ 62 }
+        requires counted { AreCounted (state_of self.old) }
         ensures state { OnOk result (state_of self.new ≡ after (state_of self.old) entry.now) }
     {
         match entry {
@@ -97,37 +98,38 @@ impl Half {
     ) -> Result<(), Memory>
         requires accepted { accepted (state_of self.old) (Change host.now line moment tree.now) ≡ true }
         requires few { self.old.count < 2 ^ 62 }
+        requires counted { AreCounted (state_of self.old) }
         ensures state { OnOk result (state_of self.new ≡ after (state_of self.old) (Change host.now line moment tree.now)) }
     {
         match take_stanza(alloc, host, &self.tables.service, tree)? {
-            TakenLine::Asked(_, request) => self.take_request(host, line, alloc, &request),
+            TakenLine::Asked(_, request) => {
+                self.take_request(host, line, moment, alloc, &request)
+            },
             TakenLine::Denied(_, _) => unreachable!(),
             TakenLine::Refused(_) => unreachable!(),
             TakenLine::Silent => unreachable!(),
         }
     }
 
-    // Nothing of what is built looks at the moment.
     fn take_request(
         &mut self,
         host: &Text,
         line: u64,
+        moment: Option<u64>,
         alloc: Global,
         request: &Request,
     ) -> Result<(), Memory>
         requires accepted { makes_entry (book_of self.old.tables) request.now ≡ true }
         requires few { self.old.count < 2 ^ 62 }
-        ensures state { OnOk result ((moment : Option ℕ) → state_of self.new ≡ changed_state request.now moment host.now line (state_of self.old)) }
+        requires counted { AreCounted (state_of self.old) }
+        ensures state { OnOk result (state_of self.new ≡ changed_state request.now moment host.now line (state_of self.old)) }
     {
         let row = LineRow {
             host: host.clone()?,
             line,
         };
         self.lines.reserve(1)?;
-        match &request.ask {
-            Ask::Create { node, .. } => create(&mut self.tables, alloc, request, node)?,
-            _ => unreachable!(),
-        }
+        change(&mut self.tables, alloc, request, moment)?;
         self.lines.set(row);
         self.count += 1;
         Ok(())

@@ -8,7 +8,6 @@
 
 mod accepting;
 mod answers;
-mod changes;
 mod half;
 mod lines;
 mod plans;

@@ -15,6 +15,8 @@ fn is_unbuilt_ask(ask: &Ask) -> bool
 {
     match ask {
         Ask::Create { form, .. } => form.is_some(),
+        Ask::Publish { .. } | Ask::Retract { .. } => false,
+        Ask::ItemsGet { .. } | Ask::MyAffils { .. } | Ask::MySubs { .. } => false,
         Ask::Silent => false,
         _ => true,
     }
@@ -60,6 +62,10 @@ pub fn plan(alloc: Global, tables: &Tables, request: &Request) -> Result<Plan, P
     }
     match &request.ask {
         Ask::Create { .. } => ps_owner::plan(alloc, tables, request),
+        Ask::Publish { .. } | Ask::Retract { .. } => ps_publish::plan(alloc, tables, request),
+        Ask::ItemsGet { .. } | Ask::MyAffils { .. } | Ask::MySubs { .. } => {
+            ps_entity::plan(alloc, tables, request)
+        }
         _ => Ok(nothing_said()),
     }
 }

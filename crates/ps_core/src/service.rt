@@ -5,6 +5,7 @@ ghost use Rattle.ps_model.specs.Replay.{after, accepted};
 ghost use Rattle.ps_model.specs.Replies.{reply_to, entry_of};
 ghost use Rattle.ps_access.specs.Tables.{book_of};
 ghost use Rattle.ps_core.specs.Answers.{full_by};
+ghost use Rattle.ps_core.specs.Counted.{AreCounted};
 ghost use Rattle.ps_core.specs.States.{state_of};
 ghost use Rattle.ps_core.specs.Stages.{IsStage, stage_committed};
 
@@ -56,7 +57,7 @@ pub struct Service {
 
 impl Model for Service {
     ghost use Rattle.ps_core.specs.States.{state_of};
-    ghost use Rattle.ps_core.specs.Stages.{Held, prepared_in, IsStage};
+    ghost use Rattle.ps_core.specs.Stages.{Held, IsKept, prepared_in};
 
     ghost Value = { Held };
 
@@ -67,7 +68,7 @@ impl Model for Service {
 
     ghost view = { λ s. record { state = state_of s.front; prepared = prepared_in s.stage } };
 
-    ghost invariant = { λ s. IsStage s.stage (state_of s.front) (state_of s.back) };
+    ghost invariant = { λ s. IsKept s.stage (state_of s.front) (state_of s.back) };
 }
 
 impl Service {
@@ -156,6 +157,7 @@ impl Service {
 
 // Makes the second copy equal to the first.
 fn bring_up(front: &Half, back: &mut Half, alloc: Global, stage: Stage) -> Result<(), Memory>
+    requires counted { AreCounted (state_of front.now) }
     requires stage { IsStage stage (state_of front.now) (state_of back.old) }
     ensures even { OnOk result (state_of back.new ≡ state_of front.now) }
 {

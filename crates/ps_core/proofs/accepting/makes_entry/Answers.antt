@@ -1,0 +1,15 @@
+use Rattle.std.proofs.Common.{◌≡◌, false, refl, sym, subst}
+use Rattle.std.specs.Prelude.{◌&&◌}
+use Rattle.ps_access.specs.Tables.{book_of}
+use Rattle.ps_model.specs.Check.{check}
+use Rattle.ps_model.specs.Commits.{commits}
+use Rattle.ps_model.specs.Outcome.{Outcome, is_accepted}
+use Rattle.ps_core.proofs.Answered.{is_denied}
+use Rattle.ps_core.proofs.accepting.makes_entry.Goals as goal
+
+pub returns-in-Err-Denied : goal.returns-in-Err-Denied
+returns-in-Err-Denied c =
+    let book = book_of c.args.tables.now in
+    let agreed = rw c.in-Err-Denied.field-0-is at c.in-Err-Denied.ensures in
+    let is = is_denied _ (check book c.args.request.now) (commits book c.args.request.now) agreed in
+    subst (λ (o : Outcome). false ≡ (is_accepted o && commits book c.args.request.now)) (sym is) refl
