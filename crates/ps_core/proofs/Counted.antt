@@ -1,6 +1,6 @@
 -- No bare address has made more ids at a node than there are entries.
-use Rattle.std.proofs.Common.{◌≡◌, ℕ, ◌+◌, Bool, true, false, cond, List, [], ◌∷◌, refl, sym, ◌∙◌, ap, subst, arith}
-use Rattle.std.specs.Prelude.{◌≤◌, ◌&&◌, filter, find, not, Option, Some, None, Result, Ok, Err}
+use Rattle.std.proofs.Common.{◌≡◌, ℕ, ◌+◌, Bool, true, false, cond, List, [], ◌∷◌, refl, sym, subst, arith}
+use Rattle.std.specs.Prelude.{◌≤◌, find, not, Option, Some, None, Result, Ok, Err}
 use Rattle.ps_base.specs.Rows.{put_row, without}
 use Rattle.ps_types.specs.declared.denial.Condition.{Condition}
 use Rattle.ps_types.specs.declared.config.NodeConfig.{NodeConfig}

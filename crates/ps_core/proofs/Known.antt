@@ -1,27 +1,26 @@
 -- What makes an entry today is a request whose change is known.
-use Rattle.std.proofs.Common.{◌≡◌, ℕ, Bool, true, false, cond, List, ◌∷◌, refl, sym, ◌∙◌, ap, subst}
-use Rattle.std.specs.Prelude.{◌&&◌, ◌||◌, is_some, not, Option, Some, None}
+use Rattle.std.proofs.Common.{◌≡◌, ℕ, Bool, true, false, cond, List, refl, ap, subst}
+use Rattle.std.specs.Prelude.{◌&&◌, is_some, not, Option, Some, None}
 use Rattle.ps_types.specs.declared.jid.Jid.{Jid}
 use Rattle.ps_types.specs.declared.request.Ask.{Ask}
 use Rattle.ps_types.specs.declared.request.Ask.TheVariants as ask
 use Rattle.ps_types.specs.declared.request.AskItem.{AskItem}
 use Rattle.ps_types.specs.declared.request.Request.{Request}
 use Rattle.ps_types.specs.declared.rows.NodeRow.{NodeRow}
-use Rattle.ps_types.specs.Nodes.{node_at, stands}
-use Rattle.ps_types.specs.Same.{same_bare}
+use Rattle.ps_types.specs.Nodes.{node_at}
 use Rattle.ps_types.specs.Tree.{Tree}
 use Rattle.ps_model.specs.Access.{is_account, is_own_account}
 use Rattle.ps_model.specs.Book.{Book}
-use Rattle.ps_model.specs.Built.{built_config, built_outcome, is_unbuilt, unbuilt_outcome}
+use Rattle.ps_model.specs.Built.{built_config, unbuilt_outcome}
 use Rattle.ps_model.specs.Check.{check, judged}
 use Rattle.ps_model.specs.CheckForms.{node_of}
 use Rattle.ps_model.specs.CheckPublish.{publish_by}
 use Rattle.ps_model.specs.Commits.{commits, makes_entry}
-use Rattle.ps_model.specs.Outcome.{Outcome, is_accepted, outcome}
+use Rattle.ps_model.specs.Outcome.{is_accepted, outcome}
 use Rattle.ps_model.specs.Stanza.{host_jid}
 use Rattle.ps_model.specs.Steps.{first_denial}
 use Rattle.ps_change.specs.Kinds.{is_known}
-use Rattle.ps_core.proofs.Built.{and_left, and_right, built_target, made_built}
+use Rattle.ps_core.proofs.Built.{and_left, built_target, made_built}
 
 with_ask : Request → Ask → Request
 with_ask r a = record r { ask = a }

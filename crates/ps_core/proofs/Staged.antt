@@ -1,5 +1,5 @@
 -- The copies of the State after they changed places.
-use Rattle.std.proofs.Common.{◌≡◌, sym, subst}
+use Rattle.std.proofs.Common.{sym, subst}
 use Rattle.std.specs.Prelude.{IsSome}
 use Rattle.ps_model.specs.Book.{State}
 use Rattle.ps_core.specs.Counted.{AreCounted}

@@ -11,6 +11,23 @@ const FIRST: &str =
 const AGAIN: &str =
     r#"{"a":{"from":"ann@a.example/1","id":"2","to":"pubsub.example","type":"set"},"c":[{"c":[{"a":{"node":"news"},"n":"create"}],"n":"pubsub","ns":"http://jabber.org/protocol/pubsub"}],"n":"iq"}"#;
 
+const PUBLISH: &str =
+    r#"{"a":{"from":"ann@a.example/1","id":"2","to":"pubsub.example","type":"set"},"c":[{"c":[{"a":{"node":"news"},"c":[{"a":{"id":"i1"},"c":[{"c":["hi"],"n":"entry","ns":"urn:t"}],"n":"item"}],"n":"publish"}],"n":"pubsub","ns":"http://jabber.org/protocol/pubsub"}],"n":"iq"}"#;
+
+const PUBLISHED: &str =
+    r#"{"a":{"from":"pubsub.example","id":"2","to":"ann@a.example/1","type":"result"},"c":[{"c":[{"a":{"node":"news"},"c":[{"a":{"id":"i1"},"n":"item"}],"n":"publish"}],"n":"pubsub","ns":"http://jabber.org/protocol/pubsub"}],"n":"iq"}"#;
+
+const ITEMS: &str =
+    r#"{"a":{"from":"cid@a.example/1","id":"3","to":"pubsub.example","type":"get"},"c":[{"c":[{"a":{"node":"news"},"n":"items"}],"n":"pubsub","ns":"http://jabber.org/protocol/pubsub"}],"n":"iq"}"#;
+
+const RETRIEVED: &str =
+    r#"{"a":{"from":"pubsub.example","id":"3","to":"cid@a.example/1","type":"result"},"c":[{"c":[{"a":{"node":"news"},"c":[{"a":{"id":"i1"},"c":[{"c":["hi"],"n":"entry","ns":"urn:t"}],"n":"item"}],"n":"items"}],"n":"pubsub","ns":"http://jabber.org/protocol/pubsub"}],"n":"iq"}"#;
+
+const MESSAGE: &str = r#"{"a":{"from":"x@a.example"},"n":"message"}"#;
+
+const UNAVAILABLE: &str =
+    r#"{"a":{"from":"x@a.example","to":"x@a.example","type":"error"},"c":[{"a":{"type":"cancel"},"c":[{"n":"service-unavailable","ns":"urn:ietf:params:xml:ns:xmpp-stanzas"}],"n":"error"}],"n":"message"}"#;
+
 const MADE: &str =
     r#"{"a":{"from":"pubsub.example","id":"1","to":"ann@a.example/1","type":"result"},"n":"iq"}"#;
 
@@ -81,6 +98,23 @@ fn a_node_is_made_once(rt: HostRuntime) -> Result<(), Fail> {
 }
 
 #[test]
+fn what_is_published_is_retrieved(rt: HostRuntime) -> Result<(), Fail> {
+    let alloc = rt.alloc();
+    let mut service = booted(&rt, alloc)?;
+    for (line, text, wanted) in [
+        (1, FIRST, MADE),
+        (2, PUBLISH, PUBLISHED),
+        (3, ITEMS, RETRIEVED),
+        (4, MESSAGE, UNAVAILABLE),
+    ] {
+        let reply = answered(&rt, alloc, &mut service, line, text)?;
+        says(&rt, &reply, wanted);
+    }
+    assert_eq!(rt; service.count(), 3);
+    Ok(())
+}
+
+#[test]
 fn other_lines_are_refused_or_silent(rt: HostRuntime) -> Result<(), Fail> {
     let alloc = rt.alloc();
     let mut service = booted(&rt, alloc)?;
@@ -90,7 +124,6 @@ fn other_lines_are_refused_or_silent(rt: HostRuntime) -> Result<(), Fail> {
         (r#"{"n":"iq"}"#, "bad-address"),
         (r#"{"a":{"from":"x@b.example"},"n":"iq"}"#, "foreign-from"),
         (r#"{"a":{"from":"x@a.example"},"n":"iq"}"#, "bad-stanza"),
-        (r#"{"a":{"from":"x@a.example"},"n":"message"}"#, "not-built"),
     ] {
         let reply = answered(&rt, alloc, &mut service, 1, line)?;
         let wanted = format!(in alloc;

@@ -1,5 +1,5 @@
-use Rattle.std.proofs.Common.{◌≡◌, ℕ, refl, sym, ◌∙◌, subst}
-use Rattle.std.specs.Prelude.{Result, Ok, Err, OnOk, Option}
+use Rattle.std.proofs.Common.{◌≡◌, refl, sym, ◌∙◌, subst}
+use Rattle.std.specs.Prelude.{Result, Ok, Err, OnOk}
 use Rattle.ps_model.specs.Taking.{tree_taken}
 use Rattle.ps_core.specs.declared.taking.TakenLine.{TakenLine}
 use Rattle.ps_core.specs.Lines.{line_view}

@@ -1,5 +1,5 @@
-use Rattle.std.proofs.Common.{◌≡◌, ℕ, ◌<◌, arith}
-use Rattle.std.specs.Prelude.{◌≤◌, ◌^◌, ◌-◌}
+use Rattle.std.proofs.Common.{arith}
+use Rattle.std.specs.Prelude.{◌≤◌}
 use Rattle.ps_types.specs.Counts.{made_at}
 use Rattle.ps_access.specs.Tables.{book_of}
 use Rattle.ps_core.proofs.Counted.{below_made}
