@@ -1,7 +1,10 @@
-//! The requests of those who subscribe and read (XEP-0060 §5, §6): what each is checked by, and what an accepted one answers.
+//! The requests of those who subscribe and read (XEP-0060 §5, §6), and what the router tells of rosters and presences (RFC 6121 §2, §4):
+//! what each is checked by, and what an accepted one answers.
 //!
-//! [`plan`] is the model's check for the kinds that are planned here (`specs/Plans.antt`): the first step that fails denies, by its
-//! condition, and else the plan has the child of the result and says whether an entry is made.
+//! [`plan`] is the model's check for the kinds that are planned here (`specs/Plans.antt`), whatever the target: the first step that
+//! fails denies, by its condition, and else the plan has the child of the result and says whether an entry is made. It says so by the
+//! rows concerned: `specs/Kept.antt`, `specs/Contacts.antt` and `specs/Resources.antt` say when such a row is as it was.
+//! `specs/Passing.antt` says what a check hands on. [`max_subs`] and [`max_contacts`] are the limits of a node and of a roster.
 #![tactic(auto)]
 
 mod affils;
@@ -17,7 +20,11 @@ mod presence;
 mod roster;
 mod subs;
 mod subscribe;
+#[cfg(test)]
+mod tests;
 mod unsubscribe;
+#[cfg(test)]
+mod world;
 
 pub use plans::plan;
 pub use roster::max_contacts;
