@@ -1,0 +1,4 @@
+pub mod Hosts
+pub mod Ready
+pub mod Output
+pub mod Asking
