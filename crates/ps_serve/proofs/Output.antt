@@ -12,7 +12,7 @@ use Rattle.ps_types.specs.declared.entry.Entry.{Entry}
 use Rattle.ps_wire.specs.Reading.{IsNext}
 use Rattle.ps_wire.specs.Writing.{AppendsFront}
 use Rattle.ps_wire.specs.declared.lines.NextLine.TheVariants.{Line as Whole, TooLong}
-use Rattle.ps_wire.proofs.Written.{appends_more, first_part, none_written, second_part}
+use Rattle.ps_wire.proofs.Written.{appends_more, first_part, none_written, second_part, starts}
 use Rattle.ps_model.specs.Book.{State}
 use Rattle.ps_model.specs.Replay.{replay}
 use Rattle.ps_model.specs.Replies.{entry_of, reply_to}
@@ -50,10 +50,10 @@ arrival-long : (line : List ℕ) → 262144 < length line → arrival_of line �
 arrival-long line long = ap (λ (b : Bool). cond b arrival.TooLong (arrival.Line line None)) (is_long line long)
 
 -- the first line of the bytes arrives so, and the rest stays
-record First (a : Arrival) (bytes rest : List ℕ) : Type 0 where
-  some : bytes ≢ []
-  is : a ≡ arrival_of (first_line bytes)
-  stays : rest ≡ after_line bytes
+pub record First (a : Arrival) (bytes rest : List ℕ) : Type 0 where
+  pub some : bytes ≢ []
+  pub is : a ≡ arrival_of (first_line bytes)
+  pub stays : rest ≡ after_line bytes
 
 abbrev pub Came : Arrival → Option (List ℕ) → Option (List ℕ) → Type 0
 Came a None later = Unit {0}
@@ -156,3 +156,8 @@ module _ (host : List ℕ) (start : State) where
         by (Some all) None done turn = absurd done
         by (Some all) (Some rest) done turn =
             subst (λ (l : List ℕ). AppendsFront written now l) (sym done.2) (second_part written so_far now done.0 (output_from host s k rest) done.1 turn)
+
+-- nothing was written
+pub stood : (host : List ℕ) (k : ℕ) (before later written : Option (List ℕ)) (s : State) (e : StreamEnd) → Turn host (Err e) k before later written written s s
+stood host k None later written s e = tt
+stood host k (Some bytes) later written s e = starts written (output_from host s k bytes)

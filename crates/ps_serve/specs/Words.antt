@@ -28,11 +28,14 @@ serve_of (Some service) None store source sink = None
 serve_of (Some service) (Some host) store source sink =
     if bytes_eq service host then None else Some (Serve service store (record { host = host; source = source; sink = sink } ∷ []))
 
+-- the words that are no host and no name
+abbrev pub is_serve : List ℕ → List ℕ → List ℕ → Bool
+is_serve serve service_word store_word = bytes_eq serve (codes "serve") && bytes_eq service_word (codes "--service") && bytes_eq store_word (codes "--store")
+
 -- `serve --service HOST --store PATH HOST IN OUT`, today with one stream
 abbrev pub command_of : List (List ℕ) → Option Command
 command_of (serve ∷ service_word ∷ service ∷ store_word ∷ store ∷ host ∷ source ∷ sink ∷ []) =
-    if bytes_eq serve (codes "serve") && bytes_eq service_word (codes "--service") && bytes_eq store_word (codes "--store") && are_names store source sink
-    then serve_of (host_of service) (host_of host) store source sink else None
+    if is_serve serve service_word store_word && are_names store source sink then serve_of (host_of service) (host_of host) store source sink else None
 command_of words = None
 
 -- one stream is served, by a service host that isn't empty

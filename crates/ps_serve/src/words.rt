@@ -1,6 +1,6 @@
 // The words of a command.
 ghost use Rattle.std.specs.Prelude.{◌≡◌, ◌≢◌, [], Some, None, IfOk, IsErrOf};
-ghost use Rattle.ps_serve.specs.Words.{are_names as are_names_by, command_of, host_in as host_in_address, host_of, serve_of, ServesOne};
+ghost use Rattle.ps_serve.specs.Words.{are_names as are_names_by, command_of, host_in as host_in_address, host_of, is_serve as is_serve_by, serve_of, ServesOne};
 ghost use Rattle.ps_serve.specs.declared.words.WordsRefusal.TheVariants.{Memory as OutOfMemory};
 
 use ps_base::Listed;
@@ -68,6 +68,12 @@ fn host_in(address: Jid) -> Result<Text, WordsRefusal>
     }
 }
 
+fn is_serve(serve: &Text, service_word: &Text, store_word: &Text) -> bool
+    ensures { result ≡ is_serve_by serve.now service_word.now store_word.now }
+{
+    serve.is("serve") && (service_word.is("--service") && store_word.is("--store"))
+}
+
 fn are_names(store: &Text, source: &Text, sink: &Text) -> bool
     ensures { result ≡ are_names_by store.now source.now sink.now }
 {
@@ -121,9 +127,7 @@ pub fn read_words(alloc: Global, words: &[Text]) -> Result<Command, WordsRefusal
 {
     match words {
         [serve, service_word, service, store_word, store, host, source, sink]
-            if serve.is("serve")
-                && (service_word.is("--service")
-                    && (store_word.is("--store") && are_names(store, source, sink))) =>
+            if is_serve(serve, service_word, store_word) && are_names(store, source, sink) =>
         {
             read_serve(alloc, service, store, host, source, sink)
         }
