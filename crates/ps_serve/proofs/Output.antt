@@ -9,6 +9,7 @@ use Rattle.ps_types.proofs.Lines.{lines_of_first}
 use Rattle.ps_types.specs.declared.entry.Arrival.{Arrival}
 use Rattle.ps_types.specs.declared.entry.Arrival.TheVariants as arrival
 use Rattle.ps_types.specs.declared.entry.Entry.{Entry}
+use Rattle.ps_types.specs.declared.entry.Entry.TheVariants.{Boot}
 use Rattle.ps_wire.specs.Reading.{IsNext}
 use Rattle.ps_wire.specs.Writing.{AppendsFront}
 use Rattle.ps_wire.specs.declared.lines.NextLine.TheVariants.{Line as Whole, TooLong}
@@ -16,7 +17,7 @@ use Rattle.ps_wire.proofs.Written.{appends_more, first_part, none_written, secon
 use Rattle.ps_model.specs.Book.{State}
 use Rattle.ps_model.specs.Replay.{replay}
 use Rattle.ps_model.specs.Replies.{entry_of, reply_to}
-use Rattle.ps_serve.specs.Served.{arrival_of, entries_with, replies_after, reply_line}
+use Rattle.ps_serve.specs.Served.{answered, arrival_of, entries_with, replies_after, reply_line}
 use Rattle.ps_serve.specs.Turns.{SoFar, Turn, line_reply, output_from, replies_from, state_with, with_entry}
 use Rattle.ps_serve.specs.declared.turn.StreamEnd.{StreamEnd}
 use Rattle.ps_serve.proofs.Ready.{replay-with}
@@ -161,3 +162,17 @@ module _ (host : List ℕ) (start : State) where
 pub stood : (host : List ℕ) (k : ℕ) (before later written : Option (List ℕ)) (s : State) (e : StreamEnd) → Turn host (Err e) k before later written written s s
 stood host k None later written s e = tt
 stood host k (Some bytes) later written s e = starts written (output_from host s k bytes)
+
+-- ---- a service that has just booted
+
+pub answered-is : (service host bytes : List ℕ) (s : State) → s ≡ replay (Boot service ∷ []) → output_from host s 1 bytes ≡ answered service host bytes
+answered-is service host bytes s is =
+    ap (λ (t : State). output_from host t 1 bytes) is ∙ replies-are host (Boot service ∷ []) 1 (lines_of bytes)
+
+pub done-answered : (service host : List ℕ) (s : State) (left written now : Option (List ℕ)) → s ≡ replay (Boot service ∷ []) → IfSome left (λ bytes. Appends written now (output_from host s 1 bytes)) → IfSome left (λ bytes. Appends written now (answered service host bytes))
+done-answered service host s None written now is done = tt
+done-answered service host s (Some bytes) written now is done = subst (λ (l : List ℕ). Appends written now l) (answered-is service host bytes s is) done
+
+pub part-answered : (service host : List ℕ) (s : State) (left written now : Option (List ℕ)) → s ≡ replay (Boot service ∷ []) → IfSome left (λ bytes. AppendsFront written now (output_from host s 1 bytes)) → IfSome left (λ bytes. AppendsFront written now (answered service host bytes))
+part-answered service host s None written now is part = tt
+part-answered service host s (Some bytes) written now is part = subst (λ (l : List ℕ). AppendsFront written now l) (answered-is service host bytes s is) part

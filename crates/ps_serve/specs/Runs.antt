@@ -2,7 +2,7 @@
 use Rattle.std.specs.Prelude.{ℕ, ◌≡◌, ◌≢◌, ◌⊎◌, ◌≤◌, List, [], ◌∷◌, ◌++◌, take, Option, Some, None, IfSome}
 use Rattle.std.specs.Io.KnownBytes.{Appends}
 use Rattle.ps_base.specs.Causes.{Rose}
-use Rattle.ps_outside.specs.Held.{Held, Same}
+use Rattle.ps_outside.specs.Held.{Held, Same, SameBut}
 use Rattle.ps_outside.specs.World.{ReportsFront}
 use Rattle.ps_outside.specs.declared.world.Kind.TheVariants.{Source, Sink}
 use Rattle.ps_outside.specs.declared.world.Opening.{Opening}
@@ -51,8 +51,8 @@ AnswersInPart s sources sinks sinks_now =
 
 -- no other source and no other sink is changed
 pub record LeavesOthers (s : Served) (sources sources_now sinks sinks_now : List ℕ → Held) : Type 0 where
-  pub sources : (n : List ℕ) → n ≢ s.stream.source → sources_now n ≡ sources n
-  pub sinks : (n : List ℕ) → n ≢ s.stream.sink → sinks_now n ≡ sinks n
+  pub other_sources : SameBut s.stream.source sources sources_now
+  pub other_sinks : SameBut s.stream.sink sinks sinks_now
 
 -- where nothing is served, none is
 abbrev pub Leaves : Option Served → (List ℕ → Held) → (List ℕ → Held) → (List ℕ → Held) → (List ℕ → Held) → Type 0
