@@ -4,3 +4,4 @@ pub mod Output
 pub mod Asking
 pub mod Eight
 pub mod Reaching
+pub mod Same

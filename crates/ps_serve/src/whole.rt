@@ -1,12 +1,12 @@
 // The whole run of a command.
-ghost use Rattle.std.specs.Prelude.{◌≡◌, ◌≢◌, ◌⊎◌, ◌≤◌, ◌∷◌, [], List, ℕ, None, IfSome};
+ghost use Rattle.std.specs.Prelude.{◌≡◌, ◌≢◌, ◌⊎◌, ◌≤◌, ◌∷◌, [], List, ℕ, Some, None, IfSome};
 ghost use Rattle.std.specs.Io.KnownBytes.{Appends};
 ghost use Rattle.ps_base.specs.Causes.{Rose};
 ghost use Rattle.ps_outside.specs.Held.{Same, SameLefts};
 ghost use Rattle.ps_outside.specs.World.{Stay};
 ghost use Rattle.ps_wire.specs.Writing.{AppendsFront};
 ghost use Rattle.ps_serve.specs.Reached.{ReadLimit, ReadWhole};
-ghost use Rattle.ps_serve.specs.Runs.{Answers, AnswersInPart, AsksInOrder, GaveAll, IsReported, LeavesOthers, OpeningFailed, StreamRose, openings_of, reported_from, served_by, stream_openings};
+ghost use Rattle.ps_serve.specs.Runs.{Answers, AnswersInPart, AsksInOrder, GaveAll, IsReported, Leaves, LeavesOthers, OpeningFailed, StreamRose, openings_of, reported_from, served_by, stream_openings};
 ghost use Rattle.ps_serve.specs.Served.{answered};
 ghost use Rattle.ps_serve.specs.Statuses.{report_of};
 ghost use Rattle.ps_serve.specs.Words.{command_of, ServesOne};
@@ -111,6 +111,21 @@ fn serve<W: World>(alloc: Global, service: &Text, stream: &Stream, world: &mut W
     status
 }
 
+// The service host of a command, and its stream.
+fn served_in(command: &Command) -> (&Text, &Stream)
+    requires { ServesOne command.now }
+    ensures some { result.0.now ≢ [] }
+    ensures served { served_by (Some command.now) ≡ Some (record { service = result.0.now; stream = result.1.now }) }
+    ensures openings { openings_of (Some command.now) ≡ stream_openings (result.1.now ∷ []) }
+{
+    let Command::Serve {
+        service,
+        store: _,
+        streams,
+    } = command;
+    (service, &streams.as_slice()[0])
+}
+
 fn run_words<W: World>(alloc: Global, words: &[Text], world: &mut W) -> Status
     ensures usage_only { result ≡ Status.Usage → command_of words.now ≡ None }
     ensures usage { command_of words.now ≡ None → (result ≡ Status.Usage) ⊎ (result ≡ Status.Memory) }
@@ -128,14 +143,10 @@ fn run_words<W: World>(alloc: Global, words: &[Text], world: &mut W) -> Status
     ensures since { reported_from result (W.faults world.old) (W.last_opening world.new) ≤ W.faults world.new }
 {
     match read_words(alloc, words) {
-        Ok(Command::Serve {
-            service,
-            store: _,
-            streams,
-        }) => match streams.as_slice() {
-            [stream] => serve(alloc, &service, stream, world),
-            _ => Status::Usage,
-        },
+        Ok(command) => {
+            let (service, stream) = served_in(&command);
+            serve(alloc, service, stream, world)
+        }
         Err(WordsRefusal::Usage) => Status::Usage,
         Err(WordsRefusal::Memory) => Status::Memory,
     }
