@@ -95,8 +95,8 @@ module _ (host : List ℕ) (k : ℕ) (a : Arrival) (s : State) (written now : Op
   cut (Some bytes) (Some rest) s_now e came part =
       let behind = output_from host (state_with host s k (first_line bytes)) (k + 1) (after_line bytes) in
       subst (λ (l : List ℕ). AppendsFront written now l) (sym (output-first host s k bytes came.some))
-          (first_part written now (line_reply host s k (first_line bytes)) behind
-          (subst (λ (b : Arrival). AppendsFront written now (reply_line (reply_to host s.book k b false))) came.is part))
+      (first_part written now (line_reply host s k (first_line bytes)) behind
+      (subst (λ (b : Arrival). AppendsFront written now (reply_line (reply_to host s.book k b false))) came.is part))
 
 -- ---- all lines
 
@@ -115,8 +115,7 @@ module _ (host : List ℕ) (start : State) where
         by (Some all) None later done turn = absurd done
         by (Some all) (Some rest) None done turn = absurd turn
         by (Some all) (Some rest) (Some later) done turn =
-            let said = line_reply host s k (first_line rest) in
-            (
+            let said = line_reply host s k (first_line rest) in (
               done.0 ++ said,
               appends_more written so_far now done.0 said done.1 turn.2,
               done.2
@@ -147,7 +146,7 @@ module _ (host : List ℕ) (start : State) where
         by (Some all) None done turn = absurd done
         by (Some all) (Some rest) done turn =
             subst (λ (o : Option (List ℕ)). AppendsFront written o (output_from host start 1 all)) (sym turn.1)
-                (record { front = done.0; behind = output_from host s k rest; split = done.2; appends = done.1 })
+            (record { front = done.0; behind = output_from host s k rest; split = done.2; appends = done.1 })
 
     pub part-at-err : (e : StreamEnd) → Turn host (Err e) k rest later so_far now s s_now → IfSome all (λ bytes. AppendsFront written now (output_from host start 1 bytes))
     part-at-err e turn = by all rest done turn

@@ -92,9 +92,9 @@ module _ (host : List ℕ) (line : ℕ) (arrival : Arrival) where
   entry-ok : (s : State) (ready : IsReady host line s) (e : Entry) → Some e ≡ entry_of host s.book line arrival false → accepted s e ≡ true
   entry-ok s ready e at =
       subst (λ (t : State). accepted t e ≡ true) (sym ready.replayed)
-          (accepted-on ready.entries ready.is_lawful ready.has_boot
-          (subst (λ (t : State). greatest_line host t.lines < line) ready.replayed ready.below) e
-          (subst (λ (t : State). Some e ≡ entry_of host t.book line arrival false) ready.replayed at))
+      (accepted-on ready.entries ready.is_lawful ready.has_boot
+      (subst (λ (t : State). greatest_line host t.lines < line) ready.replayed ready.below) e
+      (subst (λ (t : State). Some e ≡ entry_of host t.book line arrival false) ready.replayed at))
 
   -- the service may take it
   pub entry-accepted : (s : State) → IsReady host line s → (o : Option Entry) → o ≡ entry_of host s.book line arrival false → IfSome o (λ e. accepted s e ≡ true)

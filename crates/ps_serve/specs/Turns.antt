@@ -54,7 +54,7 @@ module _ (host : List ℕ) where
   Turn result k None rest written now s s_now = Unit {0}
   Turn result k (Some bytes) rest written now s s_now =
       MatchResult result (λ more. MatchBool more (Went k bytes rest written now s s_now) ((bytes ≡ []) × (now ≡ written)))
-          (λ _. AppendsFront written now (output_from s k bytes))
+      (λ _. AppendsFront written now (output_from s k bytes))
 
   -- what was written and what is still owed make the whole output
   abbrev pub SoFar : State → Option (List ℕ) → ℕ → Option (List ℕ) → Option (List ℕ) → Option (List ℕ) → State → Type 0

@@ -121,7 +121,10 @@ fn a_line_ends_with_the_input(rt: HostRuntime) -> Result<(), Fail> {
     let (half, _) = FIRST.as_bytes().split_at(FIRST.len() / 2);
     let half = ran(alloc, SERVE, half, NONE)?;
     assert_eq!(rt; half.status, Status::Done);
-    assert_eq!(rt; half.written.as_slice(), refused(alloc, 1, "not-json")?.as_bytes());
+    assert_eq!(rt;
+        half.written.as_slice(),
+        refused(alloc, 1, "not-json")?.as_bytes()
+    );
     Ok(())
 }
 
@@ -145,13 +148,70 @@ fn what_fails_has_its_status(rt: HostRuntime) -> Result<(), Fail> {
     let both = lines(alloc, &[MADE, CONFLICT])?;
     let begun = format!(in alloc; "{MADE}\n{CONFLICT}")?;
     for (failing, status, code, output, report) in [
-        (Failing { source: &[1], ..NONE }, Status::StreamFault, 3, "", "stream fault\n"),
-        (Failing { source: &[2], ..NONE }, Status::StreamFault, 3, both.as_str(), "stream fault\n"),
-        (Failing { sink: &[4], ..NONE }, Status::StreamFault, 3, made.as_str(), "stream fault\n"),
-        (Failing { sink: &[5], ..NONE }, Status::StreamFault, 3, begun.as_str(), "stream fault\n"),
-        (Failing { world: &[1], ..NONE }, Status::OpenFault, 9, "", "open fault\n"),
-        (Failing { world: &[2], ..NONE }, Status::OpenFault, 9, "", "open fault\n"),
-        (Failing { world: &[2, 3], ..NONE }, Status::OpenFault, 9, "", ""),
+        (
+            Failing {
+                source: &[1],
+                ..NONE
+            },
+            Status::StreamFault,
+            3,
+            "",
+            "stream fault\n",
+        ),
+        (
+            Failing {
+                source: &[2],
+                ..NONE
+            },
+            Status::StreamFault,
+            3,
+            both.as_str(),
+            "stream fault\n",
+        ),
+        (
+            Failing { sink: &[4], ..NONE },
+            Status::StreamFault,
+            3,
+            made.as_str(),
+            "stream fault\n",
+        ),
+        (
+            Failing { sink: &[5], ..NONE },
+            Status::StreamFault,
+            3,
+            begun.as_str(),
+            "stream fault\n",
+        ),
+        (
+            Failing {
+                world: &[1],
+                ..NONE
+            },
+            Status::OpenFault,
+            9,
+            "",
+            "open fault\n",
+        ),
+        (
+            Failing {
+                world: &[2],
+                ..NONE
+            },
+            Status::OpenFault,
+            9,
+            "",
+            "open fault\n",
+        ),
+        (
+            Failing {
+                world: &[2, 3],
+                ..NONE
+            },
+            Status::OpenFault,
+            9,
+            "",
+            "",
+        ),
     ] {
         let ran = ran(alloc, SERVE, input.as_bytes(), failing)?;
         assert_eq!(rt; ran.status, status, "{report}");
@@ -166,18 +226,45 @@ fn what_fails_has_its_status(rt: HostRuntime) -> Result<(), Fail> {
 fn other_words_are_no_command(rt: HostRuntime) -> Result<(), Fail> {
     let alloc = rt.alloc();
     for (words, status) in [
-        ("serve --service PubSub.Example --store s A.Example i1 o1", Status::Done),
+        (
+            "serve --service PubSub.Example --store s A.Example i1 o1",
+            Status::Done,
+        ),
         ("", Status::Usage),
         ("serve --store s", Status::Usage),
         ("rehearse 0 4", Status::Usage),
-        ("serve --service a.example --store s A.EXAMPLE i1 o1", Status::Usage),
-        ("serve --service pubsub.example --store s ann@a.example i1 o1", Status::Usage),
-        ("serve --service pubsub.example --store s a.example/1 i1 o1", Status::Usage),
-        ("serve --service pubsub.example --store s a..example i1 o1", Status::Usage),
-        ("serve --service pubsub.example --store i1 a.example i1 o1", Status::Usage),
-        ("serve --service pubsub.example --store s a.example i1 i1", Status::Usage),
-        ("serve --service pubsub.example --store s a.example i1 ", Status::Usage),
-        ("serve --service pubsub.example --store s a.example i1 o1 b.example i2 o2", Status::Usage),
+        (
+            "serve --service a.example --store s A.EXAMPLE i1 o1",
+            Status::Usage,
+        ),
+        (
+            "serve --service pubsub.example --store s ann@a.example i1 o1",
+            Status::Usage,
+        ),
+        (
+            "serve --service pubsub.example --store s a.example/1 i1 o1",
+            Status::Usage,
+        ),
+        (
+            "serve --service pubsub.example --store s a..example i1 o1",
+            Status::Usage,
+        ),
+        (
+            "serve --service pubsub.example --store i1 a.example i1 o1",
+            Status::Usage,
+        ),
+        (
+            "serve --service pubsub.example --store s a.example i1 i1",
+            Status::Usage,
+        ),
+        (
+            "serve --service pubsub.example --store s a.example i1 ",
+            Status::Usage,
+        ),
+        (
+            "serve --service pubsub.example --store s a.example i1 o1 b.example i2 o2",
+            Status::Usage,
+        ),
     ] {
         let ran = ran(alloc, words, b"", NONE)?;
         assert_eq!(rt; ran.status, status, "{words}");

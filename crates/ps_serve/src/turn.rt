@@ -1,11 +1,10 @@
 // One line, answered by the service.
-ghost use Rattle.std.specs.Prelude.{◌≡◌, ◌≢◌, ◌<◌, ◌≤◌, ◌+◌, ◌^◌, ◌∷◌, ◌⊎◌, [], true, false, option_map, IfOk, IfSome, OnOk, OnErr, IsErrOf};
+ghost use Rattle.std.specs.Prelude.{◌≡◌, ◌<◌, ◌≤◌, ◌+◌, ◌^◌, ◌⊎◌, true, false, option_map, IfOk, IfSome, OnOk, OnErr, IsErrOf};
 ghost use Rattle.std.specs.Io.KnownBytes.{Appends};
 ghost use Rattle.ps_base.specs.Causes.{HasCause, Rose};
 ghost use Rattle.ps_types.specs.Print.{print as printed_tree};
-ghost use Rattle.ps_types.specs.declared.entry.Entry.TheVariants.{Boot};
 ghost use Rattle.ps_wire.specs.Writing.{AppendsFront};
-ghost use Rattle.ps_model.specs.Replay.{accepted, replay};
+ghost use Rattle.ps_model.specs.Replay.{accepted};
 ghost use Rattle.ps_model.specs.Replies.{entry_of, reply_to};
 ghost use Rattle.ps_serve.specs.Served.{line_of, reply_line};
 ghost use Rattle.ps_serve.specs.Turns.{IsReady, with_entry};
@@ -43,19 +42,6 @@ impl From<WriteFault> for StreamEnd {
     fn from(_: WriteFault) -> StreamEnd {
         StreamEnd::WriteFault
     }
-}
-
-/// A service that has booted once, by that service host.
-pub fn booted(alloc: Global, host: &Text) -> Result<Service, Memory>
-    requires { host.now ≢ [] }
-    ensures { IfOk result (λ s. s.state ≡ replay (Boot host.now ∷ [])) }
-{
-    let mut service = Service::new(alloc)?;
-    let boot = Entry::Boot {
-        service: host.clone()?,
-    };
-    service.apply(&boot)?;
-    Ok(service)
 }
 
 fn print_reply(alloc: Global, reply: &Option<Elem>) -> Result<Option<Bytes>, Memory>

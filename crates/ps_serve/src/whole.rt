@@ -11,9 +11,10 @@ ghost use Rattle.ps_serve.specs.Served.{answered};
 ghost use Rattle.ps_serve.specs.Statuses.{report_of};
 ghost use Rattle.ps_serve.specs.Words.{command_of, ServesOne};
 
+use crate::booting::booted;
 use crate::status::Status;
 use crate::stream::serve_lines;
-use crate::turn::{StreamEnd, booted};
+use crate::turn::StreamEnd;
 use crate::words::{Command, Stream, WordsRefusal, read_words};
 use ps_base::Memory;
 use ps_outside::{World, WorldRefusal};
@@ -63,13 +64,13 @@ fn serve_stream<S: Source, K: Sink>(
     ensures stream { result.0 ≡ Status.StreamFault → Rose (S.faults source) (S.faults result.1) ⊎ Rose (K.faults sink.old) (K.faults sink.new) }
     ensures never { (result.0 ≡ Status.Usage) ⊎ (result.0 ≡ Status.OpenFault) → ⊥ }
 {
-    let mut service = match booted(alloc, service) {
-        Ok(service) => service,
+    let mut serving = match booted(alloc, service) {
+        Ok(serving) => serving,
         Err(Memory) => return (Status::Memory, source),
     };
     match Lines::new(alloc, source) {
         Ok(mut lines) => {
-            let end = serve_lines(alloc, &mut service, host, &mut lines, sink);
+            let end = serve_lines(alloc, &mut serving.service, host, &mut lines, sink);
             (status_of(end), lines.close())
         }
         Err(LinesRefusal { source }) => (Status::Memory, source),

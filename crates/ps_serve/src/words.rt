@@ -126,9 +126,16 @@ pub fn read_words(alloc: Global, words: &[Text]) -> Result<Command, WordsRefusal
     ensures usage { IsErrOf result WordsRefusal.Usage → command_of words.now ≡ None }
 {
     match words {
-        [serve, service_word, service, store_word, store, host, source, sink]
-            if is_serve(serve, service_word, store_word) && are_names(store, source, sink) =>
-        {
+        [
+            serve,
+            service_word,
+            service,
+            store_word,
+            store,
+            host,
+            source,
+            sink,
+        ] if is_serve(serve, service_word, store_word) && are_names(store, source, sink) => {
             read_serve(alloc, service, store, host, source, sink)
         }
         _ => Err(WordsRefusal::Usage),

@@ -30,13 +30,13 @@ pub returns-in-Err-clause-part : goal.returns-in-Err-clause-part
 returns-in-Err-clause-part g c =
     let so = c.answers.invariant in
     rw c.requires.fresh.before at
-        (part-at-err c.args.host.now c.args.service.now.state (rest_of c.args.lines.now) (rest_of c.answers.lines) (rest_of c.answer_next.new.lines)
-        (g.K.Sink.written c.args.sink.now) (g.K.Sink.written c.answers.sink) (g.K.Sink.written c.answer_next.new.sink)
-        c.answers.line c.answers.service.state c.answer_next.new.service.state so.so_far c.in-Err.why c.in-Err.ensures.turn)
+    (part-at-err c.args.host.now c.args.service.now.state (rest_of c.args.lines.now) (rest_of c.answers.lines) (rest_of c.answer_next.new.lines)
+    (g.K.Sink.written c.args.sink.now) (g.K.Sink.written c.answers.sink) (g.K.Sink.written c.answer_next.new.sink)
+    c.answers.line c.answers.service.state c.answer_next.new.service.state so.so_far c.in-Err.why c.in-Err.ensures.turn)
 
 pub returns-in-Err-clause-long : goal.returns-in-Err-clause-long
 returns-in-Err-clause-long g c =
     let so = c.answers.invariant in
     let now = c.in-Err.ensures in
     λ e. read-limit (g.S.Source.left (source_of c.args.lines.now)) (g.S.Source.left (source_of c.answers.lines)) (g.S.Source.left (source_of c.answer_next.new.lines))
-        (given_of c.answers.lines) (given_of c.answer_next.new.lines) so.gave now.gave (now.long (λ i. Err (e i)))
+    (given_of c.answers.lines) (given_of c.answer_next.new.lines) so.gave now.gave (now.long (λ i. Err (e i)))

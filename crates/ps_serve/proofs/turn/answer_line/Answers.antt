@@ -11,7 +11,7 @@ returns-clause-ready g c =
     let s = c.args.service.now.state in
     let o = entry_of c.args.host.now s.book c.args.line c.args.arrival.now false in
     subst (λ (t : State). IsReady c.args.host.now (c.args.line + 1) t) (sym c.in_ok-reply.ensures.state)
-        (ready-next c.args.host.now c.args.line c.args.arrival.now s c.requires.ready o (λ i. o))
+    (ready-next c.args.host.now c.args.line c.args.arrival.now s c.requires.ready o (λ i. o))
 
 pub returns-clause-count : goal.returns-clause-count
 returns-clause-count g c =

@@ -17,13 +17,13 @@ serve_lines-end-requires-clause-ready g c =
 pub returns-in-Ok-new-clause-done : goal.returns-in-Ok-new-clause-done
 returns-in-Ok-new-clause-done g c =
     λ e. subst (λ s. IfSome (g.S.Source.left s) (λ bytes. Appends (g.K.Sink.written c.args.sink.now) (g.K.Sink.written c.serve_lines-end.new.sink) (answered c.args.service.now c.args.host.now bytes)))
-        c.in-Ok-new.ensures.ok.0
-        (done-answered c.args.service.now c.args.host.now c.in-Ok.service.state (g.S.Source.left (source_of c.in-Ok-new.lines)) (g.K.Sink.written c.args.sink.now) (g.K.Sink.written c.serve_lines-end.new.sink)
-        c.in-Ok.ensures (c.serve_lines-end.ensures.done (c.status_of.ensures.done e)))
+    c.in-Ok-new.ensures.ok.0
+    (done-answered c.args.service.now c.args.host.now c.in-Ok.serving.service.state (g.S.Source.left (source_of c.in-Ok-new.lines)) (g.K.Sink.written c.args.sink.now) (g.K.Sink.written c.serve_lines-end.new.sink)
+    c.in-Ok.ensures (c.serve_lines-end.ensures.done (c.status_of.ensures.done e)))
 
 pub returns-in-Ok-new-clause-part : goal.returns-in-Ok-new-clause-part
 returns-in-Ok-new-clause-part g c =
     subst (λ s. IfSome (g.S.Source.left s) (λ bytes. AppendsFront (g.K.Sink.written c.args.sink.now) (g.K.Sink.written c.serve_lines-end.new.sink) (answered c.args.service.now c.args.host.now bytes)))
-        c.in-Ok-new.ensures.ok.0
-        (part-answered c.args.service.now c.args.host.now c.in-Ok.service.state (g.S.Source.left (source_of c.in-Ok-new.lines)) (g.K.Sink.written c.args.sink.now) (g.K.Sink.written c.serve_lines-end.new.sink)
-        c.in-Ok.ensures c.serve_lines-end.ensures.part)
+    c.in-Ok-new.ensures.ok.0
+    (part-answered c.args.service.now c.args.host.now c.in-Ok.serving.service.state (g.S.Source.left (source_of c.in-Ok-new.lines)) (g.K.Sink.written c.args.sink.now) (g.K.Sink.written c.serve_lines-end.new.sink)
+    c.in-Ok.ensures c.serve_lines-end.ensures.part)

@@ -28,4 +28,4 @@ pub returns-in-Err-Malformed-clause-usage : goal.returns-in-Err-Malformed-clause
 returns-in-Err-Malformed-clause-usage c =
     λ e. host-none c.args.word.now
     (subst (λ (l : List ℕ). (j : Jid) → Spells l j → ⊥) (c.as_bytes.ensures.value ∙ c.as_str.ensures.value)
-        (c.in-Err-Malformed.ensures.malformed (λ i. Err (c.in-Err-Malformed.field-0-is i))))
+    (c.in-Err-Malformed.ensures.malformed (λ i. Err (c.in-Err-Malformed.field-0-is i))))
