@@ -1,5 +1,5 @@
 -- Eight words that are a command.
-use Rattle.std.proofs.Common.{◌≡◌, ℕ, ◌<◌, ◌≤◌, ◌&&◌, List, [], ◌∷◌, length, get_or, Bool, true, false, cond, Option, Some, None, refl, sym, ap, ◌∙◌, arith}
+use Rattle.std.proofs.Common.{◌≡◌, ℕ, ◌<◌, ◌≤◌, ◌&&◌, List, [], ◌∷◌, length, get_or, Bool, true, false, cond, Option, None, refl, sym, ap, ◌∙◌, arith}
 use Rattle.ps_serve.specs.Words.{are_names, command_of, host_of, is_serve, serve_of}
 use Rattle.ps_serve.specs.declared.words.Command.{Command}
 

@@ -1,8 +1,7 @@
 -- The host that a word is.
-use Rattle.std.proofs.Common.{◌≡◌, ℕ, List, [], ◌∷◌, ◌==◌, ◌&&◌, length, Bool, true, false, cond, map, Option, Some, None, option_and_then, refl, sym, ap, subst, ◌∙◌}
-use Rattle.ps_types.specs.Address.{IsHost, IsLabel, Spells, dotted, lower}
+use Rattle.std.proofs.Common.{◌≡◌, ℕ, List, [], ◌∷◌, ◌==◌, ◌&&◌, length, Bool, true, false, cond, map, Option, Some, None, option_and_then, refl, sym, ap, ◌∙◌}
+use Rattle.ps_types.specs.Address.{IsLabel, Spells, dotted, lower}
 use Rattle.ps_types.specs.declared.jid.Jid.{Jid}
-use Rattle.ps_model.specs.Stanza.{jid_of}
 use Rattle.ps_request.proofs.Addresses.{jid-none, jid-spelled}
 use Rattle.ps_serve.specs.Words.{host_in, host_of}
 

@@ -1,5 +1,5 @@
 -- How much a source has given in all.
-use Rattle.std.proofs.Common.{◌≡◌, ℕ, ◌+◌, ◌^◌, List, length, Option, sym, ◌∙◌, arith}
+use Rattle.std.proofs.Common.{◌≡◌, ℕ, ◌^◌, List, Option, arith}
 use Rattle.ps_wire.specs.Reading.{Gave}
 use Rattle.ps_wire.proofs.Gaining.{gave_more}
 use Rattle.ps_serve.specs.Reached.{ReadLimit}

@@ -1,5 +1,5 @@
 -- A world that keeps what it holds keeps what was said of it.
-use Rattle.std.proofs.Common.{◌≡◌, ◌≢◌, ℕ, List, Option, Some, None, sym, subst, ◌∙◌}
+use Rattle.std.proofs.Common.{ℕ, List, Option, Some, None, sym, subst, ◌∙◌}
 use Rattle.std.specs.Prelude.{IfSome}
 use Rattle.ps_outside.specs.Held.{Held, Same}
 use Rattle.ps_serve.specs.Reached.{ReadLimit}

@@ -1,5 +1,5 @@
 -- What the answering of one line does, by the State before it.
-use Rattle.std.specs.Prelude.{ℕ, ◌≡◌, ◌≢◌, ◌<◌, ◌≤◌, ◌+◌, ◌^◌, false, List, [], ◌∷◌, ◌++◌, Bool, Option, Some, None, Result, MatchResult, MatchBool}
+use Rattle.std.specs.Prelude.{ℕ, ◌≡◌, ◌≢◌, ◌<◌, ◌+◌, ◌^◌, false, List, [], ◌∷◌, ◌++◌, Bool, Option, Some, None, Result, MatchResult, MatchBool}
 use Rattle.std.specs.Io.KnownBytes.{Appends}
 use Rattle.ps_types.specs.Lines.{first_line, after_line, lines_of}
 use Rattle.ps_types.specs.declared.entry.Entry.{Entry}

@@ -3,7 +3,6 @@ use Rattle.std.specs.Prelude.{◌≢◌, ◌==◌, ◌&&◌, not, ℕ, Bool, Lis
 use Rattle.std.specs.Str.{bytes_eq}
 use Rattle.ps_types.specs.declared.jid.Jid.{Jid}
 use Rattle.ps_model.specs.Stanza.{jid_of}
-use Rattle.ps_serve.specs.declared.words.Stream.{Stream}
 use Rattle.ps_serve.specs.declared.words.Command.{Command}
 use Rattle.ps_serve.specs.declared.words.Command.TheVariants.{Serve}
 

@@ -18,8 +18,6 @@
 mod booting;
 mod status;
 mod stream;
-#[cfg(test)]
-mod tests;
 mod turn;
 mod whole;
 mod words;

@@ -1,4 +1,4 @@
-use Rattle.std.proofs.Common.{◌≤◌, ◌+◌, Err, arith}
+use Rattle.std.proofs.Common.{Err, arith}
 use Rattle.ps_wire.specs.Reading.{given_of, rest_of, source_of}
 use Rattle.ps_wire.proofs.Gaining.{gave_more}
 use Rattle.ps_serve.proofs.Output.{one-more, part-at-err}
