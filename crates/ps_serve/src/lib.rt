@@ -18,6 +18,8 @@
 mod booting;
 mod status;
 mod stream;
+#[cfg(test)]
+mod tests;
 mod turn;
 mod whole;
 mod words;
