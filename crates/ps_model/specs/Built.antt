@@ -1,5 +1,5 @@
 -- What is built today. As a kind of request, a target, an event or an entry is built, its lines here go, and nothing else changes.
-use Rattle.std.specs.Prelude.{ℕ, Bool, true, false, ◌&&◌, ◌||◌, not, ◌==◌, length, List, Option, None, cond, is_some}
+use Rattle.std.specs.Prelude.{ℕ, Bool, true, false, ◌&&◌, ◌||◌, not, ◌==◌, length, List, Option, None, cond}
 use Rattle.ps_types.specs.declared.config.Access.{Access}
 use Rattle.ps_types.specs.declared.config.Access.TheVariants.{Everyone, Presence, Roster, Authorize, Whitelist}
 use Rattle.ps_types.specs.declared.config.NodeConfig.{NodeConfig}
@@ -24,14 +24,13 @@ use Rattle.ps_model.specs.Steps.{unless}
 -- ---- requests that are read and not built yet are denied
 
 abbrev pub is_unbuilt_ask : Ask → Bool
-is_unbuilt_ask (ask.Create node form) = is_some form
-is_unbuilt_ask (ask.Publish node items options) = false
-is_unbuilt_ask (ask.Retract node ids notify) = false
-is_unbuilt_ask (ask.ItemsGet node max ids) = false
-is_unbuilt_ask (ask.MyAffils node) = false
-is_unbuilt_ask (ask.MySubs node) = false
-is_unbuilt_ask ask.Silent = false
-is_unbuilt_ask _ = true
+is_unbuilt_ask (ask.InfoGet node) = true
+is_unbuilt_ask (ask.NodesGet node) = true
+is_unbuilt_ask (ask.RosterSet item) = true
+is_unbuilt_ask (ask.Present caps) = true
+is_unbuilt_ask ask.Absent = true
+is_unbuilt_ask (ask.CapsAnswer node info) = true
+is_unbuilt_ask _ = false
 
 -- requests to an account
 abbrev pub is_unbuilt : List ℕ → Request → Bool
@@ -57,13 +56,13 @@ abbrev pub is_built_access : Access → Bool
 is_built_access Everyone = true
 is_built_access Presence = false
 is_built_access Roster = false
-is_built_access Authorize = false
-is_built_access Whitelist = false
+is_built_access Authorize = true
+is_built_access Whitelist = true
 
 abbrev pub is_built_publish : PublishModel → Bool
 is_built_publish Publishers = true
-is_built_publish Subscribers = false
-is_built_publish Anyone = false
+is_built_publish Subscribers = true
+is_built_publish Anyone = true
 
 abbrev pub is_built_kind : NodeKind → Bool
 is_built_kind Leaf = true
