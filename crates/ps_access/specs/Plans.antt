@@ -36,3 +36,9 @@ abbrev pub Passes : Result (Unit {0}) PlanRefusal → Option Condition → Type 
 Passes (Ok u) denial = denial ≡ None
 Passes (Err (Denied why)) denial = denial ≡ Some why
 Passes (Err Memory) denial = Unit {0}
+
+-- a value that is handed on where no step denies, else the first condition
+abbrev pub PassesWith : {T : Type 0} → Result T PlanRefusal → Option Condition → Result T Condition → Type 0
+PassesWith (Ok value) denial given = (denial ≡ None) × (given ≡ Ok value)
+PassesWith (Err (Denied why)) denial given = denial ≡ Some why
+PassesWith (Err Memory) denial given = Unit {0}

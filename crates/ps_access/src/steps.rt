@@ -2,7 +2,7 @@
 ghost use Rattle.std.specs.Prelude.{◌≡◌, true, IfOk, OnOk};
 ghost use Rattle.ps_types.specs.Nodes.{node_at, stands};
 ghost use Rattle.ps_types.specs.declared.denial.Condition.TheVariants.{C12};
-ghost use Rattle.ps_model.specs.Built.{built_config};
+ghost use Rattle.ps_model.specs.Built.{built_config, is_built_access as is_built_model};
 ghost use Rattle.ps_model.specs.CheckForms.{node_of};
 ghost use Rattle.ps_model.specs.CheckNode.{leaf_by};
 ghost use Rattle.ps_model.specs.Steps.{denied_by, unless};
@@ -11,8 +11,7 @@ ghost use Rattle.ps_access.specs.Plans.{Passes};
 use crate::tables::Tables;
 use ps_base::Memory;
 use ps_types::{
-    Access, Condition, NodeConfig, NodeKey, NodeKind, PlanRefusal, PublishModel, Request, Text,
-    Verdict,
+    Access, Condition, NodeConfig, NodeKey, NodeKind, PlanRefusal, Request, Text, Verdict,
 };
 
 /// The key of the node of that name at the request's target.
@@ -81,12 +80,20 @@ pub fn must_be_leaf(tables: &Tables, node: &NodeKey) -> Result<(), PlanRefusal>
     }
 }
 
+fn is_built_access(access: Access) -> bool
+    ensures { result ≡ is_built_model access }
+{
+    matches!(
+        access,
+        Access::Everyone | Access::Authorize | Access::Whitelist
+    )
+}
+
 /// What keeps a configuration from being given to a node today.
 pub fn built_limit(config: &NodeConfig) -> Option<Condition>
     ensures limit { result ≡ built_config config.now }
 {
-    let built = matches!(config.access_model, Access::Everyone)
-        && matches!(config.publish_model, PublishModel::Publishers)
+    let built = is_built_access(config.access_model)
         && matches!(config.node_type, NodeKind::Leaf)
         && config.collection.is_empty()
         && !config.presence_based_delivery;

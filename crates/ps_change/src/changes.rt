@@ -5,17 +5,48 @@ ghost use Rattle.ps_model.specs.Changes.{changed};
 ghost use Rattle.ps_model.specs.Check.{judged};
 ghost use Rattle.ps_model.specs.Outcome.{is_accepted};
 ghost use Rattle.ps_access.specs.Tables.{book_of};
-ghost use Rattle.ps_change.specs.Kinds.{AreFew, is_known};
+ghost use Rattle.ps_change.specs.Kinds.{AreFew, is_known, is_of_subs};
 
-use crate::create::create;
+use crate::affils::set_affils;
+use crate::configure::configure;
+use crate::create::create_by;
 use crate::delete::delete;
 use crate::items::{publish, retract};
-use crate::subs::unsubscribe;
+use crate::subs::{approve, set_options, set_subs, subscribe, unsubscribe};
 use ps_access::{Tables, key_of};
 use ps_base::Memory;
-use ps_config::default_config;
 use ps_types::{Ask, Request};
 use std::alloc::Global;
+
+// What becomes of subscriptions.
+fn change_subs(
+    tables: &mut Tables,
+    alloc: Global,
+    request: &Request,
+    moment: Option<u64>,
+) -> Result<(), Memory>
+    requires kind { is_of_subs request.now.ask ≡ true }
+    requires accepted { is_accepted (judged built_config (book_of tables.old) request.now) ≡ true }
+    ensures book { OnOk result (book_of tables.new ≡ changed request.now moment (book_of tables.old)) }
+{
+    match &request.ask {
+        Ask::SubsSet { node, rows } => {
+            set_subs(tables, &key_of(request, node)?, rows.as_slice())
+        }
+        Ask::Subscribe { node, who, form } => {
+            let key = key_of(request, node)?;
+            subscribe(tables, alloc, request, &key, who, form)
+        }
+        Ask::Unsubscribe { node, who, .. } => unsubscribe(tables, &key_of(request, node)?, who),
+        Ask::OptionsSet { node, who, form } => {
+            set_options(tables, alloc, &key_of(request, node)?, who, form)
+        }
+        Ask::Approve { node, who, allow } => {
+            approve(tables, &key_of(request, node)?, who, allow)
+        }
+        _ => unreachable!(),
+    }
+}
 
 /// Does what an accepted request of a known kind does. After an error the tables are of no use.
 pub fn change(
@@ -30,15 +61,9 @@ pub fn change(
     ensures book { OnOk result (book_of tables.new ≡ changed request.now moment (book_of tables.old)) }
 {
     match &request.ask {
-        Ask::Create { node, .. } => {
+        Ask::Create { node, form } => {
             let key = key_of(request, node)?;
-            create(
-                tables,
-                alloc,
-                &key,
-                &request.from,
-                default_config(alloc, false)?,
-            )
+            create_by(tables, alloc, request, &key, form)
         }
         Ask::Publish { node, items, .. } => {
             let key = key_of(request, node)?;
@@ -56,11 +81,15 @@ pub fn change(
             delete(tables, &key_of(request, node)?);
             Ok(())
         }
-        Ask::Unsubscribe { node, who, .. } => unsubscribe(tables, &key_of(request, node)?, who),
-        Ask::Absent => {
-            tables.presence.clear(&request.from);
-            Ok(())
+        Ask::ConfigSet { node, form } => { configure(tables, alloc, &key_of(request, node)?, form) }
+        Ask::AffilsSet { node, rows } => {
+            set_affils(tables, alloc, &key_of(request, node)?, rows.as_slice())
         }
+        Ask::SubsSet { .. }
+        | Ask::Subscribe { .. }
+        | Ask::Unsubscribe { .. }
+        | Ask::OptionsSet { .. }
+        | Ask::Approve { .. } => change_subs(tables, alloc, request, moment),
         _ => unreachable!(),
     }
 }

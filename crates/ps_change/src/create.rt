@@ -1,13 +1,16 @@
 // How a node is made (XEP-0060 §8.1).
 ghost use Rattle.std.specs.Prelude.{◌≡◌, false, IfOk, OnOk};
 ghost use Rattle.ps_types.specs.Nodes.{stands};
-ghost use Rattle.ps_model.specs.ChangeNodes.{created, new_node, linked, owner_row as owner_row_of};
+ghost use Rattle.ps_model.specs.ChangeNodes.{created, created_by, new_node, linked, owner_row as owner_row_of};
+ghost use Rattle.ps_model.specs.CheckForms as model;
 ghost use Rattle.ps_access.specs.Tables.{book_of};
 
-use ps_access::Tables;
+use ps_access::{Tables, new_config};
 use ps_base::Memory;
 use ps_coll::Links;
-use ps_types::{Affil, AffilRow, Jid, LinkRow, NodeConfig, NodeKey, NodeRow};
+use ps_types::{
+    Affil, AffilRow, Elem, Jid, LinkRow, NodeConfig, NodeKey, NodeRow, PlanRefusal, Request,
+};
 use std::alloc::Global;
 
 fn node_row(alloc: Global, node: &NodeKey, who: &Jid, config: NodeConfig) -> Result<NodeRow, Memory>
@@ -68,4 +71,22 @@ pub fn create(
     let _ = tables.nodes.create(row);
     tables.affils.set(owner);
     Ok(())
+}
+
+/// Makes a node with the configuration of the form, or with the defaults of the request's target.
+pub fn create_by(
+    tables: &mut Tables,
+    alloc: Global,
+    request: &Request,
+    node: &NodeKey,
+    form: &Option<Elem>,
+) -> Result<(), Memory>
+    requires absent { stands node.now tables.old.nodes.rows ≡ false }
+    ensures book { OnOk result (book_of tables.new ≡ created_by (model.new_config request.now.target form.now) node.now request.now.from (book_of tables.old)) }
+{
+    match new_config(alloc, &request.target, form) {
+        Ok(config) => create(tables, alloc, node, &request.from, config),
+        Err(PlanRefusal::Denied(_)) => Ok(()),
+        Err(PlanRefusal::Memory) => Err(Memory),
+    }
 }

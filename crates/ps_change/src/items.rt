@@ -8,8 +8,7 @@ ghost use Rattle.ps_model.specs.ChangePublish.{item_row as item_row_of, counted,
 ghost use Rattle.ps_model.specs.ItemIds.{item_id as item_id_of};
 ghost use Rattle.ps_access.specs.Tables.{book_of};
 
-use crate::ids::item_id;
-use ps_access::Tables;
+use ps_access::{Tables, item_id};
 use ps_base::Memory;
 use ps_types::{AskItem, AskItems, CountRow, ItemRow, Jid, NodeKey, Text, Texts};
 use std::alloc::Global;

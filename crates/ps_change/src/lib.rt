@@ -5,14 +5,14 @@
 //! Book to go on with. `specs/Kinds.antt` names the kinds that it knows and what it asks of a Book.
 #![tactic(auto)]
 
+mod affils;
 mod changes;
+mod configure;
 mod create;
 mod delete;
-mod ids;
 mod items;
 mod subs;
 #[cfg(test)]
 mod tests;
 
 pub use changes::change;
-pub use ids::item_id;

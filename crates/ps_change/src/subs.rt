@@ -1,36 +1,135 @@
-// What a subscription comes to (XEP-0060 §6, §8.6).
-ghost use Rattle.std.specs.Prelude.{◌≡◌, OnOk};
-ghost use Rattle.ps_model.specs.ChangeEntity.{unsubscribe_change, base_options as base_options_of};
+// What becomes of subscriptions (XEP-0060 §6, §8.6, §8.8.2).
+ghost use Rattle.std.specs.Prelude.{◌≡◌, true, IfOk, OnOk, Result};
+ghost use Rattle.ps_types.specs.declared.config.SubOptions.{SubOptions};
+ghost use Rattle.ps_types.specs.declared.denial.Condition.{Condition};
+ghost use Rattle.ps_types.specs.Nodes.{stands};
+ghost use Rattle.ps_types.specs.Subs.{subs_with};
+ghost use Rattle.ps_types.specs.Values.{is_true};
+ghost use Rattle.ps_model.specs.ChangeEntity.{options_change, subscribe_change, subscribed_by, unsubscribe_change};
+ghost use Rattle.ps_model.specs.ChangeOwner as model;
+ghost use Rattle.ps_model.specs.ChangeOwner.{approve_change, sub_with, subs_change};
+ghost use Rattle.ps_model.specs.Steps.{denial_of};
+ghost use Rattle.ps_access.specs.Plans.{PassesWith};
 ghost use Rattle.ps_access.specs.Tables.{book_of};
 
-use ps_access::Tables;
+use ps_access::{Tables, asked_state, base_options, given_options, new_state};
 use ps_base::Memory;
-use ps_types::{Jid, NodeKey, SubOptions, SubRow, SubState};
+use ps_subs::Subs;
+use ps_types::{
+    AskRow, Elem, Jid, NodeKey, PlanRefusal, Request, SubOptions, SubRow, SubState, Text,
+};
+use std::alloc::Global;
 
-// The options of the address's own row, or the defaults.
-fn base_options(tables: &Tables, node: &NodeKey, who: &Jid) -> SubOptions
-    ensures { result ≡ base_options_of (book_of tables.now) node.now who.now }
+fn row(node: &NodeKey, who: &Jid, state: SubState, options: SubOptions) -> Result<SubRow, Memory>
+    ensures { IfOk result (λ r. r ≡ record { node = node.now; who = who.now; state = state; options = options }) }
 {
-    match tables.subs.row_of(node, who) {
-        Some(row) => row.options,
-        None => SubOptions {
-            items: true,
-            deep: false,
-        },
-    }
+    Ok(SubRow {
+        node: node.clone()?,
+        who: who.clone()?,
+        state,
+        options,
+    })
+}
+
+fn set(subs: &mut Subs, row: SubRow) -> Result<(), Memory>
+    ensures { OnOk result (subs.new.rows ≡ subs_with row subs.old.rows) }
+{
+    subs.reserve(1)?;
+    subs.set(row);
+    Ok(())
+}
+
+// Sets how far a subscription has come, where none removes it. A row keeps its options, and a new one has the defaults.
+fn set_state(tables: &mut Tables, node: &NodeKey, who: &Jid, state: SubState) -> Result<(), Memory>
+    ensures subs { OnOk result (tables.new.subs.rows ≡ subs_with (sub_with node.now who.now state tables.old.subs.rows) tables.old.subs.rows) }
+    ensures rest { OnOk result (book_of tables.new ≡ record (book_of tables.old) { subs = tables.new.subs.rows }) }
+{
+    let row = row(node, who, state, base_options(tables, node, who))?;
+    set(&mut tables.subs, row)
 }
 
 /// Takes the subscription of exactly this address away.
 pub fn unsubscribe(tables: &mut Tables, node: &NodeKey, who: &Jid) -> Result<(), Memory>
     ensures book { OnOk result (book_of tables.new ≡ unsubscribe_change node.now who.now (book_of tables.old)) }
 {
-    let row = SubRow {
-        node: node.clone()?,
-        who: who.clone()?,
-        state: SubState::Nothing,
-        options: base_options(tables, node, who),
-    };
-    tables.subs.reserve(1)?;
-    tables.subs.set(row);
+    set_state(tables, node, who, SubState::Nothing)
+}
+
+fn approved(allowed: &Text) -> SubState
+    ensures { result ≡ model.approved (is_true allowed.now) }
+{
+    if allowed.is("1") || allowed.is("true") {
+        SubState::Subscribed
+    } else {
+        SubState::Nothing
+    }
+}
+
+/// A pending subscription comes about, or goes.
+pub fn approve(tables: &mut Tables, node: &NodeKey, who: &Jid, allowed: &Text) -> Result<(), Memory>
+    ensures book { OnOk result (book_of tables.new ≡ approve_change node.now who.now allowed.now (book_of tables.old)) }
+{
+    set_state(tables, node, who, approved(allowed))
+}
+
+/// Sets the rows that are asked for in order, where none removes.
+pub fn set_subs(tables: &mut Tables, node: &NodeKey, rows: &[AskRow]) -> Result<(), Memory>
+    ensures book { OnOk result (book_of tables.new ≡ subs_change node.now rows.now (book_of tables.old)) }
+{
+    for row in rows {
+        set_state(tables, node, &row.jid, asked_state(row))?;
+    }
     Ok(())
+}
+
+// Options that aren't given leave all as it is.
+fn subscribe_with(
+    tables: &mut Tables,
+    node: &NodeKey,
+    who: &Jid,
+    state: SubState,
+    options: Result<SubOptions, PlanRefusal>,
+) -> Result<(), Memory>
+    ensures book { OnOk result ((given : Result SubOptions Condition) → PassesWith options (denial_of given) given → book_of tables.new ≡ subscribed_by given node.now who.now state (book_of tables.old)) }
+{
+    match options {
+        Ok(options) => {
+            let row = row(node, who, state, options)?;
+            set(&mut tables.subs, row)
+        }
+        Err(PlanRefusal::Denied(_)) => Ok(()),
+        Err(PlanRefusal::Memory) => Err(Memory),
+    }
+}
+
+/// An address subscribes to a node that stands, or waits for an owner's approval. A form changes the options.
+pub fn subscribe(
+    tables: &mut Tables,
+    alloc: Global,
+    request: &Request,
+    node: &NodeKey,
+    who: &Jid,
+    form: &Option<Elem>,
+) -> Result<(), Memory>
+    requires stands { stands node.now tables.old.nodes.rows ≡ true }
+    ensures book { OnOk result (book_of tables.new ≡ subscribe_change request.now node.now who.now form.now (book_of tables.old)) }
+{
+    let options = given_options(alloc, form, base_options(tables, node, who));
+    let state = new_state(tables, request, node, who);
+    subscribe_with(tables, node, who, state, options)
+}
+
+/// A form changes the options of a subscription.
+pub fn set_options(
+    tables: &mut Tables,
+    alloc: Global,
+    node: &NodeKey,
+    who: &Jid,
+    form: &Option<Elem>,
+) -> Result<(), Memory>
+    ensures book { OnOk result (book_of tables.new ≡ options_change node.now who.now form.now (book_of tables.old)) }
+{
+    let options = given_options(alloc, form, base_options(tables, node, who));
+    let state = tables.subs.get(node, who);
+    subscribe_with(tables, node, who, state, options)
 }

@@ -1,6 +1,6 @@
 -- What makes an entry today is a request whose change is known.
 use Rattle.std.proofs.Common.{◌≡◌, ℕ, Bool, true, false, cond, List, refl, ap, subst}
-use Rattle.std.specs.Prelude.{◌&&◌, is_some, not, Option, Some, None}
+use Rattle.std.specs.Prelude.{◌&&◌, is_some, Option, Some, None}
 use Rattle.ps_types.specs.declared.jid.Jid.{Jid}
 use Rattle.ps_types.specs.declared.request.Ask.{Ask}
 use Rattle.ps_types.specs.declared.request.Ask.TheVariants as ask
@@ -9,7 +9,7 @@ use Rattle.ps_types.specs.declared.request.Request.{Request}
 use Rattle.ps_types.specs.declared.rows.NodeRow.{NodeRow}
 use Rattle.ps_types.specs.Nodes.{node_at}
 use Rattle.ps_types.specs.Tree.{Tree}
-use Rattle.ps_model.specs.Access.{is_account, is_own_account}
+use Rattle.ps_model.specs.Access.{is_own_account}
 use Rattle.ps_model.specs.Book.{Book}
 use Rattle.ps_model.specs.Built.{built_config, unbuilt_outcome}
 use Rattle.ps_model.specs.Check.{check, judged}
@@ -31,9 +31,9 @@ made_accepted book r h =
     let accepted : is_accepted (check book r) ≡ true = and_left (is_accepted (check book r)) (commits book r) h in
     subst (λ (b : Bool). is_accepted (cond b (unbuilt_outcome r.ask) (judged built_config book r)) ≡ true) (made_built book r h) accepted
 
--- the service host is no account
-not_account : (service : List ℕ) (target who : Jid) → target ≡ host_jid service → (is_account target ≡ false) × (is_own_account target who ≡ false)
-not_account service target who is = (ap is_account is, ap (λ (t : Jid). is_own_account t who) is)
+-- the service host is nobody's account
+not_own : (service : List ℕ) (target who : Jid) → target ≡ host_jid service → is_own_account target who ≡ false
+not_own service target who is = ap (λ (t : Jid). is_own_account t who) is
 
 -- what is accepted to be published there is published to a node that stands
 published_stands : (own : Bool) (row : Option NodeRow) (book : Book) (r : Request) (node : List ℕ) (items : List AskItem) (options : Option Tree) (child : Option Tree) → is_own_account r.target r.from ≡ false
@@ -52,35 +52,34 @@ IsKnown book r = makes_entry book r ≡ true → is_known book r ≡ true
 
 by_ask : (a : Ask) (book : Book) (r : Request) → IsKnown book (with_ask r a)
 unfolding IsKnown with_ask
-by_ask (ask.Create node None) book r h = ap not (not_account book.service r.target r.from (built_target book.service (with_ask r (ask.Create node None)) (made_built book (with_ask r (ask.Create node None)) h))).0
-by_ask (ask.Create node (Some form)) book r h = absurd (let no : true ≡ false = made_built book (with_ask r (ask.Create node (Some form))) h in cc no)
 by_ask (ask.Publish node items options) book r h =
     let q = with_ask r (ask.Publish node items options) in
-    let outside = (not_account book.service r.target r.from (built_target book.service q (made_built book q h))).1 in
+    let outside = not_own book.service r.target r.from (built_target book.service q (made_built book q h)) in
     published_stands true (node_at (node_of r node) book.nodes) book q node items options _ outside (made_accepted book q h)
+by_ask (ask.Create node form) book r h = refl
 by_ask (ask.Retract node ids notify) book r h = refl
 by_ask (ask.Purge node) book r h = refl
 by_ask (ask.Delete node) book r h = refl
+by_ask (ask.ConfigSet node form) book r h = refl
+by_ask (ask.AffilsSet node rows) book r h = refl
+by_ask (ask.SubsSet node rows) book r h = refl
+by_ask (ask.Subscribe node who form) book r h = refl
 by_ask (ask.Unsubscribe node who subid) book r h = refl
-by_ask ask.Absent book r h = refl
+by_ask (ask.OptionsSet node who form) book r h = refl
+by_ask (ask.Approve node who allow) book r h = refl
+by_ask (ask.ConfigGet node) book r h = absurd (no_entry _ _ false refl h)
+by_ask (ask.AffilsGet node) book r h = absurd (no_entry _ _ false refl h)
+by_ask (ask.SubsGet node) book r h = absurd (no_entry _ _ false refl h)
+by_ask (ask.OptionsGet node who) book r h = absurd (no_entry _ _ false refl h)
 by_ask (ask.ItemsGet node max ids) book r h = absurd (no_entry _ _ false refl h)
 by_ask (ask.MyAffils node) book r h = absurd (no_entry _ _ false refl h)
 by_ask (ask.MySubs node) book r h = absurd (no_entry _ _ false refl h)
 by_ask ask.Silent book r h = absurd (no_entry _ _ false refl h)
-by_ask (ask.ConfigGet node) book r h = absurd (let no : true ≡ false = made_built book (with_ask r (ask.ConfigGet node)) h in cc no)
-by_ask (ask.ConfigSet node form) book r h = absurd (let no : true ≡ false = made_built book (with_ask r (ask.ConfigSet node form)) h in cc no)
-by_ask (ask.AffilsGet node) book r h = absurd (let no : true ≡ false = made_built book (with_ask r (ask.AffilsGet node)) h in cc no)
-by_ask (ask.AffilsSet node rows) book r h = absurd (let no : true ≡ false = made_built book (with_ask r (ask.AffilsSet node rows)) h in cc no)
-by_ask (ask.SubsGet node) book r h = absurd (let no : true ≡ false = made_built book (with_ask r (ask.SubsGet node)) h in cc no)
-by_ask (ask.SubsSet node rows) book r h = absurd (let no : true ≡ false = made_built book (with_ask r (ask.SubsSet node rows)) h in cc no)
-by_ask (ask.Subscribe node who form) book r h = absurd (let no : true ≡ false = made_built book (with_ask r (ask.Subscribe node who form)) h in cc no)
-by_ask (ask.OptionsGet node who) book r h = absurd (let no : true ≡ false = made_built book (with_ask r (ask.OptionsGet node who)) h in cc no)
-by_ask (ask.OptionsSet node who form) book r h = absurd (let no : true ≡ false = made_built book (with_ask r (ask.OptionsSet node who form)) h in cc no)
 by_ask (ask.InfoGet node) book r h = absurd (let no : true ≡ false = made_built book (with_ask r (ask.InfoGet node)) h in cc no)
 by_ask (ask.NodesGet node) book r h = absurd (let no : true ≡ false = made_built book (with_ask r (ask.NodesGet node)) h in cc no)
 by_ask (ask.RosterSet item) book r h = absurd (let no : true ≡ false = made_built book (with_ask r (ask.RosterSet item)) h in cc no)
-by_ask (ask.Approve node who allow) book r h = absurd (let no : true ≡ false = made_built book (with_ask r (ask.Approve node who allow)) h in cc no)
 by_ask (ask.Present caps) book r h = absurd (let no : true ≡ false = made_built book (with_ask r (ask.Present caps)) h in cc no)
+by_ask ask.Absent book r h = absurd (let no : true ≡ false = made_built book (with_ask r ask.Absent) h in cc no)
 by_ask (ask.CapsAnswer node info) book r h = absurd (let no : true ≡ false = made_built book (with_ask r (ask.CapsAnswer node info)) h in cc no)
 
 pub made_known : (book : Book) (r : Request) → makes_entry book r ≡ true → is_known book r ≡ true

@@ -13,13 +13,15 @@ use std::alloc::Global;
 fn is_unbuilt_ask(ask: &Ask) -> bool
     ensures { result ≡ is_unbuilt_kind ask.now }
 {
-    match ask {
-        Ask::Create { form, .. } => form.is_some(),
-        Ask::Publish { .. } | Ask::Retract { .. } => false,
-        Ask::ItemsGet { .. } | Ask::MyAffils { .. } | Ask::MySubs { .. } => false,
-        Ask::Silent => false,
-        _ => true,
-    }
+    matches!(
+        ask,
+        Ask::InfoGet { .. }
+            | Ask::NodesGet { .. }
+            | Ask::RosterSet { .. }
+            | Ask::Present { .. }
+            | Ask::Absent
+            | Ask::CapsAnswer { .. }
+    )
 }
 
 // A kind that isn't built yet, or a request to an account.
@@ -61,11 +63,24 @@ pub fn plan(alloc: Global, tables: &Tables, request: &Request) -> Result<Plan, P
         return unbuilt_plan(&request.ask);
     }
     match &request.ask {
-        Ask::Create { .. } => ps_owner::plan(alloc, tables, request),
+        Ask::Create { .. }
+        | Ask::Purge { .. }
+        | Ask::Delete { .. }
+        | Ask::ConfigGet { .. }
+        | Ask::ConfigSet { .. }
+        | Ask::AffilsGet { .. }
+        | Ask::AffilsSet { .. }
+        | Ask::SubsGet { .. }
+        | Ask::SubsSet { .. }
+        | Ask::Approve { .. } => ps_owner::plan(alloc, tables, request),
         Ask::Publish { .. } | Ask::Retract { .. } => ps_publish::plan(alloc, tables, request),
-        Ask::ItemsGet { .. } | Ask::MyAffils { .. } | Ask::MySubs { .. } => {
-            ps_entity::plan(alloc, tables, request)
-        }
+        Ask::ItemsGet { .. }
+        | Ask::MyAffils { .. }
+        | Ask::MySubs { .. }
+        | Ask::Subscribe { .. }
+        | Ask::Unsubscribe { .. }
+        | Ask::OptionsGet { .. }
+        | Ask::OptionsSet { .. } => ps_entity::plan(alloc, tables, request),
         _ => Ok(nothing_said()),
     }
 }

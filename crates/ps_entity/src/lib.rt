@@ -4,7 +4,7 @@
 //! [`plan`] is the model's check for the kinds that are planned here (`specs/Plans.antt`), whatever the target: the first step that
 //! fails denies, by its condition, and else the plan has the child of the result and says whether an entry is made. It says so by the
 //! rows concerned: `specs/Kept.antt`, `specs/Contacts.antt` and `specs/Resources.antt` say when such a row is as it was.
-//! `specs/Passing.antt` says what a check hands on. [`max_subs`] and [`max_contacts`] are the limits of a node and of a roster.
+//! [`max_subs`] and [`max_contacts`] are the limits of a node and of a roster.
 #![tactic(auto)]
 
 mod affils;
@@ -12,7 +12,6 @@ mod build;
 mod change;
 mod items;
 mod mine;
-mod options;
 mod options_get;
 mod options_set;
 mod plans;

@@ -11,8 +11,7 @@ ghost use Rattle.ps_access.specs.Plans.{Agrees, Passes};
 ghost use Rattle.ps_access.specs.Tables.{book_of};
 
 use crate::build::{PUBSUB, pubsub};
-use crate::options::base_options;
-use ps_access::{Tables, key_of, must_stand, pass_if};
+use ps_access::{Tables, base_options, key_of, must_stand, pass_if};
 use ps_base::Memory;
 use ps_config::options_form;
 use ps_forms::form_tree;

@@ -6,13 +6,11 @@ ghost use Rattle.ps_model.specs.CheckForms.{node_of};
 ghost use Rattle.ps_model.specs.Outcome.{outcome};
 ghost use Rattle.ps_model.specs.SameRows.{same_subs};
 ghost use Rattle.ps_model.specs.Steps.{first_denial};
-ghost use Rattle.ps_access.specs.Plans.{Agrees};
+ghost use Rattle.ps_access.specs.Plans.{Agrees, PassesWith};
 ghost use Rattle.ps_access.specs.Tables.{book_of};
-ghost use Rattle.ps_entity.specs.Passing.{PassesWith};
 
 use crate::change::changes;
-use crate::options::{base_options, given_options};
-use ps_access::{Tables, key_of, must_stand, pass_if};
+use ps_access::{Tables, base_options, given_options, key_of, must_stand, pass_if};
 use ps_types::{Condition, Elem, Jid, NodeKey, Plan, PlanRefusal, Request, SubOptions, Text};
 use std::alloc::Global;
 

@@ -10,18 +10,19 @@ ghost use Rattle.ps_model.specs.Children.{subscribe_child};
 ghost use Rattle.ps_model.specs.Outcome.{outcome};
 ghost use Rattle.ps_model.specs.SameRows.{same_subs};
 ghost use Rattle.ps_model.specs.Steps.{first_denial};
-ghost use Rattle.ps_access.specs.Plans.{Agrees};
+ghost use Rattle.ps_access.specs.Plans.{Agrees, PassesWith};
 ghost use Rattle.ps_access.specs.Tables.{book_of};
-ghost use Rattle.ps_entity.specs.Passing.{PassesWith};
 
 use crate::build::pubsub;
 use crate::change::changes;
-use crate::options::{base_options, given_options};
 use crate::subs::sub_tree;
-use ps_access::{Tables, allow, key_of, must_stand, pass_if, verdict_subscribe};
+use ps_access::{
+    Tables, allow, base_options, given_options, key_of, must_stand, new_state, pass_if,
+    verdict_subscribe,
+};
 use ps_base::Memory;
 use ps_types::{
-    Condition, Elem, Jid, NodeKey, Plan, PlanRefusal, Request, SubOptions, SubState, Text, Verdict,
+    Condition, Elem, Jid, NodeKey, Plan, PlanRefusal, Request, SubOptions, SubState, Text,
 };
 use std::alloc::Global;
 
@@ -64,20 +65,6 @@ fn check(
     let options = given_options(alloc, form, base_options(tables, node, who))?;
     pass_if(has_room(tables, node, who), Condition::C23)?;
     Ok(options)
-}
-
-// How far the subscription comes.
-fn new_state(tables: &Tables, request: &Request, node: &NodeKey, who: &Jid) -> SubState
-    requires { stands node.now tables.now.nodes.rows ≡ true }
-    ensures { result ≡ model.new_state (book_of tables.now) request.now node.now who.now }
-{
-    match (
-        tables.subs.get(node, who),
-        verdict_subscribe(tables, node, &request.from),
-    ) {
-        (SubState::Pending | SubState::Nothing, Verdict::Pending) => SubState::Pending,
-        _ => SubState::Subscribed,
-    }
 }
 
 // What an accepted request answers and changes.

@@ -21,6 +21,7 @@ use Rattle.ps_model.specs.Book.{Book}
 use Rattle.ps_model.specs.ChangeOwner.{asked_affil, affils_asked}
 use Rattle.ps_model.specs.CheckOwner.{is_owner_row, keeps_owner}
 use Rattle.ps_model.specs.SameRows.{same_affils}
+use Rattle.ps_access.proofs.Asked.{affils-push}
 use Rattle.ps_owner.specs.Own.{AreAffils}
 use Rattle.ps_owner.specs.Parted.{before_other, after_other}
 use Rattle.ps_owner.specs.declared.affil_rows.OwnAffils.{OwnAffils}
@@ -74,10 +75,6 @@ put-parts old new row rows is b a are =
     }
 
 -- ---- the asked rows are set in order
-
-pub asked-push : (node : NodeKey) (rows : List AskRow) (row : AskRow) (affils : List AffilRow) → affils_asked node (rows ++ row ∷ []) affils ≡ affils_with (asked_affil node row) (affils_asked node rows affils)
-asked-push node [] row affils = refl
-asked-push node (first ∷ rows) row affils = asked-push node rows row (affils_with (asked_affil node first) affils)
 
 grown-by : (kind : Affil) (row : AffilRow) (xs ys : List AffilRow) → Grown (is_affil_at row.node) xs ys → Grown (is_affil_at row.node) xs (affils_by kind row ys)
 grown-by Owner row xs ys g = grown-put (is_affil_at row.node) (is_affil_of row.node row.who) (inside row.node row.who) row (same_node-itself row.node) xs ys g
@@ -140,5 +137,5 @@ set-next old new node row first rows i affils is set are more =
     let ys = affils_asked node (take i rows) affils in
     let step : AreAffils new node (affils_with (asked_affil node first) ys) =
     subst (λ (r : AffilRow). (zs : List AffilRow) → AreAffils old r.node zs → AreAffils new r.node (affils_with r zs)) is set ys are in
-    let e = ap (λ (l : List AskRow). affils_asked node l affils) more ∙ asked-push node (take i rows) first affils in
+    let e = ap (λ (l : List AskRow). affils_asked node l affils) more ∙ affils-push node (take i rows) first affils in
     subst (λ (l : List AffilRow). AreAffils new node l) (sym e) step

@@ -19,6 +19,7 @@ use Rattle.ps_types.proofs.Same.{same_node-Decides, same_node-itself}
 use Rattle.ps_model.specs.ChangeOwner.{sub_with, subs_asked}
 use Rattle.ps_model.specs.SameRows.{same_subs}
 use Rattle.ps_model.specs.Words.{sub_of}
+use Rattle.ps_access.proofs.Asked.{asked_sub, subs-push}
 use Rattle.ps_owner.specs.Own.{AreSubs}
 use Rattle.ps_owner.specs.Parted.{before_other, after_other}
 use Rattle.ps_owner.specs.declared.sub_rows.OwnSubs.{OwnSubs}
@@ -67,13 +68,6 @@ put-parts old new row rows is b a are =
 
 -- ---- the asked rows are set in order
 
-abbrev pub asked : NodeKey → AskRow → List SubRow → SubRow
-asked node row subs = sub_with node row.jid (unwrap_or (sub_of row.value) Nothing) subs
-
-pub asked-push : (node : NodeKey) (rows : List AskRow) (row : AskRow) (subs : List SubRow) → subs_asked node (rows ++ row ∷ []) subs ≡ subs_with (asked node row (subs_asked node rows subs)) (subs_asked node rows subs)
-asked-push node [] row subs = refl
-asked-push node (first ∷ rows) row subs = asked-push node rows row (subs_with (asked node first subs) subs)
-
 grown-by : (kind : SubState) (row : SubRow) (xs ys : List SubRow) → Grown (is_sub_at row.node) xs ys → Grown (is_sub_at row.node) xs (subs_by kind row ys)
 grown-by Pending row xs ys g = grown-put (is_sub_at row.node) (is_sub_of row.node row.who) (inside row.node row.who) row (same_node-itself row.node) xs ys g
 grown-by Subscribed row xs ys g = grown-put (is_sub_at row.node) (is_sub_of row.node row.who) (inside row.node row.who) row (same_node-itself row.node) xs ys g
@@ -81,7 +75,7 @@ grown-by Nothing row xs ys g = grown-without (is_sub_at row.node) (is_sub_of row
 
 grown-asked : (node : NodeKey) (rows : List AskRow) (xs ys : List SubRow) → Grown (is_sub_at node) xs ys → Grown (is_sub_at node) xs (subs_asked node rows ys)
 grown-asked node [] xs ys g = g
-grown-asked node (row ∷ rows) xs ys g = grown-asked node rows xs (subs_with (asked node row ys) ys) (grown-by (asked node row ys).state (asked node row ys) xs ys g)
+grown-asked node (row ∷ rows) xs ys g = grown-asked node rows xs (subs_with (asked_sub node row ys) ys) (grown-by (asked_sub node row ys).state (asked_sub node row ys) xs ys g)
 
 -- ---- whether the table is as it was
 
@@ -126,12 +120,12 @@ count-parts own node rows are =
 
 -- one more of the asked rows is set
 pub set-next : (old new : OwnSubs) (node : NodeKey) (row : SubRow) (first : AskRow) (rows : List AskRow) (i : ℕ) (subs : List SubRow)
-    → ((ys : List SubRow) → AreSubs old node ys → row ≡ asked node first ys)
+    → ((ys : List SubRow) → AreSubs old node ys → row ≡ asked_sub node first ys)
     → ((ys : List SubRow) → AreSubs old row.node ys → AreSubs new row.node (subs_with row ys)) → AreSubs old node (subs_asked node (take i rows) subs)
     → take (i + 1) rows ≡ take i rows ++ first ∷ [] → AreSubs new node (subs_asked node (take (i + 1) rows) subs)
 set-next old new node row first rows i subs is set are more =
     let ys = subs_asked node (take i rows) subs in
-    let step : AreSubs new node (subs_with (asked node first ys) ys) =
+    let step : AreSubs new node (subs_with (asked_sub node first ys) ys) =
     subst (λ (r : SubRow). (zs : List SubRow) → AreSubs old r.node zs → AreSubs new r.node (subs_with r zs)) (is ys are) set ys are in
-    let e = ap (λ (l : List AskRow). subs_asked node l subs) more ∙ asked-push node (take i rows) first subs in
+    let e = ap (λ (l : List AskRow). subs_asked node l subs) more ∙ subs-push node (take i rows) first subs in
     subst (λ (l : List SubRow). AreSubs new node l) (sym e) step

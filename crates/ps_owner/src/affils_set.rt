@@ -1,19 +1,17 @@
 // An owner sets affiliations (XEP-0060 §8.9.2).
-ghost use Rattle.std.specs.Prelude.{◌≡◌, ◌&&◌, ◌||◌, List, not, None, IfOk, OnOk, find, reverse, option_copied, unwrap_or};
+ghost use Rattle.std.specs.Prelude.{◌≡◌, ◌&&◌, ◌||◌, List, not, None, OnOk, find, reverse, option_copied};
 ghost use Rattle.std.specs.List.{list_all, list_any};
 ghost use Rattle.ps_types.specs.declared.denial.Condition.TheVariants.{C14};
-ghost use Rattle.ps_types.specs.declared.rows.Affil.TheVariants.{Nothing};
 ghost use Rattle.ps_types.specs.declared.rows.AffilRow.{AffilRow};
 ghost use Rattle.ps_types.specs.Affils.{is_owner as is_owner_affil};
 ghost use Rattle.ps_model.specs.Book.{Book};
-ghost use Rattle.ps_model.specs.ChangeOwner.{asked_affil, affils_asked};
+ghost use Rattle.ps_model.specs.ChangeOwner.{affils_asked};
 ghost use Rattle.ps_model.specs.CheckForms.{node_of};
 ghost use Rattle.ps_model.specs.CheckOwner as model;
 ghost use Rattle.ps_model.specs.CheckOwner.{affils_set_steps};
 ghost use Rattle.ps_model.specs.Outcome.{outcome};
 ghost use Rattle.ps_model.specs.SameRows.{same_affils};
 ghost use Rattle.ps_model.specs.Steps.{first_denial, unless};
-ghost use Rattle.ps_model.specs.Words as words;
 ghost use Rattle.ps_access.specs.Plans.{Agrees};
 ghost use Rattle.ps_access.specs.Tables.{book_of};
 ghost use Rattle.ps_owner.specs.Own.{AreAffils};
@@ -22,7 +20,8 @@ ghost use Rattle.ps_owner.specs.Plans.{Settles};
 use crate::affil_rows::{OwnAffils, own_affils, set_own};
 use crate::plans::{decided, entry_plan};
 use ps_access::{
-    Tables, affil_of, allow, is_account_address, key_of, must_stand, pass_if, verdict_own,
+    Tables, affil_of, allow, asked_affil, asked_affil_row, is_account_address, key_of, must_stand,
+    pass_if, verdict_own,
 };
 use ps_base::Memory;
 use ps_types::{
@@ -37,27 +36,6 @@ fn are_words(rows: &[AskRow]) -> bool
         .all(|row| affil_of(row.value.as_str()).is_some())
 }
 
-fn asked_of(row: &AskRow) -> Affil
-    ensures { result ≡ unwrap_or (words.affil_of row.now.value) Nothing }
-{
-    match affil_of(row.value.as_str()) {
-        Some(affil) => affil,
-        None => Affil::Nothing,
-    }
-}
-
-fn asked_row(alloc: Global, node: &NodeKey, row: &AskRow) -> Result<AffilRow, Memory>
-    ensures { IfOk result (λ a. a ≡ asked_affil node.now row.now) }
-{
-    let node = node.clone()?;
-    let who = row.jid.to_bare(alloc)?;
-    Ok(AffilRow {
-        node,
-        who,
-        affil: asked_of(row),
-    })
-}
-
 // The node's rows after the asked ones are set in order.
 fn set_all(
     alloc: Global,
@@ -68,7 +46,7 @@ fn set_all(
     ensures { OnOk result ((affils : List AffilRow) → AreAffils own.old node.now affils → AreAffils own.new node.now (affils_asked node.now rows.now affils)) }
 {
     for row in rows {
-        let row = asked_row(alloc, node, row)?;
+        let row = asked_affil_row(alloc, node, row)?;
         set_own(own, row)?;
     }
     Ok(())
@@ -97,7 +75,7 @@ fn keeps_account(node: &NodeKey, rows: &[AskRow]) -> bool
     ensures { result ≡ model.keeps_account node.now rows.now }
 {
     match last_of(rows, &node.service) {
-        Some(row) => is_owner(asked_of(row)),
+        Some(row) => is_owner(asked_affil(row)),
         None => true,
     }
 }

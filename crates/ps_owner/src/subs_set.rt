@@ -20,7 +20,7 @@ ghost use Rattle.ps_owner.specs.Plans.{Settles};
 
 use crate::plans::{decided, entry_plan};
 use crate::sub_rows::{OwnSubs, own_row, own_subs, set_own};
-use ps_access::{Tables, allow, key_of, must_stand, pass_if, sub_of, verdict_own};
+use ps_access::{Tables, allow, asked_state, key_of, must_stand, pass_if, sub_of, verdict_own};
 use ps_base::Memory;
 use ps_types::{
     AskRow, Condition, Jid, NodeKey, Plan, PlanRefusal, Request, SubOptions, SubRow, SubState, Text,
@@ -46,15 +46,6 @@ fn are_words(rows: &[AskRow]) -> bool
     rows.iter().all(|row| sub_of(row.value.as_str()).is_some())
 }
 
-fn asked_of(row: &AskRow) -> SubState
-    ensures { result ≡ unwrap_or (words.sub_of row.now.value) Nothing }
-{
-    match sub_of(row.value.as_str()) {
-        Some(state) => state,
-        None => SubState::Nothing,
-    }
-}
-
 // A row keeps its options, and a new one has the defaults.
 fn options_at(own: &OwnSubs, node: &NodeKey, who: &Jid) -> SubOptions
     ensures { (rows : List SubRow) → AreSubs own.now node.now rows → result ≡ options_in (sub_row node.now who.now rows) }
@@ -77,7 +68,7 @@ fn asked_row(own: &OwnSubs, node: &NodeKey, row: &AskRow) -> Result<SubRow, Memo
     Ok(SubRow {
         node,
         who,
-        state: asked_of(row),
+        state: asked_state(row),
         options,
     })
 }

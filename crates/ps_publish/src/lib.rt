@@ -1,11 +1,10 @@
 //! The requests of those who publish (XEP-0060 §7, §8.5): what a publish and a retract are checked by, and what an accepted one answers.
 //!
 //! [`plan`] is the model's check for these two kinds (`specs/Plans.antt`), at the service host and at accounts: the first step that
-//! fails denies, by its condition, and else the plan has the child of the result. [`item_id`] is the id of an item that is published,
-//! and [`options_config`] the configuration of a node that a publish makes.
+//! fails denies, by its condition, and else the plan has the child of the result. [`options_config`] is the configuration of a node that
+//! a publish makes.
 #![tactic(auto)]
 
-mod ids;
 mod items;
 mod options;
 mod plans;
@@ -13,6 +12,5 @@ mod publish;
 mod replies;
 mod retract;
 
-pub use ids::item_id;
 pub use options::options_config;
 pub use plans::plan;

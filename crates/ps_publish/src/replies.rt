@@ -6,8 +6,7 @@ ghost use Rattle.ps_types.specs.Shape.{holding};
 ghost use Rattle.ps_model.specs.Children as model;
 ghost use Rattle.ps_access.specs.Tables.{book_of};
 
-use crate::ids::item_id;
-use ps_access::{Tables, about, key_of};
+use ps_access::{Tables, about, item_id, key_of};
 use ps_base::Memory;
 use ps_names::{element, only, put_pair};
 use ps_types::{AskItem, Attrs, Elem, Jid, Kids, NodeKey, Request, Text};

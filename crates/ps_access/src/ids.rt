@@ -1,10 +1,10 @@
-// The id of an item that is published.
+// The id of an item that is published (XEP-0060 §7.1.1).
 ghost use Rattle.std.specs.Prelude.{◌≡◌, IfOk};
 ghost use Rattle.ps_model.specs.ItemIds as model;
 ghost use Rattle.ps_model.specs.ItemIds.{auto_id, next_made};
 ghost use Rattle.ps_access.specs.Tables.{book_of};
 
-use ps_access::Tables;
+use crate::tables::Tables;
 use ps_base::Memory;
 use ps_types::{Jid, NodeKey, Text};
 use std::alloc::Global;

@@ -1,21 +1,26 @@
-// The options of a subscription: those that it has, and those that a form makes of them (XEP-0060 §6.3).
-ghost use Rattle.std.specs.Prelude.{◌≡◌};
+// What a subscription comes to: its options, and those that a form makes of them (XEP-0060 §6.3), and its state (§4.2).
+ghost use Rattle.std.specs.Prelude.{◌≡◌, true};
+ghost use Rattle.ps_types.specs.Nodes.{stands};
 ghost use Rattle.ps_types.specs.Options as table;
 ghost use Rattle.ps_model.specs.ChangeEntity as model;
 ghost use Rattle.ps_model.specs.Steps.{denial_of};
+ghost use Rattle.ps_access.specs.Plans.{PassesWith};
 ghost use Rattle.ps_access.specs.Tables.{book_of};
-ghost use Rattle.ps_entity.specs.Passing.{PassesWith};
 
-use ps_access::{Tables, form_in, is_submitted};
+use crate::forms::{form_in, is_submitted};
+use crate::tables::Tables;
+use crate::verdicts::verdict_subscribe;
 use ps_config::read_options;
-use ps_types::{Condition, Elem, Form, Jid, NodeKey, PlanRefusal, SubOptions};
+use ps_types::{
+    Condition, Elem, Form, Jid, NodeKey, PlanRefusal, Request, SubOptions, SubState, Verdict,
+};
 use std::alloc::Global;
 
 const SUBSCRIBE_OPTIONS: &str = "http://jabber.org/protocol/pubsub#subscribe_options";
 
 /// The options of exactly this address's subscription, or the defaults.
-pub(crate) fn base_options(tables: &Tables, node: &NodeKey, who: &Jid) -> SubOptions
-    ensures { result ≡ model.base_options (book_of tables.now) node.now who.now }
+pub fn base_options(tables: &Tables, node: &NodeKey, who: &Jid) -> SubOptions
+    ensures options { result ≡ model.base_options (book_of tables.now) node.now who.now }
 {
     match tables.subs.row_of(node, who) {
         Some(row) => row.options,
@@ -51,12 +56,12 @@ fn options_given(form: &Option<Form>, base: SubOptions) -> Result<SubOptions, Pl
 }
 
 /// The options that a form makes of others; without a form they stay.
-pub(crate) fn given_options(
+pub fn given_options(
     alloc: Global,
     form: &Option<Elem>,
     base: SubOptions,
 ) -> Result<SubOptions, PlanRefusal>
-    ensures { PassesWith result (denial_of (model.sub_options form.now base)) (model.sub_options form.now base) }
+    ensures options { PassesWith result (denial_of (model.sub_options form.now base)) (model.sub_options form.now base) }
 {
     match form {
         Some(tree) => {
@@ -64,5 +69,19 @@ pub(crate) fn given_options(
             options_given(&form, base)
         }
         None => Ok(base),
+    }
+}
+
+/// How far the subscription of an address comes: one that has come about stays so, and another waits where the owners are asked first.
+pub fn new_state(tables: &Tables, request: &Request, node: &NodeKey, who: &Jid) -> SubState
+    requires stands { stands node.now tables.now.nodes.rows ≡ true }
+    ensures state { result ≡ model.new_state (book_of tables.now) request.now node.now who.now }
+{
+    match (
+        tables.subs.get(node, who),
+        verdict_subscribe(tables, node, &request.from),
+    ) {
+        (SubState::Pending | SubState::Nothing, Verdict::Pending) => SubState::Pending,
+        _ => SubState::Subscribed,
     }
 }
