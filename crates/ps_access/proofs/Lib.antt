@@ -1,2 +1,2 @@
-pub mod Asked
+pub mod OneMore
 pub mod Denials

@@ -21,7 +21,7 @@ use Rattle.ps_model.specs.Book.{Book}
 use Rattle.ps_model.specs.ChangeOwner.{asked_affil, affils_asked}
 use Rattle.ps_model.specs.CheckOwner.{is_owner_row, keeps_owner}
 use Rattle.ps_model.specs.SameRows.{same_affils}
-use Rattle.ps_access.proofs.Asked.{affils-push}
+use Rattle.ps_access.proofs.OneMore.{affils-push}
 use Rattle.ps_owner.specs.Own.{AreAffils}
 use Rattle.ps_owner.specs.Parted.{before_other, after_other}
 use Rattle.ps_owner.specs.declared.affil_rows.OwnAffils.{OwnAffils}

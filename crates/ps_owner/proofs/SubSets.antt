@@ -19,7 +19,7 @@ use Rattle.ps_types.proofs.Same.{same_node-Decides, same_node-itself}
 use Rattle.ps_model.specs.ChangeOwner.{sub_with, subs_asked}
 use Rattle.ps_model.specs.SameRows.{same_subs}
 use Rattle.ps_model.specs.Words.{sub_of}
-use Rattle.ps_access.proofs.Asked.{asked_sub, subs-push}
+use Rattle.ps_access.proofs.OneMore.{asked_sub, subs-push}
 use Rattle.ps_owner.specs.Own.{AreSubs}
 use Rattle.ps_owner.specs.Parted.{before_other, after_other}
 use Rattle.ps_owner.specs.declared.sub_rows.OwnSubs.{OwnSubs}
