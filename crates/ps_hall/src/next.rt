@@ -1,5 +1,5 @@
 // What a writer is to do next, and its end.
-ghost use Rattle.std.specs.Prelude.{◌≡◌, ◌∷◌, ◌+◌, ◌<◌, ◌^◌, [], List, ℕ, Some, true, false, not, IfOk, length, slice_get};
+ghost use Rattle.std.specs.Prelude.{◌≡◌, ◌∷◌, ◌+◌, ◌<◌, ◌^◌, [], List, ℕ, Some, true, false, not, IfOk, OnErr, length, slice_get};
 ghost use Rattle.std.specs.List.{list_any};
 ghost use Rattle.ps_model.specs.declared.steps.Role.{Role};
 ghost use Rattle.ps_model.specs.declared.steps.Step.{Step};
@@ -56,6 +56,7 @@ impl<D: Disk> Hall<D> {
         requires here { at < length self.old.state.rows.items }
         requires few { self.old.state.steps < 2 ^ 61 }
         ensures is { (row : HostRow) → slice_get self.old.state.rows.items at ≡ Some row → IsNext self.old self.new row.host result }
+        ensures journal { self.new.journal ≡ self.old.journal }
         ensures hosts { names self.new.state.rows.items ≡ names self.old.state.rows.items }
         ensures limits { self.new.limits ≡ self.old.limits }
     {
@@ -69,12 +70,15 @@ impl<D: Disk> Hall<D> {
         }
     }
 
-    /// The next line for the writer whose pass it is: the first reply of its host that is released and not taken.
+    /// The next line for the writer whose pass it is: the first reply of its host that is released and not taken. After `Memory` the
+    /// hall is as before.
     pub fn next(&mut self, pass: &mut Pass) -> Result<Next, Memory>
         requires own { IsPassOf self.old Role.Writer pass.old }
         requires standing { IsStanding self.old }
         requires few { steps_of self.old < 2 ^ 61 }
         ensures ok { IfOk result (λ n. IsNext self.old self.new pass.old.host n) }
+        ensures err { OnErr result (Goes self.old self.new []) }
+        ensures journal { self.new.journal ≡ self.old.journal }
         ensures hosts { hosts_of self.new ≡ hosts_of self.old }
         ensures limits { self.new.limits ≡ self.old.limits }
         ensures sees { Sees pass.old pass.new (steps_of self.new) }
@@ -89,6 +93,7 @@ impl<D: Disk> Hall<D> {
         requires here { at < length self.old.state.rows.items }
         requires few { self.old.state.steps < 2 ^ 61 }
         ensures goes { (row : HostRow) → slice_get self.old.state.rows.items at ≡ Some row → Goes self.old self.new (Step.Ended row.host Role.Writer ∷ []) }
+        ensures journal { self.new.journal ≡ self.old.journal }
         ensures hosts { names self.new.state.rows.items ≡ names self.old.state.rows.items }
         ensures limits { self.new.limits ≡ self.old.limits }
     {
@@ -101,6 +106,7 @@ impl<D: Disk> Hall<D> {
         requires standing { IsStanding self.old }
         requires few { steps_of self.old < 2 ^ 61 }
         ensures goes { Goes self.old self.new (Step.Ended pass.old.host Role.Writer ∷ []) }
+        ensures journal { self.new.journal ≡ self.old.journal }
         ensures hosts { hosts_of self.new ≡ hosts_of self.old }
         ensures limits { self.new.limits ≡ self.old.limits }
         ensures sees { Sees pass.old pass.new (steps_of self.new) }
