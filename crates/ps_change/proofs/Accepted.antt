@@ -2,6 +2,7 @@
 use Rattle.std.proofs.Common.{◌≡◌, ℕ, Bool, true, false, List, ◌∷◌, refl, sym, subst}
 use Rattle.std.specs.Prelude.{not, Option}
 use Rattle.ps_types.specs.declared.denial.Condition.{Condition}
+use Rattle.ps_types.specs.declared.jid.Jid.{Jid}
 use Rattle.ps_types.specs.declared.request.Ask.{Ask}
 use Rattle.ps_types.specs.declared.request.Ask.TheVariants as ask
 use Rattle.ps_types.specs.declared.request.Request.{Request}
@@ -37,3 +38,15 @@ new_at book r node form h = not_so _ (first_holds (not (stands (node_of r node) 
 pub create_new : (book : Book) (r : Request) (node : List ℕ) (form : Option Tree) → r.ask ≡ ask.Create node form → is_accepted (judged built_config book r) ≡ true → stands (node_of r node) book.nodes ≡ false
 unfolding IsNew with_ask
 create_new book r node form is = subst (λ (a : Ask). IsNew book node (with_ask r a)) (sym is) (new_at book r node form)
+
+IsThere : Book → List ℕ → Request → Type 0
+IsThere book node r = is_accepted (judged built_config book r) ≡ true → stands (node_of r node) book.nodes ≡ true
+
+there_at : (book : Book) (r : Request) (node : List ℕ) (who : Jid) (form : Option Tree) → IsThere book node (with_ask r (ask.Subscribe node who form))
+unfolding IsThere with_ask
+there_at book r node who form h = first_holds (stands (node_of r node) book.nodes) _ _ _ h
+
+-- a node that is subscribed to stands
+pub subscribe_there : (book : Book) (r : Request) (node : List ℕ) (who : Jid) (form : Option Tree) → r.ask ≡ ask.Subscribe node who form → is_accepted (judged built_config book r) ≡ true → stands (node_of r node) book.nodes ≡ true
+unfolding IsThere with_ask
+subscribe_there book r node who form is = subst (λ (a : Ask). IsThere book node (with_ask r a)) (sym is) (there_at book r node who form)
