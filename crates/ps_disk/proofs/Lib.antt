@@ -1,3 +1,4 @@
 pub mod Moments
 pub mod OneMore
 pub mod TornWrites
+pub mod FilledBytes

@@ -3,3 +3,4 @@ pub mod Calls
 pub mod Counts
 pub mod Outcomes
 pub mod SeenLeft
+pub mod Filled

@@ -12,7 +12,7 @@ use Rattle.ps_disk.specs.declared.replay.Kept.{Kept}
 pub length-over : (s : List ℕ) (at : ℕ) (p : List ℕ) → length (over s at p) ≡ (min at (length s) + length p) + (length s - (at + length p))
 length-over s at p = omega (arith, length-append (take at s ++ p) (drop (at + length p) s), length-append (take at s) p, length-take at s, length-drop (at + length p) s)
 
-same_outside : (s : List ℕ) (at : ℕ) (p : List ℕ) (k : ℕ) → k < length s → (k < at) ⊎ (at + length p ≤ k) → get_or (over s at p) k 0 ≡ get_or s k 0
+pub same_outside : (s : List ℕ) (at : ℕ) (p : List ℕ) (k : ℕ) → k < length s → (k < at) ⊎ (at + length p ≤ k) → get_or (over s at p) k 0 ≡ get_or s k 0
 same_outside s at p k within (inl less) =
     get_or_append_left (take at s ++ p) (drop (at + length p) s) 0 k (omega (arith, length-append (take at s) p, length-take at s))
     ∙ get_or_append_left (take at s) p 0 k (omega (arith, length-take at s))
@@ -43,7 +43,7 @@ grows b s w range leaves = record { no_shorter = leaves.no_shorter; no_longer = 
 pub synced_left : (b : List ℕ) (w : List (ℕ × ℕ)) → MayLeave b w b
 synced_left b w = record { no_shorter = omega arith; no_longer = omega arith; elsewhere = λ k within out. refl }
 
-step_left : (s : State) (call : Call) → MayLeave s.synced s.written s.seen → MayLeave (step s call).synced (step s call).written (step s call).seen
+pub step_left : (s : State) (call : Call) → MayLeave s.synced s.written s.seen → MayLeave (step s call).synced (step s call).written (step s call).seen
 step_left s (Wrote at bytes) leaves = over_left s.synced s.seen s.written at bytes leaves
 step_left s (Failed at count) leaves = grows s.synced s.seen s.written (at, count) leaves
 step_left s Synced leaves = synced_left s.seen []

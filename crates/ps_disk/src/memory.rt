@@ -4,6 +4,7 @@ ghost use Rattle.ps_base.specs.Causes.{next_count, HasCause};
 ghost use Rattle.ps_disk.specs.Disk.{Holds, TornAt, MayLeave, Elapses};
 ghost use Rattle.ps_disk.specs.Calls.{new_disk, state_of, state_after, syncs_in, LeftSince, outcome, step};
 ghost use Rattle.ps_disk.specs.Counts.{IsCall, IsReading};
+ghost use Rattle.ps_disk.specs.Filled.{IsTornBy, BeginsWithin};
 
 use crate::replay::{Call, Kept, replay, written_over};
 use crate::{Disk, Torn};
@@ -25,14 +26,14 @@ pub struct MemDisk {
 }
 
 impl Model for MemDisk {
-    ghost use Rattle.std.specs.Prelude.{◌≡◌};
-    ghost use Rattle.ps_disk.specs.Calls.{Recorded, start_of, after_calls};
+    ghost use Rattle.ps_disk.specs.Calls.{Recorded};
+    ghost use Rattle.ps_disk.specs.Filled.{IsKept};
 
     ghost Value = { Recorded };
 
     ghost view = { λ d. record { start = d.start.items; kept = d.kept.items; failing = d.failing.items; calls = d.calls; faults = d.faults; refused = d.refused } };
 
-    ghost invariant = { λ d. d.bytes.items ≡ (after_calls (start_of d.start.items) d.kept.items).seen };
+    ghost invariant = { λ d. IsKept d.start.items d.bytes.items d.kept.items d.calls };
 }
 
 impl MemDisk {
@@ -81,13 +82,15 @@ impl MemDisk {
         requires { calls ≤ self.now.calls }
         ensures which { IfOk result (λ d. d ≡ new_disk (outcome torn (state_after calls self.now)) []) }
         ensures one { IfOk result (λ d. MayLeave (state_after calls self.now).synced (state_after calls self.now).written d.start) }
+        ensures bytes { IfOk result (λ d. IsTornBy torn (state_after calls self.now) d.start) }
     {
         let bytes = self.left_by_crash(alloc, calls, torn)?;
         MemDisk::new(alloc, &bytes, &[])
     }
 
     fn left_by_crash(&self, alloc: Global, calls: u64, torn: Torn) -> Result<Vec<u8>, Memory>
-        ensures { IfOk result (λ bytes. bytes.items ≡ outcome torn (state_after calls self.now)) }
+        ensures which { IfOk result (λ bytes. bytes.items ≡ outcome torn (state_after calls self.now)) }
+        ensures bytes { IfOk result (λ bytes. IsTornBy torn (state_after calls self.now) bytes.items) }
     {
         let byte = match torn {
             Torn::Lost | Torn::Whole => 0,
@@ -127,7 +130,8 @@ impl MemDisk {
 
     // Keeps a call that doesn't change what is seen.
     fn keep(&mut self, call: Call) -> Result<(), Failed>
-        requires { (step (state_of self.old) call).seen ≡ (state_of self.old).seen }
+        requires same { (step (state_of self.old) call).seen ≡ (state_of self.old).seen }
+        requires within { BeginsWithin (state_of self.old) call }
         ensures ok { OnOk result (self.new ≡ record self.old { kept = self.old.kept ++ record { number = self.old.calls; call = call } ∷ [] }) }
         ensures err { OnErr result (self.new ≡ record self.old { faults = next_count self.old.faults; refused = next_count self.old.refused }) }
         ensures later { self.old.faults ≤ self.new.faults }
@@ -144,6 +148,7 @@ impl MemDisk {
 
     // Writes a piece, and keeps the call.
     fn keep_write(&mut self, at: u64, piece: &[u8]) -> Result<(), Memory>
+        requires { at ≤ length (state_of self.old).seen }
         ensures ok { OnOk result (self.new ≡ record self.old { kept = self.old.kept ++ record { number = self.old.calls; call = Call.Wrote at piece.now } ∷ [] }) }
         ensures err { OnErr result (self.new ≡ self.old) }
     {

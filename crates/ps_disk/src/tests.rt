@@ -12,16 +12,20 @@ fn write(rt: &impl Abort, disk: &mut MemDisk, at: u64, piece: &[u8]) -> bool {
     disk.write_at(at, piece).is_ok()
 }
 
-// What a crash after so many calls leaves.
-fn crash(
+// Whether a crash after so many calls leaves these bytes.
+fn leaves(
     rt: &impl Abort,
     alloc: Global,
     disk: &MemDisk,
     calls: u64,
     torn: Torn,
-) -> Result<MemDisk, Fail> {
+    bytes: &[u8],
+) -> bool {
     assert!(rt; calls <= disk.calls());
-    Ok(disk.crashed(alloc, calls, torn)?)
+    match disk.crashed(alloc, calls, torn) {
+        Ok(left) => left.bytes() == bytes,
+        Err(_) => false,
+    }
 }
 
 #[test]
@@ -34,48 +38,15 @@ fn each_write_is_lost_or_whole_or_filled(rt: HostRuntime) -> Result<(), Fail> {
     assert!(rt; !write(&rt, &mut disk, 4, b"no"));
     let rows = [
         (0, b"abc".as_slice(), b"abc".as_slice(), b"abc".as_slice()),
-        (1, b"abc".as_slice(), b"axyz".as_slice(), b"a---".as_slice()),
-        (
-            2,
-            b"axyz".as_slice(),
-            b"axyz".as_slice(),
-            b"axyz".as_slice(),
-        ),
-        (
-            3,
-            b"axyz".as_slice(),
-            b"Qxyz".as_slice(),
-            b"-xyz".as_slice(),
-        ),
-        (
-            4,
-            b"axyz".as_slice(),
-            b"Qxyz".as_slice(),
-            b"-xyz".as_slice(),
-        ),
-        (
-            5,
-            b"axyz".as_slice(),
-            b"Qxyz".as_slice(),
-            b"-xyz--".as_slice(),
-        ),
+        (1, b"abc", b"axyz", b"a---"),
+        (2, b"axyz", b"axyz", b"axyz"),
+        (4, b"axyz", b"Qxyz", b"-xyz"),
+        (5, b"axyz", b"Qxyz", b"-xyz--"),
     ];
     for (calls, lost, whole, filled) in rows {
-        assert_eq!(rt;
-            crash(&rt, rt.alloc(), &disk, calls, Torn::Lost)?.bytes(),
-            lost,
-            "{calls}"
-        );
-        assert_eq!(rt;
-            crash(&rt, rt.alloc(), &disk, calls, Torn::Whole)?.bytes(),
-            whole,
-            "{calls}"
-        );
-        assert_eq!(rt;
-            crash(&rt, rt.alloc(), &disk, calls, Torn::Filled(b'-'))?.bytes(),
-            filled,
-            "{calls}"
-        );
+        assert!(rt; leaves(&rt, rt.alloc(), &disk, calls, Torn::Lost, lost));
+        assert!(rt; leaves(&rt, rt.alloc(), &disk, calls, Torn::Whole, whole));
+        assert!(rt; leaves(&rt, rt.alloc(), &disk, calls, Torn::Filled(b'-'), filled));
     }
     Ok(())
 }
