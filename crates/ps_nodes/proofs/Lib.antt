@@ -1,1 +1,2 @@
 pub mod MapRows
+pub mod Tallies

@@ -1,6 +1,6 @@
 // The map of the nodes, seen as rows.
 ghost use Rattle.std.specs.Prelude.{◌≡◌, false, ◌+◌, ◌<◌, ◌≤◌, [], ◌∷◌, ◌++◌, IfOk, slice_get, option_copied, option_map, map, count_by};
-ghost use Rattle.indexmap.specs.IndexMap.{spare, values};
+ghost use Rattle.indexmap.specs.IndexMap.{spare, values, index_map_len};
 ghost use Rattle.ps_types.specs.Nodes.{node_at, config_at, stands, made_by, nodes_with, nodes_without};
 ghost use Rattle.ps_types.specs.Same.{same_bare};
 ghost use Rattle.ps_nodes.specs.NodeRows.{row_of, row_seen};
@@ -10,7 +10,7 @@ use indexmap::IndexMap;
 use ps_types::{Jid, NodeConfig, NodeKey, NodeRow};
 use std::alloc::AllocError;
 
-type NodeMap = IndexMap<NodeKey, NodeRest>;
+pub type NodeMap = IndexMap<NodeKey, NodeRest>;
 
 pub fn holds(nodes: &NodeMap, node: &NodeKey) -> bool
     ensures { result ≡ stands node.now (map row_of nodes.now.entries) }
@@ -56,13 +56,13 @@ pub fn config_in<'a>(nodes: &'a NodeMap, node: &NodeKey) -> Option<&'a NodeConfi
 }
 
 /// A count of all nodes: it takes time with their number.
-pub fn made_in(nodes: &NodeMap, who: &Jid) -> usize
+pub fn made_among(nodes: &NodeMap, who: &Jid) -> usize
     ensures { result ≡ made_by who.now (map row_of nodes.now.entries) }
 {
-    made_among(nodes, who)
+    of_maker(nodes, who)
 }
 
-fn made_among(nodes: &NodeMap, who: &Jid) -> usize
+fn of_maker(nodes: &NodeMap, who: &Jid) -> usize
     ensures { result ≡ count_by (λ rest. same_bare who.now rest.creator) (values nodes.now) }
 {
     nodes
@@ -89,6 +89,7 @@ pub fn set_config_in(nodes: &mut NodeMap, node: &NodeKey, config: NodeConfig) ->
     ensures there { result ≡ stands node.now (map row_of nodes.old.entries) }
     ensures rows { map row_of nodes.new.entries ≡ nodes_with node.now config (map row_of nodes.old.entries) }
     ensures room { spare nodes.old ≤ spare nodes.new }
+    ensures len { index_map_len nodes.new ≡ index_map_len nodes.old }
 {
     match nodes.get_mut(node) {
         Some(rest) => {
@@ -103,6 +104,7 @@ pub fn remove_from(nodes: &mut NodeMap, node: &NodeKey) -> bool
     ensures there { result ≡ stands node.now (map row_of nodes.old.entries) }
     ensures rows { map row_of nodes.new.entries ≡ nodes_without node.now (map row_of nodes.old.entries) }
     ensures room { spare nodes.old ≤ spare nodes.new }
+    ensures fewer { index_map_len nodes.new ≤ index_map_len nodes.old }
 {
     nodes.shift_remove(node).is_some()
 }

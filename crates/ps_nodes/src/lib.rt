@@ -7,7 +7,9 @@
 #![tactic(auto)]
 
 mod entries;
+mod makers;
 mod nodes;
+mod tallied;
 #[cfg(test)]
 mod tests;
 

@@ -3,9 +3,9 @@ ghost use Rattle.std.specs.Prelude.{◌≡◌, ◌+◌, ◌<◌, ◌≤◌, [], 
 ghost use Rattle.ps_types.specs.Nodes.{node_at, config_at, stands, made_by, nodes_with, nodes_without};
 ghost use Rattle.ps_nodes.specs.NodeRows.{row_seen};
 
-use crate::entries::{
-    add, config_in, copy_of, holds, made_in, remove_from, row_at, row_in, set_config_in,
-};
+use crate::entries::{config_in, copy_of, holds, row_at, row_in, set_config_in};
+use crate::makers::{Tally, made_in, tallies_of};
+use crate::tallied::{add_tallied, remove_tallied, reserve};
 use indexmap::IndexMap;
 use ps_types::{Jid, Memory, NodeConfig, NodeKey, NodeRow};
 use std::alloc::Global;
@@ -34,18 +34,21 @@ pub struct NodeRef<'a> {
 #[derive(Drop)]
 pub struct Nodes {
     nodes: IndexMap<NodeKey, NodeRest>,
+    made: IndexMap<u64, Tally>,
 }
 
 impl Model for Nodes {
     ghost use Rattle.std.specs.Prelude.{map};
     ghost use Rattle.ps_base.specs.Rows.{Table};
     ghost use Rattle.ps_types.specs.declared.rows.NodeRow.{NodeRow};
-    ghost use Rattle.indexmap.specs.IndexMap.{spare};
     ghost use Rattle.ps_nodes.specs.NodeRows.{row_of};
+    ghost use Rattle.ps_nodes.specs.Tallies.{IsKept, room_of};
 
     ghost Value = { Table NodeRow };
 
-    ghost view = { λ t. record { rows = map row_of t.nodes.entries; spare = spare t.nodes } };
+    ghost view = { λ t. record { rows = map row_of t.nodes.entries; spare = room_of t.nodes t.made } };
+
+    ghost invariant = { λ t. IsKept t.nodes t.made };
 }
 
 impl Nodes {
@@ -55,6 +58,7 @@ impl Nodes {
     {
         Ok(Nodes {
             nodes: IndexMap::new(alloc),
+            made: IndexMap::new(alloc),
         })
     }
 
@@ -78,7 +82,7 @@ impl Nodes {
         ensures room { OnOk result (rows ≤ self.new.spare) }
         ensures kept { self.old.spare ≤ self.new.spare }
     {
-        self.nodes.reserve(rows as usize)?;
+        reserve(&mut self.nodes, &mut self.made, rows as usize)?;
         Ok(())
     }
 
@@ -86,9 +90,9 @@ impl Nodes {
     pub fn copy(&self) -> Result<Nodes, Memory>
         ensures rows { IfOk result (λ t. t.rows ≡ self.now.rows) }
     {
-        Ok(Nodes {
-            nodes: copy_of(&self.nodes)?,
-        })
+        let nodes = copy_of(&self.nodes)?;
+        let made = tallies_of(&nodes)?;
+        Ok(Nodes { nodes, made })
     }
 
     /// Whether a node stands.
@@ -116,7 +120,7 @@ impl Nodes {
     pub fn made_by(&self, who: &Jid) -> u64
         ensures made { result ≡ made_by who.now self.now.rows }
     {
-        made_in(&self.nodes, who) as u64
+        made_in(&self.nodes, &self.made, who) as u64
     }
 
     /// Adds a node as the last one, where its key is new. It takes no memory.
@@ -130,7 +134,7 @@ impl Nodes {
         if holds(&self.nodes, &row.key) {
             return Err(Exists);
         }
-        add(&mut self.nodes, row);
+        add_tallied(&mut self.nodes, &mut self.made, row);
         Ok(())
     }
 
@@ -149,7 +153,7 @@ impl Nodes {
         ensures rows { self.new.rows ≡ nodes_without node.now self.old.rows }
         ensures room { self.old.spare ≤ self.new.spare }
     {
-        remove_from(&mut self.nodes, node)
+        remove_tallied(&mut self.nodes, &mut self.made, node)
     }
 
     /// Takes away the row of a node, as every table does. It takes no memory.

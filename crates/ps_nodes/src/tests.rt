@@ -4,10 +4,9 @@ use ps_types::{
     Text, Texts,
 };
 use std::alloc::Global;
-use std::process::Abort;
 use std::test::Fail;
 
-fn node(alloc: Global, name: &str) -> Result<NodeKey, Fail> {
+fn key(alloc: Global, name: &str) -> Result<NodeKey, Fail> {
     let service = Jid::read(alloc, b"pubsub.example")?;
     let name = Text::of(alloc, name)?;
     Ok(NodeKey { service, name })
@@ -37,18 +36,29 @@ fn config(alloc: Global, access_model: Access) -> Result<NodeConfig, Fail> {
     })
 }
 
-// Whether the node was made: its key was new.
-fn create(alloc: Global, nodes: &mut Nodes, name: &str, creator: &str) -> Result<bool, Fail> {
-    let key = node(alloc, name)?;
+fn row(alloc: Global, name: &str, creator: &str) -> Result<NodeRow, Fail> {
+    let key = key(alloc, name)?;
     let creator = Jid::read(alloc, creator.as_bytes())?;
     let config = config(alloc, Access::Everyone)?;
-    nodes.reserve(1)?;
-    let made = nodes.create(NodeRow {
+    Ok(NodeRow {
         key,
         creator,
         config,
-    });
-    Ok(made.is_ok())
+    })
+}
+
+// Whether the node was made: its key was new.
+fn makes(alloc: Global, nodes: &mut Nodes, name: &str, creator: &str) -> Result<bool, Fail> {
+    nodes.reserve(1)?;
+    Ok(nodes.create(row(alloc, name, creator)?).is_ok())
+}
+
+fn deletes(alloc: Global, nodes: &mut Nodes, name: &str) -> Result<bool, Fail> {
+    Ok(nodes.delete(&key(alloc, name)?))
+}
+
+fn made_by(alloc: Global, nodes: &Nodes, who: &str) -> Result<u64, Fail> {
+    Ok(nodes.made_by(&Jid::read(alloc, who.as_bytes())?))
 }
 
 fn is_at(nodes: &Nodes, at: u64, name: &str) -> bool {
@@ -62,27 +72,25 @@ fn is_at(nodes: &Nodes, at: u64, name: &str) -> bool {
 fn a_node_is_made_once_and_the_others_keep_their_order(rt: HostRuntime) -> Result<(), Fail> {
     let alloc = rt.alloc();
     let mut nodes = Nodes::new(alloc)?;
-    for name in ["news", "one", "w"] {
-        assert!(rt; create(alloc, &mut nodes, name, "ann@a.example/1")?);
-    }
-    assert!(rt; !create(alloc, &mut nodes, "news", "bob@b.example/1")?);
+    assert!(rt; makes(alloc, &mut nodes, "news", "ann@a.example/1")?);
+    assert!(rt; makes(alloc, &mut nodes, "one", "Ann@a.example/2")?);
+    assert!(rt; makes(alloc, &mut nodes, "w", "bob@a.example")?);
+    assert!(rt; !makes(alloc, &mut nodes, "news", "bob@b.example/1")?);
+    assert_eq!(rt; made_by(alloc, &nodes, "ann@a.example")?, 2);
     let copy = nodes.copy()?;
-    let one = node(alloc, "one")?;
-    assert!(rt; nodes.delete(&one));
-    assert!(rt; !nodes.delete(&one));
-    assert_eq!(rt; nodes.len(), 2);
-    assert!(rt; is_at(&nodes, 0, "news"));
-    assert!(rt; is_at(&nodes, 1, "w"));
-    assert!(rt; is_at(&copy, 1, "one"));
+    assert!(rt; deletes(alloc, &mut nodes, "news")?);
+    assert!(rt; !deletes(alloc, &mut nodes, "news")?);
+    assert_eq!(rt; made_by(alloc, &nodes, "ann@a.example")?, 1);
+    assert_eq!(rt; made_by(alloc, &copy, "ann@a.example/3")?, 2);
+    assert!(rt; nodes.len() == 2 && is_at(&nodes, 0, "one") && is_at(&nodes, 1, "w"));
     Ok(())
 }
 
-fn reads(rt: &impl Abort, nodes: &Nodes, key: &NodeKey, want: Access) {
-    assert!(rt; nodes.has(key));
-    assert!(rt; nodes.get(key).is_some());
+// Whether the node stands and has that access model.
+fn has_model(nodes: &Nodes, key: &NodeKey, want: Access) -> bool {
     match nodes.config(key) {
-        Some(config) => assert!(rt; config.access_model == want),
-        None => assert!(rt; false),
+        Some(config) => nodes.has(key) && nodes.get(key).is_some() && config.access_model == want,
+        None => false,
     }
 }
 
@@ -90,12 +98,11 @@ fn reads(rt: &impl Abort, nodes: &Nodes, key: &NodeKey, want: Access) {
 fn a_node_is_given_a_configuration(rt: HostRuntime) -> Result<(), Fail> {
     let alloc = rt.alloc();
     let mut nodes = Nodes::new(alloc)?;
-    assert!(rt; create(alloc, &mut nodes, "w", "ann@a.example/1")?);
-    let w = node(alloc, "w")?;
-    reads(&rt, &nodes, &w, Access::Everyone);
+    assert!(rt; makes(alloc, &mut nodes, "w", "ann@a.example/1")?);
+    let w = key(alloc, "w")?;
+    assert!(rt; has_model(&nodes, &w, Access::Everyone));
     assert!(rt; nodes.set_config(&w, config(alloc, Access::Whitelist)?));
-    reads(&rt, &nodes, &w, Access::Whitelist);
-    assert_eq!(rt; nodes.made_by(&Jid::read(alloc, b"ann@a.example")?), 1);
+    assert!(rt; has_model(&nodes, &w, Access::Whitelist));
     nodes.drop_node(&w);
     assert!(rt; !nodes.has(&w));
     Ok(())

@@ -1,4 +1,4 @@
-use Rattle.std.proofs.Common.{ap, sym, ◌∙◌, arith, is_some}
+use Rattle.std.proofs.Common.{refl, ap, sym, ◌∙◌, arith, is_some}
 use Rattle.std.specs.Prelude.{map}
 use Rattle.ps_nodes.specs.NodeRows.{row_of}
 use Rattle.ps_nodes.proofs.MapRows.{stands-entries, config-set_value, config-none}
@@ -14,6 +14,7 @@ returns-in-Some c =
       there = sym (stands ∙ ap is_some (sym found));
       rows = ap (map row_of) written.0 ∙ config-set_value c.args.node.now c.args.config rest c.args.nodes.now.entries (sym found);
       room = omega (arith, written.6);
+      len = written.2;
     }
 
 pub returns-in-None : goal.returns-in-None
@@ -24,4 +25,5 @@ returns-in-None c =
       there = sym (stands ∙ ap is_some (sym found));
       rows = rw c.get_mut.follows.holds-at-none (sym (config-none c.args.node.now c.args.config c.args.nodes.now.entries (sym found)));
       room = rw c.get_mut.follows.holds-at-none (omega arith);
+      len = rw c.get_mut.follows.holds-at-none refl;
     }

@@ -1,0 +1,11 @@
+use Rattle.std.proofs.Common.{◌≡◌, List, [], sym, subst, map, take, arith}
+use Rattle.ps_nodes.specs.NodeRows.{row_of}
+use Rattle.ps_nodes.specs.Tallies.{IsTallied}
+use Rattle.ps_nodes.proofs.Tallies.{tallied_none}
+use Rattle.ps_nodes.proofs.makers.tally_all.Goals as goal
+
+pub loop-at-init : goal.loop-at-init
+loop-at-init c = record {
+  tallied = subst (λ es. IsTallied [] es) (sym c.clear.ensures.empty) tallied_none;
+  room = omega (arith, c.clear.ensures.capacity);
+}
