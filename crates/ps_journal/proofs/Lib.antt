@@ -9,3 +9,4 @@ pub mod Begins
 pub mod Upgrades
 pub mod Opens
 pub mod Damage
+pub mod Placing

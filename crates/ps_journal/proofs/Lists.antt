@@ -1,7 +1,5 @@
 -- Lists of entries that frames spell.
-use Rattle.std.proofs.Common.{◌≡◌, inl, inr, ℕ, ◌+◌, ◌≤◌, ◌^◌, Bool, true, false, List, [], ◌∷◌, ◌++◌, length, map, Some, None, refl, sym, ap, subst, ◌∙◌, arith, length-append}
-use Rattle.std.specs.Prelude.{Option}
-use Rattle.std.specs.List.{AllByRecursion}
+use Rattle.std.proofs.Common.{◌≡◌, inl, inr, ℕ, ◌≤◌, ◌^◌, Bool, true, false, List, [], ◌∷◌, ◌++◌, length, map, Some, None, refl, sym, ap, subst, ◌∙◌, arith, length-append}
 use Rattle.std.specs.Int.{w64, to_be_bytes}
 use Rattle.std.proofs.lemmas.List.{append-nil, map_push}
 use Rattle.std.proofs.lemmas.List.Concat.{flat_map-append}

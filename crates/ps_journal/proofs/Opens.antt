@@ -1,23 +1,24 @@
 -- What opening finds, and what a crash leaves meanwhile.
-use Rattle.std.proofs.Common.{map, Some, ◌≡◌, ◌⊎◌, inl, inr, ℕ, ◌+◌, ◌<◌, true, false, List, [], ◌∷◌, ◌++◌, length, take, refl, sym, ap, subst, ◌∙◌, arith}
+use Rattle.std.proofs.Common.{map, Some, ◌≡◌, ◌⊎◌, inl, inr, ℕ, ◌+◌, ◌<◌, true, false, List, [], ◌∷◌, ◌++◌, length, take, refl, sym, ap, subst, ◌∙◌, arith, Bool, ◌^◌, length-append}
+use Rattle.std.specs.List.{AllByRecursion}
 use Rattle.std.proofs.lemmas.List.{map-append}
 use Rattle.ps_disk.specs.Disk.{MayLeave}
 use Rattle.ps_types.specs.declared.entry.Entry.{Entry}
-use Rattle.ps_model.specs.Entries.{spelling, body}
-use Rattle.ps_model.specs.Store.{is_header, is_second, is_unbegun, gate_at, Begun, Lists, spelled, joined}
-use Rattle.ps_journal.specs.Settled.{Stores, IsSettledAt, IsSettled, IsQuiet, IsUpgrading}
+use Rattle.ps_model.specs.Entries.{IsEntry, AreEntriesIn, spelling, body}
+use Rattle.ps_model.specs.Store.{is_header, is_second, is_unbegun, gate_at, Begun, Lists, spelled, joined, AreBodies, AreParts}
+use Rattle.ps_journal.specs.Settled.{IsSettledAt, IsSettled, IsUpgrading}
 use Rattle.ps_journal.specs.Judged.{IsFound, FramesRead, BadEntry}
-use Rattle.ps_journal.specs.Places.{places_in, places}
-use Rattle.ps_journal.specs.Places.{entries_in}
+use Rattle.ps_journal.specs.Opened.{ArePlaced, HasLength}
+use Rattle.ps_journal.specs.Places.{places_in, places, entries_in}
 use Rattle.ps_journal.specs.declared.judging.Placed.{Placed}
 use Rattle.ps_journal.proofs.Bodies.{size_of}
 use Rattle.ps_journal.proofs.Lists.{lists_same, parts_upgraded, one_list}
 
-entries_in_body : (at : ℕ) (es : List Entry) → entries_in (places_in at es) ≡ es
+pub entries_in_body : (at : ℕ) (es : List Entry) → entries_in (places_in at es) ≡ es
 entries_in_body at [] = refl
 entries_in_body at (e ∷ es) = ap (λ (l : List Entry). e ∷ l) (entries_in_body (at + length (spelling e)) es)
 
-entries_in_parts : (at : ℕ) (fs : List (List Entry)) → entries_in (places at fs) ≡ joined fs
+pub entries_in_parts : (at : ℕ) (fs : List (List Entry)) → entries_in (places at fs) ≡ joined fs
 entries_in_parts at [] = refl
 entries_in_parts at (f ∷ fs) =
     map-append (λ p. p.entry) (places_in (at + 5) f) (places (at + (5 + length (body f))) fs)
@@ -79,3 +80,44 @@ none_before bytes E header unbegun spells = one_list bytes E [] spells (inr (hea
 pub same_entries : (bytes : List ℕ) (E : List Entry) (s : List ℕ) (w : List (ℕ × ℕ)) (c : List ℕ) → spelled bytes E → MayLeave s w c ⊎ (c ≡ bytes) → MayLeave s w c ⊎ spelled c E
 same_entries bytes E s w c spells (inl leaves) = inl leaves
 same_entries bytes E s w c spells (inr is) = inr (subst (λ (l : List ℕ). spelled l E) (sym is) spells)
+
+-- ---- each entry that is found has a spelling
+
+all_places : (at : ℕ) (es : List Entry) (P : Entry → Type 0) → AllByRecursion P es → AllByRecursion (λ (p : Placed). P p.entry) (places_in at es)
+all_places at [] P all = tt
+all_places at (e ∷ es) P all = (all.0, all_places (at + length (spelling e)) es P all.1)
+
+all_append : {A : Type 0} (P : A → Type 0) (xs ys : List A) → AllByRecursion P xs → AllByRecursion P ys → AllByRecursion P (xs ++ ys)
+all_append P [] ys all more = more
+all_append P (x ∷ xs) ys all more = (all.0, all_append P xs ys all.1 more)
+
+abbrev IsShort : Entry → Type 0
+IsShort e = IsEntry e × (length (spelling e) < 2 ^ 32)
+
+-- an entry of a body is no longer than it
+short_in_body : (second : Bool) (es : List Entry) → AreEntriesIn second es → length (body es) < 2 ^ 32 → AllByRecursion IsShort es
+short_in_body second [] each fits = tt
+short_in_body second (e ∷ es) each fits =
+    let size = length-append (spelling e) (body es) in
+    ((each.0.entry, omega (arith, size, fits)), short_in_body second es each.1 (omega (arith, size, fits)))
+
+short_in_parts : (second : Bool) (at : ℕ) (fs : List (List Entry)) → AreParts second fs → AreBodies (map body fs) → AllByRecursion (λ (p : Placed). IsShort p.entry) (places at fs)
+short_in_parts second at [] each bodies = tt
+short_in_parts second at (f ∷ fs) each bodies =
+    all_append (λ (p : Placed). IsShort p.entry) (places_in (at + 5) f) (places (at + (5 + length (body f))) fs)
+    (all_places (at + 5) f IsShort (short_in_body second f each.0 bodies.0.fits))
+    (short_in_parts second (at + (5 + length (body f))) fs each.1 bodies.1)
+
+are_placed : (placed : List Placed) → AllByRecursion (λ (p : Placed). IsShort p.entry) placed → ArePlaced placed
+are_placed [] all = tt
+are_placed (p ∷ placed) all = (record { entry = all.0.0; fits = all.0.1 }, are_placed placed all.1)
+
+pub found_placed : (bytes : List ℕ) (placed : List Placed) (gate : ℕ) → IsFound bytes placed gate → ArePlaced placed
+found_placed bytes placed gate found =
+    let all = found.all in
+    are_placed placed
+    (subst (λ (l : List Placed). AllByRecursion (λ (p : Placed). IsShort p.entry) l) (sym all.places)
+    (short_in_parts (is_second bytes) 8 all.parts all.each (subst AreBodies all.are found.begun.each)))
+
+pub found_length : (bytes : List ℕ) (placed : List Placed) (gate : ℕ) → IsFound bytes placed gate → HasLength bytes (gate + 1)
+found_length bytes placed gate found = inl (found.bodies, found.begun, ap (λ (n : ℕ). n + 1) found.stands)

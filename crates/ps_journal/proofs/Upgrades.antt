@@ -1,5 +1,5 @@
 -- The eighth byte of a store with a header, written anew.
-use Rattle.std.proofs.Common.{◌≡◌, ◌⊎◌, inl, inr, ℕ, ◌+◌, ◌≤◌, Bool, true, false, List, [], ◌∷◌, ◌++◌, length, take, drop, refl, sym, ap, subst, ◌∙◌, append_assoc, arith, length-take, length-append}
+use Rattle.std.proofs.Common.{◌≡◌, ℕ, ◌+◌, ◌≤◌, true, false, List, [], ◌∷◌, ◌++◌, length, take, drop, refl, sym, ap, subst, ◌∙◌, append_assoc, arith, length-take, length-append}
 use Rattle.std.specs.Prelude.{◌==◌, ◌&&◌, codes}
 use Rattle.std.specs.Str.{bytes_eq}
 use Rattle.std.proofs.lemmas.List.{take_at, drop_at, take-append-drop, take-take}
@@ -7,7 +7,7 @@ use Rattle.std.proofs.lemmas.Slice.Eq.{bytes_eq-Decides}
 use Rattle.ps_disk.specs.Disk.{MayLeave, TornAt, Holds}
 use Rattle.ps_disk.proofs.TornWrites.{torn_write}
 use Rattle.ps_model.specs.Store.{magic, is_header, is_second, frames, gate_at, Begun}
-use Rattle.ps_journal.specs.Settled.{Stores, IsSettledAt, IsQuiet, IsUpgrading}
+use Rattle.ps_journal.specs.Settled.{Stores, IsUpgrading}
 use Rattle.ps_journal.proofs.Bodies.{header_size, header_magic, behind_header, begun_from}
 
 pub long_enough : (bytes : List ℕ) → is_header (take 8 bytes) ≡ true → 8 ≤ length bytes

@@ -1,5 +1,5 @@
 -- What is written to begin a store.
-use Rattle.std.specs.Prelude.{◌≡◌, ℕ, ◌≤◌, Bool, false, List, [], ◌∷◌, length, ◌==◌}
+use Rattle.std.specs.Prelude.{◌≡◌, ℕ, Bool, false, List, [], ◌∷◌, drop, ◌==◌}
 
 -- `UBSUBJ2` and a closed gate
 abbrev pub middle : List ℕ
@@ -9,8 +9,10 @@ abbrev pub has_zero_first : List ℕ → Bool
 has_zero_first [] = false
 has_zero_first (b ∷ rest) = b == 0
 
--- the first byte is 0 now, and at most nine bytes are at most nine
-pub record BeginsWithZero (old new : List ℕ) : Type 0 where
-  pub behind : List ℕ
-  pub is : new ≡ 0 ∷ behind
-  pub short : length old ≤ 9 → length behind ≤ 8
+-- the nine bytes of a store that was begun: the header of version 2, and a closed gate
+abbrev pub beginning : List ℕ
+beginning = 80 ∷ middle
+
+-- the first byte is 0 now
+abbrev pub BeginsWithZero : List ℕ → List ℕ → Type 0
+BeginsWithZero old new = new ≡ 0 ∷ drop 1 old

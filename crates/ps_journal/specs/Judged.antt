@@ -1,5 +1,5 @@
 -- What was found where bytes were judged, and how a store is damaged.
-use Rattle.std.specs.Prelude.{◌≡◌, ◌≢◌, ◌⊎◌, ℕ, zero, suc, ◌+◌, Bool, true, false, ◌||◌, List, [], ◌∷◌, ◌++◌, length, take, drop, map, Option, Some, None, nat_le, ◌==◌, if◌then◌else◌}
+use Rattle.std.specs.Prelude.{◌≡◌, ◌⊎◌, ℕ, zero, suc, ◌+◌, Bool, true, false, ◌||◌, List, [], ◌∷◌, ◌++◌, length, take, drop, map, Option, Some, None, nat_le, ◌==◌, if◌then◌else◌}
 use Rattle.std.specs.Int.{w32}
 use Rattle.ps_types.specs.declared.entry.Entry.{Entry}
 use Rattle.ps_model.specs.Entries.{body, AreEntriesIn}

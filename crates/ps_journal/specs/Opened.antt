@@ -1,7 +1,11 @@
 -- What came of opening a store.
-use Rattle.std.specs.Prelude.{◌≡◌, ◌⊎◌, ℕ, false, true, List, [], map, take}
+use Rattle.std.specs.Prelude.{◌≡◌, ◌⊎◌, ◌+◌, ◌<◌, ◌^◌, ℕ, false, true, List, [], length, take}
+use Rattle.std.specs.List.{AllByRecursion}
+use Rattle.ps_disk.specs.Disk.{Holds}
 use Rattle.ps_types.specs.declared.entry.Entry.{Entry}
-use Rattle.ps_model.specs.Store.{is_header, is_unbegun, spelled}
+use Rattle.ps_model.specs.Entries.{IsEntry, spelling}
+use Rattle.ps_model.specs.Store.{is_header, is_unbegun, gate_at, Begun, spelled}
+use Rattle.ps_journal.specs.Beginning.{beginning}
 use Rattle.ps_journal.specs.Judged.{IsDamaged, IsFound}
 use Rattle.ps_journal.specs.Places.{entries_in}
 use Rattle.ps_journal.specs.declared.judging.Placed.{Placed}
@@ -25,6 +29,24 @@ IfDamaged (openings.Refused w) P = IfWhyDamaged w P
 
 abbrev pub IsStoreFault : Opening → Type 0
 IsStoreFault result = result ≡ openings.Refused why.Store
+
+-- an entry with a spelling of fewer than 2^32 bytes
+pub record IsPlaced (p : Placed) : Type 0 where
+  pub entry : IsEntry p.entry
+  pub fits : length (spelling p.entry) < 2 ^ 32
+
+abbrev pub ArePlaced : List Placed → Type 0
+ArePlaced placed = AllByRecursion IsPlaced placed
+
+-- how many bytes a store has up to the closed gate and with it, or will have when it is begun
+abbrev pub HasLength : List ℕ → ℕ → Type 0
+HasLength bytes len = ((bs : List (List ℕ)) × Begun bytes bs × (len ≡ gate_at bs + 1)) ⊎ ((is_header (take 8 bytes) ≡ false) × (len ≡ 9))
+
+-- a store without a header has no entries, and its first nine bytes are those of a begun store then
+pub record IsBegunAnew (old : List ℕ) (placed : List Placed) (new : List ℕ) (len : ℕ) : Type 0 where
+  pub none : placed ≡ []
+  pub holds : Holds old 0 beginning new
+  pub long : len ≡ 9
 
 -- the entries of the bytes, each with its offset
 abbrev pub IsOpened : List ℕ → List Placed → Type 0

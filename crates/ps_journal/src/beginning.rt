@@ -1,9 +1,9 @@
 // Beginning an unbegun store.
-ghost use Rattle.std.specs.Prelude.{◌≡◌, ◌⊎◌, ◌∷◌, ◌≤◌, [], List, ℕ, true, length, OnOk};
+ghost use Rattle.std.specs.Prelude.{◌≡◌, ◌⊎◌, ◌∷◌, ◌++◌, ◌≤◌, [], List, ℕ, true, length, drop, OnOk};
 ghost use Rattle.ps_base.specs.Causes.{HasCause};
-ghost use Rattle.ps_disk.specs.Disk.{LeavesOnly, MayLeave};
+ghost use Rattle.ps_disk.specs.Disk.{Holds, LeavesOnly, MayLeave};
 ghost use Rattle.ps_model.specs.Store.{is_unbegun, spelled};
-ghost use Rattle.ps_journal.specs.Beginning.{BeginsWithZero};
+ghost use Rattle.ps_journal.specs.Beginning.{beginning, BeginsWithZero};
 ghost use Rattle.ps_journal.specs.Settled.{IsSettledAt, IsQuiet};
 
 use ps_base::Failed;
@@ -15,6 +15,7 @@ fn finish<D: Disk>(disk: &mut D) -> Result<(), Failed>
     ensures kept { D.tells → (t : List ℕ) → D.seen disk.old ≡ 0 ∷ t → OnOk result (IsSettledAt [] (D.seen disk.new) (D.synced disk.new) (D.written disk.new) 9) }
     ensures any_moment { D.tells → (t : List ℕ) → D.seen disk.old ≡ 0 ∷ t → length t ≤ 8 → IsQuiet (D.seen disk.old) (D.synced disk.old) (D.written disk.old)
         → LeavesOnly D.moment D.left_since disk.old disk.new (λ c. spelled c []) }
+    ensures written { D.tells → (t : List ℕ) → D.seen disk.old ≡ 0 ∷ t → OnOk result (D.seen disk.new ≡ beginning ++ drop 8 t) }
     ensures cause { HasCause (D.faults disk.old) (D.faults disk.new) result }
 {
     match write_kept(disk, 1, b"UBSUBJ2\0") {
@@ -58,6 +59,8 @@ pub fn begin<D: Disk>(disk: &mut D, bytes: &[u8]) -> Result<(), Failed>
     requires seen { D.tells → bytes.now ≡ D.seen disk.old }
     requires quiet { D.tells → IsQuiet (D.seen disk.old) (D.synced disk.old) (D.written disk.old) }
     ensures kept { D.tells → OnOk result (IsSettledAt [] (D.seen disk.new) (D.synced disk.new) (D.written disk.new) 9) }
+    // The first nine bytes are those of a begun store, and all others are as before.
+    ensures begun { D.tells → OnOk result (Holds (D.seen disk.old) 0 beginning (D.seen disk.new)) }
     // A crash at any moment leaves a store with no entries, if it had at most nine bytes.
     ensures any_moment { D.tells → is_unbegun (D.seen disk.old) ≡ true → length (D.seen disk.old) ≤ 9
         → LeavesOnly D.moment D.left_since disk.old disk.new (λ c. spelled c []) }

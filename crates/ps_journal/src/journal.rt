@@ -46,7 +46,7 @@ pub enum EntriesRefusal {
 }
 
 impl<D: Disk> Journal<D> {
-    ghost use Rattle.std.specs.Prelude.{◌≡◌, ◌≢◌, ◌⊎◌, ◌∷◌, ◌++◌, ◌+◌, ◌<◌, ◌≤◌, ◌↔◌, [], List, ℕ, None, Some, true, IfOk, IfErr, OnOk, IsErrOf, MatchResult, length, take};
+    ghost use Rattle.std.specs.Prelude.{◌≡◌, ◌≢◌, ◌⊎◌, ◌∷◌, ◌++◌, ◌+◌, ◌<◌, ◌≤◌, ◌↔◌, [], List, ℕ, None, Some, true, false, IfOk, IfErr, OnOk, IsErrOf, MatchResult, length, take};
     ghost use Rattle.ps_base.specs.Causes.{Rose};
     ghost use Rattle.ps_types.specs.declared.entry.Entry.{Entry};
     ghost use Rattle.ps_disk.specs.Disk.{Holds, MayLeave, LeavesOnly};
@@ -54,7 +54,7 @@ impl<D: Disk> Journal<D> {
     ghost use Rattle.ps_model.specs.Store.{is_header, is_second, is_unbegun, gate_at, Begun, spelled};
     ghost use Rattle.ps_journal.specs.Places.{entries_in};
     ghost use Rattle.ps_journal.specs.Judged.{IsDamaged};
-    ghost use Rattle.ps_journal.specs.Opened.{IfWhyDamaged, IsOpened};
+    ghost use Rattle.ps_journal.specs.Opened.{IfWhyDamaged, IsOpened, IsBegunAnew, ArePlaced, HasLength};
     ghost use Rattle.ps_journal.specs.Journal.{disk_of, length_of, broken_of};
     ghost use Rattle.ps_journal.specs.Left.{IsWithOrWithout, LeavesList, IsFrontOfLeft};
 
@@ -67,6 +67,14 @@ impl<D: Disk> Journal<D> {
         ensures second { D.tells → IfOk result (λ r. is_second (D.seen (disk_of r.0)) ≡ true) }
         // Of a store with a header, the eighth byte becomes the digit 2, and all others are as before.
         ensures upgraded { D.tells → is_header (take 8 (D.seen disk)) ≡ true → IfOk result (λ r. Holds (D.seen disk) 7 (50 ∷ []) (D.seen (disk_of r.0))) }
+        // A store without a header is the nine bytes of a begun one, and what it had behind its first nine.
+        ensures begun { D.tells → is_header (take 8 (D.seen disk)) ≡ false → IfOk result (λ r. IsBegunAnew (D.seen disk) r.1.items (D.seen (disk_of r.0)) (length_of r.0)) }
+        // Each entry has a spelling of fewer than 2^32 bytes.
+        ensures each { IfOk result (λ r. ArePlaced r.1.items) }
+        // The length is that of the bytes up to the closed gate and with it, as before, and a crash now leaves the entries.
+        ensures long { D.tells → IfOk result (λ r. HasLength (D.seen disk) (length_of r.0)) }
+        ensures stands { D.tells → IfOk result (λ r. (bs : List (List ℕ)) → Begun (D.seen (disk_of r.0)) bs → length_of r.0 ≡ gate_at bs + 1) }
+        ensures durable { D.tells → IfOk result (λ r. LeavesList (D.synced (disk_of r.0)) (D.written (disk_of r.0)) (entries_in r.1.items)) }
         ensures whole { IfOk result (λ r. broken_of r.0 ≡ None) }
         // A damaged store is as before. The law `damaged_spells_nothing` says that it spells no list.
         ensures damaged { D.tells → IfErr result (λ e. IfWhyDamaged e.why (λ at before. IsDamaged (D.seen disk) at before)) }

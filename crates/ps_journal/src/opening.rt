@@ -1,12 +1,12 @@
 // Opening a journal.
-ghost use Rattle.std.specs.Prelude.{◌≡◌, ◌⊎◌, ◌∷◌, ◌≤◌, [], take, List, ℕ, true, length, IfOk, OnOk, OnErr, IsErrOf};
+ghost use Rattle.std.specs.Prelude.{◌≡◌, ◌⊎◌, ◌∷◌, ◌≤◌, [], take, List, ℕ, true, false, length, IfOk, OnOk, OnErr, IsErrOf};
 ghost use Rattle.ps_types.specs.declared.entry.Entry.{Entry};
 ghost use Rattle.ps_base.specs.Causes.{Rose};
 ghost use Rattle.ps_disk.specs.Disk.{Holds, LeavesOnly, MayLeave};
 ghost use Rattle.ps_model.specs.Store.{is_header, is_second, is_unbegun, spelled};
 ghost use Rattle.ps_journal.specs.Places.{entries_in};
 ghost use Rattle.ps_journal.specs.Settled.{IsSettled, IsQuiet};
-ghost use Rattle.ps_journal.specs.Opened.{IfOpened, IfDamaged, IsStoreFault, IsOpened};
+ghost use Rattle.ps_journal.specs.Opened.{IfOpened, IfDamaged, IsStoreFault, IsOpened, IsBegunAnew, ArePlaced, HasLength};
 ghost use Rattle.ps_journal.specs.Judged.{IsDamaged};
 
 use crate::beginning::begin;
@@ -53,6 +53,9 @@ pub(crate) fn open_store<D: Disk>(alloc: Global, disk: &mut D) -> Opening
     ensures opened { D.tells → IfOpened result (λ placed len. IsOpened (D.seen disk.old) placed) }
     ensures spells { D.tells → IfOpened result (λ placed len. spelled (D.seen disk.new) (entries_in placed)) }
     ensures upgraded { D.tells → is_header (take 8 (D.seen disk.old)) ≡ true → IfOpened result (λ placed len. Holds (D.seen disk.old) 7 (50 ∷ []) (D.seen disk.new)) }
+    ensures begun { D.tells → is_header (take 8 (D.seen disk.old)) ≡ false → IfOpened result (λ placed len. IsBegunAnew (D.seen disk.old) placed (D.seen disk.new) len) }
+    ensures long { D.tells → IfOpened result (λ placed len. HasLength (D.seen disk.old) len) }
+    ensures each { IfOpened result (λ placed len. ArePlaced placed) }
     ensures second { D.tells → IfOpened result (λ placed len. is_second (D.seen disk.new) ≡ true) }
     ensures settled { D.tells → IfOpened result (λ placed len. IsSettled (D.seen disk.new) (D.synced disk.new) (D.written disk.new) len) }
     ensures some { IfOpened result (λ placed len. 1 ≤ len) }

@@ -1,4 +1,4 @@
-use Rattle.std.proofs.Common.{◌+◌, ℕ, Bool, List, [], ◌∷◌, ◌++◌, ap, sym, subst, arith}
+use Rattle.std.proofs.Common.{◌+◌, ℕ, Bool, [], ◌∷◌, ◌++◌, ap, sym, subst, arith}
 use Rattle.ps_record.proofs.Pieces.{IsBytes}
 use Rattle.ps_journal.specs.Judged.{Judged}
 use Rattle.ps_journal.proofs.Verdicts.{stands, bad_frame, one_more}

@@ -1,11 +1,12 @@
-use Rattle.std.proofs.Common.{◌≡◌, ◌⊎◌, ◌≤◌, true, inr, ℕ, List, length, map, take, sym, ◌∙◌, ap, subst}
+use Rattle.std.proofs.Common.{◌≡◌, ◌⊎◌, ◌+◌, ◌≤◌, true, inr, ℕ, List, length, map, take, sym, ◌∙◌, ap, subst}
 use Rattle.ps_disk.specs.Disk.{MayLeave}
-use Rattle.ps_disk.proofs.Moments.{then_on, weaker}
+use Rattle.ps_disk.proofs.Moments.{then_on}
 use Rattle.ps_types.specs.declared.entry.Entry.{Entry}
 use Rattle.ps_model.specs.Entries.{body}
 use Rattle.ps_model.specs.Store.{is_header, is_unbegun, Lists, spelled}
 use Rattle.ps_journal.specs.Judged.{IsFound}
-use Rattle.ps_journal.proofs.Opens.{none_before, same_entries, upgraded_spells, lists_in, upgrading_spells}
+use Rattle.ps_journal.specs.Opened.{HasLength}
+use Rattle.ps_journal.proofs.Opens.{found_placed, found_length, none_before, same_entries, upgraded_spells, lists_in, upgrading_spells}
 use Rattle.ps_journal.proofs.opening.open_store.Goals as goal
 
 pub returns-in-Begun-clause-spells : goal.returns-in-Begun-clause-spells
@@ -16,6 +17,15 @@ returns-in-Begun-clause-spells g c tells =
     let same = c.deref.ensures.value ∙ c.in-Ok.ensures.bytes tells ∙ sym (c.settle.ensures.seen tells) in
     let found = subst (λ (l : List ℕ). IsFound l c.in-Begun.placed.items c.in-Begun.gate) same c.in-Begun.ensures in
     upgraded_spells (D.seen mid) (D.seen new) c.in-Begun.placed.items c.in-Begun.gate found (D.synced new) (D.written new) _ (c.in-Ok-upgrade.ensures.kept tells found.bodies found.begun)
+
+pub returns-in-Begun-clause-each : goal.returns-in-Begun-clause-each
+returns-in-Begun-clause-each g c = found_placed c.deref.result.now c.in-Begun.placed.items c.in-Begun.gate c.in-Begun.ensures
+
+pub returns-in-Begun-clause-long : goal.returns-in-Begun-clause-long
+returns-in-Begun-clause-long g c tells =
+    let D = g.D.Disk in
+    let same = c.deref.ensures.value ∙ c.in-Ok.ensures.bytes tells in
+    subst (λ (l : List ℕ). HasLength l (c.in-Begun.gate + 1)) same (found_length c.deref.result.now c.in-Begun.placed.items c.in-Begun.gate c.in-Begun.ensures)
 
 -- what the bytes spell, after the sync
 lists_of : (bytes seen old : List ℕ) (E : List Entry) → bytes ≡ old → seen ≡ old → is_header (take 8 bytes) ≡ true → spelled old E → Lists seen E

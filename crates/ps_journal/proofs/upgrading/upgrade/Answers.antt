@@ -1,6 +1,6 @@
-use Rattle.std.proofs.Common.{◌≡◌, ℕ, List, false, true, refl, sym, ◌∙◌, ap, subst}
+use Rattle.std.proofs.Common.{refl, sym, ◌∙◌, ap}
 use Rattle.ps_disk.proofs.Moments.{started, weaker}
-use Rattle.ps_model.specs.Store.{is_header, is_second}
+use Rattle.ps_model.specs.Store.{is_second}
 use Rattle.ps_journal.specs.Settled.{IsUpgrading}
 use Rattle.ps_journal.proofs.Begins.{quiet_failed, quiet_done, quiet_rest}
 use Rattle.ps_journal.proofs.Upgrades.{long_enough, written_stores, upgrading_same, upgrading_torn, upgrading_done}

@@ -5,7 +5,7 @@ use Rattle.ps_journal.specs.Left.{IsWithOrWithout, IsFrontOfLeft}
 use Rattle.ps_journal.proofs.Lists.{is_body}
 use Rattle.ps_journal.proofs.Known.{room_of, settled_grows, known, either, at_rest, rest_front, still_front, appended, appended_only, done_front}
 use Rattle.ps_journal.proofs.journal.Journal.append.Goals as goal
-use Rattle.std.proofs.Common.{inl, ℕ, ◌≤◌, ◌^◌, List, length, subst}
+use Rattle.std.proofs.Common.{inl, ℕ, ◌≤◌, ◌^◌}
 
 fits : {n m : ℕ} → n ≡ m → n ≤ 2 ^ 30 → m ≤ 2 ^ 30
 fits is le = omega arith
