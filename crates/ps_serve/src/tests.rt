@@ -1,5 +1,5 @@
 // Whole runs over a world in memory.
-use crate::{Status, run};
+use crate::run;
 use ps_outside::MemWorld;
 use ps_types::Text;
 use ps_wire::{MemSink, MemSource};
@@ -9,30 +9,69 @@ use std::test::Fail;
 const FIRST: &str =
     r#"{"a":{"from":"ann@a.example/1","id":"1","to":"pubsub.example","type":"set"},"c":[{"c":[{"a":{"node":"news"},"n":"create"}],"n":"pubsub","ns":"http://jabber.org/protocol/pubsub"}],"n":"iq"}"#;
 
-const AGAIN: &str =
-    r#"{"a":{"from":"ann@a.example/1","id":"2","to":"pubsub.example","type":"set"},"c":[{"c":[{"a":{"node":"news"},"n":"create"}],"n":"pubsub","ns":"http://jabber.org/protocol/pubsub"}],"n":"iq"}"#;
-
-const FOREIGN: &str =
-    r#"{"a":{"from":"bob@b.example/1","id":"1","to":"pubsub.example","type":"set"},"c":[{"c":[{"a":{"node":"news"},"n":"create"}],"n":"pubsub","ns":"http://jabber.org/protocol/pubsub"}],"n":"iq"}"#;
-
 const MADE: &str =
-    r#"{"a":{"from":"pubsub.example","id":"1","to":"ann@a.example/1","type":"result"},"n":"iq"}"#;
+    r#"{"a":{"from":"pubsub.example","id":"1","to":"ann@a.example/1","type":"result"},"n":"iq"}
+"#;
 
-const CONFLICT: &str =
-    r#"{"a":{"from":"pubsub.example","id":"2","to":"ann@a.example/1","type":"error"},"c":[{"a":{"type":"cancel"},"c":[{"n":"conflict","ns":"urn:ietf:params:xml:ns:xmpp-stanzas"}],"n":"error"}],"n":"iq"}"#;
+// A node is made, and made again.
+const BOTH: &str =
+    r#"{"a":{"from":"ann@a.example/1","id":"1","to":"pubsub.example","type":"set"},"c":[{"c":[{"a":{"node":"news"},"n":"create"}],"n":"pubsub","ns":"http://jabber.org/protocol/pubsub"}],"n":"iq"}
+{"a":{"from":"ann@a.example/1","id":"2","to":"pubsub.example","type":"set"},"c":[{"c":[{"a":{"node":"news"},"n":"create"}],"n":"pubsub","ns":"http://jabber.org/protocol/pubsub"}],"n":"iq"}
+"#;
+
+const BOTH_ANSWERED: &str =
+    r#"{"a":{"from":"pubsub.example","id":"1","to":"ann@a.example/1","type":"result"},"n":"iq"}
+{"a":{"from":"pubsub.example","id":"2","to":"ann@a.example/1","type":"error"},"c":[{"a":{"type":"cancel"},"c":[{"n":"conflict","ns":"urn:ietf:params:xml:ns:xmpp-stanzas"}],"n":"error"}],"n":"iq"}
+"#;
+
+// To that node its owner publishes, and a stranger does and retrieves.
+const PUBLISHED: &str =
+    r#"{"a":{"from":"ann@a.example/1","id":"3","to":"pubsub.example","type":"set"},"c":[{"c":[{"a":{"node":"news"},"c":[{"a":{"id":"i1"},"c":[{"c":["hi"],"n":"entry","ns":"urn:t"}],"n":"item"}],"n":"publish"}],"n":"pubsub","ns":"http://jabber.org/protocol/pubsub"}],"n":"iq"}
+{"a":{"from":"cid@a.example/1","id":"4","to":"pubsub.example","type":"set"},"c":[{"c":[{"a":{"node":"news"},"c":[{"a":{"id":"i1"},"c":[{"c":["hi"],"n":"entry","ns":"urn:t"}],"n":"item"}],"n":"publish"}],"n":"pubsub","ns":"http://jabber.org/protocol/pubsub"}],"n":"iq"}
+{"a":{"from":"cid@a.example/1","id":"5","to":"pubsub.example","type":"get"},"c":[{"c":[{"a":{"node":"news"},"n":"items"}],"n":"pubsub","ns":"http://jabber.org/protocol/pubsub"}],"n":"iq"}
+"#;
+
+const PUBLISHED_ANSWERED: &str =
+    r#"{"a":{"from":"pubsub.example","id":"3","to":"ann@a.example/1","type":"result"},"c":[{"c":[{"a":{"node":"news"},"c":[{"a":{"id":"i1"},"n":"item"}],"n":"publish"}],"n":"pubsub","ns":"http://jabber.org/protocol/pubsub"}],"n":"iq"}
+{"a":{"from":"pubsub.example","id":"4","to":"cid@a.example/1","type":"error"},"c":[{"a":{"type":"auth"},"c":[{"n":"forbidden","ns":"urn:ietf:params:xml:ns:xmpp-stanzas"}],"n":"error"}],"n":"iq"}
+{"a":{"from":"pubsub.example","id":"5","to":"cid@a.example/1","type":"result"},"c":[{"c":[{"a":{"node":"news"},"c":[{"a":{"id":"i1"},"c":[{"c":["hi"],"n":"entry","ns":"urn:t"}],"n":"item"}],"n":"items"}],"n":"pubsub","ns":"http://jabber.org/protocol/pubsub"}],"n":"iq"}
+"#;
+
+// Lines of another host, without bytes, of no tree, of 33 levels, cut in two, and one without a newline.
+const LINES: &str =
+    r#"{"a":{"from":"bob@b.example/1","id":"1","to":"pubsub.example","type":"set"},"c":[{"c":[{"a":{"node":"news"},"n":"create"}],"n":"pubsub","ns":"http://jabber.org/protocol/pubsub"}],"n":"iq"}
+
+[]
+{"c":[{"c":[{"c":[{"c":[{"c":[{"c":[{"c":[{"c":[{"c":[{"c":[{"c":[{"c":[{"c":[{"c":[{"c":[{"c":[{"c":[{"c":[{"c":[{"c":[{"c":[{"c":[{"c":[{"c":[{"c":[{"c":[{"c":[{"c":[{"c":[{"c":[{"c":[{"c":[{"n":"a"}],"n":"a"}],"n":"a"}],"n":"a"}],"n":"a"}],"n":"a"}],"n":"a"}],"n":"a"}],"n":"a"}],"n":"a"}],"n":"a"}],"n":"a"}],"n":"a"}],"n":"a"}],"n":"a"}],"n":"a"}],"n":"a"}],"n":"a"}],"n":"a"}],"n":"a"}],"n":"a"}],"n":"a"}],"n":"a"}],"n":"a"}],"n":"a"}],"n":"a"}],"n":"a"}],"n":"a"}],"n":"a"}],"n":"a"}],"n":"a"}],"n":"a"}],"n":"a"}
+{"a":{"from":"ann@a.example/1","id":"1","to":"pubsub.example","type":"set"},"c":[{"c":[{"a":{"
+{"a":{"from":"ann@a.example/1","id":"1","to":"pubsub.example","type":"set"},"c":[{"c":[{"a":{"node":"news"},"n":"create"}],"n":"pubsub","ns":"http://jabber.org/protocol/pubsub"}],"n":"iq"}"#;
+
+const LINES_ANSWERED: &str =
+    r#"{"a":{"line":"1","why":"foreign-from"},"n":"refused","ns":"urn:pubsubd:line"}
+{"a":{"line":"3","why":"not-a-tree"},"n":"refused","ns":"urn:pubsubd:line"}
+{"a":{"line":"4","why":"too-deep"},"n":"refused","ns":"urn:pubsubd:line"}
+{"a":{"line":"5","why":"not-json"},"n":"refused","ns":"urn:pubsubd:line"}
+{"a":{"from":"pubsub.example","id":"1","to":"ann@a.example/1","type":"result"},"n":"iq"}
+"#;
+
+const TOO_LONG: &str =
+    r#"{"a":{"from":"pubsub.example","id":"1","to":"ann@a.example/1","type":"result"},"n":"iq"}
+{"a":{"line":"2","why":"too-long"},"n":"refused","ns":"urn:pubsubd:line"}
+"#;
+
+const RETRIEVED: &str =
+    r#"{"a":{"from":"cid@a.example/1","id":"x","to":"pubsub.example","type":"get"},"c":[{"c":[{"a":{"node":"news"},"n":"items"}],"n":"pubsub","ns":"http://jabber.org/protocol/pubsub"}],"n":"iq"}
+"#;
+
+// The items k1 to k10.
+const TEN: &str =
+    r#"{"a":{"from":"pubsub.example","id":"x","to":"cid@a.example/1","type":"result"},"c":[{"c":[{"a":{"node":"news"},"c":[{"a":{"id":"k1"},"c":[{"n":"entry","ns":"urn:t"}],"n":"item"},{"a":{"id":"k2"},"c":[{"n":"entry","ns":"urn:t"}],"n":"item"},{"a":{"id":"k3"},"c":[{"n":"entry","ns":"urn:t"}],"n":"item"},{"a":{"id":"k4"},"c":[{"n":"entry","ns":"urn:t"}],"n":"item"},{"a":{"id":"k5"},"c":[{"n":"entry","ns":"urn:t"}],"n":"item"},{"a":{"id":"k6"},"c":[{"n":"entry","ns":"urn:t"}],"n":"item"},{"a":{"id":"k7"},"c":[{"n":"entry","ns":"urn:t"}],"n":"item"},{"a":{"id":"k8"},"c":[{"n":"entry","ns":"urn:t"}],"n":"item"},{"a":{"id":"k9"},"c":[{"n":"entry","ns":"urn:t"}],"n":"item"},{"a":{"id":"k10"},"c":[{"n":"entry","ns":"urn:t"}],"n":"item"}],"n":"items"}],"n":"pubsub","ns":"http://jabber.org/protocol/pubsub"}],"n":"iq"}
+"#;
 
 const USAGE: &str =
-    "usage: pubsubd serve --service HOST --store PATH HOST IN OUT [HOST IN OUT].. | rehearse SEED COUNT\n";
+    "usage: pubsubd serve --service HOST --store PATH HOST IN OUT [HOST IN OUT].. | rehearse SEED COUNT\n2";
 
 const SERVE: &str = "serve --service pubsub.example --store s a.example i1 o1";
-
-/// How a run ended, what its sink holds, and what was reported.
-#[derive(Drop)]
-struct Ended {
-    status: Status,
-    written: Vec<u8>,
-    reported: Vec<u8>,
-}
 
 // The calls of the source, the sink and the world that fail.
 #[derive(Clone, Copy)]
@@ -48,230 +87,202 @@ const NONE: Failing<'static> = Failing {
     world: &[],
 };
 
-fn ran(alloc: Global, words: &str, input: &[u8], failing: Failing<'_>) -> Result<Ended, Fail> {
+fn world_of(alloc: Global, input: &str, failing: Failing<'_>) -> Result<MemWorld, Fail> {
     let source = Text::of(alloc, "i1")?;
     let sink = Text::of(alloc, "o1")?;
     let mut world = MemWorld::new(alloc, failing.world)?;
-    world.put_source(&source, MemSource::new(alloc, input, failing.source)?)?;
+    world.put_source(
+        &source,
+        MemSource::new(alloc, input.as_bytes(), failing.source)?,
+    )?;
     world.put_sink(&sink, MemSink::new(alloc, failing.sink)?)?;
+    Ok(world)
+}
+
+// Runs the words, and answers the status's code.
+fn code_of(alloc: Global, words: &str, world: &mut MemWorld) -> Result<u8, Fail> {
     let mut texts = Vec::new(alloc);
     for word in words.split(' ') {
         texts.push(Text::of(alloc, word)?)?;
     }
-    let status = run(alloc, &texts, &mut world);
-    let written = world.sink(&sink).ok_or("no sink")?.bytes().to_vec(alloc)?;
-    let reported = world.reported().to_vec(alloc)?;
-    Ok(Ended {
-        status,
-        written,
-        reported,
-    })
+    Ok(run(alloc, &texts, world).code())
 }
 
-// These lines, each with its newline.
-fn lines(alloc: Global, texts: &[&str]) -> Result<String, Fail> {
-    let mut all = String::new(alloc);
-    for text in texts {
-        all.push_str(text)?;
-        all.push('\n')?;
-    }
-    Ok(all)
+// What the sink holds, what was reported, and the code.
+fn told(alloc: Global, world: &MemWorld, code: u8) -> Result<String, Fail> {
+    let sink = Text::of(alloc, "o1")?;
+    let sink = world.sink(&sink).ok_or("no sink")?;
+    let written = str::from_utf8(sink.bytes())?;
+    let reported = str::from_utf8(world.reported())?;
+    Ok(format!(in alloc; "{written}{reported}{code}")?)
 }
 
-fn refused(alloc: Global, line: u64, why: &str) -> Result<String, Fail> {
-    Ok(format!(in alloc;
-        "{{\"a\":{{\"line\":\"{line}\",\"why\":\"{why}\"}},\"n\":\"refused\",\"ns\":\"urn:pubsubd:line\"}}\n"
-    )?)
+// A run of the words over that input: what was written, what was reported, and the code.
+fn ran(alloc: Global, words: &str, input: &str, failing: Failing<'_>) -> Result<String, Fail> {
+    let mut world = world_of(alloc, input, failing)?;
+    let code = code_of(alloc, words, &mut world)?;
+    told(alloc, &world, code)
+}
+
+// Whether a run that ends well answers the lines so.
+fn answers(alloc: Global, input: &str, output: &str) -> Result<bool, Fail> {
+    let told = ran(alloc, SERVE, input, NONE)?;
+    Ok(told.as_str().strip_suffix('0') == Some(output))
 }
 
 #[test]
-fn a_node_is_made_once(rt: HostRuntime) -> Result<(), Fail> {
+fn what_is_published_is_retrieved(rt: HostRuntime) -> Result<(), Fail> {
     let alloc = rt.alloc();
-    let input = lines(alloc, &[FIRST, AGAIN])?;
-    let output = lines(alloc, &[MADE, CONFLICT])?;
-    let ran = ran(alloc, SERVE, input.as_bytes(), NONE)?;
-    assert_eq!(rt; ran.status, Status::Done);
-    assert_eq!(rt; ran.status.code(), 0);
-    assert_eq!(rt; ran.written.as_slice(), output.as_bytes());
-    assert_eq!(rt; ran.reported.as_slice(), b"".as_slice());
+    let input = format!(in alloc; "{BOTH}{PUBLISHED}")?;
+    let output = format!(in alloc; "{BOTH_ANSWERED}{PUBLISHED_ANSWERED}")?;
+    assert!(rt; answers(alloc, input.as_str(), output.as_str())?);
     Ok(())
+}
+
+fn publish(alloc: Global, input: &mut String, k: u64) -> Result<(), Fail> {
+    let line = format!(in alloc;
+        r#"{{"a":{{"from":"ann@a.example/1","id":"{k}","to":"pubsub.example","type":"set"}},"c":[{{"c":[{{"a":{{"node":"news"}},"c":[{{"a":{{"id":"k{k}"}},"c":[{{"n":"entry","ns":"urn:t"}}],"n":"item"}}],"n":"publish"}}],"n":"pubsub","ns":"http://jabber.org/protocol/pubsub"}}],"n":"iq"}}"#
+    )?;
+    input.push_str(line.as_str())?;
+    input.push('\n')?;
+    Ok(())
+}
+
+fn published(alloc: Global, output: &mut String, k: u64) -> Result<(), Fail> {
+    let line = format!(in alloc;
+        r#"{{"a":{{"from":"pubsub.example","id":"{k}","to":"ann@a.example/1","type":"result"}},"c":[{{"c":[{{"a":{{"node":"news"}},"c":[{{"a":{{"id":"k{k}"}},"n":"item"}}],"n":"publish"}}],"n":"pubsub","ns":"http://jabber.org/protocol/pubsub"}}],"n":"iq"}}"#
+    )?;
+    output.push_str(line.as_str())?;
+    output.push('\n')?;
+    Ok(())
+}
+
+#[test]
+fn of_eleven_items_the_oldest_goes(rt: HostRuntime) -> Result<(), Fail> {
+    let alloc = rt.alloc();
+    let mut input = format!(in alloc; "{FIRST}\n")?;
+    let mut output = String::from_str(alloc, MADE)?;
+    for k in 0..11 {
+        publish(alloc, &mut input, k)?;
+        published(alloc, &mut output, k)?;
+    }
+    input.push_str(RETRIEVED)?;
+    output.push_str(TEN)?;
+    assert!(rt; answers(alloc, input.as_str(), output.as_str())?);
+    Ok(())
+}
+
+#[test]
+fn each_line_has_its_reply(rt: HostRuntime) -> Result<(), Fail> {
+    assert!(rt; answers(rt.alloc(), LINES, LINES_ANSWERED)?);
+    Ok(())
+}
+
+// The first line with spaces after it, up to that length.
+fn padded(alloc: Global, length: usize) -> Result<String, Fail> {
+    let mut line = String::from_str(alloc, FIRST)?;
+    for _ in FIRST.len()..length {
+        line.push(' ')?;
+    }
+    Ok(line)
 }
 
 #[test]
 fn a_long_line_is_refused(rt: HostRuntime) -> Result<(), Fail> {
     let alloc = rt.alloc();
-    let made = lines(alloc, &[MADE])?;
-    let long = refused(alloc, 1, "too-long")?;
-    for (length, output) in [(262_144, &made), (262_145, &long)] {
-        let mut input = String::from_str(alloc, FIRST)?;
-        for _ in FIRST.len()..length {
-            input.push(' ')?;
-        }
-        let ran = ran(alloc, SERVE, input.as_bytes(), NONE)?;
-        assert_eq!(rt; ran.status, Status::Done, "{length}");
-        assert_eq!(rt; ran.written.as_slice(), output.as_bytes(), "{length}");
-    }
+    let long = padded(alloc, 262_144)?;
+    let longer = padded(alloc, 262_145)?;
+    let input = format!(in alloc; "{long}\n{longer}")?;
+    assert!(rt; answers(alloc, input.as_str(), TOO_LONG)?);
     Ok(())
 }
 
-#[test]
-fn a_line_ends_with_the_input(rt: HostRuntime) -> Result<(), Fail> {
-    let alloc = rt.alloc();
-    let whole = ran(alloc, SERVE, FIRST.as_bytes(), NONE)?;
-    assert_eq!(rt; whole.written.as_slice(), lines(alloc, &[MADE])?.as_bytes());
-    let (half, _) = FIRST.as_bytes().split_at(FIRST.len() / 2);
-    let half = ran(alloc, SERVE, half, NONE)?;
-    assert_eq!(rt; half.status, Status::Done);
-    assert_eq!(rt;
-        half.written.as_slice(),
-        refused(alloc, 1, "not-json")?.as_bytes()
-    );
-    Ok(())
-}
-
-#[test]
-fn a_sender_is_of_its_stream(rt: HostRuntime) -> Result<(), Fail> {
-    let alloc = rt.alloc();
-    let input = lines(alloc, &[FOREIGN, "", FIRST])?;
-    let mut output = refused(alloc, 1, "foreign-from")?;
-    output.push_str(lines(alloc, &[MADE])?.as_str())?;
-    let ran = ran(alloc, SERVE, input.as_bytes(), NONE)?;
-    assert_eq!(rt; ran.status, Status::Done);
-    assert_eq!(rt; ran.written.as_slice(), output.as_bytes());
-    Ok(())
+// How a run over two lines ends.
+fn ends(alloc: Global, failing: Failing<'_>, told: &str) -> Result<bool, Fail> {
+    let ran = ran(alloc, SERVE, BOTH, failing)?;
+    Ok(ran.as_str() == told)
 }
 
 #[test]
 fn what_fails_has_its_status(rt: HostRuntime) -> Result<(), Fail> {
     let alloc = rt.alloc();
-    let input = lines(alloc, &[FIRST, AGAIN])?;
-    let made = lines(alloc, &[MADE])?;
-    let both = lines(alloc, &[MADE, CONFLICT])?;
-    let begun = format!(in alloc; "{MADE}\n{CONFLICT}")?;
-    for (failing, status, code, output, report) in [
-        (
+    let begun = format!(in alloc; "{}stream fault\n3", BOTH_ANSWERED.trim_end())?;
+    let both = format!(in alloc; "{BOTH_ANSWERED}stream fault\n3")?;
+    let made = format!(in alloc; "{MADE}stream fault\n3")?;
+    assert!(rt;
+        ends(
+            alloc,
             Failing {
                 source: &[1],
                 ..NONE
             },
-            Status::StreamFault,
-            3,
-            "",
-            "stream fault\n",
-        ),
-        (
+            "stream fault\n3"
+        )?
+    );
+    assert!(rt;
+        ends(
+            alloc,
             Failing {
                 source: &[2],
                 ..NONE
             },
-            Status::StreamFault,
-            3,
-            both.as_str(),
-            "stream fault\n",
-        ),
-        (
-            Failing { sink: &[4], ..NONE },
-            Status::StreamFault,
-            3,
-            made.as_str(),
-            "stream fault\n",
-        ),
-        (
-            Failing { sink: &[5], ..NONE },
-            Status::StreamFault,
-            3,
-            begun.as_str(),
-            "stream fault\n",
-        ),
-        (
+            both.as_str()
+        )?
+    );
+    assert!(rt; ends(alloc, Failing { sink: &[4], ..NONE }, made.as_str())?);
+    assert!(rt; ends(alloc, Failing { sink: &[5], ..NONE }, begun.as_str())?);
+    assert!(rt;
+        ends(
+            alloc,
             Failing {
                 world: &[1],
                 ..NONE
             },
-            Status::OpenFault,
-            9,
-            "",
-            "open fault\n",
-        ),
-        (
+            "open fault\n9"
+        )?
+    );
+    assert!(rt;
+        ends(
+            alloc,
             Failing {
                 world: &[2],
                 ..NONE
             },
-            Status::OpenFault,
-            9,
-            "",
-            "open fault\n",
-        ),
-        (
+            "open fault\n9"
+        )?
+    );
+    assert!(rt;
+        ends(
+            alloc,
             Failing {
                 world: &[2, 3],
                 ..NONE
             },
-            Status::OpenFault,
-            9,
-            "",
-            "",
-        ),
-    ] {
-        let ran = ran(alloc, SERVE, input.as_bytes(), failing)?;
-        assert_eq!(rt; ran.status, status, "{report}");
-        assert_eq!(rt; ran.status.code(), code, "{report}");
-        assert_eq!(rt; ran.written.as_slice(), output.as_bytes(), "{report}");
-        assert_eq!(rt; ran.reported.as_slice(), report.as_bytes(), "{report}");
-    }
+            "9"
+        )?
+    );
     Ok(())
 }
 
 #[test]
 fn other_words_are_no_command(rt: HostRuntime) -> Result<(), Fail> {
     let alloc = rt.alloc();
-    for (words, status) in [
-        (
-            "serve --service PubSub.Example --store s A.Example i1 o1",
-            Status::Done,
-        ),
-        ("", Status::Usage),
-        ("serve --store s", Status::Usage),
-        ("rehearse 0 4", Status::Usage),
-        (
-            "serve --service a.example --store s A.EXAMPLE i1 o1",
-            Status::Usage,
-        ),
-        (
-            "serve --service pubsub.example --store s ann@a.example i1 o1",
-            Status::Usage,
-        ),
-        (
-            "serve --service pubsub.example --store s a.example/1 i1 o1",
-            Status::Usage,
-        ),
-        (
-            "serve --service pubsub.example --store s a..example i1 o1",
-            Status::Usage,
-        ),
-        (
-            "serve --service pubsub.example --store i1 a.example i1 o1",
-            Status::Usage,
-        ),
-        (
-            "serve --service pubsub.example --store s a.example i1 i1",
-            Status::Usage,
-        ),
-        (
-            "serve --service pubsub.example --store s a.example i1 ",
-            Status::Usage,
-        ),
-        (
-            "serve --service pubsub.example --store s a.example i1 o1 b.example i2 o2",
-            Status::Usage,
-        ),
+    let upper = "serve --service PubSub.Example --store s A.Example i1 o1";
+    assert_eq!(rt; ran(alloc, upper, "", NONE)?.as_str(), "0");
+    for words in [
+        "",
+        "serve --store s",
+        "rehearse 0 4",
+        "serve --service a.example --store s A.EXAMPLE i1 o1",
+        "serve --service pubsub.example --store s ann@a.example i1 o1",
+        "serve --service pubsub.example --store s a.example/1 i1 o1",
+        "serve --service pubsub.example --store s a..example i1 o1",
+        "serve --service pubsub.example --store i1 a.example i1 o1",
+        "serve --service pubsub.example --store s a.example i1 i1",
+        "serve --service pubsub.example --store s a.example i1 ",
+        "serve --service pubsub.example --store s a.example i1 o1 b.example i2 o2",
     ] {
-        let ran = ran(alloc, words, b"", NONE)?;
-        assert_eq!(rt; ran.status, status, "{words}");
-        let report = if status == Status::Usage { USAGE } else { "" };
-        assert_eq!(rt; ran.reported.as_slice(), report.as_bytes(), "{words}");
+        assert_eq!(rt; ran(alloc, words, "", NONE)?.as_str(), USAGE, "{words}");
     }
-    assert_eq!(rt; Status::Usage.code(), 2);
     Ok(())
 }
