@@ -3,3 +3,4 @@ pub mod Kids
 pub mod Only
 pub mod Heads
 pub mod Taking
+pub mod Written

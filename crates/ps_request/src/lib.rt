@@ -8,12 +8,16 @@
 //!
 //! [`Head`] is what the reply to a stanza is made of, and [`is_answered`] says which stanzas get one.
 //!
+//! [`request_tree`] goes the other way: the stanza that a request is written as (`specs/Written.antt`), which is taken as that
+//! request wherever some tree is.
+//!
 //! `specs/Taking.antt` has the words of these contracts: `taken_of`, what a tree is taken as; `taken_view`, what was found of it;
 //! and `Tells`, that an answer is exactly that. `specs/Heads.antt` sees a head as the model's, and `specs/Answer.antt` says what
 //! the readers of the parts answer.
 #![tactic(auto)]
 
 mod asking;
+mod build;
 mod entity;
 mod forms;
 mod head;
@@ -23,11 +27,15 @@ mod owner;
 mod parts;
 mod publish;
 mod router;
+mod rows;
 mod stanza;
 mod taking;
 #[cfg(test)]
 mod tests;
+mod whole;
+mod written;
 
 pub use head::{Head, head_of, is_answered};
 pub use stanza::{is_iq, is_message, is_presence};
 pub use taking::{TakenTree, read_request, take_tree};
+pub use whole::request_tree;
