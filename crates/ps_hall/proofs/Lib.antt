@@ -1,8 +1,8 @@
 mod Shapes
-mod OneRow
-mod Laid
+pub mod OneRow
+pub mod Laid
 mod Flushing
-mod Worlds
+pub mod Worlds
 mod Goings
 mod Arriving
 mod Nexts

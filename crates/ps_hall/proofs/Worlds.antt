@@ -20,7 +20,7 @@ use Rattle.ps_hall.specs.Left.{DiskStands, IsFront}
 use Rattle.ps_hall.specs.Stand.{JournalStands, StandsFor, Stands, StateStands}
 
 -- a front, where the list goes on
-front_on : (E es F : List Entry) (least : ℕ) (c : List ℕ) → F ≡ E ++ es → IsFront E least c → IsFront F least c
+pub front_on : (E es F : List Entry) (least : ℕ) (c : List ℕ) → F ≡ E ++ es → IsFront E least c → IsFront F least c
 front_on E es F least c is f = record {
   count = f.count;
   enough = f.enough;

@@ -70,6 +70,7 @@ impl<D: Disk> Hall<D> {
         ensures hosts { names self.new.state.rows.items ≡ names self.old.state.rows.items }
         ensures steps { self.new.state.steps ≡ self.old.state.steps + 2 }
         ensures limits { self.new.limits ≡ self.old.limits }
+        ensures later { D.faults (disk_of self.old.journal) ≤ D.faults (disk_of self.new.journal) }
     {
         self.state.lay(at, arrival, full, reply, false);
         self.state.settle();
@@ -100,6 +101,7 @@ impl<D: Disk> Hall<D> {
         ensures hosts { names self.new.state.rows.items ≡ names self.old.state.rows.items }
         ensures steps { self.new.state.steps ≡ self.old.state.steps + 2 }
         ensures limits { self.new.limits ≡ self.old.limits }
+        ensures later { D.faults (disk_of self.old.journal) ≤ D.faults (disk_of self.new.journal) }
     {
         let limit = self.limits.changes;
         self.state.lay(at, arrival, false, reply, true);
@@ -146,6 +148,7 @@ impl<D: Disk> Hall<D> {
         ensures err { (row : HostRow) → slice_get self.old.state.rows.items at ≡ Some row → IfErr result (λ e. ArriveRefused self.old self.new row.host arrival.now e) }
         ensures hosts { names self.new.state.rows.items ≡ names self.old.state.rows.items }
         ensures limits { self.new.limits ≡ self.old.limits }
+        ensures later { D.faults (disk_of self.old.journal) ≤ D.faults (disk_of self.new.journal) }
     {
         let place = self.state.service.count();
         match self.state.service.prepare(entry) {
@@ -181,6 +184,7 @@ impl<D: Disk> Hall<D> {
         ensures err { (row : HostRow) → slice_get self.old.state.rows.items at ≡ Some row → IfErr result (λ e. ArriveRefused self.old self.new row.host arrival.now e) }
         ensures hosts { names self.new.state.rows.items ≡ names self.old.state.rows.items }
         ensures limits { self.new.limits ≡ self.old.limits }
+        ensures later { D.faults (disk_of self.old.journal) ≤ D.faults (disk_of self.new.journal) }
     {
         let place = self.state.service.count();
         let limit = self.limits.changes;
@@ -214,6 +218,7 @@ impl<D: Disk> Hall<D> {
         ensures err { (row : HostRow) → slice_get self.old.state.rows.items at ≡ Some row → IfErr result (λ e. ArriveRefused self.old self.new row.host arrival.now e) }
         ensures hosts { names self.new.state.rows.items ≡ names self.old.state.rows.items }
         ensures limits { self.new.limits ≡ self.old.limits }
+        ensures later { D.faults (disk_of self.old.journal) ≤ D.faults (disk_of self.new.journal) }
     {
         let place = self.state.service.count();
         let outcome = plain_outcome(&reply);
@@ -240,6 +245,7 @@ impl<D: Disk> Hall<D> {
         ensures err { (row : HostRow) → slice_get self.old.state.rows.items at ≡ Some row → IfErr result (λ e. ArriveRefused self.old self.new row.host arrival.now e) }
         ensures hosts { names self.new.state.rows.items ≡ names self.old.state.rows.items }
         ensures limits { self.new.limits ≡ self.old.limits }
+        ensures later { D.faults (disk_of self.old.journal) ≤ D.faults (disk_of self.new.journal) }
     {
         let Replies { reply, entry, full } = replies;
         match entry {
@@ -276,6 +282,7 @@ impl<D: Disk> Hall<D> {
         ensures err { (row : HostRow) → slice_get self.old.state.rows.items at ≡ Some row → IfErr result (λ e. ArriveRefused self.old self.new row.host arrival.now e) }
         ensures hosts { names self.new.state.rows.items ≡ names self.old.state.rows.items }
         ensures limits { self.new.limits ≡ self.old.limits }
+        ensures later { D.faults (disk_of self.old.journal) ≤ D.faults (disk_of self.new.journal) }
     {
         match self.replies(at, arrival) {
             Err(Memory) => Err(ArriveRefusal::Memory),
@@ -293,6 +300,7 @@ impl<D: Disk> Hall<D> {
         ensures err { (row : HostRow) → slice_get self.old.state.rows.items at ≡ Some row → IfErr result (λ e. ArriveRefused self.old self.new row.host arrival.now e) }
         ensures hosts { names self.new.state.rows.items ≡ names self.old.state.rows.items }
         ensures limits { self.new.limits ≡ self.old.limits }
+        ensures later { D.faults (disk_of self.old.journal) ≤ D.faults (disk_of self.new.journal) }
     {
         match self.turned_away(at) {
             Some(refusal) => Err(refusal),
@@ -312,6 +320,7 @@ impl<D: Disk> Hall<D> {
         ensures err { IfErr result (λ e. ArriveRefused self.old self.new pass.old.host arrival.now e) }
         ensures hosts { hosts_of self.new ≡ hosts_of self.old }
         ensures limits { self.new.limits ≡ self.old.limits }
+        ensures later { D.faults (disk_of self.old.journal) ≤ D.faults (disk_of self.new.journal) }
         ensures sees { Sees pass.old pass.new (steps_of self.new) }
     {
         let outcome = self.arrive_at(pass.at, arrival);

@@ -64,6 +64,7 @@ impl<D: Disk> Hall<D> {
         ensures rows { self.new.state.rows ≡ self.old.state.rows }
         ensures steps { self.new.state.steps ≡ self.old.state.steps + 2 }
         ensures limits { self.new.limits ≡ self.old.limits }
+        ensures later { D.faults (disk_of self.old.journal) ≤ D.faults (disk_of self.new.journal) }
     {
         let limit = self.limits.whole;
         self.state.lay_gone(entry);
@@ -83,6 +84,7 @@ impl<D: Disk> Hall<D> {
         ensures rows { self.new.state.rows ≡ self.old.state.rows }
         ensures steps { self.new.state.steps ≤ self.old.state.steps + 2 }
         ensures limits { self.new.limits ≡ self.old.limits }
+        ensures later { D.faults (disk_of self.old.journal) ≤ D.faults (disk_of self.new.journal) }
     {
         match self.state.service.prepare(entry) {
             Err(Memory) => Err(HandedRefusal::Memory),
@@ -104,6 +106,7 @@ impl<D: Disk> Hall<D> {
         ensures rows { self.new.state.rows ≡ self.old.state.rows }
         ensures steps { self.new.state.steps ≤ self.old.state.steps + 2 }
         ensures limits { self.new.limits ≡ self.old.limits }
+        ensures later { D.faults (disk_of self.old.journal) ≤ D.faults (disk_of self.new.journal) }
     {
         let limit = self.limits.whole;
         match self.batch_within(entry, limit) {
@@ -123,6 +126,7 @@ impl<D: Disk> Hall<D> {
         ensures rows { self.new.state.rows ≡ self.old.state.rows }
         ensures steps { self.new.state.steps ≤ self.old.state.steps + 2 }
         ensures limits { self.new.limits ≡ self.old.limits }
+        ensures later { D.faults (disk_of self.old.journal) ≤ D.faults (disk_of self.new.journal) }
     {
         if self.is_broken() {
             return Err(HandedRefusal::Store);
@@ -142,6 +146,7 @@ impl<D: Disk> Hall<D> {
         ensures err { (row : HostRow) → slice_get self.old.state.rows.items at ≡ Some row → IfErr result (λ e. GoneRefused self.old self.new row.host e) }
         ensures hosts { names self.new.state.rows.items ≡ names self.old.state.rows.items }
         ensures limits { self.new.limits ≡ self.old.limits }
+        ensures later { D.faults (disk_of self.old.journal) ≤ D.faults (disk_of self.new.journal) }
     {
         let outcome = self.record_gone(at);
         self.state.reader_ended(at);
@@ -158,6 +163,7 @@ impl<D: Disk> Hall<D> {
         ensures err { IfErr result (λ e. GoneRefused self.old self.new pass.old.host e) }
         ensures hosts { hosts_of self.new ≡ hosts_of self.old }
         ensures limits { self.new.limits ≡ self.old.limits }
+        ensures later { D.faults (disk_of self.old.journal) ≤ D.faults (disk_of self.new.journal) }
         ensures sees { Sees pass.old pass.new (steps_of self.new) }
     {
         let outcome = self.gone_at(pass.at);

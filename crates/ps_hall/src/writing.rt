@@ -24,6 +24,7 @@ impl<D: Disk> Hall<D> {
         ensures rows { self.new.state.rows ≡ self.old.state.rows }
         ensures steps { self.new.state.steps ≡ self.old.state.steps + 1 }
         ensures limits { self.new.limits ≡ self.old.limits }
+        ensures later { D.faults (disk_of self.old.journal) ≤ D.faults (disk_of self.new.journal) }
     {
         match self.journal.append(batch, limit) {
             Ok(()) => {

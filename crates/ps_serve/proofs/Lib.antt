@@ -1,7 +1,9 @@
 pub mod Hosts
-pub mod Ready
-pub mod Output
-pub mod Asking
 pub mod Eight
-pub mod Reaching
-pub mod Same
+pub mod Coming
+pub mod OneLine
+pub mod Halls
+pub mod Answering
+pub mod Arrivals
+pub mod Streams
+pub mod Ends

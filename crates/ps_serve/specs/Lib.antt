@@ -2,5 +2,5 @@ pub mod Words
 pub mod Statuses
 pub mod Served
 pub mod Reached
-pub mod Turns
-pub mod Runs
+pub mod Serving
+pub mod Kept

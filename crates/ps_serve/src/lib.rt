@@ -15,15 +15,11 @@
 //! `specs/Turns.antt` says what the answering of one line does, and `specs/Reached.antt` how far a source was read.
 #![tactic(auto)]
 
-mod booting;
+mod ending;
 mod status;
 mod stream;
-#[cfg(test)]
-mod tests;
 mod turn;
-mod whole;
 mod words;
 
 pub use status::Status;
-pub use whole::run;
 pub use words::{Command, Stream, WordsRefusal, read_words};
