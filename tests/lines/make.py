@@ -26,7 +26,9 @@ The reply:
 """
 import pathlib
 import re
+import subprocess
 import sys
+import tempfile
 
 import notation
 import replies
@@ -34,6 +36,7 @@ from notation import Element, NAMESPACES
 
 HERE = pathlib.Path(__file__).resolve().parent
 PROGRAM = HERE.parent.parent / "crates" / "pubsubd"
+HOSTILE = HERE.parent.parent / "bench" / "lines" / "lines.py"
 SERVICE = "pubsub.example"
 IQ_TYPES = ("get", "set", "result", "error")
 
@@ -151,9 +154,19 @@ def repeated(request, reply):
         yield request[match.end() :].replace("$", str(k)), reply.replace("$", str(k))
 
 
+def hostile():
+    """Malformed lines and those that a tree alone denies, and their replies. They come first, since some replies have their numbers."""
+    with tempfile.TemporaryDirectory() as folder:
+        subprocess.run([sys.executable, HOSTILE, folder], check=True)
+        made = pathlib.Path(folder)
+        lines = (made / "in.txt").read_bytes().split(b"\n")
+        answers = (made / "out.txt").read_bytes().splitlines()
+    return lines, answers
+
+
 def run_of_cases():
     """The lines of the run and its replies."""
-    lines, answers = [], []
+    lines, answers = hostile()
     for where, request, reply in cases():
         try:
             for one, answer in repeated(request, reply):
