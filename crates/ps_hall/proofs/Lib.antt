@@ -6,3 +6,8 @@ mod Worlds
 mod Goings
 mod Arriving
 mod Nexts
+mod Replays
+mod Openings
+mod Histories
+mod Readies
+mod Refusals
