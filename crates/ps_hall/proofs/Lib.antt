@@ -6,8 +6,3 @@ mod Worlds
 mod Goings
 mod Arriving
 mod Nexts
-mod Replays
-mod Openings
-mod Histories
-mod Readies
-mod Refusals
