@@ -10,7 +10,7 @@ use Rattle.ps_disk.specs.declared.device.Disk.{Ghosts}
 use Rattle.ps_disk.specs.Disk.{LeavesOnly}
 use Rattle.ps_journal.specs.declared.journal.Journal.{Journal}
 use Rattle.ps_journal.specs.Left.{LeavesList}
-use Rattle.ps_hall.specs.Left.{IsFront}
+use Rattle.ps_hall.specs.Left.{Fronts, IsFront}
 use Rattle.ps_hall.specs.Shape.{IsArrival, IsSketch}
 use Rattle.ps_hall.proofs.Shapes.{made-sketch}
 use Rattle.ps_journal.specs.Journal.{broken_of, disk_of, length_of}
@@ -34,7 +34,8 @@ use Rattle.ps_hall.specs.Stand.{IsStanding, Stands}
 use Rattle.ps_hall.proofs.OneRow.{length-map, there}
 use Rattle.ps_hall.proofs.Laid.{count-is, entry_at, reply_at}
 use Rattle.ps_hall.proofs.Goings.{same_ok, unbroken-world}
-use Rattle.ps_hall.proofs.Worlds.{OnlyNow, kept_ok}
+use Rattle.ps_hall.proofs.Fronts.{OnlyNow}
+use Rattle.ps_hall.proofs.Worlds.{kept_ok}
 
 core-accepted : (E : List Entry) (e : Entry) → the_core.accepted E e ≡ accepted (replay E) e
 unfolding the_core
@@ -176,4 +177,6 @@ after_same {D} {g} only old mid new state rows steps flushed dur journal to goes
     record {
       stands = m.stands;
       crash = λ tells. subst (λ (j : Journal D g). LeavesOnly g.moment g.left_since (disk_of j) (disk_of new.journal) (IsFront (to service w).entries (durable w))) journal (m.crash tells);
+      fronts = λ tells. subst (λ (j : Journal D g). Fronts g.moment g.left_since g.synced g.written (disk_of j) (disk_of new.journal)) journal (m.fronts tells);
+      grows = λ b. subst (λ (j : Journal D g). length_of j ≤ length_of new.journal) journal (m.grows b);
     }

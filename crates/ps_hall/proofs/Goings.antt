@@ -1,13 +1,13 @@
 -- The hall's steps, one after the other.
-use Rattle.std.proofs.Common.{◌≡◌, ◌≢◌, ℕ, ◌+◌, Bool, false, List, [], ◌∷◌, ◌++◌, Some, None, length, refl, ap, sym, ◌∙◌, subst}
+use Rattle.std.proofs.Common.{◌≡◌, ◌≢◌, ℕ, ◌+◌, ◌≤◌, Bool, false, List, [], ◌∷◌, ◌++◌, Some, None, length, refl, ap, sym, ◌∙◌, subst}
 use Rattle.std.specs.Prelude.{is_some, slice_get}
 use Rattle.ps_types.specs.declared.entry.Arrival.{Arrival}
 use Rattle.ps_types.specs.declared.entry.Entry.{Entry}
 use Rattle.ps_disk.specs.declared.device.Disk.{Ghosts}
 use Rattle.ps_disk.specs.Disk.{LeavesOnly}
 use Rattle.ps_journal.specs.declared.journal.Journal.{Journal}
-use Rattle.ps_journal.specs.Journal.{broken_of, disk_of}
-use Rattle.ps_journal.specs.Left.{IsWithOrWithout, LeavesList}
+use Rattle.ps_journal.specs.Journal.{broken_of, disk_of, length_of}
+use Rattle.ps_journal.specs.Left.{IsFrontOfLeft, IsWithOrWithout, LeavesList}
 use Rattle.ps_model.specs.Machine.{counted, flushes, happens, run}
 use Rattle.ps_model.specs.Store.{spelled}
 use Rattle.ps_model.specs.TheCore.{the_core}
@@ -18,13 +18,14 @@ use Rattle.ps_hall.specs.declared.hall.Hall.{Hall}
 use Rattle.ps_hall.specs.declared.state.State.{State}
 use Rattle.ps_hall.specs.Go.{Breaks, Flushes, Keeps, Moves, StateGoes}
 use Rattle.ps_hall.specs.Laying.{Settles}
-use Rattle.ps_hall.specs.Left.{IsFront}
+use Rattle.ps_hall.specs.Left.{Fronts, IsFront}
 use Rattle.ps_hall.specs.Stand.{RowsStand, Stands, StateStands}
 use Rattle.ps_model.specs.Replies.{entry_of}
 use Rattle.ps_hall.specs.declared.state.HostRow.{HostRow}
 use Rattle.ps_hall.proofs.Laid.{durable_on, entry_at}
 use Rattle.ps_hall.proofs.Flushing.{all_durable, break_ok, flush-is, flush_ok}
-use Rattle.ps_hall.proofs.Worlds.{CountsNow, OnlyNow, broken_ok, laid_for, laid_is, same_journal, then_moves, written_ok}
+use Rattle.ps_hall.proofs.Fronts.{CountsNow, OnlyNow, SeenLeft}
+use Rattle.ps_hall.proofs.Worlds.{broken_ok, laid_for, laid_is, same_journal, then_moves, written_ok}
 
 -- a step that makes no entry leaves the world's entries, and which of them are durable
 pub record MakesNone (w v : World) : Type 0 where
@@ -74,21 +75,23 @@ module _ {D : Type 0} {g : Ghosts D} where
       }) journal refl refl refl
 
   -- what was laid is written
-  pub flushes_ok : (old new : Hall D g) (es : List Entry) → broken_of old.journal ≡ None → broken_of new.journal ≡ None
+  pub flushes_ok : SeenLeft g → CountsNow g → (old new : Hall D g) (es : List Entry) → broken_of old.journal ≡ None → broken_of new.journal ≡ None
       → (g.tells → (E : List Entry) → spelled (g.seen (disk_of old.journal)) E → spelled (g.seen (disk_of new.journal)) (E ++ es))
       → (g.tells → (E : List Entry) → spelled (g.seen (disk_of old.journal)) E → LeavesList (g.synced (disk_of new.journal)) (g.written (disk_of new.journal)) (E ++ es))
       → (g.tells → broken_of old.journal ≡ None → (E : List Entry) → spelled (g.seen (disk_of old.journal)) E → LeavesOnly g.moment g.left_since (disk_of old.journal) (disk_of new.journal) (IsWithOrWithout E es))
-      → Settles old.state new.state → Flushes old new es
-  flushes_ok old new es whole still spells lasts moments settles service some w is laid =
+      → (g.tells → broken_of old.journal ≡ None → (E : List Entry) → spelled (g.seen (disk_of old.journal)) E → LeavesOnly g.moment g.left_since (disk_of old.journal) (disk_of new.journal) (IsFrontOfLeft (g.synced (disk_of new.journal)) (g.written (disk_of new.journal))))
+      → length_of old.journal ≤ length_of new.journal → Settles old.state new.state → Flushes old new es
+  flushes_ok seen_left counts old new es whole still spells lasts moments fronts longer settles service some w is laid =
       let to = flush-is service w old.state.steps is.state.sound is.state.steps in
       subst (Moves old new w) (sym to)
-      (written_ok old new w (counted (flushes w w.steps)) es is laid whole still spells lasts moments (flush_ok old.state new.state service some w is.state settles) refl (all_durable w is.state.sound) refl)
+      (written_ok seen_left counts old new w (counted (flushes w w.steps)) es is laid whole still spells lasts moments fronts longer (flush_ok old.state new.state service some w is.state settles) refl (all_durable w is.state.sound) refl)
 
-  pub breaks_ok : CountsNow g → (old new : Hall D g) (es : List Entry) (count : ℕ) → broken_of old.journal ≡ None → broken_of new.journal ≡ Some count
+  pub breaks_ok : SeenLeft g → CountsNow g → (old new : Hall D g) (es : List Entry) (count : ℕ) → broken_of old.journal ≡ None → broken_of new.journal ≡ Some count
       → (g.tells → broken_of old.journal ≡ None → (E : List Entry) → spelled (g.seen (disk_of old.journal)) E → LeavesOnly g.moment g.left_since (disk_of old.journal) (disk_of new.journal) (IsWithOrWithout E es))
+      → (g.tells → broken_of old.journal ≡ None → (E : List Entry) → spelled (g.seen (disk_of old.journal)) E → LeavesOnly g.moment g.left_since (disk_of old.journal) (disk_of new.journal) (IsFrontOfLeft (g.synced (disk_of new.journal)) (g.written (disk_of new.journal))))
       → new.state.service ≡ old.state.service → new.state.rows ≡ old.state.rows → Keeps old.state new.state → Breaks old new es
-  breaks_ok counts old new es count whole failed moments service_same rows kept service some w is laid =
-      broken_ok counts old new w (happens the_core service w Broken) es count is laid whole failed moments (break_ok old.state new.state service some w is.state service_same rows kept) refl refl refl
+  breaks_ok seen_left counts old new es count whole failed moments fronts service_same rows kept service some w is laid =
+      broken_ok seen_left counts old new w (happens the_core service w Broken) es count is laid whole failed moments fronts (break_ok old.state new.state service some w is.state service_same rows kept) refl refl refl
 
   -- an entry is laid, and then written
   pub commits_ok : (old mid new : Hall D g) (step : Step) (e : Entry) (es : List Entry) → es ≡ e ∷ [] → StateGoes old.state mid.state step → mid.journal ≡ old.journal → mid.state.steps ≡ old.state.steps + 1 → Flushes mid new es
@@ -119,6 +122,8 @@ module _ {D : Type 0} {g : Ghosts D} where
         stands = m.stands;
         crash = λ tells. subst (λ (j : Journal D g). LeavesOnly g.moment g.left_since (disk_of old.journal) (disk_of j) (IsFront (happens the_core service v step).entries (durable w))) (sym journal)
             (subst (λ (E : List Entry). LeavesOnly g.moment g.left_since (disk_of old.journal) (disk_of mid.journal) (IsFront E (durable w))) (sym none.entries) (moves.crash tells));
+        fronts = λ tells. subst (λ (j : Journal D g). Fronts g.moment g.left_since g.synced g.written (disk_of old.journal) (disk_of j)) (sym journal) (moves.fronts tells);
+        grows = λ b. subst (λ (j : Journal D g). length_of old.journal ≤ length_of j) (sym journal) (moves.grows (sym none.broken ∙ b));
       }
 
   pub unbroken-world : (hall : Hall D g) (w : World) → Stands hall w → broken_of hall.journal ≡ None → w.broken ≡ false

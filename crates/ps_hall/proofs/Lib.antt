@@ -1,8 +1,14 @@
-mod Shapes
-mod OneRow
-mod Laid
-mod Flushing
-mod Worlds
-mod Goings
-mod Arriving
-mod Nexts
+pub mod Fronts
+pub mod Shapes
+pub mod OneRow
+pub mod Laid
+pub mod Flushing
+pub mod Worlds
+pub mod Goings
+pub mod Arriving
+pub mod Nexts
+pub mod Replays
+pub mod Openings
+pub mod Histories
+pub mod Readies
+pub mod Refusals

@@ -34,7 +34,7 @@ use Rattle.ps_hall.specs.Stand.{IsStanding, Stands, waiting_of}
 use Rattle.ps_hall.proofs.OneRow.{drop_first, there}
 use Rattle.ps_hall.proofs.Laid.{durable_on, take_is}
 use Rattle.ps_hall.proofs.Goings.{MakesNone, MakesOne, last_ok, same_ok, unbroken-world}
-use Rattle.ps_hall.proofs.Worlds.{OnlyNow}
+use Rattle.ps_hall.proofs.Fronts.{OnlyNow}
 use Rattle.ps_hall.proofs.Arriving.{kept_after}
 
 -- ---- replies

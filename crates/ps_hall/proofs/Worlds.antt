@@ -4,11 +4,11 @@ use Rattle.std.specs.Prelude.{is_some}
 use Rattle.std.proofs.lemmas.Bool.{false≢true}
 use Rattle.ps_types.specs.declared.entry.Entry.{Entry}
 use Rattle.ps_disk.specs.declared.device.Disk.{Ghosts}
-use Rattle.ps_disk.specs.Disk.{LeavesOnly, MayLeave}
+use Rattle.ps_disk.specs.Disk.{LeavesOnly}
 use Rattle.ps_disk.proofs.Moments.{started, weaker}
 use Rattle.ps_journal.specs.declared.journal.Journal.{Journal}
-use Rattle.ps_journal.specs.Journal.{broken_of, disk_of}
-use Rattle.ps_journal.specs.Left.{IsWithOrWithout, LeavesList}
+use Rattle.ps_journal.specs.Journal.{broken_of, disk_of, length_of}
+use Rattle.ps_journal.specs.Left.{IsFrontOfLeft, IsWithOrWithout, LeavesList}
 use Rattle.ps_model.specs.Store.{spelled}
 use Rattle.ps_model.specs.TheCore.{the_core}
 use Rattle.ps_model.specs.World.{World, durable}
@@ -16,8 +16,9 @@ use Rattle.ps_world.specs.Sound.{Sound}
 use Rattle.ps_world.proofs.Lists.{ends-le, take-front, take-whole}
 use Rattle.ps_hall.specs.declared.hall.Hall.{Hall}
 use Rattle.ps_hall.specs.Go.{IsLaid, Moves}
-use Rattle.ps_hall.specs.Left.{DiskStands, IsFront}
+use Rattle.ps_hall.specs.Left.{DiskStands, Fronts, IsFront}
 use Rattle.ps_hall.specs.Stand.{JournalStands, StandsFor, Stands, StateStands}
+use Rattle.ps_hall.proofs.Fronts.{CountsNow, OnlyNow, SeenLeft, fronts_appended, fronts_same}
 
 -- a front, where the list goes on
 pub front_on : (E es F : List Entry) (least : ℕ) (c : List ℕ) → F ≡ E ++ es → IsFront E least c → IsFront F least c
@@ -48,25 +49,20 @@ durable-le w is = let e = ends-le w.flushed w.made in let z = is.sizes in omega 
 disk_same : (seen synced : List ℕ) (written : List (ℕ × ℕ)) (broken : Option ℕ) (w v : World) → v.entries ≡ w.entries → durable v ≡ durable w → DiskStands seen synced written broken w → DiskStands seen synced written broken v
 disk_same seen synced written broken w v same dur is = record {
   spells = λ b. subst (λ (l : List Entry). spelled seen l) (sym (ap (λ l. take (durable v) l) same ∙ ap (λ n. take n w.entries) dur)) (is.spells b);
+  lasts = λ b c may. subst (λ (l : List Entry). spelled c l) (sym (ap (λ l. take (durable v) l) same ∙ ap (λ n. take n w.entries) dur)) (is.lasts b c may);
   crash = λ c may. front_same w.entries v.entries (durable w) (durable v) c same dur (is.crash c may);
 }
 
 disk_laid : (seen synced : List ℕ) (written : List (ℕ × ℕ)) (broken : Option ℕ) (w v : World) (es : List Entry) → durable w ≤ length w.entries → v.entries ≡ w.entries ++ es → durable v ≡ durable w → DiskStands seen synced written broken w → DiskStands seen synced written broken v
 disk_laid seen synced written broken w v es fits more dur is = record {
   spells = λ b. subst (λ (l : List Entry). spelled seen l) (sym (ap (λ l. take (durable v) l) more ∙ (ap (λ n. take n (w.entries ++ es)) dur ∙ take-front (durable w) w.entries es fits))) (is.spells b);
+  lasts = λ b c may. subst (λ (l : List Entry). spelled c l) (sym (ap (λ l. take (durable v) l) more ∙ (ap (λ n. take n (w.entries ++ es)) dur ∙ take-front (durable w) w.entries es fits))) (is.lasts b c may);
   crash = λ c may. front_least v.entries (durable w) (durable v) c (sym dur) (front_on w.entries es v.entries (durable w) c more (is.crash c may));
 }
 
 unbroken_is : {X : Type 0} (o : Option X) (b : Bool) → b ≡ is_some o → b ≡ false → o ≡ None
 unbroken_is None b e f = refl
 unbroken_is (Some x) b e f = absurd (false≢true (sym f ∙ e))
-
--- the laws of a disk that are used
-abbrev pub OnlyNow : {D : Type 0} → Ghosts D → Type 0
-OnlyNow {D} g = (d : D) (c : List ℕ) → g.left_since d (g.moment d) c → MayLeave (g.synced d) (g.written d) c
-
-abbrev pub CountsNow : {D : Type 0} → Ghosts D → Type 0
-CountsNow {D} g = (d : D) (t : ℕ) (c : List ℕ) → t ≤ g.moment d → MayLeave (g.synced d) (g.written d) c → g.left_since d t c
 
 module _ {D : Type 0} {g : Ghosts D} where
   -- the journal is as it was, and so are the entries
@@ -81,6 +77,9 @@ module _ {D : Type 0} {g : Ghosts D} where
     };
     crash = λ tells. subst (λ (j : Journal D g). LeavesOnly g.moment g.left_since (disk_of old.journal) (disk_of j) (IsFront v.entries (durable w))) (sym journal)
         (started g.moment g.left_since (disk_of old.journal) (IsFront v.entries (durable w)) (λ c left. front_same w.entries v.entries (durable w) (durable w) c same refl ((is.for.journal.disk tells).crash c (only (disk_of old.journal) c left))));
+    fronts = λ tells. subst (λ (j : Journal D g). Fronts g.moment g.left_since g.synced g.written (disk_of old.journal) (disk_of j)) (sym journal)
+        (fronts_same g only (disk_of old.journal) (λ c may. let f = (is.for.journal.disk tells).crash c may in (take f.count w.entries, f.spells)));
+    grows = λ b. subst (λ (j : Journal D g). length_of old.journal ≤ length_of j) (sym journal) (omega arith);
   }
 
   -- an entry was laid, and the journal is as it was
@@ -100,12 +99,14 @@ module _ {D : Type 0} {g : Ghosts D} where
   unbroken-of hall w is b = unbroken_is (broken_of hall.journal) w.broken is.broken b
 
   -- what was laid is written
-  pub written_ok : (old new : Hall D g) (w v : World) (es : List Entry) → StandsFor old w → IsLaid w es → broken_of old.journal ≡ None → broken_of new.journal ≡ None
+  pub written_ok : SeenLeft g → CountsNow g → (old new : Hall D g) (w v : World) (es : List Entry) → StandsFor old w → IsLaid w es → broken_of old.journal ≡ None → broken_of new.journal ≡ None
       → (g.tells → (E : List Entry) → spelled (g.seen (disk_of old.journal)) E → spelled (g.seen (disk_of new.journal)) (E ++ es))
       → (g.tells → (E : List Entry) → spelled (g.seen (disk_of old.journal)) E → LeavesList (g.synced (disk_of new.journal)) (g.written (disk_of new.journal)) (E ++ es))
       → (g.tells → broken_of old.journal ≡ None → (E : List Entry) → spelled (g.seen (disk_of old.journal)) E → LeavesOnly g.moment g.left_since (disk_of old.journal) (disk_of new.journal) (IsWithOrWithout E es))
+      → (g.tells → broken_of old.journal ≡ None → (E : List Entry) → spelled (g.seen (disk_of old.journal)) E → LeavesOnly g.moment g.left_since (disk_of old.journal) (disk_of new.journal) (IsFrontOfLeft (g.synced (disk_of new.journal)) (g.written (disk_of new.journal))))
+      → length_of old.journal ≤ length_of new.journal
       → StateStands new.state v → v.entries ≡ w.entries → durable v ≡ length w.entries → v.broken ≡ w.broken → Moves old new w v
-  written_ok old new w v es is laid whole still spells lasts moments state same dur broken =
+  written_ok seen_left counts old new w v es is laid whole still spells lasts moments fronts longer state same dur broken =
       let E = take (durable w) w.entries in
       let fits = durable-le w is.state.sound in
       let before = λ (tells : g.tells). (is.journal.disk tells).spells whole in
@@ -118,6 +119,7 @@ module _ {D : Type 0} {g : Ghosts D} where
               broken = broken ∙ (is.journal.broken ∙ (ap (λ o. is_some o) whole ∙ ap (λ o. is_some o) (sym still)));
               disk = λ tells. record {
                 spells = λ b. subst (λ (l : List Entry). spelled (g.seen (disk_of new.journal)) l) (sym all) (spells tells E (before tells));
+                lasts = λ b c may. subst (λ (l : List Entry). spelled c l) (sym all) (lasts tells E (before tells) c may);
                 crash = λ c may. front_same w.entries v.entries (length w.entries) (durable v) c same dur (front_whole w.entries (length w.entries) c (omega arith) (subst (λ (l : List Entry). spelled c l) (sym laid) (lasts tells E (before tells) c may)));
               };
             };
@@ -129,13 +131,16 @@ module _ {D : Type 0} {g : Ghosts D} where
               | inl short ↦ front_durable w.entries (durable w) c fits short
               | inr long ↦ front_whole w.entries (durable w) c fits (subst (λ (l : List Entry). spelled c l) (sym laid) long)
             ]));
+        fronts = λ tells. fronts_appended g seen_left counts (disk_of old.journal) (disk_of new.journal) E es ((is.journal.disk tells).lasts whole) (moments tells whole E (before tells)) (fronts tells whole E (before tells));
+        grows = λ b. longer;
       }
 
   -- the disk failed
-  pub broken_ok : CountsNow g → (old new : Hall D g) (w v : World) (es : List Entry) (count : ℕ) → StandsFor old w → IsLaid w es → broken_of old.journal ≡ None → broken_of new.journal ≡ Some count
+  pub broken_ok : SeenLeft g → CountsNow g → (old new : Hall D g) (w v : World) (es : List Entry) (count : ℕ) → StandsFor old w → IsLaid w es → broken_of old.journal ≡ None → broken_of new.journal ≡ Some count
       → (g.tells → broken_of old.journal ≡ None → (E : List Entry) → spelled (g.seen (disk_of old.journal)) E → LeavesOnly g.moment g.left_since (disk_of old.journal) (disk_of new.journal) (IsWithOrWithout E es))
+      → (g.tells → broken_of old.journal ≡ None → (E : List Entry) → spelled (g.seen (disk_of old.journal)) E → LeavesOnly g.moment g.left_since (disk_of old.journal) (disk_of new.journal) (IsFrontOfLeft (g.synced (disk_of new.journal)) (g.written (disk_of new.journal))))
       → StateStands new.state v → v.entries ≡ w.entries → durable v ≡ durable w → v.broken ≡ true → Moves old new w v
-  broken_ok counts old new w v es count is laid whole failed moments state same dur broken =
+  broken_ok seen_left counts old new w v es count is laid whole failed moments fronts state same dur broken =
       let E = take (durable w) w.entries in
       let fits = durable-le w is.state.sound in
       let before = λ (tells : g.tells). (is.journal.disk tells).spells whole in
@@ -153,6 +158,7 @@ module _ {D : Type 0} {g : Ghosts D} where
                   let left = moments tells whole E (before tells) in
                   record {
                     spells = λ b. (let no : Some count ≡ None = sym failed ∙ b in absurd (cc no));
+                    lasts = λ b. (let no : Some count ≡ None = sym failed ∙ b in absurd (cc no));
                     crash = λ c may. front (durable v) dur c (left.each c (counts (disk_of new.journal) (g.moment (disk_of old.journal)) c left.later may));
                   });
             };
@@ -160,6 +166,8 @@ module _ {D : Type 0} {g : Ghosts D} where
           quiet = λ b. absurd (false≢true (sym b ∙ broken));
         };
         crash = λ tells. weaker g.moment g.left_since (disk_of old.journal) (disk_of new.journal) (IsWithOrWithout E es) (IsFront v.entries (durable w)) (moments tells whole E (before tells)) (front (durable w) refl);
+        fronts = λ tells. fronts_appended g seen_left counts (disk_of old.journal) (disk_of new.journal) E es ((is.journal.disk tells).lasts whole) (moments tells whole E (before tells)) (fronts tells whole E (before tells));
+        grows = λ b. absurd (false≢true (sym b ∙ broken));
       }
 
   -- a step of the state, and then what was laid is written
@@ -168,6 +176,8 @@ module _ {D : Type 0} {g : Ghosts D} where
     stands = m.stands;
     crash = λ tells. subst (λ (n : ℕ). LeavesOnly g.moment g.left_since (disk_of old.journal) (disk_of new.journal) (IsFront u.entries n)) dur
         (subst (λ (j : Journal D g). LeavesOnly g.moment g.left_since (disk_of j) (disk_of new.journal) (IsFront u.entries (durable v))) journal (m.crash tells));
+    fronts = λ tells. subst (λ (j : Journal D g). Fronts g.moment g.left_since g.synced g.written (disk_of j) (disk_of new.journal)) journal (m.fronts tells);
+    grows = λ b. subst (λ (j : Journal D g). length_of j ≤ length_of new.journal) journal (m.grows b);
   }
 
   -- while nothing has failed a crash leaves all entries

@@ -10,3 +10,9 @@ pub mod Arrive
 pub mod Next
 pub mod Gone
 pub mod Recorded
+pub mod Replayed
+pub mod Fresh
+pub mod Begun
+pub mod OpenHall
+pub mod Refused
+pub mod History

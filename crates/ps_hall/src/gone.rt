@@ -35,7 +35,7 @@ fn gone_of(host: &Text) -> Result<Entry, Memory>
 
 impl<D: Disk> Hall<D> {
     // Whether the disk has failed.
-    fn is_broken(&self) -> bool
+    pub(crate) fn is_broken(&self) -> bool
         ensures { result ≡ is_some (broken_of self.now.journal) }
     {
         self.journal.broken().is_some()

@@ -26,3 +26,10 @@ pub struct Pass {
     pub(crate) role: Role,
     pub(crate) seen: u64,
 }
+
+/// The passes of a host: its reader's and its writer's.
+#[derive(Drop)]
+pub struct HostPasses {
+    pub reader: Pass,
+    pub writer: Pass,
+}

@@ -1,0 +1,144 @@
+-- Entries that are taken one after the other.
+use Rattle.std.proofs.Common.{◌≡◌, ◌≢◌, ◌⊎◌, inl, inr, ℕ, zero, suc, ◌+◌, ◌<◌, ◌≤◌, ◌^◌, true, false, List, [], ◌∷◌, ◌++◌, Some, length, get_or, map, take, refl, ap, sym, ◌∙◌, subst, arith, length-take, length-append}
+use Rattle.std.specs.Prelude.{slice_get}
+use Rattle.std.proofs.lemmas.List.{map-append, length-map, take_more, take_all}
+use Rattle.ps_types.specs.Address.{IsLabel, dotted}
+use Rattle.ps_types.specs.declared.entry.Entry.{Entry}
+use Rattle.ps_types.specs.declared.entry.Entry.TheVariants.{Boot}
+use Rattle.ps_model.specs.At.{IsDamagedAt, IsStore}
+use Rattle.ps_model.specs.Book.{State, empty_state}
+use Rattle.ps_model.specs.Built.{is_built_event}
+use Rattle.ps_model.specs.CoreLaws.{IsLawful}
+use Rattle.ps_model.specs.Damage.{ReadUpTo}
+use Rattle.ps_model.specs.Entries.{IsHostName, spelling}
+use Rattle.ps_model.specs.Replay.{accepted, after, lawful, replay, replay_from, IsLawfulFrom}
+use Rattle.ps_model.specs.Store.{spelled}
+use Rattle.ps_model.specs.TheCore.{the_core}
+use Rattle.ps_model.proofs.Going.{replay-append}
+use Rattle.ps_model.proofs.TheLaws.{the-laws}
+use Rattle.ps_journal.specs.Judged.{IsDamaged, IsFound}
+use Rattle.ps_journal.specs.Opened.{IsOpened}
+use Rattle.ps_journal.specs.Places.{entries_in}
+use Rattle.ps_journal.specs.declared.judging.Placed.{Placed}
+use Rattle.ps_journal.proofs.Opens.{found_spells}
+use Rattle.ps_journal.proofs.Placing.{IsReadAt, before_read, found_read}
+use Rattle.ps_hall.specs.OpenHall.{IsRestored}
+use Rattle.ps_hall.specs.Replayed.{IsReplayed, IsTaken, StopsAt}
+use Rattle.ps_hall.proofs.Laid.{count-is}
+
+-- ---- lawful lists
+
+lawful-more : (E : List Entry) (s : State) (e : Entry) → IsLawfulFrom s E → accepted (replay_from is_built_event s E) e ≡ true → IsLawfulFrom s (E ++ e ∷ [])
+lawful-more [] s e l ok = (ok, tt)
+lawful-more (x ∷ E) s e l ok = (l.0, lawful-more E (after s x) e l.1 ok)
+
+each-at : (E : List Entry) (s : State) → IsLawfulFrom s E → (p : ℕ) (e : Entry) → slice_get E p ≡ Some e → accepted (replay_from is_built_event s (take p E)) e ≡ true
+each-at [] s l zero e h = absurd (cc h)
+each-at [] s l (suc p) e h = absurd (cc h)
+each-at (x ∷ E) s l zero e h = let same : x ≡ e = cc h in subst (λ (y : Entry). accepted s y ≡ true) same l.0
+each-at (x ∷ E) s l (suc p) e h = each-at E (after s x) l.1 p e h
+
+pub lawful-core : (E : List Entry) → lawful E → IsLawful the_core E
+unfolding the_core
+lawful-core E l p e h = each-at E empty_state l p e h
+
+pub replay-snoc : (E : List Entry) (e : Entry) → replay (E ++ e ∷ []) ≡ after (replay E) e
+replay-snoc E e = replay-append is_built_event E (e ∷ []) empty_state
+
+-- a Boot is accepted
+boot-ok : (E : List Entry) (name : List ℕ) → name ≢ [] → accepted (replay E) (Boot name) ≡ true
+unfolding the_core
+boot-ok E name some = the-laws.boot_ok E name some
+
+dotted_some : (label : List ℕ) (labels : List (List ℕ)) → IsLabel label → dotted label labels ≡ [] → ⊥
+dotted_some [] labels is e = is
+dotted_some (x ∷ label) [] is e = cc e
+dotted_some (x ∷ label) (next ∷ labels) is e = cc e
+
+pub name_some : (name : List ℕ) → IsHostName name → name ≢ []
+name_some name is none = let host = is.parts.host in dotted_some host.0 host.1 host.2 (sym host.4 ∙ none)
+
+pub boot-accepted : (E : List Entry) (s : State) (e : Entry) → s ≡ replay E → (name : List ℕ) × (e ≡ Boot name) × IsHostName name → accepted s e ≡ true
+boot-accepted E s e state boot = ap (λ (t : State). accepted t e) state ∙ (ap (λ (x : Entry). accepted (replay E) x) boot.1 ∙ boot-ok E boot.0 (name_some boot.0 boot.2))
+
+-- ---- one entry more
+
+entries_more : (placed : List Placed) (i : ℕ) (one : Placed) → i < length placed → one ≡ get_or placed i one → entries_in (take (i + 1) placed) ≡ entries_in (take i placed) ++ one.entry ∷ []
+entries_more placed i one within is =
+    ap entries_in (take_more placed i one within ∙ ap (λ (x : Placed). take i placed ++ x ∷ []) (sym is)) ∙ map-append (λ (p : Placed). p.entry) (take i placed) (one ∷ [])
+
+pub replayed_few : (placed : List Placed) (i : ℕ) (s : State) → IsReplayed (entries_in (take i placed)) s → length placed ≤ 2 ^ 61 → s.count < 2 ^ 62
+replayed_few placed i s is few =
+    let count : s.count ≡ length (entries_in (take i placed)) = ap (λ (t : State). t.count) is.state ∙ count-is (entries_in (take i placed)) in
+    let size : length (entries_in (take i placed)) ≡ length (take i placed) = length-map (take i placed) (λ (p : Placed). p.entry) in
+    omega (arith, count, size, length-take i placed)
+
+pub replayed_more : (placed : List Placed) (i : ℕ) (one : Placed) (old new : State) → i < length placed → one ≡ get_or placed i one → IsReplayed (entries_in (take i placed)) old → IsTaken old new one.entry true → IsReplayed (entries_in (take (i + 1) placed)) new
+replayed_more placed i one old new within is so_far taken =
+    let E = entries_in (take i placed) in
+    let more = entries_more placed i one within is in
+    record {
+      each = subst lawful (sym more) (lawful-more E empty_state one.entry so_far.each (subst (λ (t : State). accepted t one.entry ≡ true) so_far.state taken.0));
+      state = taken.1 ∙ (ap (λ (t : State). after t one.entry) so_far.state ∙ (sym (replay-snoc E one.entry) ∙ ap replay (sym more)));
+    }
+
+pub replayed_all : (placed : List Placed) (i : ℕ) (s : State) → length placed ≤ i → IsReplayed (entries_in (take i placed)) s → IsReplayed (entries_in placed) s
+replayed_all placed i s all is = subst (λ (l : List Placed). IsReplayed (entries_in l) s) (take_all i placed all) is
+
+pub stops_here : (placed : List Placed) (i : ℕ) (one : Placed) (s : State) → slice_get placed i ≡ Some one → IsReplayed (entries_in (take i placed)) s → accepted s one.entry ≡ false → StopsAt placed one.at
+stops_here placed i one s here is rejected = record { number = i; one = one; here = here; stands = refl; each = is.each; not = subst (λ (t : State). accepted t one.entry ≡ false) is.state rejected }
+
+-- ---- where a store is damaged
+
+bad_at : (bytes : List ℕ) (before : List Entry) (p : Placed) (at : ℕ) → IsReadAt bytes before p → p.at ≡ at → lawful before → accepted (replay before) p.entry ≡ false → IsDamagedAt bytes at
+bad_at bytes before p at read stands each rejected =
+    inr (inr (record { before = before; behind = spelling p.entry ++ read.behind; reads = subst (λ (n : ℕ). ReadUpTo bytes before (spelling p.entry ++ read.behind) n) stands read.reads; each = each; bad = inr (p.entry, read.behind, read.suits, refl, rejected) }))
+
+none_here : (k : ℕ) (p : Placed) → slice_get [] k ≡ Some p → ⊥
+none_here zero p h = cc h
+none_here (suc k) p h = cc h
+
+none_stops : (placed : List Placed) (at : ℕ) → placed ≡ [] → StopsAt placed at → ⊥
+none_stops placed at none stops = none_here stops.number stops.one (subst (λ (l : List Placed). slice_get l stops.number ≡ Some stops.one) none stops.here)
+
+-- an entry of a store that is spelled isn't accepted
+pub opened_damaged : (bytes : List ℕ) (placed : List Placed) (at : ℕ) → IsOpened bytes placed → StopsAt placed at → IsDamagedAt bytes at
+opened_damaged bytes placed at (inl found) stops =
+    bad_at bytes (entries_in (take stops.number placed)) stops.one at (found_read bytes placed found.0 found.1 stops.number stops.one stops.here) stops.stands stops.each stops.not
+opened_damaged bytes placed at (inr unbegun) stops = absurd (none_stops placed at unbegun.2 stops)
+
+-- an entry isn't spelled, and all before it are accepted
+pub damaged_there : (bytes : List ℕ) (before : List Placed) (at : ℕ) (s : State) → IsDamaged bytes at before → IsReplayed (entries_in before) s → IsDamagedAt bytes at
+damaged_there bytes before at s (inl header) is = inl header.0
+damaged_there bytes before at s (inr (inl bad_frame)) is = inr (inl bad_frame.0)
+damaged_there bytes before at s (inr (inr entry)) is = inr (inr (record { before = entries_in before; behind = entry.behind; reads = entry.read; each = is.each; bad = inl entry.bad }))
+
+-- or one of those isn't
+pub damaged_before : (bytes : List ℕ) (before : List Placed) (at first : ℕ) → IsDamaged bytes at before → StopsAt before first → IsDamagedAt bytes first
+damaged_before bytes before at first (inl header) stops = absurd (none_stops before first header.1 stops)
+damaged_before bytes before at first (inr (inl bad_frame)) stops = absurd (none_stops before first bad_frame.1 stops)
+damaged_before bytes before at first (inr (inr entry)) stops =
+    bad_at bytes (entries_in (take stops.number before)) stops.one first (before_read bytes at before entry stops.number stops.one stops.here) stops.stands stops.each stops.not
+
+-- a store that was opened, where each entry is accepted
+pub opened_spells : (bytes : List ℕ) (placed : List Placed) → IsOpened bytes placed → spelled bytes (entries_in placed)
+opened_spells bytes placed (inl found) = found_spells bytes placed found.0 found.1
+opened_spells bytes placed (inr unbegun) = inr (unbegun.0, unbegun.1, ap entries_in unbegun.2)
+
+pub opened_store : (bytes : List ℕ) (placed : List Placed) → IsOpened bytes placed → lawful (entries_in placed) → IsStore bytes (entries_in placed)
+opened_store bytes placed opened each = record { spells = opened_spells bytes placed opened; each = each }
+
+-- ---- all of them
+
+all_size : (placed : List Placed) (s : State) → IsReplayed (entries_in placed) s → s.count ≡ length placed
+all_size placed s is = ap (λ (t : State). t.count) is.state ∙ (count-is (entries_in placed) ∙ length-map placed (λ (p : Placed). p.entry))
+
+pub all_few : (placed : List Placed) (s : State) → IsReplayed (entries_in placed) s → length placed < 2 ^ 61 → s.count < 2 ^ 62
+all_few placed s is few = let size = all_size placed s is in omega (arith, size)
+
+pub restored_is : (placed : List Placed) (s now : State) (boot : Entry) → IsReplayed (entries_in placed) s → length placed < 2 ^ 61 → now ≡ after s boot → IsRestored (entries_in placed) boot now
+restored_is placed s now boot is few next = record {
+  each = is.each;
+  few = (let size : length (entries_in placed) ≡ length placed = length-map placed (λ (p : Placed). p.entry) in omega (arith, size));
+  state = next ∙ (ap (λ (t : State). after t boot) is.state ∙ sym (replay-snoc (entries_in placed) boot));
+}
