@@ -1,5 +1,7 @@
--- What two openings in a row ask for.
-use Rattle.std.proofs.Common.{◌≡◌, List, [], ◌∷◌, ◌++◌, ◌∙◌, ap, append_assoc}
+-- What three openings in a row ask for.
+use Rattle.std.proofs.Common.{◌≡◌, suc, List, [], ◌∷◌, ◌++◌, ◌∙◌, sym, ap, append_assoc}
+use Rattle.std.specs.Prelude.{take}
+use Rattle.std.proofs.lemmas.List.{append-nil}
 use Rattle.ps_outside.specs.World.{AskedAt}
 use Rattle.ps_outside.specs.declared.world.Opening.{Opening}
 use Rattle.ps_outside.specs.declared.world.WorldRefusal.{WorldRefusal}
@@ -13,3 +15,13 @@ module _ (old one two new : List Opening) (first second : Opening) (asked_first 
   pub asked-refused : (why : WorldRefusal) → AskedAt why one second two → AsksInOrder (first ∷ second ∷ []) old new
   asked-refused Failed asked = asked-both asked
   asked-refused Memory asked = (1, kept ∙ asked ∙ asked_first)
+
+-- one more before the others
+pub asked-before : (first : Opening) (rest : List Opening) (old one two new : List Opening) → one ≡ old ++ first ∷ [] → AsksInOrder rest one two → new ≡ two → AsksInOrder (first ∷ rest) old new
+asked-before first rest old one two new asked more kept =
+    (suc more.0, kept ∙ (more.1 ∙ (ap (λ (l : List Opening). l ++ take more.0 rest) asked ∙ append_assoc old (first ∷ []) (take more.0 rest))))
+
+-- the first alone, or none
+pub asked-first : (first : Opening) (rest : List Opening) (old new : List Opening) (why : WorldRefusal) → AskedAt why old first new → AsksInOrder (first ∷ rest) old new
+asked-first first rest old new Failed asked = (1, asked)
+asked-first first rest old new Memory asked = (0, asked ∙ sym (append-nil old))

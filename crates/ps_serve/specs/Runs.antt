@@ -1,31 +1,34 @@
 -- What a run does to the world.
-use Rattle.std.specs.Prelude.{ℕ, ◌≡◌, ◌⊎◌, ◌≤◌, List, [], ◌∷◌, ◌++◌, take, Option, Some, None, IfSome}
+use Rattle.std.specs.Prelude.{ℕ, ◌≡◌, ◌⊎◌, ◌≤◌, List, [], ◌∷◌, ◌++◌, take, Option, Some, None}
 use Rattle.std.specs.Io.KnownBytes.{Appends}
 use Rattle.ps_base.specs.Causes.{Rose}
-use Rattle.ps_outside.specs.Held.{Held, Same, SameBut}
+use Rattle.ps_outside.specs.Held.{Held, HeldStore, Same, SameBut, SameLeft, SameLefts, SameLeftsBut}
 use Rattle.ps_outside.specs.World.{ReportsFront}
-use Rattle.ps_outside.specs.declared.world.Kind.TheVariants.{Source, Sink}
+use Rattle.ps_outside.specs.declared.world.Kind.TheVariants.{Source, Sink, Store}
 use Rattle.ps_outside.specs.declared.world.Opening.{Opening}
-use Rattle.ps_wire.specs.Writing.{AppendsFront}
+use Rattle.ps_model.specs.At.{IsDamagedAt}
+use Rattle.ps_hall.specs.OpenHall.{PassesBy}
+use Rattle.ps_serve.specs.Answering.{AnswersAll, AnswersPart, AnswersSome}
+use Rattle.ps_serve.specs.Kept.{LacksGone, max_whole}
 use Rattle.ps_serve.specs.Reached.{ReadWhole, ReadLimit}
-use Rattle.ps_serve.specs.Served.{answered}
 use Rattle.ps_serve.specs.declared.status.Status.{Status}
 use Rattle.ps_serve.specs.declared.status.Status.TheVariants as status
 use Rattle.ps_serve.specs.declared.words.Command.{Command}
 use Rattle.ps_serve.specs.declared.words.Command.TheVariants.{Serve}
 use Rattle.ps_serve.specs.declared.words.Stream.{Stream}
 
--- the service host, and the stream that is served
+-- the service host, the name of its store, and the stream that is served
 pub record Served : Type 0 where
   pub service : List ℕ
+  pub store : List ℕ
   pub stream : Stream
 
 abbrev pub served_by : Option Command → Option Served
 served_by None = None
 served_by (Some (Serve service store [])) = None
-served_by (Some (Serve service store (stream ∷ streams))) = Some (record { service = service; stream = stream })
+served_by (Some (Serve service store (stream ∷ streams))) = Some (record { service = service; store = store; stream = stream })
 
--- each stream's source and sink, in the order of the words
+-- each stream's source and sink, in the order of the words; before them the store is opened
 abbrev pub stream_openings : List Stream → List Opening
 stream_openings [] = []
 stream_openings (stream ∷ streams) =
@@ -33,31 +36,58 @@ stream_openings (stream ∷ streams) =
 
 abbrev pub openings_of : Option Command → List Opening
 openings_of None = []
-openings_of (Some (Serve service store streams)) = stream_openings streams
+openings_of (Some (Serve service store streams)) = record { kind = Store; name = store } ∷ stream_openings streams
 
 -- what was asked for is a front of these openings
 abbrev pub AsksInOrder : List Opening → List Opening → List Opening → Type 0
 AsksInOrder openings old new = (n : ℕ) × (new ≡ old ++ take n openings)
 
--- the source was read to its end, and the sink gained the replies to its lines
-pub record Answers (s : Served) (sources sources_now sinks sinks_now : List ℕ → Held) : Type 0 where
+-- the source was read to its end, all its lines were answered, and the store has what they made
+pub record Answers (tells : Type 0) (s : Served) (sources sources_now sinks sinks_now : List ℕ → Held) (old new : HeldStore) (since : ℕ → List ℕ → Type 0) : Type 0 where
   pub read : ReadWhole (sources s.stream.source).bytes (sources_now s.stream.source).bytes
-  pub wrote : IfSome (sources s.stream.source).bytes (λ bytes. Appends (sinks s.stream.sink).bytes (sinks_now s.stream.sink).bytes (answered s.service s.stream.host bytes))
+  pub answers : AnswersAll tells s.service s.stream.host (sources s.stream.source).bytes (sinks s.stream.sink).bytes (sinks_now s.stream.sink).bytes old new since
 
--- the sink gained a front of them
-abbrev pub AnswersInPart : Served → (List ℕ → Held) → (List ℕ → Held) → (List ℕ → Held) → Type 0
-AnswersInPart s sources sinks sinks_now =
-    IfSome (sources s.stream.source).bytes (λ bytes. AppendsFront (sinks s.stream.sink).bytes (sinks_now s.stream.sink).bytes (answered s.service s.stream.host bytes))
+-- some of its lines were
+abbrev pub AnswersFirst : Type 0 → Served → (List ℕ → Held) → (List ℕ → Held) → (List ℕ → Held) → HeldStore → HeldStore → (ℕ → List ℕ → Type 0) → Type 0
+AnswersFirst tells s sources sinks sinks_now old new since =
+    AnswersSome tells s.service s.stream.host (sources s.stream.source).bytes (sinks s.stream.sink).bytes (sinks_now s.stream.sink).bytes old new since
 
--- no other source and no other sink is changed
-pub record LeavesOthers (s : Served) (sources sources_now sinks sinks_now : List ℕ → Held) : Type 0 where
+-- some of its lines were, or none came
+abbrev pub AnswersInPart : Type 0 → Served → (List ℕ → Held) → (List ℕ → Held) → (List ℕ → Held) → HeldStore → HeldStore → (ℕ → List ℕ → Type 0) → Type 0
+AnswersInPart tells s sources sinks sinks_now old new since =
+    AnswersPart tells s.service s.stream.host (sources s.stream.source).bytes (sinks s.stream.sink).bytes (sinks_now s.stream.sink).bytes old new since
+
+-- no line came, and the store is as it was
+pub record LeavesAsItWas (s : Served) (sinks sinks_now : List ℕ → Held) (stores stores_now : List ℕ → HeldStore) (lefts lefts_now : List ℕ → ℕ → List ℕ → Type 0) : Type 0 where
+  pub unwritten : (sinks_now s.stream.sink).bytes ≡ (sinks s.stream.sink).bytes
+  pub same_store : stores_now s.store ≡ stores s.store
+  pub same_left : SameLeft (lefts s.store) (lefts_now s.store)
+
+-- the bytes of the store spell no list of accepted entries, and this is the offset of the damage
+abbrev pub IsDamagedStore : Type 0 → HeldStore → ℕ → Type 0
+IsDamagedStore tells old at = tells → IsDamagedAt old.seen at
+
+-- the store has no room for the Boot, or for the Gone of the host
+abbrev pub LacksRoomAtAll : Type 0 → Served → HeldStore → HeldStore → Type 0
+LacksRoomAtAll tells s old new = tells → PassesBy old.seen s.service max_whole ⊎ LacksGone new.seen s.stream.host
+
+-- no other source, sink and store is changed
+pub record LeavesOthers (s : Served) (sources sources_now sinks sinks_now : List ℕ → Held) (stores stores_now : List ℕ → HeldStore) (lefts lefts_now : List ℕ → ℕ → List ℕ → Type 0) : Type 0 where
   pub other_sources : SameBut s.stream.source sources sources_now
   pub other_sinks : SameBut s.stream.sink sinks sinks_now
+  pub other_stores : SameBut s.store stores stores_now
+  pub other_lefts : SameLeftsBut s.store lefts lefts_now
 
 -- where nothing is served, none is
-abbrev pub Leaves : Option Served → (List ℕ → Held) → (List ℕ → Held) → (List ℕ → Held) → (List ℕ → Held) → Type 0
-Leaves None sources sources_now sinks sinks_now = Same sources sources_now × Same sinks sinks_now
-Leaves (Some s) sources sources_now sinks sinks_now = LeavesOthers s sources sources_now sinks sinks_now
+pub record LeavesAll (sources sources_now sinks sinks_now : List ℕ → Held) (stores stores_now : List ℕ → HeldStore) (lefts lefts_now : List ℕ → ℕ → List ℕ → Type 0) : Type 0 where
+  pub all_sources : Same sources sources_now
+  pub all_sinks : Same sinks sinks_now
+  pub all_stores : Same stores stores_now
+  pub all_lefts : SameLefts lefts lefts_now
+
+abbrev pub Leaves : Option Served → (List ℕ → Held) → (List ℕ → Held) → (List ℕ → Held) → (List ℕ → Held) → (List ℕ → HeldStore) → (List ℕ → HeldStore) → (List ℕ → ℕ → List ℕ → Type 0) → (List ℕ → ℕ → List ℕ → Type 0) → Type 0
+Leaves None sources sources_now sinks sinks_now stores stores_now lefts lefts_now = LeavesAll sources sources_now sinks sinks_now stores stores_now lefts lefts_now
+Leaves (Some s) sources sources_now sinks sinks_now stores stores_now lefts lefts_now = LeavesOthers s sources sources_now sinks sinks_now stores stores_now lefts lefts_now
 
 -- the count of the stream's source or sink rose
 abbrev pub StreamRose : Served → (List ℕ → Held) → (List ℕ → Held) → (List ℕ → Held) → (List ℕ → Held) → Type 0
@@ -79,6 +109,9 @@ abbrev pub reported_from : Status → ℕ → ℕ × ℕ → ℕ
 reported_from status.Done before last = before
 reported_from status.Usage before last = before
 reported_from status.OpenFault before last = last.1
+reported_from (status.StoreDamaged at) before last = last.1
+reported_from status.StoreFault before last = last.1
+reported_from status.StoreFull before last = last.1
 reported_from status.StreamFault before last = last.1
 reported_from status.StreamLong before last = last.1
 reported_from status.Memory before last = before

@@ -1,12 +1,11 @@
--- What the lines of a stream come to: the entries that they make, and their replies.
-use Rattle.std.specs.Prelude.{ℕ, ◌+◌, false, List, [], ◌∷◌, ◌++◌, length, Option, Some, None, option_map, nat_lt, if◌then◌else◌}
-use Rattle.ps_types.specs.Lines.{lines_of}
+-- What the lines of a stream come to, each at the entries before it: the replies, and the entries that they make.
+use Rattle.std.specs.Prelude.{ℕ, ◌≡◌, ◌+◌, ◌<◌, Bool, true, false, List, [], ◌∷◌, ◌++◌, length, Option, Some, None, option_map, nat_lt, if◌then◌else◌}
 use Rattle.ps_types.specs.Print.{print}
 use Rattle.ps_types.specs.Tree.{Tree}
 use Rattle.ps_types.specs.declared.entry.Arrival.{Arrival}
 use Rattle.ps_types.specs.declared.entry.Arrival.TheVariants.{Line, TooLong}
 use Rattle.ps_types.specs.declared.entry.Entry.{Entry}
-use Rattle.ps_types.specs.declared.entry.Entry.TheVariants.{Boot}
+use Rattle.ps_model.specs.Entries.{spelling}
 use Rattle.ps_model.specs.Replay.{replay}
 use Rattle.ps_model.specs.Replies.{entry_of, reply_to}
 use Rattle.ps_model.specs.World.{more_entries}
@@ -24,22 +23,17 @@ line_of (Some text) = text ++ 10 ∷ []
 abbrev pub reply_line : Option Tree → List ℕ
 reply_line reply = line_of (option_map print reply)
 
-module _ (host : List ℕ) where
-  -- the entries once the line of that number has come, where these stood before it
-  abbrev pub entries_with : List Entry → ℕ → List ℕ → List Entry
-  entries_with E k line = more_entries E (entry_of host (replay E).book k (arrival_of line) false)
+-- behind a store of that length the frame of the entry would pass the limit
+abbrev pub LacksRoom : ℕ → ℕ → Option Entry → Type 0
+LacksRoom limit len None = ⊥
+LacksRoom limit len (Some e) = limit < len + (5 + length (spelling e))
 
-  -- once all these lines have come, the first of which has that number
-  abbrev pub entries_after : List Entry → ℕ → List (List ℕ) → List Entry
-  entries_after E k [] = E
-  entries_after E k (line ∷ lines) = entries_after (entries_with E k line) (k + 1) lines
-
-  -- the replies to these lines, each at the entries before it
-  abbrev pub replies_after : List Entry → ℕ → List (List ℕ) → List ℕ
-  replies_after E k [] = []
-  replies_after E k (line ∷ lines) =
-      reply_line (reply_to host (replay E).book k (arrival_of line) false) ++ replies_after (entries_with E k line) (k + 1) lines
-
--- what a service that has just booted answers to the bytes of a host's stream
-abbrev pub answered : List ℕ → List ℕ → List ℕ → List ℕ
-answered service host bytes = replies_after host (Boot service ∷ []) 1 (lines_of bytes)
+module _ (host : List ℕ) (limit len : ℕ) where
+  -- These arrivals, the first of which is the line of that number, come to this output where these entries stood before them, and leave these entries.
+  -- A line may be answered as one for whose entry the store has no room, where it has none.
+  abbrev pub ComeTo : List Entry → ℕ → List Arrival → List ℕ → List Entry → Type 0
+  ComeTo E k [] out left = (out ≡ []) × (left ≡ E)
+  ComeTo E k (a ∷ arrivals) out left =
+      (full : Bool) × (rest : List ℕ) × (full ≡ true → LacksRoom limit len (entry_of host (replay E).book k a false))
+      × (out ≡ reply_line (reply_to host (replay E).book k a full) ++ rest)
+      × ComeTo (more_entries E (entry_of host (replay E).book k a full)) (k + 1) arrivals rest left

@@ -1,12 +1,15 @@
 -- How a run ends: the status's code, and the line that is reported.
-use Rattle.std.specs.Prelude.{ℕ, List, [], ◌∷◌, ◌++◌, codes}
+use Rattle.std.specs.Prelude.{ℕ, List, [], ◌∷◌, ◌++◌, codes, decimal}
 use Rattle.ps_serve.specs.declared.status.Status.{Status}
-use Rattle.ps_serve.specs.declared.status.Status.TheVariants.{Done, Usage, OpenFault, StreamFault, StreamLong, Memory}
+use Rattle.ps_serve.specs.declared.status.Status.TheVariants.{Done, Usage, OpenFault, StoreDamaged, StoreFault, StoreFull, StreamFault, StreamLong, Memory}
 
 abbrev pub code_of : Status → ℕ
 code_of Done = 0
 code_of Usage = 2
 code_of StreamFault = 3
+code_of StoreFault = 4
+code_of (StoreDamaged at) = 5
+code_of StoreFull = 6
 code_of Memory = 7
 code_of StreamLong = 8
 code_of OpenFault = 9
@@ -14,11 +17,30 @@ code_of OpenFault = 9
 abbrev pub usage_line : List ℕ
 usage_line = codes "usage: pubsubd serve --service HOST --store PATH HOST IN OUT [HOST IN OUT].. | rehearse SEED COUNT"
 
--- what is reported; where all was done, nothing is
+-- the words of what is reported; where all was done, nothing is
+abbrev pub words_of : Status → List ℕ
+words_of Done = []
+words_of Usage = usage_line ++ 10 ∷ []
+words_of OpenFault = codes "open fault" ++ 10 ∷ []
+words_of (StoreDamaged at) = codes "store damaged at "
+words_of StoreFault = codes "store fault" ++ 10 ∷ []
+words_of StoreFull = codes "store full" ++ 10 ∷ []
+words_of StreamFault = codes "stream fault" ++ 10 ∷ []
+words_of StreamLong = codes "stream too long" ++ 10 ∷ []
+words_of Memory = codes "out of memory" ++ 10 ∷ []
+
+-- the offset of a damage, and a newline
+abbrev pub offset_of : Status → List ℕ
+offset_of (StoreDamaged at) = decimal at ++ 10 ∷ []
+offset_of Done = []
+offset_of Usage = []
+offset_of OpenFault = []
+offset_of StoreFault = []
+offset_of StoreFull = []
+offset_of StreamFault = []
+offset_of StreamLong = []
+offset_of Memory = []
+
+-- what is reported
 abbrev pub report_of : Status → List ℕ
-report_of Done = []
-report_of Usage = usage_line ++ 10 ∷ []
-report_of OpenFault = codes "open fault" ++ 10 ∷ []
-report_of StreamFault = codes "stream fault" ++ 10 ∷ []
-report_of StreamLong = codes "stream too long" ++ 10 ∷ []
-report_of Memory = codes "out of memory" ++ 10 ∷ []
+report_of status = words_of status ++ offset_of status

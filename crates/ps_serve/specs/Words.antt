@@ -2,6 +2,7 @@
 use Rattle.std.specs.Prelude.{◌≢◌, ◌==◌, ◌&&◌, not, ℕ, Bool, List, [], ◌∷◌, length, codes, Option, Some, None, option_and_then, if◌then◌else◌}
 use Rattle.std.specs.Str.{bytes_eq}
 use Rattle.ps_types.specs.declared.jid.Jid.{Jid}
+use Rattle.ps_model.specs.Entries.{IsHostName}
 use Rattle.ps_model.specs.Stanza.{jid_of}
 use Rattle.ps_serve.specs.declared.words.Command.{Command}
 use Rattle.ps_serve.specs.declared.words.Command.TheVariants.{Serve}
@@ -37,8 +38,8 @@ command_of (serve ∷ service_word ∷ service ∷ store_word ∷ store ∷ host
     if is_serve serve service_word store_word && are_names store source sink then serve_of (host_of service) (host_of host) store source sink else None
 command_of words = None
 
--- one stream is served, by a service host that isn't empty
+-- one stream is served; its host and that of the service are hosts as they are printed
 abbrev pub ServesOne : Command → Type 0
 ServesOne (Serve service store []) = ⊥
-ServesOne (Serve service store (stream ∷ [])) = service ≢ []
+ServesOne (Serve service store (stream ∷ [])) = (service ≢ []) × IsHostName service × IsHostName stream.host
 ServesOne (Serve service store (stream ∷ next ∷ streams)) = ⊥

@@ -1,6 +1,9 @@
 // How a run ends.
-ghost use Rattle.std.specs.Prelude.{◌≡◌};
-ghost use Rattle.ps_serve.specs.Statuses.{code_of, report_of};
+ghost use Rattle.std.specs.Prelude.{◌≡◌, ◌≤◌, length};
+ghost use Rattle.ps_serve.specs.Statuses.{code_of, report_of, words_of};
+
+use arrayvec::ArrayString;
+use itoa::Buffer;
 
 /// How a run ended.
 #[derive(Clone, Copy, Debug, PartialEq, Eq)]
@@ -11,6 +14,12 @@ pub enum Status {
     Usage,
     /// An opening failed.
     OpenFault,
+    /// The store spells no list of entries: it is damaged at this byte.
+    StoreDamaged { at: u64 },
+    /// The store failed.
+    StoreFault,
+    /// The store has no room for what begins or ends a run.
+    StoreFull,
     /// A source or a sink failed.
     StreamFault,
     /// A source gave 2^40 bytes.
@@ -18,6 +27,9 @@ pub enum Status {
     /// Memory ran out.
     Memory,
 }
+
+/// A line that is reported; the longest is the one of usage.
+pub type Report = ArrayString<128>;
 
 impl Status {
     /// The status by which the program ends.
@@ -28,25 +40,46 @@ impl Status {
             Status::Done => 0,
             Status::Usage => 2,
             Status::StreamFault => 3,
+            Status::StoreFault => 4,
+            Status::StoreDamaged { at: _ } => 5,
+            Status::StoreFull => 6,
             Status::Memory => 7,
             Status::StreamLong => 8,
             Status::OpenFault => 9,
         }
     }
 
-    /// The line that is reported, with its newline; nothing where all was done.
-    pub fn report(&self) -> &'static [u8]
-        ensures { result.now ≡ report_of self.now }
+    // The words of the report; the offset of a damage comes after them.
+    fn words(&self) -> &'static str
+        ensures words { result.now ≡ words_of self.now }
+        ensures short { length result.now ≤ 107 }
     {
         match self {
-            Status::Done => b"",
+            Status::Done => "",
             Status::Usage => {
-                b"usage: pubsubd serve --service HOST --store PATH HOST IN OUT [HOST IN OUT].. | rehearse SEED COUNT\n"
+                "usage: pubsubd serve --service HOST --store PATH HOST IN OUT [HOST IN OUT].. | rehearse SEED COUNT\n"
             }
-            Status::OpenFault => b"open fault\n",
-            Status::StreamFault => b"stream fault\n",
-            Status::StreamLong => b"stream too long\n",
-            Status::Memory => b"out of memory\n",
+            Status::OpenFault => "open fault\n",
+            Status::StoreDamaged { at: _ } => "store damaged at ",
+            Status::StoreFault => "store fault\n",
+            Status::StoreFull => "store full\n",
+            Status::StreamFault => "stream fault\n",
+            Status::StreamLong => "stream too long\n",
+            Status::Memory => "out of memory\n",
         }
+    }
+
+    /// The line that is reported, with its newline; nothing where all was done.
+    pub fn report(&self) -> Report
+        ensures { result.bytes ≡ report_of self.now }
+    {
+        let mut line = Report::new();
+        line.push_str(self.words());
+        if let Status::StoreDamaged { at } = self {
+            let mut digits = Buffer::new();
+            line.push_str(digits.format(*at));
+            line.push_str("\n");
+        }
+        line
     }
 }

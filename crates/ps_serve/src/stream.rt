@@ -1,15 +1,17 @@
 // A stream of lines, each answered before the next is read.
-ghost use Rattle.std.specs.Prelude.{◌≡◌, ◌<◌, ◌≤◌, ◌+◌, ◌^◌, None, IfOk, OnOk, IfSome, IsErrOf, IsTrue, IsFalse};
-ghost use Rattle.std.specs.Io.KnownBytes.{Appends};
+ghost use Rattle.std.specs.Prelude.{◌≡◌, ◌≢◌, ◌<◌, ◌≤◌, ◌+◌, ◌^◌, [], List, ℕ, None, IfOk, OnOk, OnErr, IsErrOf, IsTrue, IsFalse};
+ghost use Rattle.std.specs.declared.option.Option.{Option};
 ghost use Rattle.ps_base.specs.Causes.{Rose};
+ghost use Rattle.ps_journal.specs.Journal.{disk_of};
+ghost use Rattle.ps_hall.specs.Passes.{steps_of};
 ghost use Rattle.ps_wire.specs.Reading.{budget_of, given_of, rest_of, source_of, stopped_of, Gave, IsFresh};
-ghost use Rattle.ps_wire.specs.Writing.{AppendsFront};
-ghost use Rattle.ps_serve.specs.Reached.{ReadLimit, ReadWhole};
-ghost use Rattle.ps_serve.specs.Turns.{AtEnd, IsReady, Turn, output_from};
+ghost use Rattle.ps_serve.specs.Reached.{AtEnd, ReadLimit, ReadWhole};
+ghost use Rattle.ps_serve.specs.Serving.{AreCallers, Begun, IsFreshIn, IsServing, Ran, Runs, ServesIn, Stops};
 
 use crate::turn::{StreamEnd, answer_line};
-use ps_core::Service;
-use ps_types::{Arrival, Text};
+use ps_disk::Disk;
+use ps_hall::{Hall, Pass};
+use ps_types::Arrival;
 use ps_wire::{Lines, NextLine, NextLineRefusal, Sink, Source};
 use std::alloc::Global;
 
@@ -17,6 +19,8 @@ fn end_of(why: NextLineRefusal) -> StreamEnd
     ensures read { result ≡ StreamEnd.ReadFault → why ≡ NextLineRefusal.ReadFault }
     ensures long { result ≡ StreamEnd.Long → why ≡ NextLineRefusal.Long }
     ensures write { result ≡ StreamEnd.WriteFault → ⊥ }
+    ensures store { result ≡ StreamEnd.Store → ⊥ }
+    ensures full { result ≡ StreamEnd.Full → ⊥ }
     ensures ended { result ≡ StreamEnd.Ended → ⊥ }
 {
     match why {
@@ -26,22 +30,23 @@ fn end_of(why: NextLineRefusal) -> StreamEnd
     }
 }
 
-// Answers the line that comes next, which has that number. False: there was none.
-fn answer_next<S: Source, K: Sink>(
+// Answers the line that comes next. False: there was none.
+fn answer_next<D: Disk, S: Source, K: Sink>(
     alloc: Global,
-    service: &mut Service,
-    host: &Text,
-    line: u64,
+    hall: &mut Hall<D>,
+    reader: &mut Pass,
+    writer: &mut Pass,
     lines: &mut Lines<S>,
     sink: &mut K,
 ) -> Result<bool, StreamEnd>
+    requires callers { AreCallers hall.old reader.old writer.old reader.old.host }
+    requires few { steps_of hall.old < 2 ^ 60 }
+    requires serving { IsServing hall.old reader.old.host }
     requires going { stopped_of lines.old ≡ None }
-    requires ready { IsReady host.now line service.old.state }
-    requires few { service.old.state.count < 2 ^ 62 }
-    ensures turn { Turn host.now result line (rest_of lines.old) (rest_of lines.new) (K.written sink.old) (K.written sink.new)
-        service.old.state service.new.state }
-    ensures ready { IfOk result (λ more. IsTrue more → IsReady host.now (line + 1) service.new.state) }
-    ensures count { IfOk result (λ more. IsTrue more → service.new.state.count ≤ service.old.state.count + 1) }
+    ensures more { IfOk result (λ more. IsTrue more → (b : Begun D) (all before : Option (List ℕ)) (count : ℕ) → b.service ≢ [] → b.host ≡ reader.old.host → Runs hall.old b all (rest_of lines.old) before (K.written sink.old) count → Runs hall.new b all (rest_of lines.new) before (K.written sink.new) (count + 1)) }
+    ensures last { IfOk result (λ more. IsFalse more → (b : Begun D) (all before : Option (List ℕ)) (count : ℕ) → count ≤ 2 ^ 40 → Runs hall.old b all (rest_of lines.old) before (K.written sink.old) count → Ran hall.new b all before (K.written sink.new)) }
+    ensures err { OnErr result ((b : Begun D) (all before : Option (List ℕ)) (count : ℕ) → b.service ≢ [] → b.host ≡ reader.old.host → count ≤ 2 ^ 40 → Runs hall.old b all (rest_of lines.old) before (K.written sink.old) count → Stops hall.new b all before (K.written sink.new)) }
+    ensures serving { OnOk result (IsServing hall.new reader.old.host) }
     ensures progress { IfOk result (λ more. IsTrue more → budget_of lines.new < budget_of lines.old) }
     ensures going { OnOk result (stopped_of lines.new ≡ None) }
     ensures gave { Gave (S.left (source_of lines.old)) (S.left (source_of lines.new)) (given_of lines.old) (given_of lines.new) }
@@ -51,7 +56,12 @@ fn answer_next<S: Source, K: Sink>(
     ensures write_later { K.faults sink.old ≤ K.faults sink.new }
     ensures read { IsErrOf result StreamEnd.ReadFault → Rose (S.faults (source_of lines.old)) (S.faults (source_of lines.new)) }
     ensures write { IsErrOf result StreamEnd.WriteFault → Rose (K.faults sink.old) (K.faults sink.new) }
+    ensures store { IsErrOf result StreamEnd.Store → Rose (D.faults (disk_of hall.old.journal)) (D.faults (disk_of hall.new.journal)) }
     ensures ended { IsErrOf result StreamEnd.Ended → ⊥ }
+    ensures full { IsErrOf result StreamEnd.Full → ⊥ }
+    ensures store_later { D.faults (disk_of hall.old.journal) ≤ D.faults (disk_of hall.new.journal) }
+    ensures limits { hall.new.limits ≡ hall.old.limits }
+    ensures callers { AreCallers hall.new reader.new writer.new reader.old.host }
 {
     match lines.next(alloc) {
         Ok(NextLine::Line(bytes)) => {
@@ -59,11 +69,11 @@ fn answer_next<S: Source, K: Sink>(
                 bytes,
                 moment: None,
             };
-            answer_line(alloc, service, host, line, &arrival, sink)?;
+            answer_line(hall, reader, writer, &arrival, sink)?;
             Ok(true)
         }
         Ok(NextLine::TooLong) => {
-            answer_line(alloc, service, host, line, &Arrival::TooLong, sink)?;
+            answer_line(hall, reader, writer, &Arrival::TooLong, sink)?;
             Ok(true)
         }
         Ok(NextLine::End) => Ok(false),
@@ -72,31 +82,34 @@ fn answer_next<S: Source, K: Sink>(
 }
 
 /// Answers each line of the host's stream before it reads the next.
-pub fn serve_lines<S: Source, K: Sink>(
+pub fn serve_lines<D: Disk, S: Source, K: Sink>(
     alloc: Global,
-    service: &mut Service,
-    host: &Text,
+    hall: &mut Hall<D>,
+    reader: &mut Pass,
+    writer: &mut Pass,
     lines: &mut Lines<S>,
     sink: &mut K,
 ) -> StreamEnd
+    requires callers { AreCallers hall.old reader.old writer.old reader.old.host }
     requires fresh { IsFresh lines.old }
-    requires ready { IsReady host.now 1 service.old.state }
-    requires few { service.old.state.count ≤ 1 }
-    ensures done { result ≡ StreamEnd.Ended → IfSome (S.left (source_of lines.old)) (λ bytes.
-        Appends (K.written sink.old) (K.written sink.new) (output_from host.now service.old.state 1 bytes)) }
+    requires serving { IsFreshIn hall.old reader.old.host }
+    ensures done { result ≡ StreamEnd.Ended → (b : Begun D) → b.service ≢ [] → b.host ≡ reader.old.host → ServesIn hall.old b [] [] → Ran hall.new b (S.left (source_of lines.old)) (K.written sink.old) (K.written sink.new) }
+    ensures stopped { result ≢ StreamEnd.Ended → (b : Begun D) → b.service ≢ [] → b.host ≡ reader.old.host → ServesIn hall.old b [] [] → Stops hall.new b (S.left (source_of lines.old)) (K.written sink.old) (K.written sink.new) }
     ensures whole { result ≡ StreamEnd.Ended → ReadWhole (S.left (source_of lines.old)) (S.left (source_of lines.new)) }
-    ensures part { IfSome (S.left (source_of lines.old)) (λ bytes.
-        AppendsFront (K.written sink.old) (K.written sink.new) (output_from host.now service.old.state 1 bytes)) }
     ensures long { result ≡ StreamEnd.Long → ReadLimit (S.left (source_of lines.old)) (S.left (source_of lines.new)) }
     ensures read_later { S.faults (source_of lines.old) ≤ S.faults (source_of lines.new) }
     ensures write_later { K.faults sink.old ≤ K.faults sink.new }
     ensures read { result ≡ StreamEnd.ReadFault → Rose (S.faults (source_of lines.old)) (S.faults (source_of lines.new)) }
     ensures write { result ≡ StreamEnd.WriteFault → Rose (K.faults sink.old) (K.faults sink.new) }
+    ensures store { result ≡ StreamEnd.Store → Rose (D.faults (disk_of hall.old.journal)) (D.faults (disk_of hall.new.journal)) }
+    ensures full { result ≡ StreamEnd.Full → ⊥ }
+    ensures store_later { D.faults (disk_of hall.old.journal) ≤ D.faults (disk_of hall.new.journal) }
+    ensures limits { hall.new.limits ≡ hall.old.limits }
+    ensures callers { AreCallers hall.new reader.new writer.new reader.old.host }
 {
-    let mut line: u64 = 1;
     'answers: loop {
-        match answer_next(alloc, service, host, line, lines, sink) {
-            Ok(true) => line += 1,
+        match answer_next(alloc, hall, reader, writer, lines, sink) {
+            Ok(true) => {}
             Ok(false) => return StreamEnd::Ended,
             Err(why) => return why,
         }

@@ -1,25 +1,26 @@
 // Whole runs over a world in memory.
 use crate::run;
+use ps_disk::MemDisk;
 use ps_outside::MemWorld;
 use ps_types::Text;
 use ps_wire::{MemSink, MemSource};
 use std::alloc::Global;
 use std::test::Fail;
 
-const FIRST: &str =
+pub const FIRST: &str =
     r#"{"a":{"from":"ann@a.example/1","id":"1","to":"pubsub.example","type":"set"},"c":[{"c":[{"a":{"node":"news"},"n":"create"}],"n":"pubsub","ns":"http://jabber.org/protocol/pubsub"}],"n":"iq"}"#;
 
-const MADE: &str =
+pub const MADE: &str =
     r#"{"a":{"from":"pubsub.example","id":"1","to":"ann@a.example/1","type":"result"},"n":"iq"}
 "#;
 
 // A node is made, and made again.
-const BOTH: &str =
+pub const BOTH: &str =
     r#"{"a":{"from":"ann@a.example/1","id":"1","to":"pubsub.example","type":"set"},"c":[{"c":[{"a":{"node":"news"},"n":"create"}],"n":"pubsub","ns":"http://jabber.org/protocol/pubsub"}],"n":"iq"}
 {"a":{"from":"ann@a.example/1","id":"2","to":"pubsub.example","type":"set"},"c":[{"c":[{"a":{"node":"news"},"n":"create"}],"n":"pubsub","ns":"http://jabber.org/protocol/pubsub"}],"n":"iq"}
 "#;
 
-const BOTH_ANSWERED: &str =
+pub const BOTH_ANSWERED: &str =
     r#"{"a":{"from":"pubsub.example","id":"1","to":"ann@a.example/1","type":"result"},"n":"iq"}
 {"a":{"from":"pubsub.example","id":"2","to":"ann@a.example/1","type":"error"},"c":[{"a":{"type":"cancel"},"c":[{"n":"conflict","ns":"urn:ietf:params:xml:ns:xmpp-stanzas"}],"n":"error"}],"n":"iq"}
 "#;
@@ -71,26 +72,36 @@ const TEN: &str =
 const USAGE: &str =
     "usage: pubsubd serve --service HOST --store PATH HOST IN OUT [HOST IN OUT].. | rehearse SEED COUNT\n2";
 
-const SERVE: &str = "serve --service pubsub.example --store s a.example i1 o1";
+pub const SERVE: &str = "serve --service pubsub.example --store s a.example i1 o1";
 
-// The calls of the source, the sink and the world that fail.
+// The calls of the disk, the source, the sink and the world that fail.
 #[derive(Clone, Copy)]
-struct Failing<'a> {
-    source: &'a [u64],
-    sink: &'a [u64],
-    world: &'a [u64],
+pub struct Failing<'a> {
+    pub disk: &'a [u64],
+    pub source: &'a [u64],
+    pub sink: &'a [u64],
+    pub world: &'a [u64],
 }
 
-const NONE: Failing<'static> = Failing {
+pub const NONE: Failing<'static> = Failing {
+    disk: &[],
     source: &[],
     sink: &[],
     world: &[],
 };
 
-fn world_of(alloc: Global, input: &str, failing: Failing<'_>) -> Result<MemWorld, Fail> {
+// A world whose store has these bytes, and whose source has these.
+pub fn world_of(
+    alloc: Global,
+    bytes: &[u8],
+    input: &str,
+    failing: Failing<'_>,
+) -> Result<MemWorld, Fail> {
+    let store = Text::of(alloc, "s")?;
     let source = Text::of(alloc, "i1")?;
     let sink = Text::of(alloc, "o1")?;
     let mut world = MemWorld::new(alloc, failing.world)?;
+    world.put_disk(&store, MemDisk::new(alloc, bytes, failing.disk)?)?;
     world.put_source(
         &source,
         MemSource::new(alloc, input.as_bytes(), failing.source)?,
@@ -100,7 +111,7 @@ fn world_of(alloc: Global, input: &str, failing: Failing<'_>) -> Result<MemWorld
 }
 
 // Runs the words, and answers the status's code.
-fn code_of(alloc: Global, words: &str, world: &mut MemWorld) -> Result<u8, Fail> {
+pub fn code_of(alloc: Global, words: &str, world: &mut MemWorld) -> Result<u8, Fail> {
     let mut texts = Vec::new(alloc);
     for word in words.split(' ') {
         texts.push(Text::of(alloc, word)?)?;
@@ -109,7 +120,7 @@ fn code_of(alloc: Global, words: &str, world: &mut MemWorld) -> Result<u8, Fail>
 }
 
 // What the sink holds, what was reported, and the code.
-fn told(alloc: Global, world: &MemWorld, code: u8) -> Result<String, Fail> {
+pub fn told(alloc: Global, world: &MemWorld, code: u8) -> Result<String, Fail> {
     let sink = Text::of(alloc, "o1")?;
     let sink = world.sink(&sink).ok_or("no sink")?;
     let written = str::from_utf8(sink.bytes())?;
@@ -119,7 +130,7 @@ fn told(alloc: Global, world: &MemWorld, code: u8) -> Result<String, Fail> {
 
 // A run of the words over that input: what was written, what was reported, and the code.
 fn ran(alloc: Global, words: &str, input: &str, failing: Failing<'_>) -> Result<String, Fail> {
-    let mut world = world_of(alloc, input, failing)?;
+    let mut world = world_of(alloc, b"", input, failing)?;
     let code = code_of(alloc, words, &mut world)?;
     told(alloc, &world, code)
 }
@@ -231,31 +242,14 @@ fn what_fails_has_its_status(rt: HostRuntime) -> Result<(), Fail> {
     );
     assert!(rt; ends(alloc, Failing { sink: &[4], ..NONE }, made.as_str())?);
     assert!(rt; ends(alloc, Failing { sink: &[5], ..NONE }, begun.as_str())?);
+    for world in [&[1], &[2], &[3]] {
+        assert!(rt; ends(alloc, Failing { world, ..NONE }, "open fault\n9")?);
+    }
     assert!(rt;
         ends(
             alloc,
             Failing {
-                world: &[1],
-                ..NONE
-            },
-            "open fault\n9"
-        )?
-    );
-    assert!(rt;
-        ends(
-            alloc,
-            Failing {
-                world: &[2],
-                ..NONE
-            },
-            "open fault\n9"
-        )?
-    );
-    assert!(rt;
-        ends(
-            alloc,
-            Failing {
-                world: &[2, 3],
+                world: &[3, 4],
                 ..NONE
             },
             "9"

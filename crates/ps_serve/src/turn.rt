@@ -1,20 +1,22 @@
-// One line, answered by the service.
-ghost use Rattle.std.specs.Prelude.{◌≡◌, ◌<◌, ◌≤◌, ◌+◌, ◌^◌, ◌⊎◌, true, false, option_map, IfOk, IfSome, OnOk, OnErr, IsErrOf};
+// One line, answered by the hall of one stream.
+ghost use Rattle.std.specs.Prelude.{◌≡◌, ◌≢◌, ◌⊎◌, ◌<◌, ◌≤◌, ◌+◌, ◌^◌, ◌∷◌, ◌++◌, [], List, ℕ, IfOk, OnOk, OnErr, IsErrOf};
 ghost use Rattle.std.specs.Io.KnownBytes.{Appends};
+ghost use Rattle.std.specs.declared.option.Option.{Option};
 ghost use Rattle.ps_base.specs.Causes.{HasCause, Rose};
-ghost use Rattle.ps_types.specs.Print.{print as printed_tree};
+ghost use Rattle.ps_types.specs.declared.entry.Arrival.{Arrival};
 ghost use Rattle.ps_wire.specs.Writing.{AppendsFront};
-ghost use Rattle.ps_model.specs.Replay.{accepted};
-ghost use Rattle.ps_model.specs.Replies.{entry_of, reply_to};
-ghost use Rattle.ps_serve.specs.Served.{line_of, reply_line};
-ghost use Rattle.ps_serve.specs.Turns.{IsReady, with_entry};
-ghost use Rattle.ps_serve.specs.declared.turn.StreamEnd.TheVariants.{Memory as OutOfMemory, WriteFault as CannotWrite};
+ghost use Rattle.ps_journal.specs.Journal.{disk_of};
+ghost use Rattle.ps_hall.specs.Passes.{steps_of};
+ghost use Rattle.ps_hall.specs.Shape.{IsArrival};
+ghost use Rattle.ps_serve.specs.Served.{line_of};
+ghost use Rattle.ps_serve.specs.Serving.{AreCallers, Begun, EndsIn, IsServing, ServesIn, Wrote, WroteInPart};
+ghost use Rattle.ps_serve.specs.declared.turn.StreamEnd.TheVariants.{WriteFault as CannotWrite};
 
 use ps_base::{Bytes, Memory};
-use ps_core::Service;
-use ps_types::{Arrival, Elem, Entry, Text};
-use ps_wire::{Sink, WriteFault, print_tree, write_line};
-use std::alloc::Global;
+use ps_disk::Disk;
+use ps_hall::{ArriveRefusal, Hall, Next, Pass};
+use ps_types::Arrival;
+use ps_wire::{Sink, WriteFault, write_line};
 
 /// Why a stream ended.
 #[derive(Clone, Copy, Debug, PartialEq, Eq)]
@@ -25,15 +27,11 @@ pub enum StreamEnd {
     WriteFault,
     /// The source gave 2^40 bytes.
     Long,
+    /// The store failed.
+    Store,
+    /// The store has no room for the end of the stream.
+    Full,
     Memory,
-}
-
-impl From<Memory> for StreamEnd {
-    ghost from_gives = { λ _ e. e ≡ OutOfMemory };
-
-    fn from(_: Memory) -> StreamEnd {
-        StreamEnd::Memory
-    }
 }
 
 impl From<WriteFault> for StreamEnd {
@@ -44,45 +42,38 @@ impl From<WriteFault> for StreamEnd {
     }
 }
 
-fn print_reply(alloc: Global, reply: &Option<Elem>) -> Result<Option<Bytes>, Memory>
-    ensures { IfOk result (λ r. r ≡ option_map printed_tree reply.now) }
-{
-    match reply {
-        Some(tree) => Ok(Some(print_tree(alloc, tree)?)),
-        None => Ok(None),
-    }
-}
-
-fn take_entry(service: &mut Service, entry: &Option<Entry>) -> Result<(), Memory>
-    requires accepted { IfSome entry.now (λ e. accepted service.old.state e ≡ true) }
-    requires few { service.old.state.count < 2 ^ 62 }
-    ensures ok { OnOk result (service.new.state ≡ with_entry service.old.state entry.now) }
-    ensures err { OnErr result (service.new.state ≡ service.old.state) }
-{
-    match entry {
-        Some(entry) => service.apply(entry),
-        None => Ok(()),
-    }
-}
-
-// The reply to the line as it is printed. The service takes the entry that the line makes.
-fn answer(
-    alloc: Global,
-    service: &mut Service,
-    host: &Text,
-    line: u64,
+// The line arrives, and its reply is handed out, if it gets one.
+fn answer<D: Disk>(
+    hall: &mut Hall<D>,
+    reader: &mut Pass,
+    writer: &mut Pass,
     arrival: &Arrival,
-) -> Result<Option<Bytes>, Memory>
-    requires ready { IsReady host.now line service.old.state }
-    requires few { service.old.state.count < 2 ^ 62 }
-    ensures reply { IfOk result (λ r. r ≡ option_map printed_tree (reply_to host.now service.old.state.book line arrival.now false)) }
-    ensures state { OnOk result (service.new.state ≡ with_entry service.old.state (entry_of host.now service.old.state.book line arrival.now false)) }
-    ensures err { OnErr result (service.new.state ≡ service.old.state) }
+) -> Result<Option<Bytes>, StreamEnd>
+    requires callers { AreCallers hall.old reader.old writer.old reader.old.host }
+    requires few { steps_of hall.old < 2 ^ 60 }
+    requires arrival { IsArrival arrival.now }
+    requires serving { IsServing hall.old reader.old.host }
+    ensures ok { IfOk result (λ reply. (b : Begun D) (arrivals : List Arrival) (out : List ℕ) → b.service ≢ [] → b.host ≡ reader.old.host → ServesIn hall.old b arrivals out → ServesIn hall.new b (arrivals ++ arrival.now ∷ []) (out ++ line_of reply)) }
+    ensures err { OnErr result ((b : Begun D) (arrivals : List Arrival) (out : List ℕ) → b.service ≢ [] → b.host ≡ reader.old.host → ServesIn hall.old b arrivals out → EndsIn hall.new b arrivals out [] 3) }
+    ensures store { IsErrOf result StreamEnd.Store → Rose (D.faults (disk_of hall.old.journal)) (D.faults (disk_of hall.new.journal)) }
+    ensures only { OnErr result (IsErrOf result StreamEnd.Store ⊎ IsErrOf result StreamEnd.Memory) }
+    ensures store_later { D.faults (disk_of hall.old.journal) ≤ D.faults (disk_of hall.new.journal) }
+    ensures limits { hall.new.limits ≡ hall.old.limits }
+    ensures callers { AreCallers hall.new reader.new writer.new reader.old.host }
 {
-    let answer = service.answer(host, line, arrival)?;
-    let reply = print_reply(alloc, &answer.reply)?;
-    take_entry(service, &answer.entry)?;
-    Ok(reply)
+    match hall.arrive(reader, arrival) {
+        Ok(_) => match hall.next(writer) {
+            Ok(Next::Reply(text)) => Ok(Some(text)),
+            Ok(Next::NotYet) => Ok(None),
+            Ok(Next::Over) => Ok(None),
+            Ok(Next::Notice(_)) => unreachable!(),
+            Err(Memory) => Err(StreamEnd::Memory),
+        },
+        Err(ArriveRefusal::Store) => Err(StreamEnd::Store),
+        Err(ArriveRefusal::Memory) => Err(StreamEnd::Memory),
+        Err(ArriveRefusal::Closed) => unreachable!(),
+        Err(ArriveRefusal::Again) => unreachable!(),
+    }
 }
 
 fn write_reply<K: Sink>(sink: &mut K, reply: &Option<Bytes>) -> Result<(), WriteFault>
@@ -96,29 +87,30 @@ fn write_reply<K: Sink>(sink: &mut K, reply: &Option<Bytes>) -> Result<(), Write
     }
 }
 
-/// Answers the line of that number. Whatever the answer, what was written is a front of the reply.
-pub fn answer_line<K: Sink>(
-    alloc: Global,
-    service: &mut Service,
-    host: &Text,
-    line: u64,
+/// Answers the line, and writes its reply.
+pub fn answer_line<D: Disk, K: Sink>(
+    hall: &mut Hall<D>,
+    reader: &mut Pass,
+    writer: &mut Pass,
     arrival: &Arrival,
     sink: &mut K,
 ) -> Result<(), StreamEnd>
-    requires ready { IsReady host.now line service.old.state }
-    requires few { service.old.state.count < 2 ^ 62 }
-    ensures whole { OnOk result (Appends (K.written sink.old) (K.written sink.new)
-        (reply_line (reply_to host.now service.old.state.book line arrival.now false))) }
-    ensures part { AppendsFront (K.written sink.old) (K.written sink.new)
-        (reply_line (reply_to host.now service.old.state.book line arrival.now false)) }
-    ensures state { OnOk result (service.new.state ≡ with_entry service.old.state (entry_of host.now service.old.state.book line arrival.now false)) }
-    ensures ready { OnOk result (IsReady host.now (line + 1) service.new.state) }
-    ensures count { OnOk result (service.new.state.count ≤ service.old.state.count + 1) }
-    ensures later { K.faults sink.old ≤ K.faults sink.new }
+    requires callers { AreCallers hall.old reader.old writer.old reader.old.host }
+    requires few { steps_of hall.old < 2 ^ 60 }
+    requires arrival { IsArrival arrival.now }
+    requires serving { IsServing hall.old reader.old.host }
+    ensures ok { OnOk result ((b : Begun D) (arrivals : List Arrival) (before : Option (List ℕ)) → b.service ≢ [] → b.host ≡ reader.old.host → Wrote hall.old b arrivals before (K.written sink.old) → Wrote hall.new b (arrivals ++ arrival.now ∷ []) before (K.written sink.new)) }
+    ensures err { OnErr result ((b : Begun D) (arrivals : List Arrival) (before : Option (List ℕ)) → b.service ≢ [] → b.host ≡ reader.old.host → Wrote hall.old b arrivals before (K.written sink.old) → WroteInPart hall.new b arrivals arrival.now before (K.written sink.new)) }
+    ensures serving { OnOk result (IsServing hall.new reader.old.host) }
+    ensures store { IsErrOf result StreamEnd.Store → Rose (D.faults (disk_of hall.old.journal)) (D.faults (disk_of hall.new.journal)) }
     ensures write { IsErrOf result StreamEnd.WriteFault → Rose (K.faults sink.old) (K.faults sink.new) }
-    ensures never { IsErrOf result StreamEnd.ReadFault ⊎ IsErrOf result StreamEnd.Ended ⊎ IsErrOf result StreamEnd.Long → ⊥ }
+    ensures later { K.faults sink.old ≤ K.faults sink.new }
+    ensures never { IsErrOf result StreamEnd.ReadFault ⊎ IsErrOf result StreamEnd.Ended ⊎ IsErrOf result StreamEnd.Long ⊎ IsErrOf result StreamEnd.Full → ⊥ }
+    ensures store_later { D.faults (disk_of hall.old.journal) ≤ D.faults (disk_of hall.new.journal) }
+    ensures limits { hall.new.limits ≡ hall.old.limits }
+    ensures callers { AreCallers hall.new reader.new writer.new reader.old.host }
 {
-    let reply = answer(alloc, service, host, line, arrival)?;
+    let reply = answer(hall, reader, writer, arrival)?;
     write_reply(sink, &reply)?;
     Ok(())
 }

@@ -1,5 +1,6 @@
 // The words of a command.
 ghost use Rattle.std.specs.Prelude.{◌≡◌, ◌≢◌, [], Some, None, IfOk, IsErrOf};
+ghost use Rattle.ps_model.specs.Entries.{IsHostName};
 ghost use Rattle.ps_serve.specs.Words.{are_names as are_names_by, command_of, host_in as host_in_address, host_of, is_serve as is_serve_by, serve_of, ServesOne};
 ghost use Rattle.ps_serve.specs.declared.words.WordsRefusal.TheVariants.{Memory as OutOfMemory};
 
@@ -48,6 +49,7 @@ impl From<AllocError> for WordsRefusal {
 fn read_host(alloc: Global, word: &Text) -> Result<Text, WordsRefusal>
     ensures ok { IfOk result (λ h. host_of word.now ≡ Some h) }
     ensures some { IfOk result (λ h. h ≢ []) }
+    ensures name { IfOk result IsHostName }
     ensures usage { IsErrOf result WordsRefusal.Usage → host_of word.now ≡ None }
 {
     match Jid::read(alloc, word.as_str().as_bytes()) {

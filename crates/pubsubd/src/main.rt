@@ -31,7 +31,7 @@ fn main(rt: HostRuntime) -> ExitCode {
     let status = match words {
         Ok(words) => run(alloc, &words, &mut world),
         Err(Memory) => {
-            let _ = world.report(Status::Memory.report());
+            let _ = world.report(Status::Memory.report().as_str().as_bytes());
             Status::Memory
         }
     };

@@ -1,26 +1,33 @@
-use Rattle.std.specs.Prelude.{None}
-use Rattle.std.proofs.lemmas.Result.{err_from_is_err_and}
-use Rattle.ps_types.specs.declared.entry.Arrival.TheVariants.{Line, TooLong}
+use Rattle.std.proofs.Common.{None}
+use Rattle.ps_types.specs.declared.entry.Arrival.TheVariants as arrival
 use Rattle.ps_wire.specs.Reading.{rest_of}
-use Rattle.ps_serve.proofs.Output.{came-long, came-whole, cut, stood}
+use Rattle.ps_serve.proofs.Arrivals.{came-long, came-whole}
+use Rattle.ps_serve.proofs.Streams.{on-err, runs-more, stops-part, stops-still}
 use Rattle.ps_serve.proofs.stream.answer_next.Goals as goal
 
-pub returns-in_err-answer_line-in-Ok-Line-clause-turn :
-    goal.returns-in_err-answer_line-in-Ok-Line-clause-turn
-returns-in_err-answer_line-in-Ok-Line-clause-turn g c =
-    let p = err_from_is_err_and c.from_residual.result c.from_residual.ensures.1 in
-    let came = came-whole c.in-Ok-Line.bytes (rest_of c.args.lines.now) (rest_of c.next.new.self) (rw c.in-Ok-Line.field-0-is at c.in-Ok-Line.ensures.next) in
-    rw p.1 (cut c.args.host.now c.args.line (Line c.in-Ok-Line.bytes None) c.args.service.now.state (g.K.Sink.written c.args.sink.now) (g.K.Sink.written c.answer_line.new.sink)
-    (rest_of c.args.lines.now) (rest_of c.next.new.self) c.answer_line.new.service.state p.0 came c.answer_line.ensures.part)
+pub returns-in_err-answer_line-in-Ok-Line-clause-err : goal.returns-in_err-answer_line-in-Ok-Line-clause-err
+returns-in_err-answer_line-in-Ok-Line-clause-err g c =
+    on-err c.from_residual.result _ (λ b all before count some is few r.
+    let line = c.in-Ok-Line.bytes in
+    stops-part c.args.hall.now c.answer_line.new.hall b all (rest_of c.args.lines.now) (rest_of c.next.new.self) before (g.K.Sink.written c.args.sink.now) (g.K.Sink.written c.answer_line.new.sink) count (arrival.Line line None) r few
+    (came-whole line (rest_of c.args.lines.now) (rest_of c.next.new.self) (rw c.in-Ok-Line.field-0-is at c.in-Ok-Line.ensures.next)) (λ w. c.in_err-answer_line-in-Ok-Line.ensures.err b r.arrivals before some is w))
 
-pub returns-in_err-answer_line-in-Ok-TooLong-clause-turn :
-    goal.returns-in_err-answer_line-in-Ok-TooLong-clause-turn
-returns-in_err-answer_line-in-Ok-TooLong-clause-turn g c =
-    let p = err_from_is_err_and c.from_residual-in_err-answer_line-in-Ok-TooLong.result c.from_residual-in_err-answer_line-in-Ok-TooLong.ensures.1 in
-    let came = came-long (rest_of c.args.lines.now) (rest_of c.next.new.self) (rw c.in-Ok-TooLong.field-0-is at c.in-Ok-TooLong.ensures.next) in
-    rw p.1 (cut c.args.host.now c.args.line TooLong c.args.service.now.state (g.K.Sink.written c.args.sink.now) (g.K.Sink.written c.answer_line-in-Ok-TooLong.new.sink)
-    (rest_of c.args.lines.now) (rest_of c.next.new.self) c.answer_line-in-Ok-TooLong.new.service.state p.0 came c.answer_line-in-Ok-TooLong.ensures.part)
+pub returns-in_ok-answer_line-in-Ok-Line-clause-more : goal.returns-in_ok-answer_line-in-Ok-Line-clause-more
+returns-in_ok-answer_line-in-Ok-Line-clause-more g c = λ so b all before count some is r.
+    let line = c.in-Ok-Line.bytes in
+    runs-more c.args.hall.now c.answer_line.new.hall b all (rest_of c.args.lines.now) (rest_of c.next.new.self) before (g.K.Sink.written c.args.sink.now) (g.K.Sink.written c.answer_line.new.sink) count (arrival.Line line None) r
+    (came-whole line (rest_of c.args.lines.now) (rest_of c.next.new.self) (rw c.in-Ok-Line.field-0-is at c.in-Ok-Line.ensures.next)) (λ w. c.in_ok-answer_line-in-Ok-Line.ensures.ok b r.arrivals before some is w)
 
-pub returns-in-Err-clause-turn : goal.returns-in-Err-clause-turn
-returns-in-Err-clause-turn g c =
-    stood c.args.host.now c.args.line (rest_of c.args.lines.now) (rest_of c.next.new.self) (g.K.Sink.written c.args.sink.now) c.args.service.now.state c.end_of.result
+pub returns-in_err-answer_line-in-Ok-TooLong-clause-err : goal.returns-in_err-answer_line-in-Ok-TooLong-clause-err
+returns-in_err-answer_line-in-Ok-TooLong-clause-err g c =
+    on-err c.from_residual-in_err-answer_line-in-Ok-TooLong.result _ (λ b all before count some is few r.
+    stops-part c.args.hall.now c.answer_line-in-Ok-TooLong.new.hall b all (rest_of c.args.lines.now) (rest_of c.next.new.self) before (g.K.Sink.written c.args.sink.now) (g.K.Sink.written c.answer_line-in-Ok-TooLong.new.sink) count arrival.TooLong r few
+    (came-long (rest_of c.args.lines.now) (rest_of c.next.new.self) (rw c.in-Ok-TooLong.field-0-is at c.in-Ok-TooLong.ensures.next)) (λ w. c.in_err-answer_line-in-Ok-TooLong.ensures.err b r.arrivals before some is w))
+
+pub returns-in_ok-answer_line-in-Ok-TooLong-clause-more : goal.returns-in_ok-answer_line-in-Ok-TooLong-clause-more
+returns-in_ok-answer_line-in-Ok-TooLong-clause-more g c = λ so b all before count some is r.
+    runs-more c.args.hall.now c.answer_line-in-Ok-TooLong.new.hall b all (rest_of c.args.lines.now) (rest_of c.next.new.self) before (g.K.Sink.written c.args.sink.now) (g.K.Sink.written c.answer_line-in-Ok-TooLong.new.sink) count arrival.TooLong r
+    (came-long (rest_of c.args.lines.now) (rest_of c.next.new.self) (rw c.in-Ok-TooLong.field-0-is at c.in-Ok-TooLong.ensures.next)) (λ w. c.in_ok-answer_line-in-Ok-TooLong.ensures.ok b r.arrivals before some is w)
+
+pub returns-in-Err-clause-err : goal.returns-in-Err-clause-err
+returns-in-Err-clause-err g c = λ b all before count some is few r. stops-still c.args.hall.now b all (rest_of c.args.lines.now) (rest_of c.next.new.self) before (g.K.Sink.written c.args.sink.now) count r few

@@ -1,18 +1,19 @@
-use Rattle.std.proofs.Common.{◌≡◌, ◌≤◌, ◌+◌, ◌^◌, None}
+use Rattle.std.proofs.Common.{◌≡◌, ◌≢◌, ◌≤◌, [], None}
+use Rattle.ps_journal.specs.Journal.{disk_of}
 use Rattle.ps_wire.specs.Reading.{Gave, budget_of, given_of, rest_of, source_of, stopped_of}
-use Rattle.ps_serve.specs.Turns.{IsReady, SoFar}
+use Rattle.ps_serve.specs.Serving.{AreCallers, Begun, RunsWithin, ServesIn}
 use Rattle.ps_serve.proofs.stream.serve_lines.Given as goal
 
 abbrev pub invariant-answers : goal.invariant-answers
 invariant-answers g l = record {
-  so_far : SoFar l.host l.initial.service.state (rest_of l.initial.lines) l.line (rest_of l.lines) (g.K.Sink.written l.initial.sink) (g.K.Sink.written l.sink) l.service.state;
+  callers : AreCallers l.hall l.reader l.writer l.initial.reader.host;
+  runs : (b : Begun g.row.D.Denot) → b.service ≢ [] → b.host ≡ l.initial.reader.host → ServesIn l.initial.hall b [] [] → RunsWithin l.hall b (rest_of l.initial.lines) (rest_of l.lines) (g.K.Sink.written l.initial.sink) (g.K.Sink.written l.sink) (budget_of l.lines);
   going : stopped_of l.lines ≡ None;
   gave : Gave (g.S.Source.left (source_of l.initial.lines)) (g.S.Source.left (source_of l.lines)) 0 (given_of l.lines);
-  ready : IsReady l.host l.line l.service.state;
-  few : l.service.state.count + budget_of l.lines ≤ 2 ^ 40 + 1;
-  numbered : l.line + budget_of l.lines ≤ 2 ^ 40 + 1;
   read_later : g.S.Source.faults (source_of l.initial.lines) ≤ g.S.Source.faults (source_of l.lines);
   write_later : g.K.Sink.faults l.initial.sink ≤ g.K.Sink.faults l.sink;
+  limits : l.hall.limits ≡ l.initial.hall.limits;
+  store_later : g.D.Disk.faults (disk_of l.initial.hall.journal) ≤ g.D.Disk.faults (disk_of l.hall.journal);
 }
 
 abbrev pub decreases-answers : goal.decreases-answers

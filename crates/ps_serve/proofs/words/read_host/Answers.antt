@@ -3,7 +3,8 @@ use Rattle.std.proofs.lemmas.Result.{IfOk-weaker}
 use Rattle.ps_types.specs.Address.{Spells}
 use Rattle.ps_types.specs.declared.jid.Jid.{Jid}
 use Rattle.ps_serve.specs.Words.{host_in, host_of}
-use Rattle.ps_serve.proofs.Hosts.{host-none, host-some, host-spelled}
+use Rattle.ps_model.specs.Entries.{IsHostName}
+use Rattle.ps_serve.proofs.Hosts.{host-name, host-none, host-some, host-spelled}
 use Rattle.ps_serve.proofs.words.read_host.Goals as goal
 
 pub returns-in-Ok-clause-ok : goal.returns-in-Ok-clause-ok
@@ -29,3 +30,9 @@ returns-in-Err-Malformed-clause-usage c =
     λ e. host-none c.args.word.now
     (subst (λ (l : List ℕ). (j : Jid) → Spells l j → ⊥) (c.as_bytes.ensures.value ∙ c.as_str.ensures.value)
     (c.in-Err-Malformed.ensures.malformed (λ i. Err (c.in-Err-Malformed.field-0-is i))))
+
+pub returns-in-Ok-clause-name : goal.returns-in-Ok-clause-name
+returns-in-Ok-clause-name c =
+    let j = c.in-Ok.address in
+    let s = subst (λ (l : List ℕ). Spells l j) (c.as_bytes.ensures.value ∙ c.as_str.ensures.value) c.in-Ok.ensures.ok in
+    IfOk-weaker c.host_in.result (λ h. host_in j ≡ Some h) IsHostName (λ h e. host-name c.args.word.now j h s e) c.host_in.ensures.ok
