@@ -1,0 +1,82 @@
+#!/usr/bin/env python3
+"""measure.py PROGRAM LIMIT STORE FAST: publishes a second over a file in the folder STORE beside the disk's limit, and what opening a store costs."""
+import json
+import os
+import resource
+import statistics
+import subprocess
+import sys
+import time
+
+PUBSUB = "http://jabber.org/protocol/pubsub"
+program, limit, store, fast = sys.argv[1:5]
+rounds = int(os.environ.get("ROUNDS", "3"))
+publishes = int(os.environ.get("PUBLISHES", "2000"))
+changes = [int(it) for it in os.environ.get("CHANGES", "10000 100000").split()]
+
+
+def line(number, sender, child):
+    child = {"n": "pubsub", "ns": PUBSUB, "c": [child]}
+    stanza = {"n": "iq", "a": {"from": f"{sender}@a.example/1", "id": str(number), "to": "pubsub.example", "type": "set"}, "c": [child]}
+    return json.dumps(stanza, separators=(",", ":")) + "\n"
+
+
+def create(number, sender, node):
+    return line(number, sender, {"n": "create", "a": {"node": node}})
+
+
+def publish(number):
+    item = {"n": "item", "a": {"id": f"i{number}"}, "c": [{"n": "entry", "ns": "urn:t", "c": ["hi"]}]}
+    return line(number, "ann", {"n": "publish", "a": {"node": "news"}, "c": [item]})
+
+
+def run(room, lines):
+    """Serves the lines over the store in the room; returns seconds and peak megabytes."""
+    with open(f"{room}/in", "w") as it:
+        it.writelines(lines)
+    words = [program, "serve", "--service", "pubsub.example", "--store", f"{room}/store", "a.example", f"{room}/in", f"{room}/out"]
+    start = time.monotonic()
+    started = subprocess.Popen(words)
+    _, status, used = os.wait4(started.pid, 0)
+    if status:
+        sys.exit(f"the program ended with status {os.waitstatus_to_exitcode(status)}")
+    return time.monotonic() - start, used.ru_maxrss / 1024
+
+
+def clean(room):
+    for name in os.listdir(room):
+        os.remove(f"{room}/{name}")
+
+
+def publishing():
+    ours, limits = [], []
+    for _ in range(rounds):
+        clean(store)
+        run(store, [create(0, "ann", "news")])
+        idle, _ = run(store, [])
+        before = os.path.getsize(f"{store}/store")
+        took, _ = run(store, [publish(number) for number in range(publishes)])
+        frame = (os.path.getsize(f"{store}/store") - before) // publishes
+        ours.append(publishes / (took - idle))
+        told = subprocess.run([limit, f"{store}/limit", str(frame), str(publishes)], stdout=subprocess.PIPE, text=True, check=True).stdout.split()
+        limits.append(publishes * 1e9 / int(told[2]))
+    ours, limits = statistics.median(ours), statistics.median(limits)
+    print(f"publishes a second: {ours:.0f}, limit of the disk {limits:.0f}, ratio {ours / limits:.3f}")
+
+
+def opening():
+    seconds = []
+    for count in changes:
+        clean(fast)
+        made, _ = run(fast, [create(number, f"maker{number % 100}", f"node-{number}") for number in range(count)])
+        opened = [run(fast, []) for _ in range(rounds)]
+        seconds.append(statistics.median(it[0] for it in opened))
+        peak = max(it[1] for it in opened)
+        size = os.path.getsize(f"{fast}/store") / 1e6
+        print(f"{count} changes ({size:.1f} MB): made in {made:.1f} s, opened in {seconds[-1]:.2f} s, peak memory {peak:.0f} MB")
+    for k in range(1, len(changes)):
+        print(f"opening {changes[k]} beside {changes[k - 1]}: {seconds[k] / seconds[k - 1]:.1f} times")
+
+
+publishing()
+opening()
