@@ -2,7 +2,8 @@
 ghost use Rattle.std.specs.Prelude.{◌≡◌, ◌+◌, ◌<◌, ◌≤◌, [], ◌∷◌, ◌++◌, IfOk, OnOk, length, slice_get, option_copied, find};
 ghost use Rattle.ps_types.specs.Affils.{is_affil_of, affil_at, affils_with, affils_of, affils_held, affils_without};
 
-use crate::places::{affil_among, put, remove_all_of, remove_of, row_among};
+use crate::places::{add, affil_among, put, remove_all_of, remove_of, row_among};
+use ps_places::Places;
 use ps_table::Rows;
 use ps_types::{Affil, AffilRow, Jid, Memory, NodeKey};
 use std::alloc::Global;
@@ -12,15 +13,19 @@ use std::marker::Model;
 #[derive(Drop)]
 pub struct Affils {
     rows: Rows<AffilRow>,
+    places: Box<Places>,
 }
 
 impl Model for Affils {
     ghost use Rattle.ps_base.specs.Rows.{Table};
     ghost use Rattle.ps_types.specs.declared.rows.AffilRow.{AffilRow};
+    ghost use Rattle.ps_affil.specs.Placed.{IsPlaced, room_of};
 
     ghost Value = { Table AffilRow };
 
-    ghost view = { λ t. t.rows };
+    ghost view = { λ t. record { rows = t.rows.rows; spare = room_of t.rows t.places.value } };
+
+    ghost invariant = { λ t. IsPlaced t.rows.rows t.places.value.rows };
 }
 
 impl Affils {
@@ -30,6 +35,7 @@ impl Affils {
     {
         Ok(Affils {
             rows: Rows::new(alloc),
+            places: Box::new(alloc, Places::new(alloc))?,
         })
     }
 
@@ -53,7 +59,8 @@ impl Affils {
         ensures room { OnOk result (rows ≤ self.new.spare) }
         ensures kept { self.old.spare ≤ self.new.spare }
     {
-        self.rows.reserve(rows)
+        self.rows.reserve(rows)?;
+        self.places.reserve(rows as usize)
     }
 
     /// A table with the same rows.
@@ -62,6 +69,7 @@ impl Affils {
     {
         Ok(Affils {
             rows: self.rows.copy()?,
+            places: Box::new(*Box::allocator(&self.places), self.places.copy()?)?,
         })
     }
 
@@ -69,14 +77,14 @@ impl Affils {
     pub fn get(&self, node: &NodeKey, who: &Jid) -> Affil
         ensures affil { result ≡ affil_at node.now who.now self.now.rows }
     {
-        affil_among(self.rows.as_slice(), node, who)
+        affil_among(&self.rows, &self.places, node, who)
     }
 
     /// The row of a bare address at a node.
     pub fn row_of(&self, node: &NodeKey, who: &Jid) -> Option<&AffilRow>
         ensures row { option_copied result ≡ find (is_affil_of node.now who.now) self.now.rows }
     {
-        row_among(self.rows.as_slice(), node, who)
+        row_among(&self.rows, &self.places, node, who)
     }
 
     /// Adds a row as the last one, as a list of rows is read back. It takes no memory.
@@ -85,7 +93,7 @@ impl Affils {
         ensures rows { self.new.rows ≡ self.old.rows ++ row ∷ [] }
         ensures room { self.old.spare ≤ self.new.spare + 1 }
     {
-        self.rows.put_at(None, row);
+        add(&mut self.rows, &mut self.places, row);
     }
 
     /// Sets what an address is at a node. It takes no memory.
@@ -95,8 +103,8 @@ impl Affils {
         ensures room { self.old.spare ≤ self.new.spare + 1 }
     {
         match row.affil {
-            Affil::Nothing => remove_of(&mut self.rows, &row.node, &row.who),
-            _ => put(&mut self.rows, row),
+            Affil::Nothing => remove_of(&mut self.rows, &mut self.places, &row.node, &row.who),
+            _ => put(&mut self.rows, &mut self.places, row),
         }
     }
 
@@ -131,6 +139,6 @@ impl Affils {
         ensures rows { self.new.rows ≡ affils_without node.now self.old.rows }
         ensures room { self.old.spare ≤ self.new.spare }
     {
-        remove_all_of(&mut self.rows, node);
+        remove_all_of(&mut self.rows, &mut self.places, node);
     }
 }
