@@ -51,13 +51,11 @@ fn take(rt: &impl Abort, service: &mut Service, entry: &Entry) -> Result<(), Fai
     Ok(())
 }
 
-fn booted(rt: &impl Abort, alloc: Global) -> Result<Service, Fail> {
-    let mut service = Service::new(alloc)?;
+fn boot(rt: &impl Abort, alloc: Global, service: &mut Service) -> Result<(), Fail> {
     let boot = Entry::Boot {
         service: Text::of(alloc, "pubsub.example")?,
     };
-    take(rt, &mut service, &boot)?;
-    Ok(service)
+    take(rt, service, &boot)
 }
 
 // Answers the line and takes the entry that it makes.
@@ -84,40 +82,47 @@ fn says(rt: &impl Abort, bytes: &Bytes, text: &str) {
     assert!(rt; bytes.as_slice() == text.as_bytes());
 }
 
-#[test]
-fn a_node_is_made_once(rt: HostRuntime) -> Result<(), Fail> {
-    let alloc = rt.alloc();
-    let mut service = booted(&rt, alloc)?;
-    let reply = answered(&rt, alloc, &mut service, 1, FIRST)?;
-    says(&rt, &reply, MADE);
+// A test owns its service and no more: what is asked of it is lent it.
+fn makes_once(rt: &impl Abort, alloc: Global, service: &mut Service) -> Result<(), Fail> {
+    boot(rt, alloc, service)?;
+    let reply = answered(rt, alloc, service, 1, FIRST)?;
+    says(rt, &reply, MADE);
     assert_eq!(rt; service.count(), 2);
-    let reply = answered(&rt, alloc, &mut service, 2, AGAIN)?;
-    says(&rt, &reply, CONFLICT);
+    let reply = answered(rt, alloc, service, 2, AGAIN)?;
+    says(rt, &reply, CONFLICT);
     assert_eq!(rt; service.count(), 2);
     Ok(())
 }
 
 #[test]
-fn what_is_published_is_retrieved(rt: HostRuntime) -> Result<(), Fail> {
-    let alloc = rt.alloc();
-    let mut service = booted(&rt, alloc)?;
+fn a_node_is_made_once(rt: HostRuntime) -> Result<(), Fail> {
+    let mut service = Service::new(rt.alloc())?;
+    makes_once(&rt, rt.alloc(), &mut service)
+}
+
+fn retrieves(rt: &impl Abort, alloc: Global, service: &mut Service) -> Result<(), Fail> {
+    boot(rt, alloc, service)?;
     for (line, text, wanted) in [
         (1, FIRST, MADE),
         (2, PUBLISH, PUBLISHED),
         (3, ITEMS, RETRIEVED),
         (4, MESSAGE, UNAVAILABLE),
     ] {
-        let reply = answered(&rt, alloc, &mut service, line, text)?;
-        says(&rt, &reply, wanted);
+        let reply = answered(rt, alloc, service, line, text)?;
+        says(rt, &reply, wanted);
     }
     assert_eq!(rt; service.count(), 3);
     Ok(())
 }
 
 #[test]
-fn other_lines_are_refused_or_silent(rt: HostRuntime) -> Result<(), Fail> {
-    let alloc = rt.alloc();
-    let mut service = booted(&rt, alloc)?;
+fn what_is_published_is_retrieved(rt: HostRuntime) -> Result<(), Fail> {
+    let mut service = Service::new(rt.alloc())?;
+    retrieves(&rt, rt.alloc(), &mut service)
+}
+
+fn refuses(rt: &impl Abort, alloc: Global, service: &mut Service) -> Result<(), Fail> {
+    boot(rt, alloc, service)?;
     for (line, why) in [
         ("{", "not-json"),
         ("[]", "not-a-tree"),
@@ -125,13 +130,19 @@ fn other_lines_are_refused_or_silent(rt: HostRuntime) -> Result<(), Fail> {
         (r#"{"a":{"from":"x@b.example"},"n":"iq"}"#, "foreign-from"),
         (r#"{"a":{"from":"x@a.example"},"n":"iq"}"#, "bad-stanza"),
     ] {
-        let reply = answered(&rt, alloc, &mut service, 1, line)?;
+        let reply = answered(rt, alloc, service, 1, line)?;
         let wanted = format!(in alloc;
             "{{\"a\":{{\"line\":\"1\",\"why\":\"{why}\"}},\"n\":\"refused\",\"ns\":\"urn:pubsubd:line\"}}"
         )?;
-        says(&rt, &reply, wanted.as_str());
+        says(rt, &reply, wanted.as_str());
     }
-    let reply = answered(&rt, alloc, &mut service, 1, " \t")?;
-    says(&rt, &reply, "");
+    let reply = answered(rt, alloc, service, 1, " \t")?;
+    says(rt, &reply, "");
     Ok(())
+}
+
+#[test]
+fn other_lines_are_refused_or_silent(rt: HostRuntime) -> Result<(), Fail> {
+    let mut service = Service::new(rt.alloc())?;
+    refuses(&rt, rt.alloc(), &mut service)
 }
