@@ -16,16 +16,15 @@ fn news(alloc: Global) -> Result<NodeKey, Fail> {
 }
 
 // The node `news`, made by ann@a.example with the defaults of the service host.
-fn made(rt: &impl Abort, alloc: Global) -> Result<Tables, Fail> {
-    let mut tables = Tables::new(alloc)?;
+fn make(rt: &impl Abort, alloc: Global, tables: &mut Tables) -> Result<(), Fail> {
     let ann = Jid::read(alloc, b"ann@a.example/1")?;
     let key = news(alloc)?;
     assert!(rt; !tables.nodes.has(&key));
     let config = default_config(alloc, false)?;
-    create(&mut tables, alloc, &key, &ann, config)?;
+    create(tables, alloc, &key, &ann, config)?;
     assert!(rt; tables.nodes.made_by(&ann) == 1);
     assert!(rt; tables.affils.len() == 1);
-    Ok(tables)
+    Ok(())
 }
 
 fn put(rt: &impl Abort, alloc: Global, tables: &mut Tables, id: &str) -> Result<(), Fail> {
@@ -48,47 +47,60 @@ fn has(alloc: Global, tables: &Tables, id: &str) -> Result<bool, Fail> {
     Ok(tables.items.has(&key, &id))
 }
 
-#[test]
-fn ids_are_made_and_counted(rt: HostRuntime) -> Result<(), Fail> {
-    let alloc = rt.alloc();
-    let mut tables = made(&rt, alloc)?;
-    put(&rt, alloc, &mut tables, "")?;
-    put(&rt, alloc, &mut tables, "")?;
-    assert!(rt; has(alloc, &tables, "auto-1-ann@a.example")?);
-    assert!(rt; has(alloc, &tables, "auto-2-ann@a.example")?);
+// A test owns its tables and no more: what is done to them is lent them.
+fn makes_ids(rt: &impl Abort, alloc: Global, tables: &mut Tables) -> Result<(), Fail> {
+    make(rt, alloc, tables)?;
+    put(rt, alloc, tables, "")?;
+    put(rt, alloc, tables, "")?;
+    assert!(rt; has(alloc, tables, "auto-1-ann@a.example")?);
+    assert!(rt; has(alloc, tables, "auto-2-ann@a.example")?);
     assert!(rt; tables.items.len() == 2);
     Ok(())
 }
 
 #[test]
-fn the_oldest_of_eleven_items_goes(rt: HostRuntime) -> Result<(), Fail> {
-    let alloc = rt.alloc();
-    let mut tables = made(&rt, alloc)?;
+fn ids_are_made_and_counted(rt: HostRuntime) -> Result<(), Fail> {
+    let mut tables = Tables::new(rt.alloc())?;
+    makes_ids(&rt, rt.alloc(), &mut tables)
+}
+
+fn lets_the_oldest_go(rt: &impl Abort, alloc: Global, tables: &mut Tables) -> Result<(), Fail> {
+    make(rt, alloc, tables)?;
     for id in [
         "k0", "k1", "k2", "k3", "k4", "k5", "k6", "k7", "k8", "k9", "k10",
     ] {
-        put(&rt, alloc, &mut tables, id)?;
+        put(rt, alloc, tables, id)?;
     }
     assert!(rt; tables.items.len() == 10);
-    assert!(rt; !has(alloc, &tables, "k0")?);
-    assert!(rt; has(alloc, &tables, "k1")?);
-    assert!(rt; has(alloc, &tables, "k10")?);
+    assert!(rt; !has(alloc, tables, "k0")?);
+    assert!(rt; has(alloc, tables, "k1")?);
+    assert!(rt; has(alloc, tables, "k10")?);
+    Ok(())
+}
+
+#[test]
+fn the_oldest_of_eleven_items_goes(rt: HostRuntime) -> Result<(), Fail> {
+    let mut tables = Tables::new(rt.alloc())?;
+    lets_the_oldest_go(&rt, rt.alloc(), &mut tables)
+}
+
+fn lets_all_go(rt: &impl Abort, alloc: Global, tables: &mut Tables) -> Result<(), Fail> {
+    make(rt, alloc, tables)?;
+    put(rt, alloc, tables, "")?;
+    let key = news(alloc)?;
+    let mut ids: Texts = Listed::new(alloc);
+    ids.push(Text::of(alloc, "auto-1-ann@a.example")?)?;
+    retract(tables, &key, &ids);
+    assert!(rt; tables.items.len() == 0);
+    delete(tables, &key);
+    assert!(rt; tables.nodes.len() == 0);
+    assert!(rt; tables.affils.len() == 0);
+    assert!(rt; tables.counts.len() == 0);
     Ok(())
 }
 
 #[test]
 fn a_node_goes_with_its_rows(rt: HostRuntime) -> Result<(), Fail> {
-    let alloc = rt.alloc();
-    let mut tables = made(&rt, alloc)?;
-    put(&rt, alloc, &mut tables, "")?;
-    let key = news(alloc)?;
-    let mut ids: Texts = Listed::new(alloc);
-    ids.push(Text::of(alloc, "auto-1-ann@a.example")?)?;
-    retract(&mut tables, &key, &ids);
-    assert!(rt; tables.items.len() == 0);
-    delete(&mut tables, &key);
-    assert!(rt; tables.nodes.len() == 0);
-    assert!(rt; tables.affils.len() == 0);
-    assert!(rt; tables.counts.len() == 0);
-    Ok(())
+    let mut tables = Tables::new(rt.alloc())?;
+    lets_all_go(&rt, rt.alloc(), &mut tables)
 }

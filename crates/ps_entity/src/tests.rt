@@ -7,6 +7,7 @@ use crate::world::{jid, world};
 use ps_access::Tables;
 use ps_types::{Ask, AskContact, Caps, Condition, Jid, PlanRefusal, Request, Text, Texts};
 use std::alloc::Global;
+use std::process::Abort;
 use std::test::Fail;
 
 // Who asks, and whom.
@@ -79,23 +80,27 @@ fn roster_set(alloc: Global, target: &str, told: &str) -> Result<Request, Fail>
     Ok(request(ends, Ask::RosterSet { item }))
 }
 
-#[test]
-fn collections_and_rosters_are_asked_by_their_rules(rt: HostRuntime) -> Result<(), Fail> {
-    let alloc = rt.alloc();
-    let tables = world(alloc)?;
+// A test owns its tables and no more: what is asked of them is lent them.
+fn asked_by_rules(rt: &impl Abort, alloc: Global, tables: &Tables) -> Result<(), Fail> {
     // A collection has no items, and that comes before a bad number.
     let items = items_get(alloc, "x")?;
-    assert_eq!(rt; denial(alloc, &tables, &items), Some(Condition::C10));
+    assert_eq!(rt; denial(alloc, tables, &items), Some(Condition::C10));
     let own = roster_set(alloc, "ann@a.example", "from")?;
-    assert_eq!(rt; commits(alloc, &tables, &own), Some(true));
+    assert_eq!(rt; commits(alloc, tables, &own), Some(true));
     let gone = roster_set(alloc, "pubsub.example", "remove")?;
-    assert_eq!(rt; commits(alloc, &tables, &gone), Some(false));
+    assert_eq!(rt; commits(alloc, tables, &gone), Some(false));
     // Another's roster comes before an unknown subscription.
     let other = roster_set(alloc, "cid@a.example", "maybe")?;
-    assert_eq!(rt; denial(alloc, &tables, &other), Some(Condition::C11));
+    assert_eq!(rt; denial(alloc, tables, &other), Some(Condition::C11));
     let odd = roster_set(alloc, "ann@a.example", "maybe")?;
-    assert_eq!(rt; denial(alloc, &tables, &odd), Some(Condition::C1));
+    assert_eq!(rt; denial(alloc, tables, &odd), Some(Condition::C1));
     Ok(())
+}
+
+#[test]
+fn collections_and_rosters_are_asked_by_their_rules(rt: HostRuntime) -> Result<(), Fail> {
+    let tables = world(rt.alloc())?;
+    asked_by_rules(&rt, rt.alloc(), &tables)
 }
 
 fn caps_of(alloc: Global) -> Result<Caps, Fail> {
@@ -127,19 +132,22 @@ fn absent(alloc: Global, from: &str) -> Result<Request, Fail>
     Ok(request(ends, Ask::Absent))
 }
 
+fn news_of_presence(rt: &impl Abort, alloc: Global, tables: &Tables) -> Result<(), Fail> {
+    let there = present(alloc, "bob@b.example/p")?;
+    assert_eq!(rt; commits(alloc, tables, &there), Some(false));
+    let shown = shown(alloc, "bob@b.example/p")?;
+    assert_eq!(rt; commits(alloc, tables, &shown), Some(true));
+    let new = present(alloc, "bob@b.example/q")?;
+    assert_eq!(rt; commits(alloc, tables, &new), Some(true));
+    let gone = absent(alloc, "bob@b.example/p")?;
+    assert_eq!(rt; commits(alloc, tables, &gone), Some(true));
+    let away = absent(alloc, "bob@b.example/q")?;
+    assert_eq!(rt; commits(alloc, tables, &away), Some(false));
+    Ok(())
+}
+
 #[test]
 fn a_presence_makes_an_entry_where_it_is_news(rt: HostRuntime) -> Result<(), Fail> {
-    let alloc = rt.alloc();
-    let tables = world(alloc)?;
-    let there = present(alloc, "bob@b.example/p")?;
-    assert_eq!(rt; commits(alloc, &tables, &there), Some(false));
-    let shown = shown(alloc, "bob@b.example/p")?;
-    assert_eq!(rt; commits(alloc, &tables, &shown), Some(true));
-    let new = present(alloc, "bob@b.example/q")?;
-    assert_eq!(rt; commits(alloc, &tables, &new), Some(true));
-    let gone = absent(alloc, "bob@b.example/p")?;
-    assert_eq!(rt; commits(alloc, &tables, &gone), Some(true));
-    let away = absent(alloc, "bob@b.example/q")?;
-    assert_eq!(rt; commits(alloc, &tables, &away), Some(false));
-    Ok(())
+    let tables = world(rt.alloc())?;
+    news_of_presence(&rt, rt.alloc(), &tables)
 }

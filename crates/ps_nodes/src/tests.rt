@@ -68,22 +68,42 @@ fn is_at(nodes: &Nodes, at: u64, name: &str) -> bool {
     }
 }
 
+// Three nodes are made, by two addresses; a fourth has the name of the first.
+fn made(alloc: Global, nodes: &mut Nodes) -> Result<[bool; 4], Fail> {
+    Ok([
+        makes(alloc, nodes, "news", "ann@a.example/1")?,
+        makes(alloc, nodes, "one", "Ann@a.example/2")?,
+        makes(alloc, nodes, "w", "bob@a.example")?,
+        makes(alloc, nodes, "news", "bob@b.example/1")?,
+    ])
+}
+
 #[test]
 fn a_node_is_made_once_and_the_others_keep_their_order(rt: HostRuntime) -> Result<(), Fail> {
     let alloc = rt.alloc();
     let mut nodes = Nodes::new(alloc)?;
-    assert!(rt; makes(alloc, &mut nodes, "news", "ann@a.example/1")?);
-    assert!(rt; makes(alloc, &mut nodes, "one", "Ann@a.example/2")?);
-    assert!(rt; makes(alloc, &mut nodes, "w", "bob@a.example")?);
-    assert!(rt; !makes(alloc, &mut nodes, "news", "bob@b.example/1")?);
-    assert_eq!(rt; made_by(alloc, &nodes, "ann@a.example")?, 2);
+    let new = made(alloc, &mut nodes)?;
+    assert!(rt; new == [true, true, true, false]);
     let copy = nodes.copy()?;
-    assert!(rt; deletes(alloc, &mut nodes, "news")?);
-    assert!(rt; !deletes(alloc, &mut nodes, "news")?);
-    assert_eq!(rt; made_by(alloc, &nodes, "ann@a.example")?, 1);
-    assert_eq!(rt; made_by(alloc, &copy, "ann@a.example/3")?, 2);
-    assert!(rt; nodes.len() == 2 && is_at(&nodes, 0, "one") && is_at(&nodes, 1, "w"));
+    let gone = deletes(alloc, &mut nodes, "news")?;
+    assert!(rt; gone && nodes.len() == 2 && is_at(&nodes, 0, "one") && is_at(&nodes, 1, "w"));
+    let counts = (
+        made_by(alloc, &nodes, "ann@a.example")?,
+        made_by(alloc, &copy, "ann@a.example/3")?,
+    );
+    assert!(rt; counts == (1, 2));
     Ok(())
+}
+
+// The access models that a node has, before and after it is given another configuration; then it goes.
+fn models(alloc: Global, nodes: &mut Nodes) -> Result<[bool; 5], Fail> {
+    let w = key(alloc, "w")?;
+    let before = has_model(nodes, &w, Access::Everyone);
+    let given = nodes.set_config(&w, config(alloc, Access::Whitelist)?);
+    let after = has_model(nodes, &w, Access::Whitelist);
+    let again = deletes(alloc, nodes, "nope")?;
+    nodes.drop_node(&w);
+    Ok([before, given, after, again, nodes.has(&w)])
 }
 
 // Whether the node stands and has that access model.
@@ -98,12 +118,8 @@ fn has_model(nodes: &Nodes, key: &NodeKey, want: Access) -> bool {
 fn a_node_is_given_a_configuration(rt: HostRuntime) -> Result<(), Fail> {
     let alloc = rt.alloc();
     let mut nodes = Nodes::new(alloc)?;
-    assert!(rt; makes(alloc, &mut nodes, "w", "ann@a.example/1")?);
-    let w = key(alloc, "w")?;
-    assert!(rt; has_model(&nodes, &w, Access::Everyone));
-    assert!(rt; nodes.set_config(&w, config(alloc, Access::Whitelist)?));
-    assert!(rt; has_model(&nodes, &w, Access::Whitelist));
-    nodes.drop_node(&w);
-    assert!(rt; !nodes.has(&w));
+    let new = makes(alloc, &mut nodes, "w", "ann@a.example/1")?;
+    let told = models(alloc, &mut nodes)?;
+    assert!(rt; new && told == [true, true, true, false, false]);
     Ok(())
 }
