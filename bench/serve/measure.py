@@ -56,6 +56,8 @@ def measure(program, folder, what, phases):
     loop = [sys.executable, HERE / "loop.py", folder / "in", folder / "out"]
     times, loop_times, peaks = [], [], []
     for _ in range(ROUNDS):
+        # each run begins with an empty store
+        (folder / "store").unlink(missing_ok=True)
         seconds, replies, peak = ran(serve, folder, phases)
         loop_seconds, loop_replies, _ = ran(loop, folder, phases)
         if replies != loop_replies:

@@ -4,7 +4,8 @@
 #   create   each line makes another node; LINES (1000 10000 100000)
 #   publish  LINES publishes to NODES nodes (1 10000), which keep 10 items each, and then a retrieval of every node
 #   access   REQUESTS (1000) of each kind over NODES nodes (10 1000 10000), and at one node with SUBSCRIPTIONS (10 10000)
-# Each is run ROUNDS times (3), by turns; medians are printed.
+# Each is run ROUNDS times (3), by turns; medians are printed. The store stands in SCRATCH too: on a disk each change waits for it, so name a
+# folder in memory, as /dev/shm, where the program's own work is to be measured.
 set -eu
 here=$(cd "$(dirname "$0")" && pwd)
 top=$here/../..
