@@ -66,19 +66,19 @@ fn full_for_owners(rt: &impl Abort, alloc: Global, tables: &Tables) -> Result<()
     )
 }
 
-// Ann's node `n` with one subscription less than it may have.
-fn nearly_full(alloc: Global) -> Result<Tables, Fail> {
+// Ann's node `n` with so many subscriptions.
+fn with_subs(alloc: Global, count: u64) -> Result<Tables, Fail> {
     let mut tables = empty(alloc)?;
     add_node(alloc, &mut tables.nodes, "n", NodeKind::Leaf)?;
     add_affil(alloc, &mut tables.affils, "n", "ann@a", Affil::Owner)?;
-    add_subs(alloc, &mut tables.subs, 65_535)?;
+    add_subs(alloc, &mut tables.subs, count)?;
     Ok(tables)
 }
 
 #[test]
 fn the_last_place_is_taken_once(rt: HostRuntime) -> Result<(), Fail> {
     let alloc = rt.alloc();
-    let mut tables = nearly_full(alloc)?;
+    let mut tables = with_subs(alloc, 65_535)?;
     subscribes(&rt, alloc, &tables, "new@b", Outcome::Changes)?;
     add_sub(alloc, &mut tables.subs, "last@b")?;
     subscribes(
@@ -95,14 +95,6 @@ fn the_last_place_is_taken_once(rt: HostRuntime) -> Result<(), Fail> {
 #[test]
 fn an_owner_gives_no_more_places(rt: HostRuntime) -> Result<(), Fail> {
     let alloc = rt.alloc();
-    let mut tables = nearly_full(alloc)?;
-    sets(
-        &rt,
-        alloc,
-        &tables,
-        &[("new@b", "pending")],
-        Outcome::Changes,
-    )?;
-    add_sub(alloc, &mut tables.subs, "last@b")?;
+    let tables = with_subs(alloc, 65_536)?;
     full_for_owners(&rt, alloc, &tables)
 }
