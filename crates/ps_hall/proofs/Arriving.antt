@@ -178,5 +178,5 @@ after_same {D} {g} only old mid new state rows steps flushed dur journal to goes
       stands = m.stands;
       crash = λ tells. subst (λ (j : Journal D g). LeavesOnly g.moment g.left_since (disk_of j) (disk_of new.journal) (IsFront (to service w).entries (durable w))) journal (m.crash tells);
       fronts = λ tells. subst (λ (j : Journal D g). Fronts g.moment g.left_since g.synced g.written (disk_of j) (disk_of new.journal)) journal (m.fronts tells);
-      grows = λ b. subst (λ (j : Journal D g). length_of j ≤ length_of new.journal) journal (m.grows b);
+      grows = subst (λ (j : Journal D g). length_of j ≤ length_of new.journal) journal m.grows;
     }

@@ -89,9 +89,9 @@ module _ {D : Type 0} {g : Ghosts D} where
   pub breaks_ok : SeenLeft g → CountsNow g → (old new : Hall D g) (es : List Entry) (count : ℕ) → broken_of old.journal ≡ None → broken_of new.journal ≡ Some count
       → (g.tells → broken_of old.journal ≡ None → (E : List Entry) → spelled (g.seen (disk_of old.journal)) E → LeavesOnly g.moment g.left_since (disk_of old.journal) (disk_of new.journal) (IsWithOrWithout E es))
       → (g.tells → broken_of old.journal ≡ None → (E : List Entry) → spelled (g.seen (disk_of old.journal)) E → LeavesOnly g.moment g.left_since (disk_of old.journal) (disk_of new.journal) (IsFrontOfLeft (g.synced (disk_of new.journal)) (g.written (disk_of new.journal))))
-      → new.state.service ≡ old.state.service → new.state.rows ≡ old.state.rows → Keeps old.state new.state → Breaks old new es
-  breaks_ok seen_left counts old new es count whole failed moments fronts service_same rows kept service some w is laid =
-      broken_ok seen_left counts old new w (happens the_core service w Broken) es count is laid whole failed moments fronts (break_ok old.state new.state service some w is.state service_same rows kept) refl refl refl
+      → length_of old.journal ≤ length_of new.journal → new.state.service ≡ old.state.service → new.state.rows ≡ old.state.rows → Keeps old.state new.state → Breaks old new es
+  breaks_ok seen_left counts old new es count whole failed moments fronts longer service_same rows kept service some w is laid =
+      broken_ok seen_left counts old new w (happens the_core service w Broken) es count is laid whole failed moments fronts longer (break_ok old.state new.state service some w is.state service_same rows kept) refl refl refl
 
   -- an entry is laid, and then written
   pub commits_ok : (old mid new : Hall D g) (step : Step) (e : Entry) (es : List Entry) → es ≡ e ∷ [] → StateGoes old.state mid.state step → mid.journal ≡ old.journal → mid.state.steps ≡ old.state.steps + 1 → Flushes mid new es
@@ -123,7 +123,7 @@ module _ {D : Type 0} {g : Ghosts D} where
         crash = λ tells. subst (λ (j : Journal D g). LeavesOnly g.moment g.left_since (disk_of old.journal) (disk_of j) (IsFront (happens the_core service v step).entries (durable w))) (sym journal)
             (subst (λ (E : List Entry). LeavesOnly g.moment g.left_since (disk_of old.journal) (disk_of mid.journal) (IsFront E (durable w))) (sym none.entries) (moves.crash tells));
         fronts = λ tells. subst (λ (j : Journal D g). Fronts g.moment g.left_since g.synced g.written (disk_of old.journal) (disk_of j)) (sym journal) (moves.fronts tells);
-        grows = λ b. subst (λ (j : Journal D g). length_of old.journal ≤ length_of j) (sym journal) (moves.grows (sym none.broken ∙ b));
+        grows = subst (λ (j : Journal D g). length_of old.journal ≤ length_of j) (sym journal) moves.grows;
       }
 
   pub unbroken-world : (hall : Hall D g) (w : World) → Stands hall w → broken_of hall.journal ≡ None → w.broken ≡ false

@@ -50,7 +50,7 @@ module _ {D : Type 0} {g : Ghosts D} (old new : Hall D g) (w v : World) (is : St
         crash = λ tells. weaker g.moment g.left_since (disk_of old.journal) (disk_of new.journal) (MayLeave (g.synced (disk_of old.journal)) (g.written (disk_of old.journal))) (IsFront v.entries (durable w)) (moments tells)
             (λ c may. front_of w.entries v.entries (durable w) c same ((is.for.journal.disk tells).crash c may));
         fronts = λ tells. fronts_read g (disk_of old.journal) (disk_of new.journal) synced written (moments tells) (λ c may. let f = (is.for.journal.disk tells).crash c may in (take f.count w.entries, f.spells));
-        grows = λ b. omega (arith, long);
+        grows = omega (arith, long);
       }
 
 -- while nothing has failed the bytes spell the whole list

@@ -79,7 +79,7 @@ module _ {D : Type 0} {g : Ghosts D} where
         (started g.moment g.left_since (disk_of old.journal) (IsFront v.entries (durable w)) (λ c left. front_same w.entries v.entries (durable w) (durable w) c same refl ((is.for.journal.disk tells).crash c (only (disk_of old.journal) c left))));
     fronts = λ tells. subst (λ (j : Journal D g). Fronts g.moment g.left_since g.synced g.written (disk_of old.journal) (disk_of j)) (sym journal)
         (fronts_same g only (disk_of old.journal) (λ c may. let f = (is.for.journal.disk tells).crash c may in (take f.count w.entries, f.spells)));
-    grows = λ b. subst (λ (j : Journal D g). length_of old.journal ≤ length_of j) (sym journal) (omega arith);
+    grows = subst (λ (j : Journal D g). length_of old.journal ≤ length_of j) (sym journal) (omega arith);
   }
 
   -- an entry was laid, and the journal is as it was
@@ -132,15 +132,16 @@ module _ {D : Type 0} {g : Ghosts D} where
               | inr long ↦ front_whole w.entries (durable w) c fits (subst (λ (l : List Entry). spelled c l) (sym laid) long)
             ]));
         fronts = λ tells. fronts_appended g seen_left counts (disk_of old.journal) (disk_of new.journal) E es ((is.journal.disk tells).lasts whole) (moments tells whole E (before tells)) (fronts tells whole E (before tells));
-        grows = λ b. longer;
+        grows = longer;
       }
 
   -- the disk failed
   pub broken_ok : SeenLeft g → CountsNow g → (old new : Hall D g) (w v : World) (es : List Entry) (count : ℕ) → StandsFor old w → IsLaid w es → broken_of old.journal ≡ None → broken_of new.journal ≡ Some count
       → (g.tells → broken_of old.journal ≡ None → (E : List Entry) → spelled (g.seen (disk_of old.journal)) E → LeavesOnly g.moment g.left_since (disk_of old.journal) (disk_of new.journal) (IsWithOrWithout E es))
       → (g.tells → broken_of old.journal ≡ None → (E : List Entry) → spelled (g.seen (disk_of old.journal)) E → LeavesOnly g.moment g.left_since (disk_of old.journal) (disk_of new.journal) (IsFrontOfLeft (g.synced (disk_of new.journal)) (g.written (disk_of new.journal))))
+      → length_of old.journal ≤ length_of new.journal
       → StateStands new.state v → v.entries ≡ w.entries → durable v ≡ durable w → v.broken ≡ true → Moves old new w v
-  broken_ok seen_left counts old new w v es count is laid whole failed moments fronts state same dur broken =
+  broken_ok seen_left counts old new w v es count is laid whole failed moments fronts longer state same dur broken =
       let E = take (durable w) w.entries in
       let fits = durable-le w is.state.sound in
       let before = λ (tells : g.tells). (is.journal.disk tells).spells whole in
@@ -167,7 +168,7 @@ module _ {D : Type 0} {g : Ghosts D} where
         };
         crash = λ tells. weaker g.moment g.left_since (disk_of old.journal) (disk_of new.journal) (IsWithOrWithout E es) (IsFront v.entries (durable w)) (moments tells whole E (before tells)) (front (durable w) refl);
         fronts = λ tells. fronts_appended g seen_left counts (disk_of old.journal) (disk_of new.journal) E es ((is.journal.disk tells).lasts whole) (moments tells whole E (before tells)) (fronts tells whole E (before tells));
-        grows = λ b. absurd (false≢true (sym b ∙ broken));
+        grows = longer;
       }
 
   -- a step of the state, and then what was laid is written
@@ -177,7 +178,7 @@ module _ {D : Type 0} {g : Ghosts D} where
     crash = λ tells. subst (λ (n : ℕ). LeavesOnly g.moment g.left_since (disk_of old.journal) (disk_of new.journal) (IsFront u.entries n)) dur
         (subst (λ (j : Journal D g). LeavesOnly g.moment g.left_since (disk_of j) (disk_of new.journal) (IsFront u.entries (durable v))) journal (m.crash tells));
     fronts = λ tells. subst (λ (j : Journal D g). Fronts g.moment g.left_since g.synced g.written (disk_of j) (disk_of new.journal)) journal (m.fronts tells);
-    grows = λ b. subst (λ (j : Journal D g). length_of j ≤ length_of new.journal) journal (m.grows b);
+    grows = subst (λ (j : Journal D g). length_of j ≤ length_of new.journal) journal m.grows;
   }
 
   -- while nothing has failed a crash leaves all entries

@@ -1,5 +1,5 @@
 -- The steps of a call.
-use Rattle.std.specs.Prelude.{◌≡◌, ◌≢◌, ℕ, ◌+◌, ◌≤◌, ◌++◌, false, List, [], take}
+use Rattle.std.specs.Prelude.{◌≡◌, ◌≢◌, ℕ, ◌+◌, ◌≤◌, ◌++◌, List, [], take}
 use Rattle.ps_types.specs.declared.entry.Entry.{Entry}
 use Rattle.ps_disk.specs.declared.device.Disk.{Ghosts}
 use Rattle.ps_disk.specs.Disk.{LeavesOnly}
@@ -15,12 +15,12 @@ use Rattle.ps_hall.specs.Left.{Fronts, IsFront}
 use Rattle.ps_hall.specs.Stand.{StateStands, StandsFor, Stands}
 
 -- The hall goes from one world to another: it stands for the second, and a crash at any moment since the start left a front of the second's list that has all that was durable in the first.
--- What a crash so left is a front of a list that a crash may leave now; and while nothing has failed the store doesn't become shorter.
+-- What a crash so left is a front of a list that a crash may leave now; and the length that the journal knows doesn't fall.
 pub record Moves {D : Type 0} {g : Ghosts D} (old new : Hall D g) (w v : World) : Type 0 where
   pub stands : Stands new v
   pub crash : g.tells → LeavesOnly g.moment g.left_since (disk_of old.journal) (disk_of new.journal) (IsFront v.entries (durable w))
   pub fronts : g.tells → Fronts g.moment g.left_since g.synced g.written (disk_of old.journal) (disk_of new.journal)
-  pub grows : v.broken ≡ false → length_of old.journal ≤ length_of new.journal
+  pub grows : length_of old.journal ≤ length_of new.journal
 
 -- whatever world the hall stands for, it goes on by these steps
 abbrev pub Goes : {D : Type 0} {g : Ghosts D} → Hall D g → Hall D g → List Step → Type 0

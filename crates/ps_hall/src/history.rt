@@ -3,6 +3,7 @@ ghost use Rattle.std.specs.Prelude.{◌≡◌, ◌+◌, ◌<◌, ◌≤◌, ◌^
 ghost use Rattle.ps_model.specs.Store.{gate_at, Begun};
 ghost use Rattle.ps_model.specs.World.{World};
 ghost use Rattle.ps_journal.specs.Journal.{broken_of, disk_of, length_of};
+ghost use Rattle.ps_journal.specs.Left.{LeavesAtLeast};
 ghost use Rattle.ps_hall.specs.History.{HistoryRefused, IsHistory};
 ghost use Rattle.ps_hall.specs.Left.{DiskStands};
 ghost use Rattle.ps_hall.specs.OpenHall.{disk_under};
@@ -61,6 +62,8 @@ impl<D: Disk> Hall<D> {
         ensures kept { D.tells → (w : World) → Stands self w → DiskStands (D.seen result) (D.synced result) (D.written result) (broken_of self.journal) w }
         // While nothing has failed, the length that the calls told of is that of the bytes up to the closed gate and with it.
         ensures long { D.tells → broken_of self.journal ≡ None → (bs : List (List ℕ)) → Begun (D.seen result) bs → length_of self.journal ≡ gate_at bs + 1 }
+        // Whether or not the disk has failed, no crash leaves a shorter store.
+        ensures floor { D.tells → LeavesAtLeast (D.synced result) (D.written result) (length_of self.journal) }
     {
         let Hall {
             state: _,

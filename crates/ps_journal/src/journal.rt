@@ -1,6 +1,7 @@
 // The journal on a disk.
 ghost use Rattle.std.specs.Prelude.{◌≡◌, ◌<◌, List, ℕ, None};
 ghost use Rattle.ps_journal.specs.Settled.{IsSettled};
+ghost use Rattle.ps_journal.specs.Left.{LeavesAtLeast};
 
 use crate::judging::Placed;
 use crate::listing::entries_of;
@@ -29,6 +30,7 @@ pub struct Journal<D: Disk> {
     broken: Option<u64>,
     ghost some: { 0 < length },
     ghost settled: { broken ≡ None → D.tells → IsSettled (D.seen disk) (D.synced disk) (D.written disk) length },
+    ghost floor: { D.tells → LeavesAtLeast (D.synced disk) (D.written disk) length },
 }
 
 /// A store that was not opened, and why.
@@ -105,6 +107,8 @@ impl<D: Disk> Journal<D> {
     pub fn length(&self) -> u64
         ensures value { result ≡ length_of self.now }
         ensures bytes { D.tells → broken_of self.now ≡ None → (bs : List (List ℕ)) → Begun (D.seen (disk_of self.now)) bs → result ≡ gate_at bs + 1 }
+        // Whether or not the disk has failed, no crash leaves a shorter store.
+        ensures floor { D.tells → LeavesAtLeast (D.synced (disk_of self.now)) (D.written (disk_of self.now)) (length_of self.now) }
     {
         self.length
     }
@@ -138,6 +142,7 @@ impl<D: Disk> Journal<D> {
         ensures for_good { broken_of self.old ≢ None → (result ≡ Err AppendRefusal.Store) × (disk_of self.new ≡ disk_of self.old) × (broken_of self.new ≡ broken_of self.old) }
         ensures first_fault { broken_of self.old ≡ None → IsErrOf result AppendRefusal.Store → broken_of self.new ≡ Some (D.faults (disk_of self.new)) }
         ensures length { OnOk result ((broken_of self.new ≡ None) × (length_of self.new ≡ length_of self.old + 5 + length (body batch.now))) }
+        ensures grows { length_of self.old ≤ length_of self.new }
         ensures syncs { D.tells → OnOk result (D.syncs (disk_of self.new) ≡ D.syncs (disk_of self.old) + 2) }
         ensures later { D.faults (disk_of self.old) ≤ D.faults (disk_of self.new) }
         // Then the bytes spell the entries before and those of the batch, and so does what a crash leaves.

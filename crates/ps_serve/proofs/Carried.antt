@@ -53,6 +53,7 @@ module _ (tells : Type 0) (service host : List ℕ) (source before now : Option 
           lawful = k.lawful;
           was = k.was;
           long = k.long;
+          floor = k.floor;
           still = k.still;
           lasts = k.lasts;
           crash = λ t tidy c left. k.crash t tidy c (less old.moment c left);

@@ -8,7 +8,7 @@ use Rattle.ps_disk.specs.declared.device.Disk.{Ghosts}
 use Rattle.ps_disk.specs.Disk.{LeavesOnly, MayLeave}
 use Rattle.ps_disk.proofs.Moments.{then_on}
 use Rattle.ps_journal.specs.Journal.{broken_of, disk_of, length_of}
-use Rattle.ps_journal.specs.Left.{LeavesList}
+use Rattle.ps_journal.specs.Left.{LeavesAtLeast, LeavesList}
 use Rattle.ps_journal.specs.Opened.{HasLength}
 use Rattle.ps_model.specs.CoreLaws.{IsLawful}
 use Rattle.ps_model.specs.Entries.{body}
@@ -76,7 +76,8 @@ module _ {D : Type 0} (g : Ghosts D) (service : List ℕ) (before now : Option (
 
 module _ {D : Type 0} {g : Ghosts D} (old : D) (hall : Hall D g) (b : Begun D) (was : g.tells → spelled (g.seen old) b.opened) (later : g.faults old ≤ g.faults b.disk)
     (first : g.tells → IsTidy (g.seen old) → LeavesOnly g.moment g.left_since old b.disk (IsOpenLeft (g.synced old) (g.written old) b.opened (Boot b.service)))
-    (limits : hall.limits.changes ≡ max_changes) (long : g.tells → broken_of hall.journal ≡ None → (bs : List (List ℕ)) → BegunStore (g.seen (disk_of hall.journal)) bs → length_of hall.journal ≡ gate_at bs + 1) where
+    (limits : hall.limits.changes ≡ max_changes) (long : g.tells → broken_of hall.journal ≡ None → (bs : List (List ℕ)) → BegunStore (g.seen (disk_of hall.journal)) bs → length_of hall.journal ≡ gate_at bs + 1)
+    (floor : g.tells → LeavesAtLeast (g.synced (disk_of hall.journal)) (g.written (disk_of hall.journal)) (length_of hall.journal)) where
   abbrev told : D → HeldStore
   told d = held_as g.faults g.seen g.synced g.written g.moment g.syncs d
 
@@ -129,13 +130,14 @@ module _ {D : Type 0} {g : Ghosts D} (old : D) (hall : Hall D g) (b : Begun D) (
     abbrev list : List Entry
     list = (stop.ends.ends.made ++ stop.ends.ends.rest) ++ stop.gone
 
-    some-at : (len : ℕ) → stop.ends.ends.len ≤ len → (g.tells → NoFault (told old) (told disk) → HasLength (g.seen disk) len) → (g.tells → NoFault (told old) (told disk) → LeavesList (g.synced disk) (g.written disk) list)
+    some-at : (g.tells → NoFault (told old) (told disk) → HasLength (g.seen disk) (length_of hall.journal)) → (g.tells → NoFault (told old) (told disk) → LeavesList (g.synced disk) (g.written disk) list)
         → AnswersSome g.tells b.service b.host all before now (told old) (told disk) (g.left_since disk)
-    some-at len most has still =
+    some-at has still =
+        let len = length_of hall.journal in
         let e = stop.ends in
         let s = e.ends in
         let first = b.opened ++ Boot b.service ∷ [] in
-        let comes = comes-longer b.host max_changes s.len len first 1 stop.arrivals stop.out s.made most (subst (λ (k : ℕ). ComeTo b.host k s.len first 1 stop.arrivals stop.out s.made) limits s.comes) in
+        let comes = comes-longer b.host max_changes s.len len first 1 stop.arrivals stop.out s.made e.longest (subst (λ (k : ℕ). ComeTo b.host k s.len first 1 stop.arrivals stop.out s.made) limits s.comes) in
         let more = comes-behind b.host max_changes len first 1 stop.arrivals stop.out s.made comes in
         let behind : list ≡ first ++ ((more.0 ++ s.rest) ++ stop.gone) =
         ap (λ (x : List Entry). (x ++ s.rest) ++ stop.gone) more.1 ∙ (ap (λ (x : List Entry). x ++ stop.gone) (append_assoc first more.0 s.rest) ∙ append_assoc first (more.0 ++ s.rest) stop.gone) in
@@ -156,6 +158,7 @@ module _ {D : Type 0} {g : Ghosts D} (old : D) (hall : Hall D g) (b : Begun D) (
             lawful = subst (λ (x : List Entry). IsLawful the_core x) s.list e.stands.for.state.sound.lawful;
             was = was;
             long = has;
+            floor = floor;
             still = still;
             lasts = λ tells c may. subst (λ (x : List Entry). IsFront x (length s.made) c) s.list (lower e.world.entries (durable e.world) (length s.made) c s.lasts ((e.stands.for.journal.disk tells).crash c may));
             crash = closed-since list ((more.0 ++ s.rest) ++ stop.gone) behind (subst (λ (x : List Entry). CrashKeeps g b disk x) s.list e.crash);
@@ -193,8 +196,8 @@ module _ {D : Type 0} {g : Ghosts D} (old : D) (hall : Hall D g) (b : Begun D) (
     some-by : (broken : Bool) → stop.ends.world.broken ≡ broken → AnswersSome g.tells b.service b.host all before now (told old) (told disk) (g.left_since disk)
     some-by true so =
         let never : NoFault (told old) (told disk) → ⊥ = λ none. none (rose-since (g.faults old) (g.faults b.disk) (g.faults disk) later (stop.ends.fault so)) in
-        some-at stop.ends.ends.len (omega arith) (λ tells none. absurd (never none)) (λ tells none. absurd (never none))
-    some-by false so = some-at (length_of hall.journal) (stop.ends.longest so) (λ tells none. now-long so tells) (λ tells none. now-lasts so tells)
+        some-at (λ tells none. absurd (never none)) (λ tells none. absurd (never none))
+    some-by false so = some-at (λ tells none. now-long so tells) (λ tells none. now-lasts so tells)
 
     pub some-closed : AnswersSome g.tells b.service b.host all before now (told old) (told disk) (g.left_since disk)
     some-closed = some-by stop.ends.world.broken refl

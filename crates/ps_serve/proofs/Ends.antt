@@ -98,7 +98,7 @@ stream-lacks {D} {g} old mid new host is refused limits same journal =
     let v = run the_core is.0.service w (Ended host Reader ∷ []) in
     let unbroken : broken_of mid.journal ≡ None = whole-if mid v.broken r.2.stands.for.journal.broken r.0 in
     let over = r.1 in
-    let grown = r.2.grows r.0 in
+    let grown = r.2.grows in
     let whole = ap (λ (l : Limits). l.whole) (same ∙ limits) in
     let long = ap (λ (j : Journal D g). length_of j) journal in
     record { unbroken = subst (λ (j : Journal D g). broken_of j ≡ None) (sym journal) unbroken; over = omega (arith, over, grown, whole, long) }

@@ -195,7 +195,7 @@ module _ {D : Type 0} {g : Ghosts D} where
         crash = crash-on g b (disk_of mid.journal) (disk_of new.journal) v.entries v.entries [] (durable v) (sym (append-nil v.entries)) enough-mid crash-mid moves.crash moves.fronts;
         later = later-new;
         fault = λ broken. absurd (false≢true (sym unbroken-mid ∙ broken));
-        longest = λ _. grown-new;
+        longest = grown-new;
       }
 
   -- ---- a stream that stops
@@ -307,15 +307,15 @@ module _ {D : Type 0} {g : Ghosts D} where
     crash = s.crash;
     later = s.later;
     fault = λ broken. absurd (false≢true (sym s.serves.unbroken ∙ broken));
-    longest = λ _. omega arith;
+    longest = omega arith;
   }
 
   -- ---- its end
 
   module _ (old new : Hall D g) (b : Begun D) (arrivals : List Arrival) (out : List ℕ) (some : b.service ≢ []) (limits : new.limits ≡ old.limits) (faults : g.faults (disk_of old.journal) ≤ g.faults (disk_of new.journal)) where
     -- more steps, which may add entries behind the others
-    ended-by : (n m : ℕ) (before es : List Entry) (e : EndsIn old b arrivals out before n) (v : World) → v.entries ≡ e.world.entries ++ es → durable e.world ≤ durable v → v.steps ≤ e.world.steps + m → (v.broken ≡ true → (e.world.broken ≡ true) ⊎ Rose (g.faults (disk_of old.journal)) (g.faults (disk_of new.journal))) → (v.broken ≡ false → e.world.broken ≡ false) → Moves old new e.world v → EndsIn new b arrivals out (before ++ es) (n + m)
-    ended-by n m before es e v more lasts few breaks whole moves =
+    ended-by : (n m : ℕ) (before es : List Entry) (e : EndsIn old b arrivals out before n) (v : World) → v.entries ≡ e.world.entries ++ es → durable e.world ≤ durable v → v.steps ≤ e.world.steps + m → (v.broken ≡ true → (e.world.broken ≡ true) ⊎ Rose (g.faults (disk_of old.journal)) (g.faults (disk_of new.journal))) → Moves old new e.world v → EndsIn new b arrivals out (before ++ es) (n + m)
+    ended-by n m before es e v more lasts few breaks moves =
         let w = e.world in
         let far : length b.opened + 1 ≤ durable w = (let l = e.ends.lasts in let k = enough b old.limits.changes e.ends.len arrivals out e.ends.made e.ends.comes in omega (arith, l, k)) in
         record {
@@ -337,14 +337,14 @@ module _ {D : Type 0} {g : Ghosts D} where
             | inl was ↦ rose-until (g.faults b.disk) (g.faults (disk_of old.journal)) (g.faults (disk_of new.journal)) (e.fault was) faults
             | inr now ↦ rose-since (g.faults b.disk) (g.faults (disk_of old.journal)) (g.faults (disk_of new.journal)) e.later now
           ];
-          longest = λ u. (let l = e.longest (whole u) in let k = moves.grows u in omega (arith, l, k));
+          longest = (let l = e.longest in let k = moves.grows in omega (arith, l, k));
         }
 
     -- its writer ended
     pub ended-writer : (n : ℕ) (gone : List Entry) → EndsIn old b arrivals out gone n → Goes old new (Ended b.host Writer ∷ []) → EndsIn new b arrivals out gone (n + 1)
     ended-writer n gone e goes =
         let v = run the_core b.service e.world (Ended b.host Writer ∷ []) in
-        subst (λ (l : List Entry). EndsIn new b arrivals out l (n + 1)) (append-nil gone) (ended-by n 1 gone [] e v (sym (append-nil e.world.entries)) (omega arith) (omega arith) (λ broken. inl broken) (λ u. u) (goes b.service some e.world e.stands))
+        subst (λ (l : List Entry). EndsIn new b arrivals out l (n + 1)) (append-nil gone) (ended-by n 1 gone [] e v (sym (append-nil e.world.entries)) (omega arith) (omega arith) (λ broken. inl broken) (goes b.service some e.world e.stands))
 
     pub finished-writer : (n : ℕ) → new.journal ≡ old.journal → FinishedIn old b arrivals out n → Goes old new (Ended b.host Writer ∷ []) → FinishedIn new b arrivals out (n + 1)
     finished-writer n journal f goes =
@@ -366,14 +366,14 @@ module _ {D : Type 0} {g : Ghosts D} where
 
     -- its reader ended, and no Gone was made
     ended-reader : (n : ℕ) (e : EndsIn old b arrivals out [] n) → Moves old new e.world (run the_core b.service e.world (Ended b.host Reader ∷ [])) → EndsIn new b arrivals out [] (n + 3)
-    ended-reader n e moves = ended-by n 3 [] [] e (run the_core b.service e.world (Ended b.host Reader ∷ [])) (sym (append-nil e.world.entries)) (omega arith) (omega arith) (λ broken. inl broken) (λ u. u) moves
+    ended-reader n e moves = ended-by n 3 [] [] e (run the_core b.service e.world (Ended b.host Reader ∷ [])) (sym (append-nil e.world.entries)) (omega arith) (omega arith) (λ broken. inl broken) moves
 
     -- or one that may not be durable
     broken-reader : (n : ℕ) (e : EndsIn old b arrivals out [] n) → Rose (g.faults (disk_of old.journal)) (g.faults (disk_of new.journal)) → Moves old new e.world (run the_core b.service e.world (Gone b.host ∷ Broken ∷ Ended b.host Reader ∷ [])) → EndsIn new b arrivals out (GoneEntry b.host ∷ []) (n + 3)
     broken-reader n e rose moves =
         let v = run the_core b.service e.world (Gone b.host ∷ Broken ∷ Ended b.host Reader ∷ []) in
         let same : durable v ≡ durable e.world = durable_on e.world (Some (GoneEntry b.host)) v.hosts e.stands.for.state.sound in
-        ended-by n 3 [] (GoneEntry b.host ∷ []) e v refl (omega (arith, same)) (omega arith) (λ broken. inr rose) (λ u. absurd (false≢true (sym u))) moves
+        ended-by n 3 [] (GoneEntry b.host ∷ []) e v refl (omega (arith, same)) (omega arith) (λ broken. inr rose) moves
 
     pub refused-gone : (n : ℕ) (why : HandedRefusal) → EndsIn old b arrivals out [] n → GoneRefused old new b.host why → (gone : List Entry) × IsGoneOf b.host gone × EndsIn new b arrivals out gone (n + 3)
     refused-gone n handed.Store e refused =
@@ -426,7 +426,7 @@ module _ {D : Type 0} {g : Ghosts D} where
     gone-ends n e gone =
         let w = e.world in
         let x = gone b.service some w e.stands in
-        ended-by n 3 [] (GoneEntry b.host ∷ []) e (gone-world w) (gone-entries w e.stands x) (gone-lasts w e.stands x) (gone-steps w e.stands x) (λ broken. absurd (false≢true (sym (gone-unbroken w e.stands x) ∙ broken))) (λ u. x.unbroken) (gone-moves w e.stands x)
+        ended-by n 3 [] (GoneEntry b.host ∷ []) e (gone-world w) (gone-entries w e.stands x) (gone-lasts w e.stands x) (gone-steps w e.stands x) (λ broken. absurd (false≢true (sym (gone-unbroken w e.stands x) ∙ broken))) (gone-moves w e.stands x)
 
     pub gone-finished : ServesIn old b arrivals out → IsGone old new b.host → FinishedIn new b arrivals out 3
     gone-finished s gone =

@@ -6,6 +6,7 @@ use Rattle.ps_types.specs.declared.entry.Entry.TheVariants.{Boot}
 use Rattle.ps_disk.specs.declared.device.Disk.{Ghosts}
 use Rattle.ps_disk.specs.Disk.{LeavesOnly}
 use Rattle.ps_journal.specs.Journal.{broken_of, disk_of, length_of}
+use Rattle.ps_journal.specs.Left.{LeavesAtLeast}
 use Rattle.ps_model.specs.Store.{Begun as BegunStore, gate_at, spelled}
 use Rattle.ps_outside.specs.Held.{HeldStore}
 use Rattle.ps_hall.specs.Begun.{IsOpenLeft}
@@ -35,7 +36,8 @@ module _ {D : Type 0} {g : Ghosts D} (only : OnlyNow g) (disk : D) (service host
   module _ (later : g.faults disk ≤ g.faults (disk_under hall))
       (any : g.tells → (E : List Entry) → spelled (g.seen disk) E → IsTidy (g.seen disk) → LeavesOnly g.moment g.left_since disk (disk_under hall) (IsOpenLeft (g.synced disk) (g.written disk) E (Boot service)))
       (final : Hall D g) (kept : final.limits ≡ hall.limits) (closed : D) (same : closed ≡ disk_under final)
-      (long : g.tells → broken_of final.journal ≡ None → (bs : List (List ℕ)) → BegunStore (g.seen closed) bs → length_of final.journal ≡ gate_at bs + 1) (all before now : Option (List ℕ)) where
+      (long : g.tells → broken_of final.journal ≡ None → (bs : List (List ℕ)) → BegunStore (g.seen closed) bs → length_of final.journal ≡ gate_at bs + 1)
+      (floor : g.tells → LeavesAtLeast (g.synced closed) (g.written closed) (length_of final.journal)) (all before now : Option (List ℕ)) where
     abbrev told : D → HeldStore
     told d = held_as g.faults g.seen g.synced g.written g.moment g.syncs d
 
@@ -48,6 +50,9 @@ module _ {D : Type 0} {g : Ghosts D} (only : OnlyNow g) (disk : D) (service host
     there : g.tells → broken_of final.journal ≡ None → (bs : List (List ℕ)) → BegunStore (g.seen (disk_of final.journal)) bs → length_of final.journal ≡ gate_at bs + 1
     there tells whole bs begun = long tells whole bs (subst (λ (d : D). BegunStore (g.seen d) bs) (sym same) begun)
 
+    least : g.tells → LeavesAtLeast (g.synced (disk_of final.journal)) (g.written (disk_of final.journal)) (length_of final.journal)
+    least tells = subst (λ (d : D). LeavesAtLeast (g.synced d) (g.written d) (length_of final.journal)) same (floor tells)
+
     module _ (changes : limits.changes ≡ max_changes) where
       limit : final.limits.changes ≡ max_changes
       limit = ap (λ (l : Limits). l.changes) (kept ∙ is.limits_are) ∙ changes
@@ -55,14 +60,14 @@ module _ {D : Type 0} {g : Ghosts D} (only : OnlyNow g) (disk : D) (service host
       pub opened-all : Finished final (began only disk service host some limits hall passes is) all before now → AnswersAll g.tells service host all before now (told disk) (told closed) (g.left_since closed)
       opened-all done =
           subst (λ (d : D). AnswersAll g.tells service host all before now (told disk) (told d) (g.left_since d)) (sym same)
-          (all-closed disk final (began only disk service host some limits hall passes is) was later first limit there all before now done)
+          (all-closed disk final (began only disk service host some limits hall passes is) was later first limit there least all before now done)
 
       pub opened-some : Stopped final (began only disk service host some limits hall passes is) all before now → AnswersSome g.tells service host all before now (told disk) (told closed) (g.left_since closed)
       opened-some stop =
           subst (λ (d : D). AnswersSome g.tells service host all before now (told disk) (told d) (g.left_since d)) (sym same)
-          (some-closed disk final (began only disk service host some limits hall passes is) was later first limit there all before now stop)
+          (some-closed disk final (began only disk service host some limits hall passes is) was later first limit there least all before now stop)
 
       pub opened-lacks : limits.whole ≡ max_whole → Stopped final (began only disk service host some limits hall passes is) all before now → LacksGoneIn final host → g.tells → LacksGone (g.seen closed) host
       opened-lacks whole stop lacks tells =
           subst (λ (d : D). LacksGone (g.seen d) host) (sym same)
-          (lacks-closed disk final (began only disk service host some limits hall passes is) was later first limit there all before now stop lacks (ap (λ (l : Limits). l.whole) (kept ∙ is.limits_are) ∙ whole) tells)
+          (lacks-closed disk final (began only disk service host some limits hall passes is) was later first limit there least all before now stop lacks (ap (λ (l : Limits). l.whole) (kept ∙ is.limits_are) ∙ whole) tells)

@@ -5,7 +5,7 @@ use Rattle.ps_types.specs.declared.entry.Arrival.{Arrival}
 use Rattle.ps_types.specs.declared.entry.Entry.{Entry}
 use Rattle.ps_types.specs.declared.entry.Entry.TheVariants.{Boot, Gone}
 use Rattle.ps_disk.specs.Disk.{MayLeave}
-use Rattle.ps_journal.specs.Left.{LeavesList}
+use Rattle.ps_journal.specs.Left.{LeavesAtLeast, LeavesList}
 use Rattle.ps_journal.specs.Opened.{HasLength}
 use Rattle.ps_model.specs.CoreLaws.{IsLawful}
 use Rattle.ps_model.specs.Store.{is_unbegun, spelled}
@@ -53,7 +53,7 @@ pub record KeepsAll (tells : Type 0) (service host : List ℕ) (old new : HeldSt
   pub crash : tells → IsTidy old.seen → LeftSince old since opened (made ++ Gone host ∷ [])
 
 -- Some lines were answered. Behind their entries at most the next line's and the Gone of the host stand in the list, and what a crash leaves is a front of it
--- with all entries of those lines; where no fault came it is the whole list.
+-- with all entries of those lines, in a store of at least the length at which a line was told that it is full; where no fault came it is the whole list.
 pub record KeepsAnswered (tells : Type 0) (service host : List ℕ) (old new : HeldStore) (since : ℕ → List ℕ → Type 0) (arrivals : List Arrival) (out : List ℕ) : Type 0 where
   pub opened : List Entry
   pub made : List Entry
@@ -66,6 +66,7 @@ pub record KeepsAnswered (tells : Type 0) (service host : List ℕ) (old new : H
   pub lawful : IsLawful the_core ((made ++ rest) ++ gone)
   pub was : tells → spelled old.seen opened
   pub long : tells → NoFault old new → HasLength new.seen len
+  pub floor : tells → LeavesAtLeast new.synced new.written len
   pub still : tells → NoFault old new → LeavesList new.synced new.written ((made ++ rest) ++ gone)
   pub lasts : tells → (c : List ℕ) → MayLeave new.synced new.written c → IsFront ((made ++ rest) ++ gone) (length made) c
   pub crash : tells → IsTidy old.seen → LeftSince old since opened ((made ++ rest) ++ gone)

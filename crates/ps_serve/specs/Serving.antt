@@ -74,7 +74,7 @@ pub record EndsIn {D : Type 0} {g : Ghosts D} (hall : Hall D g) (b : Begun D) (a
   pub crash : CrashKeeps g b (disk_of hall.journal) world.entries
   pub later : g.faults b.disk ≤ g.faults (disk_of hall.journal)
   pub fault : world.broken ≡ true → Rose (g.faults b.disk) (g.faults (disk_of hall.journal))
-  pub longest : world.broken ≡ false → ends.len ≤ length_of hall.journal
+  pub longest : ends.len ≤ length_of hall.journal
 
 -- the hall serves the host
 abbrev pub IsServing : {D : Type 0} {g : Ghosts D} → Hall D g → List ℕ → Type 0

@@ -39,7 +39,7 @@ returns-clause-done g c = λ e.
     let here = slice_get_read _ _ _ _ refl (has-passes only c.args.disk c.args.service.now c.args.host some _ c.in-Ok.hall c.in-Ok.passes.items is) c.index_mut-own.ensures.value in
     let same = one-host-is only c.args.disk c.args.service.now c.args.host some _ c.in-Ok.hall c.in-Ok.passes.items is c.index_mut-own.result.now here in
     opened-all only c.args.disk c.args.service.now c.args.host some _ c.in-Ok.hall c.in-Ok.passes.items is c.in-Ok.ensures.later (λ tells E spells tidy. c.in-Ok.ensures.any_moment tells E spells tidy) c.serve_host-end.new.hall c.serve_host-end.ensures.limits
-    c.close.result c.close.ensures.disk c.close.ensures.long (g.S.Source.left (source_of c.args.lines.now)) (g.K.Sink.written c.args.sink.now) (g.K.Sink.written c.serve_host-end.new.sink) refl
+    c.close.result c.close.ensures.disk c.close.ensures.long c.close.ensures.floor (g.S.Source.left (source_of c.args.lines.now)) (g.K.Sink.written c.args.sink.now) (g.K.Sink.written c.serve_host-end.new.sink) refl
     (c.serve_host-end.ensures.done (c.status_of.ensures.done e) (began only c.args.disk c.args.service.now c.args.host some _ c.in-Ok.hall c.in-Ok.passes.items is) some (sym same) (serves-first only c.args.disk c.args.service.now c.args.host some _ c.in-Ok.hall c.in-Ok.passes.items is))
 
 pub returns-clause-part : goal.returns-clause-part
@@ -50,7 +50,7 @@ returns-clause-part g c =
     let here = slice_get_read _ _ _ _ refl (has-passes only c.args.disk c.args.service.now c.args.host some _ c.in-Ok.hall c.in-Ok.passes.items is) c.index_mut-own.ensures.value in
     let same = one-host-is only c.args.disk c.args.service.now c.args.host some _ c.in-Ok.hall c.in-Ok.passes.items is c.index_mut-own.result.now here in
     inl (opened-some only c.args.disk c.args.service.now c.args.host some _ c.in-Ok.hall c.in-Ok.passes.items is c.in-Ok.ensures.later (λ tells E spells tidy. c.in-Ok.ensures.any_moment tells E spells tidy) c.serve_host-end.new.hall c.serve_host-end.ensures.limits
-    c.close.result c.close.ensures.disk c.close.ensures.long (g.S.Source.left (source_of c.args.lines.now)) (g.K.Sink.written c.args.sink.now) (g.K.Sink.written c.serve_host-end.new.sink) refl
+    c.close.result c.close.ensures.disk c.close.ensures.long c.close.ensures.floor (g.S.Source.left (source_of c.args.lines.now)) (g.K.Sink.written c.args.sink.now) (g.K.Sink.written c.serve_host-end.new.sink) refl
     (c.serve_host-end.ensures.stopped (began only c.args.disk c.args.service.now c.args.host some _ c.in-Ok.hall c.in-Ok.passes.items is) some (sym same) (serves-first only c.args.disk c.args.service.now c.args.host some _ c.in-Ok.hall c.in-Ok.passes.items is)))
 
 pub returns-clause-some : goal.returns-clause-some
@@ -61,7 +61,7 @@ returns-clause-some g c = λ e.
     let here = slice_get_read _ _ _ _ refl (has-passes only c.args.disk c.args.service.now c.args.host some _ c.in-Ok.hall c.in-Ok.passes.items is) c.index_mut-own.ensures.value in
     let same = one-host-is only c.args.disk c.args.service.now c.args.host some _ c.in-Ok.hall c.in-Ok.passes.items is c.index_mut-own.result.now here in
     opened-some only c.args.disk c.args.service.now c.args.host some _ c.in-Ok.hall c.in-Ok.passes.items is c.in-Ok.ensures.later (λ tells E spells tidy. c.in-Ok.ensures.any_moment tells E spells tidy) c.serve_host-end.new.hall c.serve_host-end.ensures.limits
-    c.close.result c.close.ensures.disk c.close.ensures.long (g.S.Source.left (source_of c.args.lines.now)) (g.K.Sink.written c.args.sink.now) (g.K.Sink.written c.serve_host-end.new.sink) refl
+    c.close.result c.close.ensures.disk c.close.ensures.long c.close.ensures.floor (g.S.Source.left (source_of c.args.lines.now)) (g.K.Sink.written c.args.sink.now) (g.K.Sink.written c.serve_host-end.new.sink) refl
     (c.serve_host-end.ensures.stopped (began only c.args.disk c.args.service.now c.args.host some _ c.in-Ok.hall c.in-Ok.passes.items is) some (sym same) (serves-first only c.args.disk c.args.service.now c.args.host some _ c.in-Ok.hall c.in-Ok.passes.items is))
 
 pub returns-clause-full : goal.returns-clause-full
@@ -72,7 +72,7 @@ returns-clause-full g c = λ e tells.
     let here = slice_get_read _ _ _ _ refl (has-passes only c.args.disk c.args.service.now c.args.host some _ c.in-Ok.hall c.in-Ok.passes.items is) c.index_mut-own.ensures.value in
     let same = one-host-is only c.args.disk c.args.service.now c.args.host some _ c.in-Ok.hall c.in-Ok.passes.items is c.index_mut-own.result.now here in
     inr (opened-lacks only c.args.disk c.args.service.now c.args.host some _ c.in-Ok.hall c.in-Ok.passes.items is c.in-Ok.ensures.later (λ told E spells tidy. c.in-Ok.ensures.any_moment told E spells tidy) c.serve_host-end.new.hall c.serve_host-end.ensures.limits
-    c.close.result c.close.ensures.disk c.close.ensures.long (g.S.Source.left (source_of c.args.lines.now)) (g.K.Sink.written c.args.sink.now) (g.K.Sink.written c.serve_host-end.new.sink) refl refl
+    c.close.result c.close.ensures.disk c.close.ensures.long c.close.ensures.floor (g.S.Source.left (source_of c.args.lines.now)) (g.K.Sink.written c.args.sink.now) (g.K.Sink.written c.serve_host-end.new.sink) refl refl
     (c.serve_host-end.ensures.stopped (began only c.args.disk c.args.service.now c.args.host some _ c.in-Ok.hall c.in-Ok.passes.items is) some (sym same) (serves-first only c.args.disk c.args.service.now c.args.host some _ c.in-Ok.hall c.in-Ok.passes.items is))
     (subst (λ (h : List ℕ). LacksGoneIn c.serve_host-end.new.hall h) same (c.serve_host-end.ensures.full (c.status_of.ensures.full e))) tells)
 

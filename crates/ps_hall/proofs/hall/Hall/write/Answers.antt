@@ -17,4 +17,4 @@ returns-in-Ok-clause-ok g c =
 pub returns-in-Err-clause-err : goal.returns-in-Err-clause-err
 returns-in-Err-clause-err g c =
     let failed : c.in-Err.field-0 ≡ Store = store_is c.in-Err.field-0 (λ e. let r = c.requires.room in let f = (c.in-Err.ensures.full.0 (ap (λ x. Err x) e)).1 in omega (arith, r, f)) in
-    breaks_ok g.met.D.Disk.seen_left g.met.D.Disk.counts_now c.args.self.now _ c.args.batch.now _ c.requires.unbroken (c.in-Err.ensures.first_fault c.requires.unbroken (ap (λ x. Err x) failed)) c.in-Err.ensures.any_moment c.in-Err.ensures.front c.pass.ensures.service c.pass.ensures.rows c.pass.ensures.kept
+    breaks_ok g.met.D.Disk.seen_left g.met.D.Disk.counts_now c.args.self.now _ c.args.batch.now _ c.requires.unbroken (c.in-Err.ensures.first_fault c.requires.unbroken (ap (λ x. Err x) failed)) c.in-Err.ensures.any_moment c.in-Err.ensures.front c.in-Err.ensures.grows c.pass.ensures.service c.pass.ensures.rows c.pass.ensures.kept

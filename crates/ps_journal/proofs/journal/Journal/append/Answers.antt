@@ -1,9 +1,11 @@
-use Rattle.std.proofs.Common.{◌≡◌, None, arith, rules}
+use Rattle.std.proofs.Common.{◌≡◌, ◌+◌, None, arith, rules}
 use Rattle.ps_model.specs.Entries.{body}
 use Rattle.ps_disk.proofs.Moments.{started, weaker}
 use Rattle.ps_journal.specs.Left.{IsWithOrWithout, IsFrontOfLeft}
 use Rattle.ps_journal.proofs.Lists.{is_body}
 use Rattle.ps_journal.proofs.Known.{room_of, settled_grows, known, either, at_rest, rest_front, still_front, appended, appended_only, done_front}
+use Rattle.ps_journal.specs.Settled.{IsSettled}
+use Rattle.ps_journal.proofs.Floors.{floor_at_rest, floor_torn}
 use Rattle.ps_journal.proofs.journal.Journal.append.Goals as goal
 use Rattle.std.proofs.Common.{inl, ℕ, ◌≤◌, ◌^◌}
 
@@ -37,13 +39,29 @@ pub invariant_of-self : goal.invariant_of-self
 invariant_of-self g c =
     let D = g.D.Disk in
     let d = c.args.self.now.disk in
+    let n = c.write_frame.new.disk in
     let b = c.args.batch.now in
+    let was : c.args.self.now.broken ≡ None = search rules in
+    let grown : (c.args.self.now.broken ≡ None → D.tells → IsSettled (D.seen n) (D.synced n) (D.written n) (c.args.self.now.length + (c.len-more.result + 5))) = λ none tells.
+    settled_grows (D.seen d) (D.synced d) (D.written d) c.args.self.now.length (c.args.self.now.settled none tells) (body b) _ _ _ _ (omega (arith, c.len-more.ensures.length))
+    (λ bs s. c.in-Ok.ensures.kept tells bs (body b) s (is_body b c.requires (fits c.len-more.ensures.length c.len-more.ensures.fits)) c.frame.ensures) in
     record {
       some = omega arith;
-      settled = λ none tells.
-          settled_grows (D.seen d) (D.synced d) (D.written d) c.args.self.now.length (c.args.self.now.settled none tells) (body b) _ _ _ _ (omega (arith, c.len-more.ensures.length))
-          (λ bs s. c.in-Ok.ensures.kept tells bs (body b) s (is_body b c.requires (fits c.len-more.ensures.length c.len-more.ensures.fits)) c.frame.ensures);
+      settled = grown;
+      floor = λ tells. floor_at_rest (D.seen n) (D.synced n) (D.written n) _ (grown was tells);
     }
+
+pub invariant_of-self-in-Err-clause-floor : goal.invariant_of-self-in-Err-clause-floor
+invariant_of-self-in-Err-clause-floor g c tells =
+    let D = g.D.Disk in
+    let d = c.args.self.now.disk in
+    let n = c.write_frame.new.disk in
+    let b = c.args.batch.now in
+    let none : c.args.self.now.broken ≡ None = search rules in
+    floor_torn (D.seen d) (D.synced d) (D.written d) c.args.self.now.length (body b) (c.args.self.now.settled none tells) (D.synced n) (D.written n)
+    (λ bs s f may.
+    let run = c.in-Err.ensures.any_moment tells bs (body b) s (is_body b c.requires (fits c.len-more.ensures.length c.len-more.ensures.fits)) c.frame.ensures in
+    run.each f (g.met.D.Disk.counts_now n (D.moment d) f run.later may))
 
 pub returns-in-Ok-clause-entries : goal.returns-in-Ok-clause-entries
 returns-in-Ok-clause-entries g c tells E spells =
