@@ -29,12 +29,10 @@ fn fill_affils(alloc: Global, affils: &mut Affils) -> Result<(), Fail> {
 }
 
 // The collections `top`, which holds the leaf `n`, and `bare`, which holds nothing. Ann owns all three, and Bob is an outcast there.
-fn world(alloc: Global) -> Result<Tables, Fail> {
-    let mut tables = empty(alloc)?;
+fn fill(alloc: Global, tables: &mut Tables) -> Result<(), Fail> {
     fill_nodes(alloc, &mut tables.nodes)?;
     fill_affils(alloc, &mut tables.affils)?;
-    link(alloc, &mut tables.links, "n", "top")?;
-    Ok(tables)
+    link(alloc, &mut tables.links, "n", "top")
 }
 
 // To publish, to retract, to read and to purge are denied alike.
@@ -68,10 +66,8 @@ fn are_denied(
     Ok(())
 }
 
-#[test]
-fn a_collection_holds_no_items(rt: HostRuntime) -> Result<(), Fail> {
-    let alloc = rt.alloc();
-    let tables = world(alloc)?;
+fn holds_no_items(rt: &impl Abort, alloc: Global, tables: &mut Tables) -> Result<(), Fail> {
+    fill(alloc, tables)?;
     for (from, node, why) in [
         (ANN, "nope", Condition::C12),
         (BOB, "nope", Condition::C12),
@@ -79,15 +75,19 @@ fn a_collection_holds_no_items(rt: HostRuntime) -> Result<(), Fail> {
         (BOB, "top", Condition::C10),
         (BOB, "n", Condition::C11),
     ] {
-        are_denied(&rt, alloc, &tables, from, node, why)?;
+        are_denied(rt, alloc, tables, from, node, why)?;
     }
     Ok(())
 }
 
 #[test]
-fn a_collection_goes_once_it_holds_nothing(rt: HostRuntime) -> Result<(), Fail> {
-    let alloc = rt.alloc();
-    let tables = world(alloc)?;
+fn a_collection_holds_no_items(rt: HostRuntime) -> Result<(), Fail> {
+    let mut tables = empty(rt.alloc())?;
+    holds_no_items(&rt, rt.alloc(), &mut tables)
+}
+
+fn goes(rt: &impl Abort, alloc: Global, tables: &mut Tables) -> Result<(), Fail> {
+    fill(alloc, tables)?;
     for (from, node, want) in [
         (ANN, "nope", Outcome::Denied(Condition::C12)),
         (BOB, "top", Outcome::Denied(Condition::C11)),
@@ -96,9 +96,15 @@ fn a_collection_goes_once_it_holds_nothing(rt: HostRuntime) -> Result<(), Fail> 
         (ANN, "n", Outcome::Changes),
     ] {
         let ask = delete(alloc, node)?;
-        assert_eq!(rt; by_owner(alloc, &tables, from, ask)?, want, "{from} {node}");
+        assert_eq!(rt; by_owner(alloc, tables, from, ask)?, want, "{from} {node}");
     }
     Ok(())
+}
+
+#[test]
+fn a_collection_goes_once_it_holds_nothing(rt: HostRuntime) -> Result<(), Fail> {
+    let mut tables = empty(rt.alloc())?;
+    goes(&rt, rt.alloc(), &mut tables)
 }
 
 // The step that decides, once collections are built, into which of them a new node may be put.
@@ -126,10 +132,8 @@ fn creates_in(
     by_owner(alloc, tables, from, ask)
 }
 
-#[test]
-fn a_node_is_put_into_a_collection_of_ones_own(rt: HostRuntime) -> Result<(), Fail> {
-    let alloc = rt.alloc();
-    let tables = world(alloc)?;
+fn takes(rt: &impl Abort, alloc: Global, tables: &mut Tables) -> Result<(), Fail> {
+    fill(alloc, tables)?;
     for (from, collection, want) in [
         (ANN, "nope", Outcome::Denied(Condition::C12)),
         (BOB, "top", Outcome::Denied(Condition::C11)),
@@ -139,15 +143,21 @@ fn a_node_is_put_into_a_collection_of_ones_own(rt: HostRuntime) -> Result<(), Fa
     ] {
         let unbuilt = Outcome::Denied(Condition::C14);
         assert_eq!(rt;
-            put_into(alloc, &tables, from, collection)?,
+            put_into(alloc, tables, from, collection)?,
             want,
             "{from} {collection}"
         );
         assert_eq!(rt;
-            creates_in(alloc, &tables, from, collection)?,
+            creates_in(alloc, tables, from, collection)?,
             unbuilt,
             "{collection}"
         );
     }
     Ok(())
+}
+
+#[test]
+fn a_node_is_put_into_a_collection_of_ones_own(rt: HostRuntime) -> Result<(), Fail> {
+    let mut tables = empty(rt.alloc())?;
+    takes(&rt, rt.alloc(), &mut tables)
 }

@@ -76,14 +76,17 @@ fn earlier(rt: &impl Abort, alloc: Global, tables: &Tables) -> Result<(), Fail> 
     publishes_at_home(rt, alloc, tables, 2, Outcome::Denied(Condition::C1))
 }
 
+fn fills(rt: &impl Abort, alloc: Global, tables: &mut Tables) -> Result<(), Fail> {
+    add_nodes(alloc, &mut tables.nodes, 9_999)?;
+    creates(rt, alloc, tables, ANN, "new", Outcome::Changes)?;
+    publishes_at_home(rt, alloc, tables, 1, Outcome::Changes)?;
+    add_node(alloc, &mut tables.nodes, "last", NodeKind::Leaf)?;
+    full(rt, alloc, tables)?;
+    earlier(rt, alloc, tables)
+}
+
 #[test]
 fn an_address_makes_ten_thousand_nodes(rt: HostRuntime) -> Result<(), Fail> {
-    let alloc = rt.alloc();
-    let mut tables = empty(alloc)?;
-    add_nodes(alloc, &mut tables.nodes, 9_999)?;
-    creates(&rt, alloc, &tables, ANN, "new", Outcome::Changes)?;
-    publishes_at_home(&rt, alloc, &tables, 1, Outcome::Changes)?;
-    add_node(alloc, &mut tables.nodes, "last", NodeKind::Leaf)?;
-    full(&rt, alloc, &tables)?;
-    earlier(&rt, alloc, &tables)
+    let mut tables = empty(rt.alloc())?;
+    fills(&rt, rt.alloc(), &mut tables)
 }

@@ -67,34 +67,35 @@ fn full_for_owners(rt: &impl Abort, alloc: Global, tables: &Tables) -> Result<()
 }
 
 // Ann's node `n` with so many subscriptions.
-fn with_subs(alloc: Global, count: u64) -> Result<Tables, Fail> {
-    let mut tables = empty(alloc)?;
+fn fill(alloc: Global, tables: &mut Tables, count: u64) -> Result<(), Fail> {
     add_node(alloc, &mut tables.nodes, "n", NodeKind::Leaf)?;
     add_affil(alloc, &mut tables.affils, "n", "ann@a", Affil::Owner)?;
-    add_subs(alloc, &mut tables.subs, count)?;
-    Ok(tables)
+    add_subs(alloc, &mut tables.subs, count)
+}
+
+fn last_place(rt: &impl Abort, alloc: Global, tables: &mut Tables) -> Result<(), Fail> {
+    fill(alloc, tables, 65_535)?;
+    subscribes(rt, alloc, tables, "new@b", Outcome::Changes)?;
+    add_sub(alloc, &mut tables.subs, "last@b")?;
+    let denied = Outcome::Denied(Condition::C23);
+    subscribes(rt, alloc, tables, "new@b", denied)?;
+    subscribes(rt, alloc, tables, "u0@b", Outcome::Stays)?;
+    subscribes_unreadably(rt, alloc, tables)
 }
 
 #[test]
 fn the_last_place_is_taken_once(rt: HostRuntime) -> Result<(), Fail> {
-    let alloc = rt.alloc();
-    let mut tables = with_subs(alloc, 65_535)?;
-    subscribes(&rt, alloc, &tables, "new@b", Outcome::Changes)?;
-    add_sub(alloc, &mut tables.subs, "last@b")?;
-    subscribes(
-        &rt,
-        alloc,
-        &tables,
-        "new@b",
-        Outcome::Denied(Condition::C23),
-    )?;
-    subscribes(&rt, alloc, &tables, "u0@b", Outcome::Stays)?;
-    subscribes_unreadably(&rt, alloc, &tables)
+    let mut tables = empty(rt.alloc())?;
+    last_place(&rt, rt.alloc(), &mut tables)
+}
+
+fn no_place(rt: &impl Abort, alloc: Global, tables: &mut Tables) -> Result<(), Fail> {
+    fill(alloc, tables, 65_536)?;
+    full_for_owners(rt, alloc, tables)
 }
 
 #[test]
 fn an_owner_gives_no_more_places(rt: HostRuntime) -> Result<(), Fail> {
-    let alloc = rt.alloc();
-    let tables = with_subs(alloc, 65_536)?;
-    full_for_owners(&rt, alloc, &tables)
+    let mut tables = empty(rt.alloc())?;
+    no_place(&rt, rt.alloc(), &mut tables)
 }
