@@ -1,0 +1,163 @@
+// Collections that stand: what they don't do, when they go, and what may be put into them.
+use crate::asking::{create, delete, form, publish, purge, read_items, retract};
+use crate::filling::{add_affil, add_node, empty, link};
+use crate::plans::{Outcome, by_entity, by_owner, by_publisher, request};
+use ps_access::{Tables, must_be_collection};
+use ps_affil::Affils;
+use ps_nodes::Nodes;
+use ps_types::{Affil, Condition, NodeKind, PlanRefusal, Text};
+use std::alloc::Global;
+use std::process::Abort;
+use std::test::Fail;
+
+const ANN: &str = "ann@a/1";
+
+const BOB: &str = "bob@b/1";
+
+fn fill_nodes(alloc: Global, nodes: &mut Nodes) -> Result<(), Fail> {
+    add_node(alloc, nodes, "top", NodeKind::Collection)?;
+    add_node(alloc, nodes, "bare", NodeKind::Collection)?;
+    add_node(alloc, nodes, "n", NodeKind::Leaf)
+}
+
+fn fill_affils(alloc: Global, affils: &mut Affils) -> Result<(), Fail> {
+    for node in ["top", "bare", "n"] {
+        add_affil(alloc, affils, node, "ann@a", Affil::Owner)?;
+        add_affil(alloc, affils, node, "bob@b", Affil::Outcast)?;
+    }
+    Ok(())
+}
+
+// The collections `top`, which holds the leaf `n`, and `bare`, which holds nothing. Ann owns all three, and Bob is an outcast there.
+fn fill(alloc: Global, tables: &mut Tables) -> Result<(), Fail> {
+    fill_nodes(alloc, &mut tables.nodes)?;
+    fill_affils(alloc, &mut tables.affils)?;
+    link(alloc, &mut tables.links, "n", "top")
+}
+
+// To publish, to retract, to read and to purge are denied alike.
+fn are_denied(
+    rt: &impl Abort,
+    alloc: Global,
+    tables: &Tables,
+    from: &str,
+    node: &str,
+    why: Condition,
+) -> Result<(), Fail> {
+    let want = Outcome::Denied(why);
+    let ask = publish(alloc, node, 1, None)?;
+    let got = by_publisher(alloc, tables, from, "p", ask)?;
+    assert_eq!(rt; got, want, "{from} publishes to {node}");
+    let ask = retract(alloc, node)?;
+    let got = by_publisher(alloc, tables, from, "p", ask)?;
+    assert_eq!(rt; got, want, "{from} retracts from {node}");
+    let ask = read_items(alloc, node)?;
+    assert_eq!(rt;
+        by_entity(alloc, tables, from, ask)?,
+        want,
+        "{from} reads {node}"
+    );
+    let ask = purge(alloc, node)?;
+    assert_eq!(rt;
+        by_owner(alloc, tables, from, ask)?,
+        want,
+        "{from} purges {node}"
+    );
+    Ok(())
+}
+
+fn holds_no_items(rt: &impl Abort, alloc: Global, tables: &mut Tables) -> Result<(), Fail> {
+    fill(alloc, tables)?;
+    for (from, node, why) in [
+        (ANN, "nope", Condition::C12),
+        (BOB, "nope", Condition::C12),
+        (ANN, "top", Condition::C10),
+        (BOB, "top", Condition::C10),
+        (BOB, "n", Condition::C11),
+    ] {
+        are_denied(rt, alloc, tables, from, node, why)?;
+    }
+    Ok(())
+}
+
+#[test]
+fn a_collection_holds_no_items(rt: HostRuntime) -> Result<(), Fail> {
+    let mut tables = empty(rt.alloc())?;
+    holds_no_items(&rt, rt.alloc(), &mut tables)
+}
+
+fn goes(rt: &impl Abort, alloc: Global, tables: &mut Tables) -> Result<(), Fail> {
+    fill(alloc, tables)?;
+    for (from, node, want) in [
+        (ANN, "nope", Outcome::Denied(Condition::C12)),
+        (BOB, "top", Outcome::Denied(Condition::C11)),
+        (ANN, "top", Outcome::Denied(Condition::C14)),
+        (ANN, "bare", Outcome::Changes),
+        (ANN, "n", Outcome::Changes),
+    ] {
+        let ask = delete(alloc, node)?;
+        assert_eq!(rt; by_owner(alloc, tables, from, ask)?, want, "{from} {node}");
+    }
+    Ok(())
+}
+
+#[test]
+fn a_collection_goes_once_it_holds_nothing(rt: HostRuntime) -> Result<(), Fail> {
+    let mut tables = empty(rt.alloc())?;
+    goes(&rt, rt.alloc(), &mut tables)
+}
+
+// The step that decides, once collections are built, into which of them a new node may be put.
+fn put_into(alloc: Global, tables: &Tables, from: &str, collection: &str) -> Result<Outcome, Fail> {
+    let ask = create(alloc, "new", None)?;
+    let request = request(alloc, from, "p", ask)?;
+    let collection = Text::of(alloc, collection)?;
+    match must_be_collection(tables, &request, &collection) {
+        Ok(()) => Ok(Outcome::Changes),
+        Err(PlanRefusal::Denied(why)) => Ok(Outcome::Denied(why)),
+        Err(PlanRefusal::Memory) => Err(Fail::new("no memory")),
+    }
+}
+
+// A configuration that names a collection isn't built yet, whichever it names.
+fn creates_in(
+    alloc: Global,
+    tables: &Tables,
+    from: &str,
+    collection: &str,
+) -> Result<Outcome, Fail> {
+    let about = "http://jabber.org/protocol/pubsub#node_config";
+    let form = form(alloc, about, "pubsub#collection", collection)?;
+    let ask = create(alloc, "new", form)?;
+    by_owner(alloc, tables, from, ask)
+}
+
+fn takes(rt: &impl Abort, alloc: Global, tables: &mut Tables) -> Result<(), Fail> {
+    fill(alloc, tables)?;
+    for (from, collection, want) in [
+        (ANN, "nope", Outcome::Denied(Condition::C12)),
+        (BOB, "top", Outcome::Denied(Condition::C11)),
+        (BOB, "n", Outcome::Denied(Condition::C11)),
+        (ANN, "n", Outcome::Denied(Condition::C14)),
+        (ANN, "top", Outcome::Changes),
+    ] {
+        let unbuilt = Outcome::Denied(Condition::C14);
+        assert_eq!(rt;
+            put_into(alloc, tables, from, collection)?,
+            want,
+            "{from} {collection}"
+        );
+        assert_eq!(rt;
+            creates_in(alloc, tables, from, collection)?,
+            unbuilt,
+            "{collection}"
+        );
+    }
+    Ok(())
+}
+
+#[test]
+fn a_node_is_put_into_a_collection_of_ones_own(rt: HostRuntime) -> Result<(), Fail> {
+    let mut tables = empty(rt.alloc())?;
+    takes(&rt, rt.alloc(), &mut tables)
+}
