@@ -124,18 +124,45 @@ fn has_node(alloc: Global, bytes: &[u8]) -> Result<bool, Fail> {
     Ok(told.as_str().contains("conflict"))
 }
 
+// A node is made, and an item is published to it.
+const PUBLISHING: &str =
+    r#"{"a":{"from":"ann@a.example/1","id":"1","to":"pubsub.example","type":"set"},"c":[{"c":[{"a":{"node":"news"},"n":"create"}],"n":"pubsub","ns":"http://jabber.org/protocol/pubsub"}],"n":"iq"}
+{"a":{"from":"ann@a.example/1","id":"2","to":"pubsub.example","type":"set"},"c":[{"c":[{"a":{"node":"news"},"c":[{"a":{"id":"i1"},"c":[{"n":"entry","ns":"urn:t"}],"n":"item"}],"n":"publish"}],"n":"pubsub","ns":"http://jabber.org/protocol/pubsub"}],"n":"iq"}
+"#;
+
+const ITEMS: &str =
+    r#"{"a":{"from":"ann@a.example/1","id":"3","to":"pubsub.example","type":"get"},"c":[{"c":[{"a":{"node":"news"},"n":"items"}],"n":"pubsub","ns":"http://jabber.org/protocol/pubsub"}],"n":"iq"}
+"#;
+
+// Whether the node, and whether its item is there when a store of these bytes is opened again.
+fn stands(alloc: Global, bytes: &[u8]) -> Result<(bool, bool), Fail> {
+    let (told, _) = ran_over(alloc, bytes, ITEMS, NONE)?;
+    let told = told.as_str();
+    Ok((
+        !told.contains("item-not-found"),
+        told.contains(r#""id":"i1""#),
+    ))
+}
+
+// Of a change that takes four calls of the disk, and was answered after so many, nothing is there before its third, it may be there before its
+// fourth, and it is always there from then on.
+fn is_kept(there: bool, answered: u64, calls: u64) -> bool {
+    calls.saturating_add(1) == answered || there == (answered <= calls)
+}
+
 #[test]
 fn a_crash_leaves_what_was_answered(rt: HostRuntime) -> Result<(), Fail> {
     let alloc = rt.alloc();
-    let (_, world) = ran_over(alloc, b"", FIRST, NONE)?;
+    let (_, world) = ran_over(alloc, b"", PUBLISHING, NONE)?;
     let disk = store_of(alloc, &world)?;
-    // the last four calls are those of the Gone, and the four before them those of the node
-    let last = disk.calls().saturating_sub(4);
+    // the last four calls are those of the Gone, the four before them those of the item, and the four before these those of the node
+    let published = disk.calls().saturating_sub(4);
+    let made = published.saturating_sub(4);
     for torn in [Torn::Lost, Torn::Whole, Torn::Filled(0), Torn::Filled(1)] {
         for calls in 0..disk.calls() {
             let left = disk.crashed(alloc, calls, torn)?;
-            let there = has_node(alloc, left.bytes())?;
-            assert!(rt; calls.saturating_add(1) == last || there == (last <= calls));
+            let (node, item) = stands(alloc, left.bytes())?;
+            assert!(rt; is_kept(node, made, calls) && is_kept(item, published, calls));
         }
     }
     Ok(())
