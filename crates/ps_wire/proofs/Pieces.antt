@@ -1,17 +1,22 @@
 -- A line taken in pieces.
 use Rattle.std.proofs.Common.{◌≡◌, ◌≢◌, ℕ, suc, ◌+◌, ◌<◌, List, [], ◌∷◌, ◌++◌, length, take, drop, Some, None, Option, refl, sym, ◌∙◌, ap, subst, arith, append_assoc, drop-cons, add-one, length-append, length-take}
-use Rattle.std.specs.Prelude.{slice_index}
-use Rattle.std.specs.Io.KnownBytes.{prepend_known, Consumes}
+use Rattle.std.specs.Prelude.{Bool, IsTrue, slice_index}
+use Rattle.std.specs.Io.KnownBytes.{prepend_known, Consumes, Keeps}
 use Rattle.std.proofs.lemmas.List.{take-append-drop, append-nil, drop_all, length-drop}
-use Rattle.std.proofs.lemmas.List.Elements.{All-append}
+use Rattle.std.proofs.lemmas.List.Elements.{All-append, All-head, All-tail}
 use Rattle.ps_types.specs.Lines.{first_line, after_line, NoNewline}
 use Rattle.ps_types.proofs.Lines.{first_line_at, after_line_at, first_line_all, after_line_all, first_line_covers}
 use Rattle.ps_wire.specs.AtEnd.{nothing_of}
 use Rattle.ps_wire.specs.Line.{StandsFor, IsFinished, IsFinishedAtEnd}
-use Rattle.ps_wire.specs.Reading.{IsNext, IsNextOf, IsLine, Takes, IsPastLimit, IsBeforeLimit, LeavesOff}
+use Rattle.ps_wire.specs.Reading.{IsNext, IsNextOf, IsLine, Takes, CutAtNewline, IsPastLimit, IsBeforeLimit, IsWithoutLine, LeavesOff}
 use Rattle.ps_wire.specs.declared.line.Line.{Line}
 use Rattle.ps_wire.specs.declared.lines.NextLine.{NextLine}
 use Rattle.ps_wire.specs.declared.lines.NextLine.TheVariants.{Line as Whole, TooLong, End}
+
+-- bytes with a newline aren't without one
+newline_in : (line rest : List ℕ) → NoNewline (line ++ 10 ∷ rest) → ⊥
+newline_in [] rest clean = All-head (λ b. b ≢ 10) 10 rest clean refl
+newline_in (b ∷ line) rest clean = newline_in line rest (All-tail (λ b. b ≢ 10) b (line ++ 10 ∷ rest) clean)
 
 some_bytes : (bytes line rest : List ℕ) → bytes ≡ line ++ 10 ∷ rest → bytes ≢ []
 some_bytes bytes line rest is none = omega (arith, length-append line (10 ∷ rest), ap length is, ap length none)
@@ -121,6 +126,15 @@ module _ (next : NextLine) (before left : Option (List ℕ)) (held after piece b
             let first : first_line all ≡ whole = ap first_line (all_is all left taken) ∙ first_line_at whole (after ++ left) clean in
             omega (arith, off.counted, length_whole, ap length first, in_held)
 
+    -- there is a newline
+    pub cut_at_newline : (ended : Bool) → CutAtNewline before ended
+    cut_at_newline ended = told before left off.taken
+      where
+        told : (before left : Option (List ℕ)) → Consumes before (prepend_known held left) off.front → CutAtNewline before ended
+        told None left taken = tt
+        told (Some all) None taken = absurd taken
+        told (Some all) (Some left) taken = λ clean_all. absurd (newline_in whole (after ++ left) (subst NoNewline (all_is all left taken) clean_all))
+
 emptied : (held again : List ℕ) → again ≡ held → drop (length again) held ≡ []
 emptied held again same = drop_all (length again) held (omega (arith, ap length same))
 
@@ -171,6 +185,26 @@ module _ (next : NextLine) (before left : Option (List ℕ)) (held after piece b
             let whole : all ≡ off.front ++ held = taken ∙ ap (λ (l : List ℕ). off.front ++ (held ++ l)) nothing ∙ ap (λ (l : List ℕ). off.front ++ l) (append-nil held) in
             let first : first_line all ≡ off.front ++ held = ap first_line whole ∙ first_line_all (off.front ++ held) clean_at_end in
             omega (arith, off.counted, ap length first, length-append off.front held, some)
+
+-- the input has ended
+pub cut_at_end : (before : Option (List ℕ)) (ended : Bool) → IsTrue ended → CutAtNewline before ended
+cut_at_end None ended is = tt
+cut_at_end (Some bytes) ended is = λ clean. is
+
+-- the line has no end in what is held, and nothing more was given
+pub without_line : (before left later : Option (List ℕ)) (held bytes : List ℕ) (line : Line) (budget_before budget : ℕ)
+    → LeavesOff line before (prepend_known held left) budget_before budget → bytes ≡ held → NoNewline bytes → Keeps left later → IsWithoutLine before later
+without_line before left later held bytes line budget_before budget off same none stays = (
+  off.front ++ held,
+  All-append (λ b. b ≢ 10) off.front held off.clean (subst (λ (l : List ℕ). NoNewline l) same none),
+  taken before left later off.taken stays,
+)
+  where
+    taken : (before left later : Option (List ℕ)) → Consumes before (prepend_known held left) off.front → Keeps left later → Consumes before later (off.front ++ held)
+    taken None left later c stays = tt
+    taken (Some all) None later c stays = absurd c
+    taken (Some all) (Some left) None c stays = absurd stays
+    taken (Some all) (Some left) (Some later) c stays = c ∙ (sym (append_assoc off.front held left) ∙ ap (λ (l : List ℕ). (off.front ++ held) ++ l) (sym stays))
 
 -- all that was given is in the line, which has no end
 pub past_limit : (before left : Option (List ℕ)) (held bytes : List ℕ) (line : Line) (budget_before unread : ℕ)

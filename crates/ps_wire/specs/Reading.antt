@@ -90,6 +90,15 @@ abbrev pub IsBeforeLimit : ℕ → Option (List ℕ) → Type 0
 IsBeforeLimit budget None = Unit {0}
 IsBeforeLimit budget (Some bytes) = length (first_line bytes) < budget
 
+-- bytes without a newline are a line only where the input has ended
+abbrev pub CutAtNewline : Option (List ℕ) → Bool → Type 0
+CutAtNewline None ended = Unit {0}
+CutAtNewline (Some bytes) ended = NoNewline bytes → IsTrue ended
+
+-- what stood before the bytes that the source still has is no whole line
+abbrev pub IsWithoutLine : Option (List ℕ) → Option (List ℕ) → Type 0
+IsWithoutLine before left = (front : List ℕ) × NoNewline front × Consumes before left front
+
 -- the source was left alone
 pub record ReadNothing {S : Type 0} {g : Ghosts S} (old new : Lines S g) : Type 0 where
   pub source : source_of new ≡ source_of old

@@ -72,7 +72,7 @@ pub struct Lines<S: Source> {
 }
 
 impl<S: Source> Lines<S> {
-    ghost use Rattle.ps_wire.specs.Reading.{source_of, held_of, given_of, ended_of, stopped_of, rest_of, budget_of, IsFresh, IsNext, IsLine, Takes, Ends, Gave, IsPastLimit, IsBeforeLimit, ReadNothing, StandsStill};
+    ghost use Rattle.ps_wire.specs.Reading.{source_of, held_of, given_of, ended_of, stopped_of, rest_of, budget_of, IsFresh, IsNext, IsLine, Takes, Ends, Gave, CutAtNewline, IsPastLimit, IsBeforeLimit, IsWithoutLine, ReadNothing, StandsStill};
 
     /// A reader over the source, which has read nothing yet.
     pub fn new(alloc: Global, source: S) -> Result<Lines<S>, LinesRefusal<S>>
@@ -105,7 +105,8 @@ impl<S: Source> Lines<S> {
         source
     }
 
-    /// The next line. It reads only while it holds no whole line and the input hasn't ended.
+    /// The next line. It reads only while it holds no whole line and the input hasn't ended. Where the source fails, or has given all that
+    /// it may, no newline stands in what was held and what the source gave since: each line that a newline ended has been answered.
     pub fn next(&mut self, alloc: Global) -> Result<NextLine, NextLineRefusal>
         ensures next { IfOk result (λ next. IsNext next (rest_of self.old) (rest_of self.new)) }
         ensures line { IfOk result IsLine }
@@ -127,6 +128,9 @@ impl<S: Source> Lines<S> {
         ensures answers_line { Contains (held_of self.old) 10 → stopped_of self.old ≡ None → IfErr result (λ why. why ≡ OutOfMemory) }
         ensures answers_end { IsTrue (ended_of self.old) → stopped_of self.old ≡ None → IfErr result (λ why. why ≡ OutOfMemory) }
         ensures ends { IfOk result (λ next. Ends next (held_of self.new) (ended_of self.new)) }
+        ensures cut { OnOk result (CutAtNewline (rest_of self.old) (ended_of self.new)) }
+        ensures no_line { IsErrOf result NextLineRefusal.ReadFault ⊎ IsErrOf result NextLineRefusal.Long → stopped_of self.old ≡ None
+            → IsWithoutLine (rest_of self.old) (S.left (source_of self.new)) }
     {
         if let Some(why) = self.stopped {
             return Err(why);
@@ -156,6 +160,9 @@ impl<S: Source> Lines<S> {
         ensures answers_line { Contains (held_of self.old) 10 → IfErr result (λ why. why ≡ OutOfMemory) }
         ensures answers_end { IsTrue (ended_of self.old) → IfErr result (λ why. why ≡ OutOfMemory) }
         ensures ends { IfOk result (λ next. Ends next (held_of self.new) (ended_of self.new)) }
+        ensures cut { OnOk result (CutAtNewline (rest_of self.old) (ended_of self.new)) }
+        ensures no_line { IsErrOf result NextLineRefusal.ReadFault ⊎ IsErrOf result NextLineRefusal.Long
+            → IsWithoutLine (rest_of self.old) (S.left (source_of self.new)) }
     {
         let mut line = Line::new(alloc);
         'pieces: loop {
