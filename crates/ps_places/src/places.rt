@@ -94,7 +94,7 @@ impl Places {
         self.firsts.clear();
     }
 
-    /// The same digests, with room for as many.
+    /// The same digests, in a table of their own.
     pub fn copy(&self) -> Result<Places, Memory>
         ensures rows { IfOk result (λ t. t.rows ≡ self.now.rows) }
     {
