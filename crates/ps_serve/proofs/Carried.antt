@@ -4,10 +4,12 @@ use Rattle.std.specs.Prelude.{◌⊎◌}
 use Rattle.ps_base.specs.Causes.{Rose}
 use Rattle.ps_outside.specs.Held.{Held, HeldStore, IsHeldStore, Same}
 use Rattle.ps_hall.specs.OpenHall.{PassesBy}
+use Rattle.ps_types.specs.declared.entry.Arrival.{Arrival}
 use Rattle.ps_serve.specs.Answering.{AnswersAll, AnswersNone, AnswersPart, AnswersSome}
 use Rattle.ps_serve.specs.Kept.{LacksGone, max_whole}
 use Rattle.ps_serve.specs.Reached.{ReadLimit, ReadWhole}
-use Rattle.ps_serve.specs.Runs.{Answers, AnswersFirst, AnswersInPart, GaveAll, LacksRoomAtAll, Served, StreamRose}
+use Rattle.ps_serve.specs.Serving.{AllEnded, InPart}
+use Rattle.ps_serve.specs.Runs.{Answers, AnswersEnded, AnswersFirst, AnswersInPart, GaveAll, LacksRoomAtAll, Served, StreamRose}
 
 -- what is held is what the disk tells
 pub held-is : (h : HeldStore) (faults : ℕ) (seen synced : List ℕ) (written : List (ℕ × ℕ)) (moment syncs : ℕ) → IsHeldStore h faults seen synced written moment syncs
@@ -33,12 +35,11 @@ module _ (tells : Type 0) (service host : List ℕ) (source before now : Option 
         record { opened = k.opened; made = k.made; len = k.len; comes = k.comes; lawful = k.lawful; was = k.was; is = k.is; long = k.long; lasts = k.lasts; crash = λ t tidy c left. k.crash t tidy c (less old.moment c left) });
   }
 
-  some-since : AnswersSome tells service host source before now old new since → AnswersSome tells service host source before now old new since2
-  some-since a = record {
+  some-since : (Shown : List Arrival → List ℕ → Type 0) → AnswersSome tells service host Shown old new since → AnswersSome tells service host Shown old new since2
+  some-since Shown a = record {
     arrivals = a.arrivals;
     out = a.out;
-    first = a.first;
-    wrote = a.wrote;
+    shown = a.shown;
     keeps = (
         let k = a.keeps in
         record {
@@ -66,11 +67,11 @@ module _ (tells : Type 0) (service host : List ℕ) (source before now : Option 
   pub all-carried : AnswersAll tells service host source before now old new since → AnswersAll tells service host source before now old2 new2 since2
   all-carried a = subst (λ (o : HeldStore). AnswersAll tells service host source before now o new2 since2) p (subst (λ (n : HeldStore). AnswersAll tells service host source before now old n since2) q (all-since a))
 
-  pub some-carried : AnswersSome tells service host source before now old new since → AnswersSome tells service host source before now old2 new2 since2
-  some-carried a = subst (λ (o : HeldStore). AnswersSome tells service host source before now o new2 since2) p (subst (λ (n : HeldStore). AnswersSome tells service host source before now old n since2) q (some-since a))
+  pub some-carried : (Shown : List Arrival → List ℕ → Type 0) → AnswersSome tells service host Shown old new since → AnswersSome tells service host Shown old2 new2 since2
+  some-carried Shown a = subst (λ (o : HeldStore). AnswersSome tells service host Shown o new2 since2) p (subst (λ (n : HeldStore). AnswersSome tells service host Shown old n since2) q (some-since Shown a))
 
   pub part-carried : AnswersPart tells service host source before now old new since → AnswersPart tells service host source before now old2 new2 since2
-  part-carried (inl a) = inl (some-carried a)
+  part-carried (inl a) = inl (some-carried (InPart source before now) a)
   part-carried (inr a) = inr (subst (λ (o : HeldStore). AnswersNone tells service before now o since2) p (none-since a))
 
 -- ---- the bytes of the source and of the sink
@@ -80,9 +81,14 @@ module _ (tells : Type 0) (service host : List ℕ) (l l2 b b2 n n2 : Option (Li
   all-bytes a = subst (λ (x : Option (List ℕ)). AnswersAll tells service host x b2 n2 old new since) p
       (subst (λ (x : Option (List ℕ)). AnswersAll tells service host l x n2 old new since) q (subst (λ (x : Option (List ℕ)). AnswersAll tells service host l b x old new since) r a))
 
-  pub some-bytes : AnswersSome tells service host l b n old new since → AnswersSome tells service host l2 b2 n2 old new since
-  some-bytes a = subst (λ (x : Option (List ℕ)). AnswersSome tells service host x b2 n2 old new since) p
-      (subst (λ (x : Option (List ℕ)). AnswersSome tells service host l x n2 old new since) q (subst (λ (x : Option (List ℕ)). AnswersSome tells service host l b x old new since) r a))
+  pub some-bytes : AnswersSome tells service host (InPart l b n) old new since → AnswersSome tells service host (InPart l2 b2 n2) old new since
+  some-bytes a = subst (λ (x : Option (List ℕ)). AnswersSome tells service host (InPart x b2 n2) old new since) p
+      (subst (λ (x : Option (List ℕ)). AnswersSome tells service host (InPart l x n2) old new since) q (subst (λ (x : Option (List ℕ)). AnswersSome tells service host (InPart l b x) old new since) r a))
+
+  pub ended-bytes : (m m2 : Option (List ℕ)) → m ≡ m2 → AnswersSome tells service host (AllEnded l m b n) old new since → AnswersSome tells service host (AllEnded l2 m2 b2 n2) old new since
+  ended-bytes m m2 u a = subst (λ (x : Option (List ℕ)). AnswersSome tells service host (AllEnded x m2 b2 n2) old new since) p
+      (subst (λ (x : Option (List ℕ)). AnswersSome tells service host (AllEnded l x b2 n2) old new since) u
+      (subst (λ (x : Option (List ℕ)). AnswersSome tells service host (AllEnded l m x n2) old new since) q (subst (λ (x : Option (List ℕ)). AnswersSome tells service host (AllEnded l m b x) old new since) r a)))
 
   pub part-bytes : AnswersPart tells service host l b n old new since → AnswersPart tells service host l2 b2 n2 old new since
   part-bytes a = subst (λ (x : Option (List ℕ)). AnswersPart tells service host x b2 n2 old new since) p
@@ -115,6 +121,9 @@ module _ (tells : Type 0) (s : Served) (sources sources2 sources3 sources4 sinks
   source-after : (sources3 s.stream.source).bytes ≡ (sources4 s.stream.source).bytes
   source-after = sym (ap (λ (h : Held). h.bytes) (after s.stream.source))
 
+  sink-rose : Rose (sinks2 s.stream.sink).faults (sinks3 s.stream.sink).faults → Rose (sinks s.stream.sink).faults (sinks4 s.stream.sink).faults
+  sink-rose r = rose-by (sinks2 s.stream.sink).faults (sinks s.stream.sink).faults (sinks3 s.stream.sink).faults (sinks4 s.stream.sink).faults (ap (λ (h : Held). h.faults) (sinks_before s.stream.sink)) (sym (ap (λ (h : Held). h.faults) (sinks_after s.stream.sink))) r
+
   pub answers-inside : Answers tells s sources2 sources3 sinks2 sinks3 old new since → Answers tells s sources sources4 sinks sinks4 old2 new2 since2
   answers-inside a = record {
     read = whole-bytes (sources2 s.stream.source).bytes (sources s.stream.source).bytes (sources3 s.stream.source).bytes (sources4 s.stream.source).bytes source-same source-after a.read;
@@ -124,7 +133,14 @@ module _ (tells : Type 0) (s : Served) (sources sources2 sources3 sources4 sinks
 
   pub first-inside : AnswersFirst tells s sources2 sinks2 sinks3 old new since → AnswersFirst tells s sources sinks sinks4 old2 new2 since2
   first-inside a = some-carried tells s.service s.stream.host (sources s.stream.source).bytes (sinks s.stream.sink).bytes (sinks4 s.stream.sink).bytes old old2 new new2 since since2 p q less
+      (InPart (sources s.stream.source).bytes (sinks s.stream.sink).bytes (sinks4 s.stream.sink).bytes)
       (some-bytes tells s.service s.stream.host (sources2 s.stream.source).bytes (sources s.stream.source).bytes (sinks2 s.stream.sink).bytes (sinks s.stream.sink).bytes (sinks3 s.stream.sink).bytes (sinks4 s.stream.sink).bytes old new since source-same sink-same sink-after a)
+
+  pub ended-inside : AnswersEnded tells s sources2 sources3 sinks2 sinks3 old new since → AnswersEnded tells s sources sources4 sinks sinks4 old2 new2 since2
+  ended-inside a still = some-carried tells s.service s.stream.host (sources s.stream.source).bytes (sinks s.stream.sink).bytes (sinks4 s.stream.sink).bytes old old2 new new2 since since2 p q less
+      (AllEnded (sources s.stream.source).bytes (sources4 s.stream.source).bytes (sinks s.stream.sink).bytes (sinks4 s.stream.sink).bytes)
+      (ended-bytes tells s.service s.stream.host (sources2 s.stream.source).bytes (sources s.stream.source).bytes (sinks2 s.stream.sink).bytes (sinks s.stream.sink).bytes (sinks3 s.stream.sink).bytes (sinks4 s.stream.sink).bytes old new since source-same sink-same sink-after
+      (sources3 s.stream.source).bytes (sources4 s.stream.source).bytes source-after (a (λ rose. still (sink-rose rose))))
 
   pub part-inside : AnswersInPart tells s sources2 sinks2 sinks3 old new since → AnswersInPart tells s sources sinks sinks4 old2 new2 since2
   part-inside a = part-carried tells s.service s.stream.host (sources s.stream.source).bytes (sinks s.stream.sink).bytes (sinks4 s.stream.sink).bytes old old2 new new2 since since2 p q less
@@ -132,7 +148,7 @@ module _ (tells : Type 0) (s : Served) (sources sources2 sources3 sources4 sinks
 
   pub stream-inside : StreamRose s sources2 sources3 sinks2 sinks3 → StreamRose s sources sources4 sinks sinks4
   stream-inside (inl r) = inl (rose-by (sources2 s.stream.source).faults (sources s.stream.source).faults (sources3 s.stream.source).faults (sources4 s.stream.source).faults (ap (λ (h : Held). h.faults) (before s.stream.source)) (sym (ap (λ (h : Held). h.faults) (after s.stream.source))) r)
-  stream-inside (inr r) = inr (rose-by (sinks2 s.stream.sink).faults (sinks s.stream.sink).faults (sinks3 s.stream.sink).faults (sinks4 s.stream.sink).faults (ap (λ (h : Held). h.faults) (sinks_before s.stream.sink)) (sym (ap (λ (h : Held). h.faults) (sinks_after s.stream.sink))) r)
+  stream-inside (inr r) = inr (sink-rose r)
 
   pub long-inside : GaveAll s sources2 sources3 → GaveAll s sources sources4
   long-inside a = limit-bytes (sources2 s.stream.source).bytes (sources s.stream.source).bytes (sources3 s.stream.source).bytes (sources4 s.stream.source).bytes source-same source-after a

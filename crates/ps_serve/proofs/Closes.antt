@@ -2,6 +2,7 @@
 use Rattle.std.proofs.Common.{◌≡◌, inl, inr, ℕ, ◌+◌, ◌≤◌, ◌<◌, Bool, true, false, List, [], ◌∷◌, ◌++◌, length, Option, None, refl, ap, sym, ◌∙◌, subst, arith, append_assoc, length-append}
 use Rattle.std.specs.Prelude.{◌⊎◌, is_some, map, take}
 use Rattle.std.proofs.lemmas.List.{append-nil}
+use Rattle.ps_types.specs.declared.entry.Arrival.{Arrival}
 use Rattle.ps_types.specs.declared.entry.Entry.{Entry}
 use Rattle.ps_types.specs.declared.entry.Entry.TheVariants.{Boot, Gone as GoneEntry}
 use Rattle.ps_disk.specs.declared.device.Disk.{Ghosts}
@@ -126,12 +127,12 @@ module _ {D : Type 0} {g : Ghosts D} (old : D) (hall : Hall D g) (b : Begun D) (
         };
       }
 
-  module _ (all before now : Option (List ℕ)) (stop : Stopped hall b all before now) where
+  module _ (Shown : List Arrival → List ℕ → Type 0) (stop : Stopped hall b Shown) where
     abbrev list : List Entry
     list = (stop.ends.ends.made ++ stop.ends.ends.rest) ++ stop.gone
 
     some-at : (g.tells → NoFault (told old) (told disk) → HasLength (g.seen disk) (length_of hall.journal)) → (g.tells → NoFault (told old) (told disk) → LeavesList (g.synced disk) (g.written disk) list)
-        → AnswersSome g.tells b.service b.host all before now (told old) (told disk) (g.left_since disk)
+        → AnswersSome g.tells b.service b.host Shown (told old) (told disk) (g.left_since disk)
     some-at has still =
         let len = length_of hall.journal in
         let e = stop.ends in
@@ -144,8 +145,7 @@ module _ {D : Type 0} {g : Ghosts D} (old : D) (hall : Hall D g) (b : Begun D) (
         record {
           arrivals = stop.arrivals;
           out = stop.out;
-          first = stop.first;
-          wrote = stop.wrote;
+          shown = stop.shown;
           keeps = record {
             opened = b.opened;
             made = s.made;
@@ -193,13 +193,13 @@ module _ {D : Type 0} {g : Ghosts D} (old : D) (hall : Hall D g) (b : Begun D) (
       now-lasts : g.tells → LeavesList (g.synced disk) (g.written disk) list
       now-lasts tells c may = subst (λ (x : List Entry). spelled c x) now-list ((stop.ends.stands.for.journal.disk tells).lasts unbroken c may)
 
-    some-by : (broken : Bool) → stop.ends.world.broken ≡ broken → AnswersSome g.tells b.service b.host all before now (told old) (told disk) (g.left_since disk)
+    some-by : (broken : Bool) → stop.ends.world.broken ≡ broken → AnswersSome g.tells b.service b.host Shown (told old) (told disk) (g.left_since disk)
     some-by true so =
         let never : NoFault (told old) (told disk) → ⊥ = λ none. none (rose-since (g.faults old) (g.faults b.disk) (g.faults disk) later (stop.ends.fault so)) in
         some-at (λ tells none. absurd (never none)) (λ tells none. absurd (never none))
     some-by false so = some-at (λ tells none. now-long so tells) (λ tells none. now-lasts so tells)
 
-    pub some-closed : AnswersSome g.tells b.service b.host all before now (told old) (told disk) (g.left_since disk)
+    pub some-closed : AnswersSome g.tells b.service b.host Shown (told old) (told disk) (g.left_since disk)
     some-closed = some-by stop.ends.world.broken refl
 
     -- it lacks room for its end

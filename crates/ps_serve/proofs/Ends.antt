@@ -1,6 +1,6 @@
 -- How a stream ends in the hall.
 use Rattle.std.proofs.Common.{◌≡◌, ◌≢◌, ℕ, ◌+◌, ◌≤◌, ◌<◌, ◌^◌, List, [], ◌∷◌, Option, None, sym, subst, arith, inl, inr, refl, ap, ◌∙◌}
-use Rattle.std.specs.Prelude.{Result, Ok, Err, OnOk, IfErr}
+use Rattle.std.specs.Prelude.{◌⊎◌, Result, Ok, Err, OnOk, IfErr}
 use Rattle.ps_types.specs.declared.entry.Arrival.{Arrival}
 use Rattle.ps_types.specs.declared.entry.Entry.{Entry}
 use Rattle.ps_types.specs.declared.entry.Entry.TheVariants.{Gone as GoneEntry}
@@ -22,7 +22,7 @@ use Rattle.ps_hall.specs.Passes.{steps_of}
 use Rattle.ps_hall.specs.Stand.{IsStanding}
 use Rattle.ps_serve.specs.declared.turn.StreamEnd.{StreamEnd}
 use Rattle.ps_serve.specs.declared.turn.StreamEnd.TheVariants as ends
-use Rattle.ps_serve.specs.Serving.{Begun, EndsIn, Finished, IsEnding, IsGoneOf, LacksGoneIn, Ran, Stopped, Stops}
+use Rattle.ps_serve.specs.Serving.{Begun, EndsIn, Finished, InPart, IsEnding, IsGoneOf, LacksGoneIn, Ran, Stopped, Stops}
 use Rattle.ps_serve.proofs.Halls.{ended-writer, finished-writer, gone-ends, gone-finished, refused-gone, rose-since, rose-until, serves-ends}
 use Rattle.ps_serve.proofs.Arrivals.{all-first}
 use Rattle.ps_serve.proofs.Opens.{whole-if}
@@ -44,9 +44,9 @@ module _ {D : Type 0} {g : Ghosts D} (old mid : Hall D g) (b : Begun D) (arrival
   gone-any n (Err why) o e = refused-gone old mid b arrivals out some o.limits o.faults n why e o.err
 
 -- the stream has ended, whatever came of its Gone
-pub stream-stopped : {D : Type 0} {g : Ghosts D} (old mid new : Hall D g) (host : List ℕ) (gone : Result (Unit {0}) HandedRefusal) (b : Begun D) (all before now : Option (List ℕ)) → GoneOut old mid host gone → Goes mid new (Ended host Writer ∷ [])
-    → new.limits ≡ mid.limits → g.faults (disk_of mid.journal) ≤ g.faults (disk_of new.journal) → b.service ≢ [] → b.host ≡ host → Stops old b all before now → Stopped new b all before now
-stream-stopped old mid new host gone b all before now o goes limits faults some is s =
+pub stream-stopped : {D : Type 0} {g : Ghosts D} (old mid new : Hall D g) (host : List ℕ) (gone : Result (Unit {0}) HandedRefusal) (b : Begun D) (Shown : List Arrival → List ℕ → Type 0) → GoneOut old mid host gone → Goes mid new (Ended host Writer ∷ [])
+    → new.limits ≡ mid.limits → g.faults (disk_of mid.journal) ≤ g.faults (disk_of new.journal) → b.service ≢ [] → b.host ≡ host → Stops old b Shown → Stopped new b Shown
+stream-stopped old mid new host gone b Shown o goes limits faults some is s =
     let o2 = subst (λ (h : List ℕ). GoneOut old mid h gone) (sym is) o in
     let goes2 = subst (λ (h : List ℕ). Goes mid new (Ended h Writer ∷ [])) (sym is) goes in
     let e = gone-any old mid b s.arrivals s.out some 3 gone o2 s.ends in
@@ -56,8 +56,7 @@ stream-stopped old mid new host gone b all before now o goes limits faults some 
       gone = e.0;
       gone_is = e.1;
       ends = ended-writer mid new b s.arrivals s.out some limits faults 6 e.0 e.2 goes2;
-      first = s.first;
-      wrote = s.wrote;
+      shown = s.shown;
     }
 
 -- the stream has ended with its Gone
@@ -105,7 +104,7 @@ stream-lacks {D} {g} old mid new host is refused limits same journal =
 
 -- the disk has failed since the beginning
 pub gone-rose : {D : Type 0} {g : Ghosts D} (old mid new : Hall D g) (host : List ℕ) (b : Begun D) (all before now : Option (List ℕ)) → GoneRefused old mid host handed.Store → g.faults (disk_of old.journal) ≤ g.faults (disk_of mid.journal)
-    → g.faults (disk_of mid.journal) ≤ g.faults (disk_of new.journal) → b.service ≢ [] → b.host ≡ host → Stops old b all before now → Rose (g.faults b.disk) (g.faults (disk_of new.journal))
+    → g.faults (disk_of mid.journal) ≤ g.faults (disk_of new.journal) → b.service ≢ [] → b.host ≡ host → Stops old b (InPart all before now) → Rose (g.faults b.disk) (g.faults (disk_of new.journal))
 gone-rose {D} {g} old mid new host b all before now refused faults later some is s =
     elim (refused b.service some s.ends.world s.ends.stands) [
       | inl x ↦ rose-until (g.faults b.disk) (g.faults (disk_of old.journal)) (g.faults (disk_of new.journal)) (s.ends.fault x.0) (omega (arith, faults, later))
@@ -113,22 +112,21 @@ gone-rose {D} {g} old mid new host b all before now refused faults later some is
     ]
 
 -- a stream that ran to its end has stopped
-pub ran-stops : {D : Type 0} {g : Ghosts D} (hall : Hall D g) (b : Begun D) (all before now : Option (List ℕ)) → Ran hall b all before now → Stops hall b all before now
+pub ran-stops : {D : Type 0} {g : Ghosts D} (hall : Hall D g) (b : Begun D) (all before now : Option (List ℕ)) → Ran hall b all before now → Stops hall b (InPart all before now)
 ran-stops hall b all before now r = record {
   arrivals = r.arrivals;
   out = r.done.out;
   ends = serves-ends hall b r.arrivals r.done.out r.done.serves;
   number = r.number;
-  first = all-first all r.arrivals r.all_came;
-  wrote = whole-front before now r.done.out r.done.wrote;
+  shown = record { first = all-first all r.arrivals r.all_came; wrote = whole-front before now r.done.out r.done.wrote };
 }
 
 -- so it is ending
-pub stops-ending : {D : Type 0} {g : Ghosts D} (hall : Hall D g) (host : List ℕ) (b : Begun D) (all before now : Option (List ℕ)) → b.service ≢ [] → b.host ≡ host → Stops hall b all before now → IsEnding hall host
+pub stops-ending : {D : Type 0} {g : Ghosts D} (hall : Hall D g) (host : List ℕ) (b : Begun D) (all before now : Option (List ℕ)) → b.service ≢ [] → b.host ≡ host → Stops hall b (InPart all before now) → IsEnding hall host
 stops-ending hall host b all before now some is s = (b, s.arrivals, s.out, some, is, s.number, s.ends)
 
 -- whatever ended it, it has stopped
-pub either-stops : {D : Type 0} {g : Ghosts D} (hall : Hall D g) (b : Begun D) (all before now : Option (List ℕ)) (end : StreamEnd) → (end ≡ ends.Ended → Ran hall b all before now) → (end ≢ ends.Ended → Stops hall b all before now) → Stops hall b all before now
+pub either-stops : {D : Type 0} {g : Ghosts D} (hall : Hall D g) (b : Begun D) (all before now : Option (List ℕ)) (end : StreamEnd) → (end ≡ ends.Ended → Ran hall b all before now) → (end ≢ ends.Ended → Stops hall b (InPart all before now)) → Stops hall b (InPart all before now)
 either-stops hall b all before now ends.Ended ran stops = ran-stops hall b all before now (ran refl)
 either-stops hall b all before now ends.ReadFault ran stops = stops (λ e. cc e)
 either-stops hall b all before now ends.WriteFault ran stops = stops (λ e. cc e)
@@ -137,7 +135,12 @@ either-stops hall b all before now ends.Store ran stops = stops (λ e. cc e)
 either-stops hall b all before now ends.Full ran stops = stops (λ e. cc e)
 either-stops hall b all before now ends.Memory ran stops = stops (λ e. cc e)
 
-pub stops-few : {D : Type 0} {g : Ghosts D} (hall : Hall D g) (b : Begun D) (all before now : Option (List ℕ)) → Stops hall b all before now → steps_of hall < 2 ^ 60
+-- what failed was not the sink
+pub source-failed : {P : Type 0} (end : StreamEnd) → (end ≡ ends.ReadFault) ⊎ (end ≡ ends.WriteFault) → (end ≡ ends.WriteFault → P) → (P → ⊥) → (end ≡ ends.ReadFault) ⊎ (end ≡ ends.Long)
+source-failed end (inl read) rose still = inl read
+source-failed end (inr write) rose still = absurd (still (rose write))
+
+pub stops-few : {D : Type 0} {g : Ghosts D} (hall : Hall D g) (b : Begun D) (all before now : Option (List ℕ)) → Stops hall b (InPart all before now) → steps_of hall < 2 ^ 60
 stops-few hall b all before now s =
     let n = s.ends.stands.for.state.steps in
     let f = s.ends.ends.few in

@@ -5,6 +5,7 @@ pub mod OneLine
 pub mod Halls
 pub mod Answering
 pub mod Arrivals
+pub mod EachLine
 pub mod Streams
 pub mod Opens
 pub mod Ends

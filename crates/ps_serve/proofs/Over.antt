@@ -1,6 +1,7 @@
 -- A stream over its store, from the opening of the hall to its close.
 use Rattle.std.proofs.Common.{◌≡◌, ◌≢◌, ℕ, ◌+◌, ◌≤◌, List, [], ◌∷◌, Option, Some, None, ap, sym, ◌∙◌, subst}
 use Rattle.std.specs.Prelude.{slice_get}
+use Rattle.ps_types.specs.declared.entry.Arrival.{Arrival}
 use Rattle.ps_types.specs.declared.entry.Entry.{Entry}
 use Rattle.ps_types.specs.declared.entry.Entry.TheVariants.{Boot}
 use Rattle.ps_disk.specs.declared.device.Disk.{Ghosts}
@@ -37,7 +38,7 @@ module _ {D : Type 0} {g : Ghosts D} (only : OnlyNow g) (disk : D) (service host
       (any : g.tells → (E : List Entry) → spelled (g.seen disk) E → IsTidy (g.seen disk) → LeavesOnly g.moment g.left_since disk (disk_under hall) (IsOpenLeft (g.synced disk) (g.written disk) E (Boot service)))
       (final : Hall D g) (kept : final.limits ≡ hall.limits) (closed : D) (same : closed ≡ disk_under final)
       (long : g.tells → broken_of final.journal ≡ None → (bs : List (List ℕ)) → BegunStore (g.seen closed) bs → length_of final.journal ≡ gate_at bs + 1)
-      (floor : g.tells → LeavesAtLeast (g.synced closed) (g.written closed) (length_of final.journal)) (all before now : Option (List ℕ)) where
+      (floor : g.tells → LeavesAtLeast (g.synced closed) (g.written closed) (length_of final.journal)) where
     abbrev told : D → HeldStore
     told d = held_as g.faults g.seen g.synced g.written g.moment g.syncs d
 
@@ -57,17 +58,17 @@ module _ {D : Type 0} {g : Ghosts D} (only : OnlyNow g) (disk : D) (service host
       limit : final.limits.changes ≡ max_changes
       limit = ap (λ (l : Limits). l.changes) (kept ∙ is.limits_are) ∙ changes
 
-      pub opened-all : Finished final (began only disk service host some limits hall passes is) all before now → AnswersAll g.tells service host all before now (told disk) (told closed) (g.left_since closed)
-      opened-all done =
+      pub opened-all : (all before now : Option (List ℕ)) → Finished final (began only disk service host some limits hall passes is) all before now → AnswersAll g.tells service host all before now (told disk) (told closed) (g.left_since closed)
+      opened-all all before now done =
           subst (λ (d : D). AnswersAll g.tells service host all before now (told disk) (told d) (g.left_since d)) (sym same)
           (all-closed disk final (began only disk service host some limits hall passes is) was later first limit there least all before now done)
 
-      pub opened-some : Stopped final (began only disk service host some limits hall passes is) all before now → AnswersSome g.tells service host all before now (told disk) (told closed) (g.left_since closed)
-      opened-some stop =
-          subst (λ (d : D). AnswersSome g.tells service host all before now (told disk) (told d) (g.left_since d)) (sym same)
-          (some-closed disk final (began only disk service host some limits hall passes is) was later first limit there least all before now stop)
+      pub opened-some : (Shown : List Arrival → List ℕ → Type 0) → Stopped final (began only disk service host some limits hall passes is) Shown → AnswersSome g.tells service host Shown (told disk) (told closed) (g.left_since closed)
+      opened-some Shown stop =
+          subst (λ (d : D). AnswersSome g.tells service host Shown (told disk) (told d) (g.left_since d)) (sym same)
+          (some-closed disk final (began only disk service host some limits hall passes is) was later first limit there least Shown stop)
 
-      pub opened-lacks : limits.whole ≡ max_whole → Stopped final (began only disk service host some limits hall passes is) all before now → LacksGoneIn final host → g.tells → LacksGone (g.seen closed) host
-      opened-lacks whole stop lacks tells =
+      pub opened-lacks : (Shown : List Arrival → List ℕ → Type 0) → limits.whole ≡ max_whole → Stopped final (began only disk service host some limits hall passes is) Shown → LacksGoneIn final host → g.tells → LacksGone (g.seen closed) host
+      opened-lacks Shown whole stop lacks tells =
           subst (λ (d : D). LacksGone (g.seen d) host) (sym same)
-          (lacks-closed disk final (began only disk service host some limits hall passes is) was later first limit there least all before now stop lacks (ap (λ (l : Limits). l.whole) (kept ∙ is.limits_are) ∙ whole) tells)
+          (lacks-closed disk final (began only disk service host some limits hall passes is) was later first limit there least Shown stop lacks (ap (λ (l : Limits). l.whole) (kept ∙ is.limits_are) ∙ whole) tells)

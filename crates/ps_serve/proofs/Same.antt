@@ -5,7 +5,8 @@ use Rattle.ps_base.specs.Causes.{Rose}
 use Rattle.ps_outside.specs.Held.{Held, HeldStore, Same, SameLefts}
 use Rattle.ps_serve.specs.Answering.{AnswersAll, AnswersPart, AnswersSome}
 use Rattle.ps_serve.specs.Reached.{ReadLimit, ReadWhole}
-use Rattle.ps_serve.specs.Runs.{Answers, AnswersFirst, AnswersInPart, GaveAll, LacksRoomAtAll, Leaves, LeavesAsItWas, Served, StreamRose}
+use Rattle.ps_serve.specs.Serving.{AllEnded, InPart}
+use Rattle.ps_serve.specs.Runs.{Answers, AnswersEnded, AnswersFirst, AnswersInPart, GaveAll, LacksRoomAtAll, Leaves, LeavesAsItWas, Served, StreamRose}
 use Rattle.ps_serve.proofs.Carried.{all-carried, part-carried, some-carried}
 
 pub gave-all-still : (o : Option Served) (sources then now : List ℕ → Held) → Same then now → IfSome o (λ s. GaveAll s sources then) → IfSome o (λ s. GaveAll s sources now)
@@ -57,9 +58,18 @@ module _ (tells : Type 0) (sources then now sinks sinks_then sinks_now : List �
   pub first-still : (o : Option Served) → IfSome o (λ s. AnswersFirst tells s sources sinks sinks_then (stores s.store) (stores_then s.store) (lefts_then s.store)) → IfSome o (λ s. AnswersFirst tells s sources sinks sinks_now (stores s.store) (stores_now s.store) (lefts_now s.store))
   first-still None a = tt
   first-still (Some s) a =
-      subst (λ (h : Held). AnswersSome tells s.service s.stream.host (sources s.stream.source).bytes (sinks s.stream.sink).bytes h.bytes (stores s.store) (stores_now s.store) (lefts_now s.store)) (sym (same_sinks s.stream.sink))
+      subst (λ (h : Held). AnswersSome tells s.service s.stream.host (InPart (sources s.stream.source).bytes (sinks s.stream.sink).bytes h.bytes) (stores s.store) (stores_now s.store) (lefts_now s.store)) (sym (same_sinks s.stream.sink))
       (some-carried tells s.service s.stream.host (sources s.stream.source).bytes (sinks s.stream.sink).bytes (sinks_then s.stream.sink).bytes (stores s.store) (stores s.store) (stores_then s.store) (stores_now s.store) (lefts_then s.store) (lefts_now s.store)
-      refl (sym (same_stores s.store)) (λ t c is. (same_lefts s.store t c).1 is) a)
+      refl (sym (same_stores s.store)) (λ t c is. (same_lefts s.store t c).1 is) (InPart (sources s.stream.source).bytes (sinks s.stream.sink).bytes (sinks_then s.stream.sink).bytes) a)
+
+  pub ended-still : (o : Option Served) → IfSome o (λ s. AnswersEnded tells s sources then sinks sinks_then (stores s.store) (stores_then s.store) (lefts_then s.store)) → IfSome o (λ s. AnswersEnded tells s sources now sinks sinks_now (stores s.store) (stores_now s.store) (lefts_now s.store))
+  ended-still None a = tt
+  ended-still (Some s) a = λ still.
+      subst (λ (h : Held). AnswersSome tells s.service s.stream.host (AllEnded (sources s.stream.source).bytes h.bytes (sinks s.stream.sink).bytes (sinks_now s.stream.sink).bytes) (stores s.store) (stores_now s.store) (lefts_now s.store)) (sym (same s.stream.source))
+      (subst (λ (h : Held). AnswersSome tells s.service s.stream.host (AllEnded (sources s.stream.source).bytes (then s.stream.source).bytes (sinks s.stream.sink).bytes h.bytes) (stores s.store) (stores_now s.store) (lefts_now s.store)) (sym (same_sinks s.stream.sink))
+      (some-carried tells s.service s.stream.host (sources s.stream.source).bytes (sinks s.stream.sink).bytes (sinks_then s.stream.sink).bytes (stores s.store) (stores s.store) (stores_then s.store) (stores_now s.store) (lefts_then s.store) (lefts_now s.store)
+      refl (sym (same_stores s.store)) (λ t c is. (same_lefts s.store t c).1 is) (AllEnded (sources s.stream.source).bytes (then s.stream.source).bytes (sinks s.stream.sink).bytes (sinks_then s.stream.sink).bytes)
+      (a (λ rose. still (subst (λ (h : Held). Rose (sinks s.stream.sink).faults h.faults) (sym (same_sinks s.stream.sink)) rose)))))
 
   pub full-still : (o : Option Served) → IfSome o (λ s. LacksRoomAtAll tells s (stores s.store) (stores_then s.store)) → IfSome o (λ s. LacksRoomAtAll tells s (stores s.store) (stores_now s.store))
   full-still None a = tt

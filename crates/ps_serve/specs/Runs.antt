@@ -11,6 +11,7 @@ use Rattle.ps_hall.specs.OpenHall.{PassesBy}
 use Rattle.ps_serve.specs.Answering.{AnswersAll, AnswersPart, AnswersSome}
 use Rattle.ps_serve.specs.Kept.{LacksGone, max_whole}
 use Rattle.ps_serve.specs.Reached.{ReadWhole, ReadLimit}
+use Rattle.ps_serve.specs.Serving.{AllEnded, InPart}
 use Rattle.ps_serve.specs.declared.status.Status.{Status}
 use Rattle.ps_serve.specs.declared.status.Status.TheVariants as status
 use Rattle.ps_serve.specs.declared.words.Command.{Command}
@@ -47,10 +48,16 @@ pub record Answers (tells : Type 0) (s : Served) (sources sources_now sinks sink
   pub read : ReadWhole (sources s.stream.source).bytes (sources_now s.stream.source).bytes
   pub answers : AnswersAll tells s.service s.stream.host (sources s.stream.source).bytes (sinks s.stream.sink).bytes (sinks_now s.stream.sink).bytes old new since
 
--- some of its lines were
+-- some of its lines were, and a front of their replies was written
 abbrev pub AnswersFirst : Type 0 → Served → (List ℕ → Held) → (List ℕ → Held) → (List ℕ → Held) → HeldStore → HeldStore → (ℕ → List ℕ → Type 0) → Type 0
 AnswersFirst tells s sources sinks sinks_now old new since =
-    AnswersSome tells s.service s.stream.host (sources s.stream.source).bytes (sinks s.stream.sink).bytes (sinks_now s.stream.sink).bytes old new since
+    AnswersSome tells s.service s.stream.host (InPart (sources s.stream.source).bytes (sinks s.stream.sink).bytes (sinks_now s.stream.sink).bytes) old new since
+
+-- where the sink has not failed, all of them that a newline ended in what the source gave, and all their replies were written
+abbrev pub AnswersEnded : Type 0 → Served → (List ℕ → Held) → (List ℕ → Held) → (List ℕ → Held) → (List ℕ → Held) → HeldStore → HeldStore → (ℕ → List ℕ → Type 0) → Type 0
+AnswersEnded tells s sources sources_now sinks sinks_now old new since =
+    (Rose (sinks s.stream.sink).faults (sinks_now s.stream.sink).faults → ⊥)
+    → AnswersSome tells s.service s.stream.host (AllEnded (sources s.stream.source).bytes (sources_now s.stream.source).bytes (sinks s.stream.sink).bytes (sinks_now s.stream.sink).bytes) old new since
 
 -- some of its lines were, or none came
 abbrev pub AnswersInPart : Type 0 → Served → (List ℕ → Held) → (List ℕ → Held) → (List ℕ → Held) → HeldStore → HeldStore → (ℕ → List ℕ → Type 0) → Type 0

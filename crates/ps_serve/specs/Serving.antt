@@ -1,8 +1,8 @@
 -- What a hall that serves one stream stands for.
 use Rattle.std.specs.Prelude.{ℕ, ◌≡◌, ◌≢◌, ◌⊎◌, ◌+◌, ◌*◌, ◌^◌, ◌<◌, ◌≤◌, Bool, true, false, List, [], ◌∷◌, ◌++◌, length, map, Option, Some, None}
-use Rattle.std.specs.Io.KnownBytes.{Appends}
+use Rattle.std.specs.Io.KnownBytes.{Appends, Consumes}
 use Rattle.ps_base.specs.Causes.{Rose}
-use Rattle.ps_types.specs.Lines.{lines_of}
+use Rattle.ps_types.specs.Lines.{AreWritten, lines_of, whole_lines}
 use Rattle.ps_types.specs.declared.entry.Arrival.{Arrival}
 use Rattle.ps_types.specs.declared.entry.Entry.{Entry}
 use Rattle.ps_types.specs.declared.entry.Entry.TheVariants.{Boot, Gone}
@@ -124,6 +124,33 @@ abbrev pub AreAll : Option (List ℕ) → List Arrival → Type 0
 AreAll None arrivals = Unit {0}
 AreAll (Some all) arrivals = map arrival_of (lines_of all) ≡ arrivals
 
+-- these lines came of all of the source's, each with its newline, and the rest is still to come
+pub record CameEach (all : List ℕ) (rest : Option (List ℕ)) (arrivals : List Arrival) : Type 0 where
+  pub given : List ℕ
+  pub lines : List (List ℕ)
+  pub whole : AreWritten given lines []
+  pub gave : Consumes (Some all) rest given
+  pub arrive : map arrival_of lines ≡ arrivals
+
+abbrev pub CameWhole : Option (List ℕ) → Option (List ℕ) → List Arrival → Type 0
+CameWhole None rest arrivals = Unit {0}
+CameWhole (Some all) rest arrivals = CameEach all rest arrivals
+
+-- those that a newline ended in what the source gave, where this is left of it
+abbrev pub AreEnded : Option (List ℕ) → Option (List ℕ) → List Arrival → Type 0
+AreEnded None left arrivals = Unit {0}
+AreEnded (Some all) left arrivals = (given : List ℕ) × Consumes (Some all) left given × (map arrival_of (whole_lines given) ≡ arrivals)
+
+-- the first lines of the source came, and a front of their replies was written
+pub record InPart (all before now : Option (List ℕ)) (arrivals : List Arrival) (out : List ℕ) : Type 0 where
+  pub first : AreFirst all arrivals
+  pub wrote : AppendsFront before now out
+
+-- all lines came that a newline ended in what the source gave, and all their replies were written
+pub record AllEnded (all left before now : Option (List ℕ)) (arrivals : List Arrival) (out : List ℕ) : Type 0 where
+  pub came : AreEnded all left arrivals
+  pub wrote : Appends before now out
+
 -- these lines were answered, and all replies were written
 pub record Wrote {D : Type 0} {g : Ghosts D} (hall : Hall D g) (b : Begun D) (arrivals : List Arrival) (before now : Option (List ℕ)) : Type 0 where
   pub out : List ℕ
@@ -138,27 +165,27 @@ pub record WroteInPart {D : Type 0} {g : Ghosts D} (hall : Hall D g) (b : Begun 
   pub ends : EndsIn hall b came out [] 3
   pub wrote : AppendsFront before now out
 
--- so many lines came and were answered, and all replies were written
-pub record Runs {D : Type 0} {g : Ghosts D} (hall : Hall D g) (b : Begun D) (all rest before now : Option (List ℕ)) (count : ℕ) : Type 0 where
+-- so many lines came and were answered, and all replies were written; while the input hasn't ended, a newline ended each of them
+pub record Runs {D : Type 0} {g : Ghosts D} (hall : Hall D g) (b : Begun D) (all rest : Option (List ℕ)) (ended : Bool) (before now : Option (List ℕ)) (count : ℕ) : Type 0 where
   pub arrivals : List Arrival
   pub done : Wrote hall b arrivals before now
   pub number : length arrivals ≡ count
   pub came : CameFrom all rest arrivals
+  pub whole : ended ≡ false → CameWhole all rest arrivals
 
 -- the lines that came, and the bytes that may still come, are few
-pub record RunsWithin {D : Type 0} {g : Ghosts D} (hall : Hall D g) (b : Begun D) (all rest before now : Option (List ℕ)) (budget : ℕ) : Type 0 where
+pub record RunsWithin {D : Type 0} {g : Ghosts D} (hall : Hall D g) (b : Begun D) (all rest : Option (List ℕ)) (ended : Bool) (before now : Option (List ℕ)) (budget : ℕ) : Type 0 where
   pub count : ℕ
   pub within : count + budget ≤ 2 ^ 40
-  pub runs : Runs hall b all rest before now count
+  pub runs : Runs hall b all rest ended before now count
 
--- it stopped: of the lines that were answered a front of the replies was written
-pub record Stops {D : Type 0} {g : Ghosts D} (hall : Hall D g) (b : Begun D) (all before now : Option (List ℕ)) : Type 0 where
+-- it stopped: these lines were answered, and so much came and was written
+pub record Stops {D : Type 0} {g : Ghosts D} (hall : Hall D g) (b : Begun D) (Shown : List Arrival → List ℕ → Type 0) : Type 0 where
   pub arrivals : List Arrival
   pub out : List ℕ
   pub ends : EndsIn hall b arrivals out [] 3
   pub number : length arrivals ≤ 2 ^ 40 + 1
-  pub first : AreFirst all arrivals
-  pub wrote : AppendsFront before now out
+  pub shown : Shown arrivals out
 
 -- all lines were answered, and all replies were written
 pub record Ran {D : Type 0} {g : Ghosts D} (hall : Hall D g) (b : Begun D) (all before now : Option (List ℕ)) : Type 0 where
@@ -178,14 +205,13 @@ pub record Finished {D : Type 0} {g : Ghosts D} (hall : Hall D g) (b : Begun D) 
   pub wrote : Appends before now out
 
 -- the stream has ended, perhaps with its Gone
-pub record Stopped {D : Type 0} {g : Ghosts D} (hall : Hall D g) (b : Begun D) (all before now : Option (List ℕ)) : Type 0 where
+pub record Stopped {D : Type 0} {g : Ghosts D} (hall : Hall D g) (b : Begun D) (Shown : List Arrival → List ℕ → Type 0) : Type 0 where
   pub arrivals : List Arrival
   pub out : List ℕ
   pub gone : List Entry
   pub gone_is : IsGoneOf b.host gone
   pub ends : EndsIn hall b arrivals out gone 7
-  pub first : AreFirst all arrivals
-  pub wrote : AppendsFront before now out
+  pub shown : Shown arrivals out
 
 -- its stream has stopped, after not too many lines
 abbrev pub IsEnding : {D : Type 0} {g : Ghosts D} → Hall D g → List ℕ → Type 0

@@ -4,7 +4,7 @@ ghost use Rattle.std.specs.declared.option.Option.{Option};
 ghost use Rattle.ps_base.specs.Causes.{Rose};
 ghost use Rattle.ps_journal.specs.Journal.{disk_of};
 ghost use Rattle.ps_hall.specs.Passes.{steps_of};
-ghost use Rattle.ps_serve.specs.Serving.{AreCallers, Begun, Finished, IsEnding, LacksGoneIn, Ran, Stopped, Stops};
+ghost use Rattle.ps_serve.specs.Serving.{AllEnded, AreCallers, Begun, Finished, InPart, IsEnding, LacksGoneIn, Ran, Stopped, Stops};
 
 use crate::turn::StreamEnd;
 use ps_disk::Disk;
@@ -52,12 +52,13 @@ pub fn end_stream<D: Disk>(
     requires few { steps_of hall.old < 2 ^ 60 }
     requires ending { IsEnding hall.old reader.old.host }
     ensures done { result ≡ StreamEnd.Ended → (b : Begun D) (all before now : Option (List ℕ)) → b.service ≢ [] → b.host ≡ reader.old.host → Ran hall.old b all before now → Finished hall.new b all before now }
-    ensures stopped { (b : Begun D) (all before now : Option (List ℕ)) → b.service ≢ [] → b.host ≡ reader.old.host → Stops hall.old b all before now → Stopped hall.new b all before now }
+    ensures stopped { (b : Begun D) (all before now : Option (List ℕ)) → b.service ≢ [] → b.host ≡ reader.old.host → Stops hall.old b (InPart all before now) → Stopped hall.new b (InPart all before now) }
+    ensures failed { (b : Begun D) (all left before now : Option (List ℕ)) → b.service ≢ [] → b.host ≡ reader.old.host → Stops hall.old b (AllEnded all left before now) → Stopped hall.new b (AllEnded all left before now) }
     ensures ended { result ≡ StreamEnd.Ended → end ≡ StreamEnd.Ended }
     ensures read { result ≡ StreamEnd.ReadFault → end ≡ StreamEnd.ReadFault }
     ensures write { result ≡ StreamEnd.WriteFault → end ≡ StreamEnd.WriteFault }
     ensures long { result ≡ StreamEnd.Long → end ≡ StreamEnd.Long }
-    ensures store { result ≡ StreamEnd.Store → (end ≡ StreamEnd.Store) ⊎ ((b : Begun D) (all before now : Option (List ℕ)) → b.service ≢ [] → b.host ≡ reader.old.host → Stops hall.old b all before now → Rose (D.faults b.disk) (D.faults (disk_of hall.new.journal))) }
+    ensures store { result ≡ StreamEnd.Store → (end ≡ StreamEnd.Store) ⊎ ((b : Begun D) (all before now : Option (List ℕ)) → b.service ≢ [] → b.host ≡ reader.old.host → Stops hall.old b (InPart all before now) → Rose (D.faults b.disk) (D.faults (disk_of hall.new.journal))) }
     ensures full { result ≡ StreamEnd.Full → (end ≡ StreamEnd.Full) ⊎ LacksGoneIn hall.new reader.old.host }
     ensures store_later { D.faults (disk_of hall.old.journal) ≤ D.faults (disk_of hall.new.journal) }
     ensures limits { hall.new.limits ≡ hall.old.limits }

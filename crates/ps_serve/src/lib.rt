@@ -11,6 +11,9 @@
 //! no line came the entries of the store stand, with or without the Boot (`KeepsOpened`). At any moment since the run's start a crash leaves what it
 //! might have left before, or a front of that list which has all entries of the store.
 //!
+//! At `StreamFault` and `StreamLong`, where the sink has not failed, all lines that a newline ended in what the source gave were answered, and the sink
+//! gained all replies to them (`AnswersEnded` of `specs/Runs.antt`).
+//!
 //! Each other answer than `Done` has its cause: `Usage` exactly where the words are no command (`command_of` of `specs/Words.antt`), `OpenFault` only
 //! where the world's count of faults rose in the last opening, `StoreDamaged` only where the bytes spell no list of accepted entries, at that offset,
 //! `StoreFault` only where the disk's count rose, `StoreFull` only where the Boot or the Gone would pass the limit of the store, `StreamFault` only

@@ -9,7 +9,7 @@ ghost use Rattle.ps_wire.specs.Reading.{source_of, IsFresh};
 ghost use Rattle.ps_serve.specs.Answering.{AnswersAll, AnswersPart, AnswersSome};
 ghost use Rattle.ps_serve.specs.Kept.{held_as, max_whole, LacksGone};
 ghost use Rattle.ps_serve.specs.Reached.{ReadLimit, ReadWhole};
-ghost use Rattle.ps_serve.specs.Serving.{AreCallers, Begun, Finished, IsFreshIn, LacksGoneIn, ServesIn, Stopped};
+ghost use Rattle.ps_serve.specs.Serving.{AllEnded, AreCallers, Begun, Finished, InPart, IsFreshIn, LacksGoneIn, ServesIn, Stopped};
 
 use crate::ending::end_stream;
 use crate::status::Status;
@@ -73,7 +73,8 @@ fn serve_host<D: Disk, S: Source, K: Sink>(
     requires fresh { IsFresh lines.old }
     requires serving { IsFreshIn hall.old reader.old.host }
     ensures done { result ≡ StreamEnd.Ended → (b : Begun D) → b.service ≢ [] → b.host ≡ reader.old.host → ServesIn hall.old b [] [] → Finished hall.new b (S.left (source_of lines.old)) (K.written sink.old) (K.written sink.new) }
-    ensures stopped { (b : Begun D) → b.service ≢ [] → b.host ≡ reader.old.host → ServesIn hall.old b [] [] → Stopped hall.new b (S.left (source_of lines.old)) (K.written sink.old) (K.written sink.new) }
+    ensures stopped { (b : Begun D) → b.service ≢ [] → b.host ≡ reader.old.host → ServesIn hall.old b [] [] → Stopped hall.new b (InPart (S.left (source_of lines.old)) (K.written sink.old) (K.written sink.new)) }
+    ensures failed { (result ≡ StreamEnd.ReadFault) ⊎ (result ≡ StreamEnd.Long) → (b : Begun D) → b.service ≢ [] → b.host ≡ reader.old.host → ServesIn hall.old b [] [] → Stopped hall.new b (AllEnded (S.left (source_of lines.old)) (S.left (source_of lines.new)) (K.written sink.old) (K.written sink.new)) }
     ensures whole { result ≡ StreamEnd.Ended → ReadWhole (S.left (source_of lines.old)) (S.left (source_of lines.new)) }
     ensures long { result ≡ StreamEnd.Long → ReadLimit (S.left (source_of lines.old)) (S.left (source_of lines.new)) }
     ensures read { result ≡ StreamEnd.ReadFault → Rose (S.faults (source_of lines.old)) (S.faults (source_of lines.new)) }
@@ -101,7 +102,8 @@ fn serve_store<D: Disk, S: Source, K: Sink>(
     requires fresh { IsFresh lines.old }
     ensures done { result.0 ≡ Status.Done → AnswersAll D.tells service.now host (S.left (source_of lines.old)) (K.written sink.old) (K.written sink.new) (held_as D.faults D.seen D.synced D.written D.moment D.syncs disk) (held_as D.faults D.seen D.synced D.written D.moment D.syncs result.1) (D.left_since result.1) }
     ensures part { AnswersPart D.tells service.now host (S.left (source_of lines.old)) (K.written sink.old) (K.written sink.new) (held_as D.faults D.seen D.synced D.written D.moment D.syncs disk) (held_as D.faults D.seen D.synced D.written D.moment D.syncs result.1) (D.left_since result.1) }
-    ensures some { (result.0 ≡ Status.StreamFault) ⊎ (result.0 ≡ Status.StreamLong) → AnswersSome D.tells service.now host (S.left (source_of lines.old)) (K.written sink.old) (K.written sink.new) (held_as D.faults D.seen D.synced D.written D.moment D.syncs disk) (held_as D.faults D.seen D.synced D.written D.moment D.syncs result.1) (D.left_since result.1) }
+    ensures some { (result.0 ≡ Status.StreamFault) ⊎ (result.0 ≡ Status.StreamLong) → AnswersSome D.tells service.now host (InPart (S.left (source_of lines.old)) (K.written sink.old) (K.written sink.new)) (held_as D.faults D.seen D.synced D.written D.moment D.syncs disk) (held_as D.faults D.seen D.synced D.written D.moment D.syncs result.1) (D.left_since result.1) }
+    ensures failed { (result.0 ≡ Status.StreamFault) ⊎ (result.0 ≡ Status.StreamLong) → (Rose (K.faults sink.old) (K.faults sink.new) → ⊥) → AnswersSome D.tells service.now host (AllEnded (S.left (source_of lines.old)) (S.left (source_of lines.new)) (K.written sink.old) (K.written sink.new)) (held_as D.faults D.seen D.synced D.written D.moment D.syncs disk) (held_as D.faults D.seen D.synced D.written D.moment D.syncs result.1) (D.left_since result.1) }
     ensures damaged { (at : ℕ) → result.0 ≡ Status.StoreDamaged at → D.tells → IsDamagedAt (D.seen disk) at }
     ensures full { result.0 ≡ Status.StoreFull → D.tells → PassesBy (D.seen disk) service.now max_whole ⊎ LacksGone (D.seen result.1) host }
     ensures store { result.0 ≡ Status.StoreFault → Rose (D.faults disk) (D.faults result.1) }
@@ -142,7 +144,8 @@ pub fn serve_stream<D: Disk, S: Source, K: Sink>(
     requires host { IsHostName host.now }
     ensures done { result.0 ≡ Status.Done → AnswersAll D.tells service.now host.now (S.left source) (K.written sink.old) (K.written sink.new) (held_as D.faults D.seen D.synced D.written D.moment D.syncs disk) (held_as D.faults D.seen D.synced D.written D.moment D.syncs result.1) (D.left_since result.1) }
     ensures part { AnswersPart D.tells service.now host.now (S.left source) (K.written sink.old) (K.written sink.new) (held_as D.faults D.seen D.synced D.written D.moment D.syncs disk) (held_as D.faults D.seen D.synced D.written D.moment D.syncs result.1) (D.left_since result.1) }
-    ensures some { (result.0 ≡ Status.StreamFault) ⊎ (result.0 ≡ Status.StreamLong) → AnswersSome D.tells service.now host.now (S.left source) (K.written sink.old) (K.written sink.new) (held_as D.faults D.seen D.synced D.written D.moment D.syncs disk) (held_as D.faults D.seen D.synced D.written D.moment D.syncs result.1) (D.left_since result.1) }
+    ensures some { (result.0 ≡ Status.StreamFault) ⊎ (result.0 ≡ Status.StreamLong) → AnswersSome D.tells service.now host.now (InPart (S.left source) (K.written sink.old) (K.written sink.new)) (held_as D.faults D.seen D.synced D.written D.moment D.syncs disk) (held_as D.faults D.seen D.synced D.written D.moment D.syncs result.1) (D.left_since result.1) }
+    ensures failed { (result.0 ≡ Status.StreamFault) ⊎ (result.0 ≡ Status.StreamLong) → (Rose (K.faults sink.old) (K.faults sink.new) → ⊥) → AnswersSome D.tells service.now host.now (AllEnded (S.left source) (S.left result.2) (K.written sink.old) (K.written sink.new)) (held_as D.faults D.seen D.synced D.written D.moment D.syncs disk) (held_as D.faults D.seen D.synced D.written D.moment D.syncs result.1) (D.left_since result.1) }
     ensures damaged { (at : ℕ) → result.0 ≡ Status.StoreDamaged at → D.tells → IsDamagedAt (D.seen disk) at }
     ensures full { result.0 ≡ Status.StoreFull → D.tells → PassesBy (D.seen disk) service.now max_whole ⊎ LacksGone (D.seen result.1) host.now }
     ensures store { result.0 ≡ Status.StoreFault → Rose (D.faults disk) (D.faults result.1) }

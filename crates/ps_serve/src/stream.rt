@@ -1,12 +1,12 @@
 // A stream of lines, each answered before the next is read.
-ghost use Rattle.std.specs.Prelude.{◌≡◌, ◌≢◌, ◌<◌, ◌≤◌, ◌+◌, ◌^◌, [], List, ℕ, None, IfOk, OnOk, OnErr, IsErrOf, IsTrue, IsFalse};
+ghost use Rattle.std.specs.Prelude.{◌≡◌, ◌≢◌, ◌⊎◌, ◌<◌, ◌≤◌, ◌+◌, ◌^◌, [], List, ℕ, None, IfOk, OnOk, OnErr, IsErrOf, IsTrue, IsFalse};
 ghost use Rattle.std.specs.declared.option.Option.{Option};
 ghost use Rattle.ps_base.specs.Causes.{Rose};
 ghost use Rattle.ps_journal.specs.Journal.{disk_of};
 ghost use Rattle.ps_hall.specs.Passes.{steps_of};
-ghost use Rattle.ps_wire.specs.Reading.{budget_of, given_of, rest_of, source_of, stopped_of, Gave, IsFresh};
+ghost use Rattle.ps_wire.specs.Reading.{budget_of, ended_of, given_of, rest_of, source_of, stopped_of, Gave, IsFresh};
 ghost use Rattle.ps_serve.specs.Reached.{AtEnd, ReadLimit, ReadWhole};
-ghost use Rattle.ps_serve.specs.Serving.{AreCallers, Begun, IsFreshIn, IsServing, Ran, Runs, ServesIn, Stops};
+ghost use Rattle.ps_serve.specs.Serving.{AllEnded, AreCallers, Begun, InPart, IsFreshIn, IsServing, Ran, Runs, ServesIn, Stops};
 
 use crate::turn::{StreamEnd, answer_line};
 use ps_disk::Disk;
@@ -43,9 +43,10 @@ fn answer_next<D: Disk, S: Source, K: Sink>(
     requires few { steps_of hall.old < 2 ^ 60 }
     requires serving { IsServing hall.old reader.old.host }
     requires going { stopped_of lines.old ≡ None }
-    ensures more { IfOk result (λ more. IsTrue more → (b : Begun D) (all before : Option (List ℕ)) (count : ℕ) → b.service ≢ [] → b.host ≡ reader.old.host → Runs hall.old b all (rest_of lines.old) before (K.written sink.old) count → Runs hall.new b all (rest_of lines.new) before (K.written sink.new) (count + 1)) }
-    ensures last { IfOk result (λ more. IsFalse more → (b : Begun D) (all before : Option (List ℕ)) (count : ℕ) → count ≤ 2 ^ 40 → Runs hall.old b all (rest_of lines.old) before (K.written sink.old) count → Ran hall.new b all before (K.written sink.new)) }
-    ensures err { OnErr result ((b : Begun D) (all before : Option (List ℕ)) (count : ℕ) → b.service ≢ [] → b.host ≡ reader.old.host → count ≤ 2 ^ 40 → Runs hall.old b all (rest_of lines.old) before (K.written sink.old) count → Stops hall.new b all before (K.written sink.new)) }
+    ensures more { IfOk result (λ more. IsTrue more → (b : Begun D) (all before : Option (List ℕ)) (count : ℕ) → b.service ≢ [] → b.host ≡ reader.old.host → Runs hall.old b all (rest_of lines.old) (ended_of lines.old) before (K.written sink.old) count → Runs hall.new b all (rest_of lines.new) (ended_of lines.new) before (K.written sink.new) (count + 1)) }
+    ensures last { IfOk result (λ more. IsFalse more → (b : Begun D) (all before : Option (List ℕ)) (count : ℕ) → count ≤ 2 ^ 40 → Runs hall.old b all (rest_of lines.old) (ended_of lines.old) before (K.written sink.old) count → Ran hall.new b all before (K.written sink.new)) }
+    ensures err { OnErr result ((b : Begun D) (all before : Option (List ℕ)) (count : ℕ) → b.service ≢ [] → b.host ≡ reader.old.host → count ≤ 2 ^ 40 → Runs hall.old b all (rest_of lines.old) (ended_of lines.old) before (K.written sink.old) count → Stops hall.new b (InPart all before (K.written sink.new))) }
+    ensures failed { IsErrOf result StreamEnd.ReadFault ⊎ IsErrOf result StreamEnd.Long → (b : Begun D) (all before : Option (List ℕ)) (count : ℕ) → count ≤ 2 ^ 40 → Runs hall.old b all (rest_of lines.old) (ended_of lines.old) before (K.written sink.old) count → Stops hall.new b (AllEnded all (S.left (source_of lines.new)) before (K.written sink.new)) }
     ensures serving { OnOk result (IsServing hall.new reader.old.host) }
     ensures progress { IfOk result (λ more. IsTrue more → budget_of lines.new < budget_of lines.old) }
     ensures going { OnOk result (stopped_of lines.new ≡ None) }
@@ -94,7 +95,8 @@ pub fn serve_lines<D: Disk, S: Source, K: Sink>(
     requires fresh { IsFresh lines.old }
     requires serving { IsFreshIn hall.old reader.old.host }
     ensures done { result ≡ StreamEnd.Ended → (b : Begun D) → b.service ≢ [] → b.host ≡ reader.old.host → ServesIn hall.old b [] [] → Ran hall.new b (S.left (source_of lines.old)) (K.written sink.old) (K.written sink.new) }
-    ensures stopped { result ≢ StreamEnd.Ended → (b : Begun D) → b.service ≢ [] → b.host ≡ reader.old.host → ServesIn hall.old b [] [] → Stops hall.new b (S.left (source_of lines.old)) (K.written sink.old) (K.written sink.new) }
+    ensures stopped { result ≢ StreamEnd.Ended → (b : Begun D) → b.service ≢ [] → b.host ≡ reader.old.host → ServesIn hall.old b [] [] → Stops hall.new b (InPart (S.left (source_of lines.old)) (K.written sink.old) (K.written sink.new)) }
+    ensures failed { (result ≡ StreamEnd.ReadFault) ⊎ (result ≡ StreamEnd.Long) → (b : Begun D) → b.service ≢ [] → b.host ≡ reader.old.host → ServesIn hall.old b [] [] → Stops hall.new b (AllEnded (S.left (source_of lines.old)) (S.left (source_of lines.new)) (K.written sink.old) (K.written sink.new)) }
     ensures whole { result ≡ StreamEnd.Ended → ReadWhole (S.left (source_of lines.old)) (S.left (source_of lines.new)) }
     ensures long { result ≡ StreamEnd.Long → ReadLimit (S.left (source_of lines.old)) (S.left (source_of lines.new)) }
     ensures read_later { S.faults (source_of lines.old) ≤ S.faults (source_of lines.new) }

@@ -278,6 +278,27 @@ fn what_fails_has_its_status(rt: HostRuntime) -> Result<(), Fail> {
     Ok(())
 }
 
+// Of more bytes than one read takes, those of the first read hold whole lines and a part of the next.
+#[test]
+fn what_came_before_a_fault_is_answered(rt: HostRuntime) -> Result<(), Fail> {
+    let alloc = rt.alloc();
+    let mut input = format!(in alloc; "{FIRST}\n")?;
+    let mut output = String::from_str(alloc, MADE)?;
+    for k in 0..30 {
+        publish(alloc, &mut input, k)?;
+        if input.len() <= 4096 {
+            published(alloc, &mut output, k)?;
+        }
+    }
+    let failing = Failing {
+        source: &[2],
+        ..NONE
+    };
+    let ran = ran(alloc, SERVE, input.as_str(), failing)?;
+    assert!(rt; ran.as_str().strip_suffix("stream fault\n3") == Some(output.as_str()));
+    Ok(())
+}
+
 #[test]
 fn other_words_are_no_command(rt: HostRuntime) -> Result<(), Fail> {
     let alloc = rt.alloc();

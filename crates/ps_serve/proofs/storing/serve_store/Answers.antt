@@ -4,8 +4,9 @@ use Rattle.ps_base.specs.Causes.{Rose}
 use Rattle.ps_journal.specs.Journal.{disk_of}
 use Rattle.ps_hall.specs.OpenHall.{disk_under}
 use Rattle.ps_wire.specs.Reading.{source_of}
-use Rattle.ps_serve.specs.Serving.{LacksGoneIn}
+use Rattle.ps_serve.specs.Serving.{AllEnded, InPart, LacksGoneIn}
 use Rattle.ps_serve.proofs.Closes.{none-opened}
+use Rattle.ps_serve.proofs.Ends.{source-failed}
 use Rattle.ps_serve.proofs.Halls.{rose-since}
 use Rattle.ps_serve.proofs.Opens.{began, has-passes, serves-first}
 use Rattle.ps_serve.proofs.Over.{one-callers, one-host-is, one-serving, opened-all, opened-lacks, opened-some}
@@ -39,7 +40,7 @@ returns-clause-done g c = λ e.
     let here = slice_get_read _ _ _ _ refl (has-passes only c.args.disk c.args.service.now c.args.host some _ c.in-Ok.hall c.in-Ok.passes.items is) c.index_mut-own.ensures.value in
     let same = one-host-is only c.args.disk c.args.service.now c.args.host some _ c.in-Ok.hall c.in-Ok.passes.items is c.index_mut-own.result.now here in
     opened-all only c.args.disk c.args.service.now c.args.host some _ c.in-Ok.hall c.in-Ok.passes.items is c.in-Ok.ensures.later (λ tells E spells tidy. c.in-Ok.ensures.any_moment tells E spells tidy) c.serve_host-end.new.hall c.serve_host-end.ensures.limits
-    c.close.result c.close.ensures.disk c.close.ensures.long c.close.ensures.floor (g.S.Source.left (source_of c.args.lines.now)) (g.K.Sink.written c.args.sink.now) (g.K.Sink.written c.serve_host-end.new.sink) refl
+    c.close.result c.close.ensures.disk c.close.ensures.long c.close.ensures.floor refl (g.S.Source.left (source_of c.args.lines.now)) (g.K.Sink.written c.args.sink.now) (g.K.Sink.written c.serve_host-end.new.sink)
     (c.serve_host-end.ensures.done (c.status_of.ensures.done e) (began only c.args.disk c.args.service.now c.args.host some _ c.in-Ok.hall c.in-Ok.passes.items is) some (sym same) (serves-first only c.args.disk c.args.service.now c.args.host some _ c.in-Ok.hall c.in-Ok.passes.items is))
 
 pub returns-clause-part : goal.returns-clause-part
@@ -50,7 +51,7 @@ returns-clause-part g c =
     let here = slice_get_read _ _ _ _ refl (has-passes only c.args.disk c.args.service.now c.args.host some _ c.in-Ok.hall c.in-Ok.passes.items is) c.index_mut-own.ensures.value in
     let same = one-host-is only c.args.disk c.args.service.now c.args.host some _ c.in-Ok.hall c.in-Ok.passes.items is c.index_mut-own.result.now here in
     inl (opened-some only c.args.disk c.args.service.now c.args.host some _ c.in-Ok.hall c.in-Ok.passes.items is c.in-Ok.ensures.later (λ tells E spells tidy. c.in-Ok.ensures.any_moment tells E spells tidy) c.serve_host-end.new.hall c.serve_host-end.ensures.limits
-    c.close.result c.close.ensures.disk c.close.ensures.long c.close.ensures.floor (g.S.Source.left (source_of c.args.lines.now)) (g.K.Sink.written c.args.sink.now) (g.K.Sink.written c.serve_host-end.new.sink) refl
+    c.close.result c.close.ensures.disk c.close.ensures.long c.close.ensures.floor refl (InPart (g.S.Source.left (source_of c.args.lines.now)) (g.K.Sink.written c.args.sink.now) (g.K.Sink.written c.serve_host-end.new.sink))
     (c.serve_host-end.ensures.stopped (began only c.args.disk c.args.service.now c.args.host some _ c.in-Ok.hall c.in-Ok.passes.items is) some (sym same) (serves-first only c.args.disk c.args.service.now c.args.host some _ c.in-Ok.hall c.in-Ok.passes.items is)))
 
 pub returns-clause-some : goal.returns-clause-some
@@ -61,8 +62,19 @@ returns-clause-some g c = λ e.
     let here = slice_get_read _ _ _ _ refl (has-passes only c.args.disk c.args.service.now c.args.host some _ c.in-Ok.hall c.in-Ok.passes.items is) c.index_mut-own.ensures.value in
     let same = one-host-is only c.args.disk c.args.service.now c.args.host some _ c.in-Ok.hall c.in-Ok.passes.items is c.index_mut-own.result.now here in
     opened-some only c.args.disk c.args.service.now c.args.host some _ c.in-Ok.hall c.in-Ok.passes.items is c.in-Ok.ensures.later (λ tells E spells tidy. c.in-Ok.ensures.any_moment tells E spells tidy) c.serve_host-end.new.hall c.serve_host-end.ensures.limits
-    c.close.result c.close.ensures.disk c.close.ensures.long c.close.ensures.floor (g.S.Source.left (source_of c.args.lines.now)) (g.K.Sink.written c.args.sink.now) (g.K.Sink.written c.serve_host-end.new.sink) refl
+    c.close.result c.close.ensures.disk c.close.ensures.long c.close.ensures.floor refl (InPart (g.S.Source.left (source_of c.args.lines.now)) (g.K.Sink.written c.args.sink.now) (g.K.Sink.written c.serve_host-end.new.sink))
     (c.serve_host-end.ensures.stopped (began only c.args.disk c.args.service.now c.args.host some _ c.in-Ok.hall c.in-Ok.passes.items is) some (sym same) (serves-first only c.args.disk c.args.service.now c.args.host some _ c.in-Ok.hall c.in-Ok.passes.items is))
+
+pub returns-clause-failed : goal.returns-clause-failed
+returns-clause-failed g c = λ e still.
+    let is = c.in-Ok.ensures.opened in
+    let only = g.met.D.Disk.only_now in
+    let some = c.requires.service.0 in
+    let here = slice_get_read _ _ _ _ refl (has-passes only c.args.disk c.args.service.now c.args.host some _ c.in-Ok.hall c.in-Ok.passes.items is) c.index_mut-own.ensures.value in
+    let same = one-host-is only c.args.disk c.args.service.now c.args.host some _ c.in-Ok.hall c.in-Ok.passes.items is c.index_mut-own.result.now here in
+    opened-some only c.args.disk c.args.service.now c.args.host some _ c.in-Ok.hall c.in-Ok.passes.items is c.in-Ok.ensures.later (λ tells E spells tidy. c.in-Ok.ensures.any_moment tells E spells tidy) c.serve_host-end.new.hall c.serve_host-end.ensures.limits
+    c.close.result c.close.ensures.disk c.close.ensures.long c.close.ensures.floor refl (AllEnded (g.S.Source.left (source_of c.args.lines.now)) (g.S.Source.left (source_of c.serve_host-end.new.lines)) (g.K.Sink.written c.args.sink.now) (g.K.Sink.written c.serve_host-end.new.sink))
+    (c.serve_host-end.ensures.failed (elim e [ | inl x ↦ source-failed c.serve_host-end.result (c.status_of.ensures.stream x) c.serve_host-end.ensures.write still | inr x ↦ inr (c.status_of.ensures.long x) ]) (began only c.args.disk c.args.service.now c.args.host some _ c.in-Ok.hall c.in-Ok.passes.items is) some (sym same) (serves-first only c.args.disk c.args.service.now c.args.host some _ c.in-Ok.hall c.in-Ok.passes.items is))
 
 pub returns-clause-full : goal.returns-clause-full
 returns-clause-full g c = λ e tells.
@@ -72,7 +84,7 @@ returns-clause-full g c = λ e tells.
     let here = slice_get_read _ _ _ _ refl (has-passes only c.args.disk c.args.service.now c.args.host some _ c.in-Ok.hall c.in-Ok.passes.items is) c.index_mut-own.ensures.value in
     let same = one-host-is only c.args.disk c.args.service.now c.args.host some _ c.in-Ok.hall c.in-Ok.passes.items is c.index_mut-own.result.now here in
     inr (opened-lacks only c.args.disk c.args.service.now c.args.host some _ c.in-Ok.hall c.in-Ok.passes.items is c.in-Ok.ensures.later (λ told E spells tidy. c.in-Ok.ensures.any_moment told E spells tidy) c.serve_host-end.new.hall c.serve_host-end.ensures.limits
-    c.close.result c.close.ensures.disk c.close.ensures.long c.close.ensures.floor (g.S.Source.left (source_of c.args.lines.now)) (g.K.Sink.written c.args.sink.now) (g.K.Sink.written c.serve_host-end.new.sink) refl refl
+    c.close.result c.close.ensures.disk c.close.ensures.long c.close.ensures.floor refl (InPart (g.S.Source.left (source_of c.args.lines.now)) (g.K.Sink.written c.args.sink.now) (g.K.Sink.written c.serve_host-end.new.sink)) refl
     (c.serve_host-end.ensures.stopped (began only c.args.disk c.args.service.now c.args.host some _ c.in-Ok.hall c.in-Ok.passes.items is) some (sym same) (serves-first only c.args.disk c.args.service.now c.args.host some _ c.in-Ok.hall c.in-Ok.passes.items is))
     (subst (λ (h : List ℕ). LacksGoneIn c.serve_host-end.new.hall h) same (c.serve_host-end.ensures.full (c.status_of.ensures.full e))) tells)
 

@@ -1,6 +1,6 @@
 use Rattle.ps_serve.specs.Runs.{served_by}
 use Rattle.ps_serve.specs.Words.{command_of}
-use Rattle.ps_serve.proofs.Same.{answers-still, fault-still, first-still, full-still, gave-all-still, leaves-still, part-still, rose-still}
+use Rattle.ps_serve.proofs.Same.{answers-still, ended-still, fault-still, first-still, full-still, gave-all-still, leaves-still, part-still, rose-still}
 use Rattle.ps_serve.proofs.whole.run.Goals as goal
 
 pub returns-clause-done : goal.returns-clause-done
@@ -29,6 +29,15 @@ returns-clause-some g c = λ e.
     let w = g.W.World in
     first-still g.W.Store.Disk.tells (w.sources old) (w.sources then) (w.sources now) (w.sinks old) (w.sinks then) (w.sinks now) (w.stores old) (w.stores then) (w.stores now) (w.lefts old) (w.lefts then) (w.lefts now)
     c.tell.ensures.sources c.tell.ensures.sinks c.tell.ensures.stores c.tell.ensures.lefts (served_by (command_of c.args.words.now)) (c.run_words-status.ensures.some e)
+
+pub returns-clause-failed : goal.returns-clause-failed
+returns-clause-failed g c = λ e.
+    let old = c.args.world.now in
+    let then = c.run_words-status.new.world in
+    let now = c.tell.new.world in
+    let w = g.W.World in
+    ended-still g.W.Store.Disk.tells (w.sources old) (w.sources then) (w.sources now) (w.sinks old) (w.sinks then) (w.sinks now) (w.stores old) (w.stores then) (w.stores now) (w.lefts old) (w.lefts then) (w.lefts now)
+    c.tell.ensures.sources c.tell.ensures.sinks c.tell.ensures.stores c.tell.ensures.lefts (served_by (command_of c.args.words.now)) (c.run_words-status.ensures.failed e)
 
 pub returns-clause-full : goal.returns-clause-full
 returns-clause-full g c = λ e.

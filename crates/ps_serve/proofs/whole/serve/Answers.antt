@@ -2,7 +2,7 @@ use Rattle.std.proofs.Common.{inl, inr, ap, subst, sym, ◌∙◌}
 use Rattle.ps_serve.specs.Kept.{held_as}
 use Rattle.ps_outside.specs.Held.{Held}
 use Rattle.ps_serve.proofs.Asking.{asked-before, asked-first}
-use Rattle.ps_serve.proofs.Carried.{answers-inside, fault-inside, first-inside, full-inside, held-is, long-inside, part-inside, stream-inside}
+use Rattle.ps_serve.proofs.Carried.{answers-inside, ended-inside, fault-inside, first-inside, full-inside, held-is, long-inside, part-inside, stream-inside}
 use Rattle.ps_serve.proofs.whole.serve.Goals as goal
 
 pub returns-in-Err-clause-part : goal.returns-in-Err-clause-part
@@ -45,6 +45,11 @@ pub returns-clause-some : goal.returns-clause-some
 returns-clause-some g c = λ e.
     first-inside g.W.Store.Disk.tells (record { service = c.args.service.now; store = c.args.store.now; stream = c.args.stream.now }) _ _ _ _ _ _ _ _ c.in-Ok.ensures.sources c.in-Ok.ensures.sinks c.give_back_disk.ensures.sources c.give_back_disk.ensures.sinks _ _ _ _ _ _ (held-is _ _ _ _ _ _ _ c.in-Ok.ensures.object) (held-is _ _ _ _ _ _ _ c.give_back_disk.ensures.held)
     (λ t x is. (c.give_back_disk.ensures.left t x).1 is) (c.serve_over-status.ensures.some e c.args.store.now)
+
+pub returns-clause-failed : goal.returns-clause-failed
+returns-clause-failed g c = λ e.
+    ended-inside g.W.Store.Disk.tells (record { service = c.args.service.now; store = c.args.store.now; stream = c.args.stream.now }) _ _ _ _ _ _ _ _ c.in-Ok.ensures.sources c.in-Ok.ensures.sinks c.give_back_disk.ensures.sources c.give_back_disk.ensures.sinks _ _ _ _ _ _ (held-is _ _ _ _ _ _ _ c.in-Ok.ensures.object) (held-is _ _ _ _ _ _ _ c.give_back_disk.ensures.held)
+    (λ t x is. (c.give_back_disk.ensures.left t x).1 is) (c.serve_over-status.ensures.failed e c.args.store.now)
 
 pub returns-clause-full : goal.returns-clause-full
 returns-clause-full g c = λ e.

@@ -1,7 +1,7 @@
 use Rattle.std.proofs.Common.{inl, inr, ap, refl, sym, ◌∙◌}
 use Rattle.ps_outside.specs.Held.{Held}
 use Rattle.ps_serve.proofs.Asking.{asked-both, asked-first, asked-refused}
-use Rattle.ps_serve.proofs.Carried.{all-bytes, limit-bytes, part-bytes, rose-by, some-bytes, whole-bytes}
+use Rattle.ps_serve.proofs.Carried.{all-bytes, ended-bytes, limit-bytes, part-bytes, rose-by, some-bytes, whole-bytes}
 use Rattle.ps_serve.proofs.whole.serve_over.Goals as goal
 
 pub returns-in-Err-open_sink-clause-asked : goal.returns-in-Err-open_sink-clause-asked
@@ -46,6 +46,14 @@ returns-clause-some g c = λ e store.
     some-bytes _ c.args.service.now c.args.stream.now.host _ _ _ _ _ _ _ _ _ c.in-Ok.ensures.object.same_bytes
     (c.in-Ok-open_sink.ensures.object.same_bytes ∙ ap (λ (h : Held). h.bytes) (c.in-Ok.ensures.sinks sink)) (c.give_back_sink.ensures.held.same_bytes ∙ sym (ap (λ (h : Held). h.bytes) (c.give_back-2.ensures.sinks sink)))
     (c.serve_stream-status.ensures.some e)
+
+pub returns-clause-failed : goal.returns-clause-failed
+returns-clause-failed g c = λ e store still.
+    let sink = c.args.stream.now.sink in
+    ended-bytes _ c.args.service.now c.args.stream.now.host _ _ _ _ _ _ _ _ _ c.in-Ok.ensures.object.same_bytes
+    (c.in-Ok-open_sink.ensures.object.same_bytes ∙ ap (λ (h : Held). h.bytes) (c.in-Ok.ensures.sinks sink)) (c.give_back_sink.ensures.held.same_bytes ∙ sym (ap (λ (h : Held). h.bytes) (c.give_back-2.ensures.sinks sink)))
+    _ _ c.give_back-2.ensures.held.same_bytes
+    (c.serve_stream-status.ensures.failed e (λ r. still (rose-by _ _ _ _ (c.in-Ok-open_sink.ensures.object.same_faults ∙ ap (λ (h : Held). h.faults) (c.in-Ok.ensures.sinks sink)) (c.give_back_sink.ensures.held.same_faults ∙ sym (ap (λ (h : Held). h.faults) (c.give_back-2.ensures.sinks sink))) r)))
 
 pub returns-clause-stream : goal.returns-clause-stream
 returns-clause-stream g c = λ store e.
