@@ -39,7 +39,7 @@ returns-clause-failed g c = λ e b some is s.
     let left = g.S.Source.left (source_of c.serve_lines-end.new.lines) in
     let before = g.K.Sink.written c.args.sink.now in
     let now = g.K.Sink.written c.serve_lines-end.new.sink in
-    c.end_stream.ensures.failed b all left before now some (is ∙ sym c.serve_lines-end.ensures.callers.reader_host) (c.serve_lines-end.ensures.failed (elim e [ | inl x ↦ inl (c.end_stream.ensures.read x) | inr x ↦ inr (c.end_stream.ensures.long x) ]) b some is s)
+    c.end_stream.ensures.failed b all left before now some (is ∙ sym c.serve_lines-end.ensures.callers.reader_host) (c.serve_lines-end.ensures.failed (elim e [ inl x ↦ inl (c.end_stream.ensures.read x) | inr x ↦ inr (c.end_stream.ensures.long x) ]) b some is s)
 
 pub returns-clause-store : goal.returns-clause-store
 returns-clause-store g c = λ e b some is s.

@@ -74,7 +74,7 @@ returns-clause-failed g c = λ e still.
     let same = one-host-is only c.args.disk c.args.service.now c.args.host some _ c.in-Ok.hall c.in-Ok.passes.items is c.index_mut-own.result.now here in
     opened-some only c.args.disk c.args.service.now c.args.host some _ c.in-Ok.hall c.in-Ok.passes.items is c.in-Ok.ensures.later (λ tells E spells tidy. c.in-Ok.ensures.any_moment tells E spells tidy) c.serve_host-end.new.hall c.serve_host-end.ensures.limits
     c.close.result c.close.ensures.disk c.close.ensures.long c.close.ensures.floor refl (AllEnded (g.S.Source.left (source_of c.args.lines.now)) (g.S.Source.left (source_of c.serve_host-end.new.lines)) (g.K.Sink.written c.args.sink.now) (g.K.Sink.written c.serve_host-end.new.sink))
-    (c.serve_host-end.ensures.failed (elim e [ | inl x ↦ source-failed c.serve_host-end.result (c.status_of.ensures.stream x) c.serve_host-end.ensures.write still | inr x ↦ inr (c.status_of.ensures.long x) ]) (began only c.args.disk c.args.service.now c.args.host some _ c.in-Ok.hall c.in-Ok.passes.items is) some (sym same) (serves-first only c.args.disk c.args.service.now c.args.host some _ c.in-Ok.hall c.in-Ok.passes.items is))
+    (c.serve_host-end.ensures.failed (elim e [ inl x ↦ source-failed c.serve_host-end.result (c.status_of.ensures.stream x) c.serve_host-end.ensures.write still | inr x ↦ inr (c.status_of.ensures.long x) ]) (began only c.args.disk c.args.service.now c.args.host some _ c.in-Ok.hall c.in-Ok.passes.items is) some (sym same) (serves-first only c.args.disk c.args.service.now c.args.host some _ c.in-Ok.hall c.in-Ok.passes.items is))
 
 pub returns-clause-full : goal.returns-clause-full
 returns-clause-full g c = λ e tells.

@@ -44,4 +44,4 @@ returns-in-Err-clause-failed g c = λ e b all before count few r.
     ] in
     stops-ended c.args.hall.now b all (rest_of c.args.lines.now) (rest_of c.next.new.self) before (g.K.Sink.written c.args.sink.now) (ended_of c.args.lines.now) count r few (g.S.Source.left (source_of c.next.new.self))
     (not-ended (ended_of c.args.lines.now) c.in-Err.why (λ over. c.in-Err.ensures.answers_end over c.requires.going) which)
-    (c.in-Err.ensures.no_line (elim which [ | inl x ↦ inl (ap Err x) | inr x ↦ inr (ap Err x) ]) c.requires.going)
+    (c.in-Err.ensures.no_line (elim which [ inl x ↦ inl (ap Err x) | inr x ↦ inr (ap Err x) ]) c.requires.going)

@@ -60,7 +60,7 @@ pub returns-in-Err-clause-failed : goal.returns-in-Err-clause-failed
 returns-in-Err-clause-failed g c = λ e b some host s.
     let so = c.answers.invariant in
     let r = so.runs b some host s in
-    rw c.requires.fresh.before at (c.in-Err.ensures.failed (elim e [ | inl x ↦ inl (λ i. Err (x i)) | inr x ↦ inr (λ i. Err (x i)) ]) b (rest_of c.args.lines.now) (g.K.Sink.written c.args.sink.now) r.count
+    rw c.requires.fresh.before at (c.in-Err.ensures.failed (elim e [ inl x ↦ inl (λ i. Err (x i)) | inr x ↦ inr (λ i. Err (x i)) ]) b (rest_of c.args.lines.now) (g.K.Sink.written c.args.sink.now) r.count
     (within-count c.answers.hall c.args.reader.now.host b (rest_of c.args.lines.now) (rest_of c.answers.lines) (g.K.Sink.written c.args.sink.now) (g.K.Sink.written c.answers.sink) (ended_of c.answers.lines) (budget_of c.answers.lines) r) r.runs)
 
 pub returns-in-Err-clause-long : goal.returns-in-Err-clause-long
