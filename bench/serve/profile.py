@@ -1,7 +1,7 @@
 """Where the program's instructions go as it makes nodes.
 
 Usage: profile.py PROGRAM FOLDER. It runs the program over LINES (20000) lines under callgrind, which counts instructions and not time, and
-prints which share of them each call of the list below takes with all that it calls.
+prints which share of them each call of the list below takes with all that it calls. With ALL=N it prints the N dearest functions too.
 """
 import os
 import pathlib
@@ -12,17 +12,14 @@ import sys
 import corpus
 
 CALLS = [
-    ("reading lines", r"ps_wire::lines::Lines<.*>::next|ps_wire::lines::Lines::next"),
-    ("answering a line", r"ps_serve::turn::answer_line"),
-    ("arrive", r"ps_hall::.*::arrive$"),
-    ("line to tree", r"ps_wire::read::read_tree"),
-    ("tree to request", r"ps_request::.*read_request$"),
-    ("the check", r"ps_core::.*::plan$"),
-    ("what it does to the tables", r"ps_change::.*::change$"),
-    ("appending to the journal", r"ps_journal::.*::append$"),
-    ("handing out the reply", r"ps_hall::.*::next$"),
-    ("printing the reply", r"ps_wire::print::print_tree"),
-    ("writing it", r"ps_wire::writes::write_line"),
+    ("answering lines", r"ps_serve::turn::answer_line"),
+    ("making and printing the replies, also those of a full store", r"ps_hall::replies::replies_at"),
+    ("preparing the change on the second copy of the state", r"ps_core::service::Service::prepare"),
+    ("spelling the entry", r"ps_hall::batches::batch_of"),
+    ("reading lines and entries as trees", r"ps_wire::read::read_tree"),
+    ("printing trees", r"ps_wire::print::print_tree"),
+    ("taking memory", r"rattle_alloc$"),
+    ("giving it back", r"rattle_dealloc$"),
 ]
 
 
@@ -44,7 +41,7 @@ def main():
     number = int(os.environ.get("LINES", "20000"))
     rows = counted(program, folder, corpus.creating(number)[0][1])
     whole = max(count for count, _ in rows)
-    print(f"{whole / number:.0f} instructions a line; of these")
+    print(f"{whole / number:.0f} instructions a line; parts of these, of which some lie in one another")
     for what, pattern in CALLS:
         print(f"{max((count for count, name in rows if re.search(pattern, name)), default=0) / whole:6.2f}  {what}")
     if os.environ.get("ALL"):
