@@ -1,0 +1,59 @@
+#!/usr/bin/env python3
+"""Checks that each contract which docs/CLAIMS.md names is there: its file, its function, and each clause of it.
+
+    claims.py [FILE..]      FILE: docs/CLAIMS.md where none is given
+
+A reference reads `crate/src/file.rt` `function`: `clause`, `clause`; one without clauses names a function whose one
+clause has no name, or a test. A relation of specs is named as `crate/specs/File.antt` `Word`.
+"""
+
+import pathlib
+import re
+import sys
+
+ROOT = pathlib.Path(__file__).resolve().parents[2]
+REFERENCE = re.compile(r"`([\w/]+\.(?:rt|antt))`((?:\s*(?:,|and)?\s*`[\w:]+`(?::\s*`\w+`(?:,\s*`\w+`)*)?)+)")
+NAMED = re.compile(r"`([\w:]+)`(?::\s*((?:`\w+`(?:,\s*)?)+))?")
+
+
+def contracts_of(text):
+    """Returns the names of the clauses of each function of a file, all functions of one name together."""
+    found = {}
+    for start in re.finditer(r"\bfn (\w+)", text):
+        rest = text[start.end():]
+        body = re.search(r"(?m)^\s*\{\s*\}?\s*$|;\s*$|\{\s*$|^\{\}", rest)
+        head = rest[: body.start()] if body else rest
+        found.setdefault(start[1], set()).update(re.findall(r"\bensures (\w+) \{", head))
+    return found
+
+
+def lacks(reference, names):
+    """Lists what a reference names and its file lacks."""
+    path = ROOT / "crates" / reference
+    if not path.is_file():
+        return [f"{reference}: no such file"]
+    text = path.read_text()
+    if reference.endswith(".antt"):
+        return [f"{reference}: no {word}" for word, _ in NAMED.findall(names) if not re.search(rf"\b{word}\b", text)]
+    contracts, missing = contracts_of(text), []
+    for function, clauses in NAMED.findall(names):
+        name = function.rpartition("::")[2]
+        if name not in contracts:
+            missing.append(f"{reference}: no function {name}")
+            continue
+        missing += [f"{reference}: {name} has no clause {it}" for it in re.findall(r"\w+", clauses) if it not in contracts[name]]
+    return missing
+
+
+def main(files):
+    missing, count = [], 0
+    for file in files or [ROOT / "docs" / "CLAIMS.md"]:
+        for reference, names in REFERENCE.findall(pathlib.Path(file).read_text()):
+            count += 1
+            missing += lacks(reference, names)
+    print("\n".join([*missing, f"{count} references, {len(missing)} missing"]))
+    return 1 if missing or not count else 0
+
+
+if __name__ == "__main__":
+    sys.exit(main(sys.argv[1:]))
