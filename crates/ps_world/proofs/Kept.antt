@@ -26,7 +26,7 @@ use Rattle.ps_world.proofs.Grows.{boot-front, boot-last, handed-append, notices-
 use Rattle.ps_world.proofs.Parts.{Extends, extends-none, extends-some, said-later, host-later, address-later, front}
 
 -- what a choice has where each of its parts has it
-chosen : {X : Type 0} (P : X → Type 0) (b : Bool) (x y : X) → (b ≡ true → P x) → (b ≡ false → P y) → P (if b then x else y)
+pub chosen : {X : Type 0} (P : X → Type 0) (b : Bool) (x y : X) → (b ≡ true → P x) → (b ≡ false → P y) → P (if b then x else y)
 chosen P true x y f g = f refl
 chosen P false x y f g = g refl
 
