@@ -11,10 +11,10 @@ use Rattle.ps_model.specs.Built.{is_built_event}
 use Rattle.ps_model.specs.CoreLaws.{IsLawful}
 use Rattle.ps_model.specs.Damage.{ReadUpTo}
 use Rattle.ps_model.specs.Entries.{IsHostName, spelling}
-use Rattle.ps_model.specs.Replay.{AreAcceptedFrom, accepted, after, lawful, replay, replay_from}
+use Rattle.ps_model.specs.Replay.{accepted, after, lawful, replay}
 use Rattle.ps_model.specs.Store.{spelled}
 use Rattle.ps_model.specs.TheCore.{the_core}
-use Rattle.ps_model.proofs.Going.{replay-append}
+use Rattle.ps_model.proofs.Going.{accepted-more, replay-append}
 use Rattle.ps_model.proofs.TheLaws.{of-todays-places, the-laws}
 use Rattle.ps_journal.specs.Judged.{IsDamaged, IsFound}
 use Rattle.ps_journal.specs.Opened.{IsOpened}
@@ -27,10 +27,6 @@ use Rattle.ps_hall.specs.Replayed.{IsReplayed, IsTaken, StopsAt}
 use Rattle.ps_hall.proofs.Laid.{count-is}
 
 -- ---- lawful lists
-
-lawful-more : (E : List Entry) (s : State) (e : Entry) → AreAcceptedFrom is_built_event accepted s E → accepted (replay_from is_built_event s E) e ≡ true → AreAcceptedFrom is_built_event accepted s (E ++ e ∷ [])
-lawful-more [] s e l ok = (ok, tt)
-lawful-more (x ∷ E) s e l ok = (l.0, lawful-more E (after s x) e l.1 ok)
 
 pub lawful-core : (E : List Entry) → lawful E → IsLawful the_core E
 lawful-core E l = of-todays-places E l
@@ -71,7 +67,7 @@ replayed_more placed i one old new within is so_far taken =
     let E = entries_in (take i placed) in
     let more = entries_more placed i one within is in
     record {
-      each = subst lawful (sym more) (lawful-more E empty_state one.entry so_far.each (subst (λ (t : State). accepted t one.entry ≡ true) so_far.state taken.0));
+      each = subst lawful (sym more) (accepted-more is_built_event accepted E one.entry empty_state so_far.each (subst (λ (t : State). accepted t one.entry ≡ true) so_far.state taken.0));
       state = taken.1 ∙ (ap (λ (t : State). after t one.entry) so_far.state ∙ (sym (replay-snoc E one.entry) ∙ ap replay (sym more)));
     }
 
