@@ -17,7 +17,9 @@ mod steps;
 mod store_laws;
 
 pub use access_laws::{nodes_stay_bounded, outcast_is_forbidden};
-pub use laws::{lawful_prefix, nobody_missed, notices_grow, numbers_rise, replay_goes_on};
+pub use laws::{
+    lawful_at_each_place, lawful_prefix, nobody_missed, notices_grow, numbers_rise, replay_goes_on,
+};
 pub use machine_laws::service_keeps_the_laws;
 pub use request_laws::{line_reads, one_request, spelled_is_taken, taken_is_spelled};
 pub use stamp_laws::stamp_is_utc;
