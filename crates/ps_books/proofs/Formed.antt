@@ -1,5 +1,5 @@
 -- The rows of every Book, and the rows of a compacted store that are written of it, are in the form that acceptance asks of them.
-use Rattle.std.proofs.Common.{◌≡◌, ℕ, Bool, true, false, cond, ◌&&◌, ◌||◌, not, List, [], ◌∷◌, ◌++◌, length, map, Option, Some, None, refl, sym, ap, ◌∙◌}
+use Rattle.std.proofs.Common.{◌≡◌, ℕ, Bool, true, false, cond, ◌||◌, not, List, [], ◌∷◌, ◌++◌, length, map, Option, Some, None, refl, ap}
 use Rattle.std.specs.Prelude.{◌==◌}
 use Rattle.std.specs.List.{AllByRecursion as Each, cons_option, filter_map, flat_map}
 use Rattle.std.proofs.lemmas.Bool.{and_parts}
@@ -22,20 +22,18 @@ use Rattle.ps_types.proofs.Same.{same_jid-Decides}
 use Rattle.ps_model.specs.Access.{is_account}
 use Rattle.ps_model.specs.After as step
 use Rattle.ps_model.specs.Base.{book_rows, counter_by, counter_rows, notice_rows, rows_of, told_addresses, unhanded, unlinked}
-use Rattle.ps_model.specs.BaseAfter.{book_with, in_collection, is_bare}
+use Rattle.ps_model.specs.BaseAfter.{book_with, has_place, in_collection, is_bare, is_well_formed}
 use Rattle.ps_model.specs.BaseRead.{row_of}
 use Rattle.ps_model.specs.BaseRows as base
 use Rattle.ps_model.specs.BaseRows.{BaseRow}
-use Rattle.ps_model.specs.Book.{Book, State, empty_book, empty_state}
-use Rattle.ps_model.specs.Replay.{accepted_at, replay_from}
+use Rattle.ps_model.specs.Book.{Book, State, empty_state}
+use Rattle.ps_model.specs.Replay.{IsLawfulFrom, accepted_at, is_booted, lawful_by, replay_from, row_accepted}
 use Rattle.ps_model.specs.Spelled.{IsAsk, SpellsRequest}
 use Rattle.ps_model.specs.Stanza.{host_jid, is_served}
 use Rattle.ps_model.specs.Taken.{Taken, silent, refused, denied, asked}
 use Rattle.ps_model.specs.Taking.{request_in, tree_taken}
 use Rattle.ps_model.specs.Tallies.{handed_to}
 use Rattle.ps_model.proofs.AskedStanza.{taken-spelled}
-use Rattle.ps_books.specs.Lawful.{IsLawfulFrom, lawful}
-use Rattle.ps_books.specs.Strict.{is_strict_entry, is_well_formed, strict_in}
 use Rattle.ps_books.proofs.FormedKinds.{AreFormed, IsFormed, IsNamedAsk, changed-formed, nodes-formed}
 use Rattle.ps_books.proofs.Keys.{each-push}
 
@@ -103,25 +101,25 @@ row-formed (base.made r) book good is = record { nodes = is.nodes; items = is.it
 row-formed (base.counter who handed) book good is = is
 row-formed (base.notice to line) book good is = is
 
-base-formed : (o : Option BaseRow) (book : Book) → strict_in o ≡ true → IsFormed book → IsFormed (step.book_based o book)
-base-formed None book good is = is
-base-formed (Some r) book good is = row-formed r book good is
+base-formed : (o : Option BaseRow) (s : State) → row_accepted o s ≡ true → IsFormed s.book → IsFormed (step.book_based o s.book)
+base-formed None s ok is = is
+base-formed (Some r) s ok is = row-formed r s.book (and_parts (is_well_formed r) (has_place r s) ok).0 is
 
 -- ---- an entry, and a list
 
-entry-formed : (s : State) (e : Entry) → is_strict_entry e ≡ true → IsFormed s.book → IsFormed (step.book_after s.book e)
-entry-formed s (Boot service) strict is = record { nodes = is.nodes; items = is.items; links = is.links; rosters = is.rosters; counts = is.counts }
-entry-formed s (Change host line moment t) strict is = request-formed host s.book.service t (tree_taken host s.book.service t) moment s.book refl is
-entry-formed s (Handed to) strict is = is
-entry-formed s (Gone host) strict is = record { nodes = is.nodes; items = is.items; links = is.links; rosters = is.rosters; counts = is.counts }
-entry-formed s (Base row) strict is = base-formed (row_of row) s.book strict is
+entry-formed : (s : State) (e : Entry) → accepted_at s e ≡ true → IsFormed s.book → IsFormed (step.book_after s.book e)
+entry-formed s (Boot service) ok is = record { nodes = is.nodes; items = is.items; links = is.links; rosters = is.rosters; counts = is.counts }
+entry-formed s (Change host line moment t) ok is = request-formed host s.book.service t (tree_taken host s.book.service t) moment s.book refl is
+entry-formed s (Handed to) ok is = is
+entry-formed s (Gone host) ok is = record { nodes = is.nodes; items = is.items; links = is.links; rosters = is.rosters; counts = is.counts }
+entry-formed s (Base row) ok is = base-formed (row_of row) s (and_parts (not (is_booted s)) (row_accepted (row_of row) s) ok).1 is
 
-replay-formed : (telling : Event → Bool) (E : List Entry) (s : State) → Each (λ e. is_strict_entry e ≡ true) E → IsFormed s.book → IsFormed (replay_from telling s E).book
-replay-formed telling [] s strict is = is
-replay-formed telling (e ∷ E) s strict is = replay-formed telling E (step.after telling s e) strict.1 (entry-formed s e strict.0 is)
+replay-formed : (telling : Event → Bool) (E : List Entry) (s : State) → IsLawfulFrom telling s E → IsFormed s.book → IsFormed (replay_from telling s E).book
+replay-formed telling [] s ok is = is
+replay-formed telling (e ∷ E) s ok is = replay-formed telling E (step.after telling s e) ok.1 (entry-formed s e ok.0 is)
 
-pub lawful-formed : (telling : Event → Bool) (E : List Entry) → lawful telling E → Each (λ e. is_strict_entry e ≡ true) E → IsFormed (replay_from telling empty_state E).book
-lawful-formed telling E h strict = replay-formed telling E empty_state strict (record { nodes = tt; items = tt; links = tt; rosters = tt; counts = tt })
+pub lawful-formed : (telling : Event → Bool) (E : List Entry) → lawful_by telling E → IsFormed (replay_from telling empty_state E).book
+lawful-formed telling E h = replay-formed telling E empty_state h (record { nodes = tt; items = tt; links = tt; rosters = tt; counts = tt })
 
 -- ---- the rows that a compacted store is written with
 
@@ -172,6 +170,6 @@ all-formed telling E is =
     each-both Good (book_rows s.book) (counter_rows s.tallies ++ notice_rows telling E s.tallies) (book-formed s.book is)
     (each-both Good (counter_rows s.tallies) (notice_rows telling E s.tallies) (counters-formed s.tallies (told_addresses s.tallies)) (notices-formed (flat_map (unhanded telling E) (told_addresses s.tallies))))
 
-pub rows-formed : (telling : Event → Bool) (E : List Entry) → lawful telling E → Each (λ e. is_strict_entry e ≡ true) E → Each (λ r. is_well_formed r ≡ true) (rows_of telling E)
+pub rows-formed : (telling : Event → Bool) (E : List Entry) → lawful_by telling E → Each (λ r. is_well_formed r ≡ true) (rows_of telling E)
 unfolding Good
-rows-formed telling E h strict = all-formed telling E (lawful-formed telling E h strict)
+rows-formed telling E h = all-formed telling E (lawful-formed telling E h)

@@ -1,6 +1,6 @@
 -- Kind by kind: a request that names its node as the grammar says leaves rows in the form that a compacted store asks of them.
 use Rattle.std.proofs.Common.{◌≡◌, ℕ, ◌≤◌, ◌≢◌, arith, Bool, true, false, cond, not, List, [], ◌∷◌, ◌++◌, length, Option, Some, None, refl}
-use Rattle.std.specs.Prelude.{nat_le, nat_lt, Result, Ok, Err, codes, decimal}
+use Rattle.std.specs.Prelude.{nat_lt, Result, Ok, Err, codes, decimal}
 use Rattle.std.specs.List.{AllByRecursion as Each}
 use Rattle.std.proofs.lemmas.Bool.Decides.{nat_tests}
 use Rattle.ps_base.specs.Rows.{without}
@@ -16,7 +16,6 @@ use Rattle.ps_types.specs.declared.request.AskContact.{AskContact}
 use Rattle.ps_types.specs.declared.request.AskItem.{AskItem}
 use Rattle.ps_types.specs.declared.request.Request.{Request}
 use Rattle.ps_types.specs.declared.rows.Caps.{Caps}
-use Rattle.ps_types.specs.declared.rows.CountRow.{CountRow}
 use Rattle.ps_types.specs.declared.rows.ItemRow.{ItemRow}
 use Rattle.ps_types.specs.declared.rows.LinkRow.{LinkRow}
 use Rattle.ps_types.specs.declared.rows.NodeRow.{NodeRow}
@@ -34,7 +33,7 @@ use Rattle.ps_types.specs.Rosters.{is_contact_of}
 use Rattle.ps_types.specs.Subs.{sub_at}
 use Rattle.ps_types.specs.Tree.{Tree}
 use Rattle.ps_types.specs.Address.{bare, jid_text}
-use Rattle.ps_model.specs.BaseAfter.{is_bare}
+use Rattle.ps_model.specs.BaseAfter.{is_bare, is_well_formed}
 use Rattle.ps_model.specs.BaseRows as base
 use Rattle.ps_model.specs.BaseRows.{BaseRow}
 use Rattle.ps_model.specs.Book.{Book}
@@ -50,7 +49,6 @@ use Rattle.ps_model.specs.ItemIds.{item_id, next_made}
 use Rattle.ps_model.specs.SpelledParts.{IsNode}
 use Rattle.ps_model.specs.Steps.{is_short, max_id}
 use Rattle.ps_model.specs.Words.{RosterAsk, set, remove, roster_of}
-use Rattle.ps_books.specs.Strict.{is_well_formed}
 use Rattle.ps_books.proofs.Keys.{each-change, each-filter, each-keep, each-push, each-put}
 
 -- each row, written so, is in the form

@@ -5,7 +5,7 @@ use Rattle.std.specs.List.{list_any}
 use Rattle.std.specs.Option.{option_or}
 use Rattle.std.proofs.lemmas.Bool.{and_parts, ltb-true}
 use Rattle.std.proofs.lemmas.List.Folds.{find-append}
-use Rattle.ps_base.proofs.Rows.{count_by-cons, count_by-push}
+use Rattle.ps_base.proofs.Rows.{count_by-push}
 use Rattle.ps_types.specs.declared.config.NodeConfig.{NodeConfig}
 use Rattle.ps_types.specs.declared.entry.Entry.{Entry}
 use Rattle.ps_types.specs.declared.entry.Entry.TheVariants.{Boot, Change, Handed, Gone, Base}
@@ -21,24 +21,20 @@ use Rattle.ps_types.specs.Nodes.{config_at, is_node, node_at, stands}
 use Rattle.ps_types.specs.Same.{same_node}
 use Rattle.ps_types.proofs.Same.{same_node-Decides, same_node-itself}
 use Rattle.ps_model.specs.After as step
-use Rattle.ps_model.specs.BaseAfter.{accepts_row, book_with, is_collection_at, is_early, is_shallow, takes_item}
+use Rattle.ps_model.specs.BaseAfter.{book_with, has_place, is_collection_at, is_early, is_shallow, is_well_formed, takes_item}
 use Rattle.ps_model.specs.BaseRead.{row_of}
 use Rattle.ps_model.specs.BaseRows.{BaseRow, node, affiliation, subscription, item, link, contact, ver, made, counter, notice}
 use Rattle.ps_model.specs.Book.{Book, State, empty_book, empty_state}
 use Rattle.ps_model.specs.Bounds.{IsBounded, item_bound}
 use Rattle.ps_model.specs.Built.{built_config}
 use Rattle.ps_model.specs.CheckForms.{is_collection}
-use Rattle.ps_model.specs.Replay.{accepted_at, is_booted, request_accepted, row_accepted, replay_from}
+use Rattle.ps_model.specs.Replay.{IsLawfulFrom, accepted_at, is_booted, lawful_by, request_accepted, row_accepted, replay_from}
 use Rattle.ps_model.specs.Taking.{request_in, tree_taken}
 use Rattle.ps_model.specs.Tallies.{is_next_line}
 use Rattle.ps_model.proofs.ChangedBounded.{changed-bounded}
-use Rattle.std.specs.List.{AllByRecursion as Each}
-use Rattle.ps_books.proofs.Parts.{AreAtLeaves}
 use Rattle.ps_books.specs.Linked.{named}
 use Rattle.ps_books.specs.Rows.{IsAtLeaf, is_leaf_at}
 use Rattle.ps_books.specs.Sound.{HoldsItems}
-use Rattle.ps_books.specs.Strict.{is_strict_entry}
-use Rattle.ps_books.specs.Lawful.{IsLawfulFrom, lawful}
 use Rattle.ps_books.proofs.Keys.{each-by, each-push}
 use Rattle.ps_books.proofs.LeafKinds.{changed-leaves, leaf-more}
 use Rattle.ps_books.proofs.Naming.{find-named}
@@ -98,7 +94,7 @@ push-bounded n r b false e room is =
     let before = is n in
     omega (arith, pushed, before)
 
-row-kept : (r : BaseRow) (s : State) → accepts_row r s ≡ true → IsReachable s.book → HoldsItems s.book → HoldsItems (book_with r s.book)
+row-kept : (r : BaseRow) (s : State) → has_place r s ≡ true → IsReachable s.book → HoldsItems s.book → HoldsItems (book_with r s.book)
 row-kept (node r) s ok reach is = record {
   leaves = each-by (IsAtLeaf (s.book.nodes ++ r ∷ [])) (IsAtLeaf s.book.nodes) s.book.items (leaf-more s.book.nodes r) is.leaves;
   bounded = λ n. let more = bound-more (node_at n s.book.nodes) (node_at n (r ∷ [])) in let before = is.bounded n in let same = ap item_bound (find-append (is_node n) s.book.nodes (r ∷ [])) in omega (arith, more, before, same);
@@ -133,7 +129,7 @@ request-kept (Some r) moment book h is = record { leaves = changed-leaves built_
 
 base-kept : (o : Option BaseRow) (s : State) → row_accepted o s ≡ true → IsReachable s.book → HoldsItems s.book → HoldsItems (step.book_based o s.book)
 base-kept None s h reach is = is
-base-kept (Some r) s h reach is = row-kept r s h reach is
+base-kept (Some r) s h reach is = row-kept r s (and_parts (is_well_formed r) (has_place r s) h).1 reach is
 
 entry-kept : (s : State) (e : Entry) → accepted_at s e ≡ true → IsReachable s.book → HoldsItems s.book → HoldsItems (step.book_after s.book e)
 entry-kept s (Boot service) h reach is = record { leaves = is.leaves; bounded = is.bounded }
@@ -144,12 +140,12 @@ entry-kept s (Handed to) h reach is = is
 entry-kept s (Gone host) h reach is = record { leaves = is.leaves; bounded = is.bounded }
 entry-kept s (Base row) h reach is = base-kept (row_of row) s (and_parts (not (is_booted s)) (row_accepted (row_of row) s) h).1 reach is
 
-replay-kept : (telling : Event → Bool) (E : List Entry) (s : State) → IsLawfulFrom telling s E → Each (λ e. is_strict_entry e ≡ true) E → IsReachable s.book → HoldsItems s.book → HoldsItems (replay_from telling s E).book
-replay-kept telling [] s h strict reach is = is
-replay-kept telling (e ∷ E) s h strict reach is = replay-kept telling E (step.after telling s e) h.1 strict.1 (entry-reachable s e h.0 strict.0 reach) (entry-kept s e h.0 reach is)
+replay-kept : (telling : Event → Bool) (E : List Entry) (s : State) → IsLawfulFrom telling s E → IsReachable s.book → HoldsItems s.book → HoldsItems (replay_from telling s E).book
+replay-kept telling [] s h reach is = is
+replay-kept telling (e ∷ E) s h reach is = replay-kept telling E (step.after telling s e) h.1 (entry-reachable s e h.0 reach) (entry-kept s e h.0 reach is)
 
 empty-kept : HoldsItems empty_book
 empty-kept = record { leaves = tt; bounded = λ n. omega arith }
 
-pub lawful-kept : (telling : Event → Bool) (E : List Entry) → lawful telling E → Each (λ e. is_strict_entry e ≡ true) E → HoldsItems (replay_from telling empty_state E).book
-lawful-kept telling E h strict = replay-kept telling E empty_state h strict empty-reachable empty-kept
+pub lawful-kept : (telling : Event → Bool) (E : List Entry) → lawful_by telling E → HoldsItems (replay_from telling empty_state E).book
+lawful-kept telling E h = replay-kept telling E empty_state h empty-reachable empty-kept

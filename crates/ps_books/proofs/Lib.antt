@@ -8,6 +8,5 @@ pub mod RowedKinds
 pub mod LeafKinds
 pub mod Reached
 pub mod Kept
-pub mod TallyRows
 pub mod FormedKinds
 pub mod Formed

@@ -1,7 +1,6 @@
 -- Nodes without their collections, and then the links in their order, rebuild nodes and links.
-use Rattle.std.proofs.Common.{◌≡◌, ℕ, Bool, true, false, cond, ◌||◌, List, [], ◌∷◌, ◌++◌, map, Option, Some, None, option_map, refl, sym, ap, ap₂, ◌∙◌, append_assoc, append-nil}
+use Rattle.std.proofs.Common.{◌≡◌, ℕ, Bool, true, false, cond, ◌||◌, List, [], ◌∷◌, ◌++◌, map, Option, Some, None, option_map, refl, sym, ap, ap₂, ◌∙◌}
 use Rattle.std.specs.Prelude.{find, is_none, is_some}
-use Rattle.std.specs.List.{list_any}
 use Rattle.std.specs.Option.{option_or}
 use Rattle.std.proofs.lemmas.Bool.{true≢false}
 use Rattle.std.proofs.lemmas.List.Folds.{find-append}
@@ -16,13 +15,11 @@ use Rattle.ps_types.specs.Links.{is_link_at, is_link_of, is_link_to}
 use Rattle.ps_types.specs.Nodes.{config_at, is_node, node_at, stands, with_config}
 use Rattle.ps_types.specs.Same.{same_node}
 use Rattle.ps_types.proofs.Same.{same_node-Decides}
-use Rattle.ps_model.specs.BaseAfter.{book_with, in_collection, is_collection_at, takes_link}
-use Rattle.ps_model.specs.BaseRows.{link}
-use Rattle.ps_model.specs.Book.{Book, State}
+use Rattle.ps_model.specs.BaseAfter.{in_collection, is_collection_at}
 use Rattle.std.specs.List.{AllByRecursion as Each}
-use Rattle.ps_books.specs.Keys.{AreApart, link_key, node_key}
+use Rattle.ps_books.specs.Keys.{AreApart, node_key}
 use Rattle.ps_books.specs.Rows.{IsAffilRow, IsSubRow}
-use Rattle.ps_books.specs.Linked.{IsConfigured, IsLinkRow, name_in, named}
+use Rattle.ps_books.specs.Linked.{IsConfigured, name_in, named}
 
 -- ---- keys of nodes
 

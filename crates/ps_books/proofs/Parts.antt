@@ -2,7 +2,6 @@
 use Rattle.std.specs.Prelude.{◌≡◌, true}
 use Rattle.std.specs.List.{AllByRecursion}
 use Rattle.ps_types.specs.declared.rows.LinkRow.{LinkRow}
-use Rattle.ps_types.specs.declared.rows.ItemRow.{ItemRow}
 use Rattle.ps_types.specs.Nodes.{stands}
 use Rattle.ps_model.specs.Book.{Book}
 use Rattle.ps_books.specs.Keys.{HasKeys}

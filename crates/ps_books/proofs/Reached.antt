@@ -21,7 +21,7 @@ use Rattle.ps_types.specs.Same.{same_node}
 use Rattle.ps_types.specs.Subs.{is_pending, is_subscribed, sub_row}
 use Rattle.ps_types.specs.declared.rows.ItemRow.{ItemRow}
 use Rattle.ps_model.specs.After as step
-use Rattle.ps_model.specs.BaseAfter.{accepts_row, book_with, in_collection, is_bare, is_collection_at, is_early, is_number, is_shallow, is_some_affil, takes_item}
+use Rattle.ps_model.specs.BaseAfter.{book_with, has_place, in_collection, is_bare, is_collection_at, is_early, is_number, is_shallow, is_some_affil, is_well_formed, takes_item}
 use Rattle.ps_model.specs.BaseRead.{row_of}
 use Rattle.ps_model.specs.BaseRows.{BaseRow, node, affiliation, subscription, item, link, contact, ver, made, counter, notice}
 use Rattle.ps_model.specs.Book.{Book, State, empty_book, empty_state}
@@ -37,15 +37,13 @@ use Rattle.ps_model.specs.Taking.{request_in, tree_taken}
 use Rattle.ps_types.specs.Tree.{Tree}
 use Rattle.ps_types.specs.Resources.{resources_off}
 use Rattle.ps_types.specs.declared.rows.ResourceRow.{ResourceRow}
-use Rattle.ps_model.specs.Replay.{accepted_at, is_booted, request_accepted, row_accepted, replay_from}
+use Rattle.ps_model.specs.Replay.{IsLawfulFrom, accepted_at, is_booted, lawful_by, request_accepted, row_accepted, replay_from}
 use Rattle.std.specs.List.{AllByRecursion as Each}
 use Rattle.ps_books.proofs.Parts.{IsKeyed, IsLinked, IsRowed}
 use Rattle.ps_books.specs.Keys.{affil_key, count_key, item_key, link_key, node_key, roster_key, sub_key, ver_key}
 use Rattle.ps_books.specs.Linked.{IsConfigured, IsLinkRow, named}
 use Rattle.ps_books.specs.Rows.{IsAffilRow, IsCountRow, IsSubRow}
 use Rattle.ps_books.specs.Sound.{IsSound}
-use Rattle.ps_books.specs.Strict.{is_strict_entry, is_well_formed, strict_in}
-use Rattle.ps_books.specs.Lawful.{IsLawfulFrom, lawful}
 use Rattle.ps_books.proofs.KeyedKinds.{changed-keyed, empty-keyed, no-link, none-stands, stands-more}
 use Rattle.ps_books.proofs.Keys.{apart-push, each-by, each-push}
 use Rattle.ps_books.proofs.LinkedKinds.{absent, changed-linked, link-more, linked-configured}
@@ -161,8 +159,8 @@ module _ (b : Book) (l : LinkRow) (is : IsReachable b) (good : IsLinkRow b.nodes
   unfolding linked-book
   link-reachable = subst (λ (ns : List NodeRow). IsReachable (record b { links = b.links ++ l ∷ []; nodes = ns })) (sym nodes-now) linked-reachable
 
-pub row-reachable : (r : BaseRow) (s : State) → accepts_row r s ≡ true → is_well_formed r ≡ true → IsReachable s.book → IsReachable (book_with r s.book)
-row-reachable (node r) s ok strict is =
+row-reachable : (r : BaseRow) (s : State) → has_place r s ≡ true → is_well_formed r ≡ true → IsReachable s.book → IsReachable (book_with r s.book)
+row-reachable (node r) s ok formed is =
     let b = s.book in
     let keys = is.keyed.keys in
     let p = and_parts (not (stands r.key b.nodes)) (length r.config.collection == 0) ok in
@@ -182,7 +180,7 @@ row-reachable (node r) s ok strict is =
         counts = each-by (IsCountRow (b.nodes ++ r ∷ [])) (IsCountRow b.nodes) b.counts (count-more b.nodes r) is.rowed.counts;
       };
     }
-row-reachable (affiliation r) s ok strict is =
+row-reachable (affiliation r) s ok formed is =
     let b = s.book in
     let keys = is.keyed.keys in
     let p = four (is_some_affil r.affil) (stands r.node b.nodes) (is_bare r.who) (is_none (find (is_affil_of r.node r.who) b.affils)) ok in
@@ -191,7 +189,7 @@ row-reachable (affiliation r) s ok strict is =
       linked = record { links = is.linked.links; configured = is.linked.configured };
       rowed = record { affils = each-push (IsAffilRow b.nodes) b.affils r is.rowed.affils (record { some = p.0; stands = p.1; bare = p.2 }); subs = is.rowed.subs; counts = is.rowed.counts };
     }
-row-reachable (subscription r) s ok strict is =
+row-reachable (subscription r) s ok formed is =
     let b = s.book in
     let keys = is.keyed.keys in
     let p = three (is_pending r.state || is_subscribed r.state) (stands r.node b.nodes) (is_none (sub_row r.node r.who b.subs)) ok in
@@ -200,7 +198,7 @@ row-reachable (subscription r) s ok strict is =
       linked = record { links = is.linked.links; configured = is.linked.configured };
       rowed = record { affils = is.rowed.affils; subs = each-push (IsSubRow b.nodes) b.subs r is.rowed.subs (record { some = p.0; stands = p.1 }); counts = is.rowed.counts };
     }
-row-reachable (item r) s ok strict is =
+row-reachable (item r) s ok formed is =
     let b = s.book in
     let keys = is.keyed.keys in
     record {
@@ -208,11 +206,11 @@ row-reachable (item r) s ok strict is =
       linked = record { links = is.linked.links; configured = is.linked.configured };
       rowed = record { affils = is.rowed.affils; subs = is.rowed.subs; counts = is.rowed.counts };
     }
-row-reachable (link r) s ok strict is =
+row-reachable (link r) s ok formed is =
     let b = s.book in
     let p = four (stands r.child b.nodes) (is_collection_at (config_at r.collection b.nodes)) (not (same_node r.child r.collection)) (not (list_any (is_link_at r.child) b.links)) ok in
     link-reachable b r is (record { child = p.0; collection = p.1; differ = not-true (same_node r.child r.collection) p.2 }) (none-any r.child b.links (not-true (list_any (is_link_at r.child) b.links) p.3))
-row-reachable (contact r) s ok strict is =
+row-reachable (contact r) s ok formed is =
     let b = s.book in
     let keys = is.keyed.keys in
     record {
@@ -220,7 +218,7 @@ row-reachable (contact r) s ok strict is =
       linked = record { links = is.linked.links; configured = is.linked.configured };
       rowed = record { affils = is.rowed.affils; subs = is.rowed.subs; counts = is.rowed.counts };
     }
-row-reachable (ver r) s ok strict is =
+row-reachable (ver r) s ok formed is =
     let b = s.book in
     let keys = is.keyed.keys in
     record {
@@ -228,17 +226,17 @@ row-reachable (ver r) s ok strict is =
       linked = record { links = is.linked.links; configured = is.linked.configured };
       rowed = record { affils = is.rowed.affils; subs = is.rowed.subs; counts = is.rowed.counts };
     }
-row-reachable (made r) s ok strict is =
+row-reachable (made r) s ok formed is =
     let b = s.book in
     let keys = is.keyed.keys in
     let p = three (stands r.node b.nodes) (is_none (find (is_count_of r.node r.who) b.counts)) (is_number r.made) ok in
     record {
       keyed = record { keys = record { nodes = keys.nodes; affils = keys.affils; subs = keys.subs; items = keys.items; links = keys.links; rosters = keys.rosters; vers = keys.vers; counts = apart-push count_key b.counts r p.1 keys.counts }; links = is.keyed.links };
       linked = record { links = is.linked.links; configured = is.linked.configured };
-      rowed = record { affils = is.rowed.affils; subs = is.rowed.subs; counts = each-push (IsCountRow b.nodes) b.counts r is.rowed.counts (record { stands = p.0; bare = strict; some = (and_parts (nat_lt 0 r.made) (nat_lt r.made (2 ^ 62)) p.2).0 }) };
+      rowed = record { affils = is.rowed.affils; subs = is.rowed.subs; counts = each-push (IsCountRow b.nodes) b.counts r is.rowed.counts (record { stands = p.0; bare = formed; some = (and_parts (nat_lt 0 r.made) (nat_lt r.made (2 ^ 62)) p.2).0 }) };
     }
-row-reachable (counter who n) s ok strict is = is
-row-reachable (notice to line) s ok strict is = is
+row-reachable (counter who n) s ok formed is = is
+row-reachable (notice to line) s ok formed is = is
 
 -- ---- an entry
 
@@ -273,9 +271,9 @@ request-reachable (Some r) moment book h is =
       rowed = changed-rowed built_config r.ask r moment book ok is.rowed;
     }
 
-base-reachable : (o : Option BaseRow) (s : State) → row_accepted o s ≡ true → strict_in o ≡ true → IsReachable s.book → IsReachable (step.book_based o s.book)
-base-reachable None s h strict is = is
-base-reachable (Some r) s h strict is = row-reachable r s h strict is
+base-reachable : (o : Option BaseRow) (s : State) → row_accepted o s ≡ true → IsReachable s.book → IsReachable (step.book_based o s.book)
+base-reachable None s h is = is
+base-reachable (Some r) s h is = let p = and_parts (is_well_formed r) (has_place r s) h in row-reachable r s p.1 p.0 is
 
 pub middle : (a b c : Bool) → (a && b && c) ≡ true → b ≡ true
 middle true true true e = refl
@@ -283,26 +281,26 @@ middle true true false e = absurd (cc e)
 middle true false c e = absurd (cc e)
 middle false b c e = absurd (cc e)
 
-pub entry-reachable : (s : State) (e : Entry) → accepted_at s e ≡ true → is_strict_entry e ≡ true → IsReachable s.book → IsReachable (step.book_after s.book e)
-entry-reachable s (Boot service) h strict is = same-reachable s.book service [] is
-entry-reachable s (Change host line moment t) h strict is =
+pub entry-reachable : (s : State) (e : Entry) → accepted_at s e ≡ true → IsReachable s.book → IsReachable (step.book_after s.book e)
+entry-reachable s (Boot service) h is = same-reachable s.book service [] is
+entry-reachable s (Change host line moment t) h is =
     let o = request_in (tree_taken host s.book.service t) in
     request-reachable o moment s.book (middle (is_booted s) (request_accepted o s.book) (is_next_line host line s.lines) h) is
-entry-reachable s (Handed to) h strict is = is
-entry-reachable s (Gone host) h strict is = same-reachable s.book s.book.service (resources_off host s.book.resources) is
-entry-reachable s (Base row) h strict is = base-reachable (row_of row) s (and_parts (not (is_booted s)) (row_accepted (row_of row) s) h).1 strict is
+entry-reachable s (Handed to) h is = is
+entry-reachable s (Gone host) h is = same-reachable s.book s.book.service (resources_off host s.book.resources) is
+entry-reachable s (Base row) h is = base-reachable (row_of row) s (and_parts (not (is_booted s)) (row_accepted (row_of row) s) h).1 is
 
 -- ---- a list
 
-pub replay-reachable : (telling : Event → Bool) (E : List Entry) (s : State) → IsLawfulFrom telling s E → Each (λ e. is_strict_entry e ≡ true) E → IsReachable s.book → IsReachable (replay_from telling s E).book
-replay-reachable telling [] s h strict is = is
-replay-reachable telling (e ∷ E) s h strict is = replay-reachable telling E (step.after telling s e) h.1 strict.1 (entry-reachable s e h.0 strict.0 is)
+pub replay-reachable : (telling : Event → Bool) (E : List Entry) (s : State) → IsLawfulFrom telling s E → IsReachable s.book → IsReachable (replay_from telling s E).book
+replay-reachable telling [] s h is = is
+replay-reachable telling (e ∷ E) s h is = replay-reachable telling E (step.after telling s e) h.1 (entry-reachable s e h.0 is)
 
 -- the Book of each lawful list, uncut
-pub lawful-reachable : (telling : Event → Bool) (E : List Entry) → lawful telling E → Each (λ e. is_strict_entry e ≡ true) E → IsReachable (replay_from telling empty_state E).book
-lawful-reachable telling E h strict = replay-reachable telling E empty_state h strict empty-reachable
+pub lawful-reachable : (telling : Event → Bool) (E : List Entry) → lawful_by telling E → IsReachable (replay_from telling empty_state E).book
+lawful-reachable telling E h = replay-reachable telling E empty_state h empty-reachable
 
-pub lawful-sound : (telling : Event → Bool) (E : List Entry) → lawful telling E → Each (λ e. is_strict_entry e ≡ true) E → IsSound (replay_from telling empty_state E).book
-lawful-sound telling E h strict =
-    let is = lawful-reachable telling E h strict in
+pub lawful-sound : (telling : Event → Bool) (E : List Entry) → lawful_by telling E → IsSound (replay_from telling empty_state E).book
+lawful-sound telling E h =
+    let is = lawful-reachable telling E h in
     record { keys = is.keyed.keys; links = is.linked.links; configured = is.linked.configured; affils = is.rowed.affils; subs = is.rowed.subs; counts = is.rowed.counts }

@@ -1,5 +1,5 @@
 -- What holds of each row of a Book: its node stands, and what it says is something.
-use Rattle.std.specs.Prelude.{◌≡◌, ℕ, Bool, true, false, nat_lt, not, ◌||◌, List, Option, Some, None}
+use Rattle.std.specs.Prelude.{◌≡◌, Bool, true, false, nat_lt, not, ◌||◌, List, Option, Some, None}
 use Rattle.ps_types.specs.declared.config.NodeConfig.{NodeConfig}
 use Rattle.ps_types.specs.declared.rows.AffilRow.{AffilRow}
 use Rattle.ps_types.specs.declared.rows.CountRow.{CountRow}
