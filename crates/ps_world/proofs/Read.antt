@@ -118,7 +118,7 @@ steps_took w h None = refl
 steps_took w h (Some s) = steps_if (nat_le s.step w.flushed) (record w { hosts = at_host h (λ part. record part { taken = part.taken + 1 }) w.hosts }) w w.steps refl refl
 
 steps_emits : (w : World) (a : Jid) (f : Flight) (next : Option Notice) → (emits w a f next).steps ≡ w.steps
-steps_emits w a Nothing (Some n) = steps_if (nat_lt n.place (durable w)) (record w { addresses = at_address a (λ part. record { sent = part.sent ++ n ∷ []; flight = Unrecorded }) w.addresses }) w w.steps refl refl
+steps_emits w a Nothing (Some n) = steps_if (nat_lt n.place (durable w)) (record w { addresses = at_address a (λ part. record part { sent = part.sent ++ n ∷ []; flight = Unrecorded }) w.addresses }) w w.steps refl refl
 steps_emits w a Nothing None = refl
 steps_emits w a Unrecorded next = refl
 steps_emits w a (Recorded t) next = refl
