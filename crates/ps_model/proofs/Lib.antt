@@ -20,3 +20,5 @@ pub mod AskedKinds
 pub mod AskedWays
 pub mod AskedStanza
 pub mod Differs
+pub mod OneLine
+pub mod StreamLaws

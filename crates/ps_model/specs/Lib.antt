@@ -45,6 +45,7 @@ pub mod EventSubs
 pub mod Events
 pub mod Given
 pub mod Grammar
+pub mod Heard
 pub mod ItemIds
 pub mod Last
 pub mod Lists
