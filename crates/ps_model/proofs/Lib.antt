@@ -22,3 +22,5 @@ pub mod AskedStanza
 pub mod Differs
 pub mod OneLine
 pub mod StreamLaws
+pub mod ReaderLaws
+pub mod SomeDamage
