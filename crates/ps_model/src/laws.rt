@@ -7,10 +7,12 @@ ghost use Rattle.ps_types.specs.declared.event.Event.{Event};
 ghost use Rattle.ps_types.specs.declared.entry.Entry.{Entry};
 ghost use Rattle.ps_types.specs.declared.entry.Notice.{Notice};
 ghost use Rattle.ps_types.specs.declared.jid.Jid.{Jid};
+ghost use Rattle.ps_types.specs.declared.node.NodeKey.{NodeKey};
 ghost use Rattle.ps_model.specs.Book.{Book};
 ghost use Rattle.ps_model.specs.Built.{is_built_event};
 ghost use Rattle.ps_model.specs.CoreLaws.{AreSame, IsLawful};
-ghost use Rattle.ps_model.specs.Given.{asked, given};
+ghost use Rattle.ps_model.specs.Due.{may_read};
+ghost use Rattle.ps_model.specs.Given.{asked, given, node_read};
 ghost use Rattle.ps_model.specs.Numbers.{counter_of};
 ghost use Rattle.ps_model.specs.Replay.{lawful, lawful_by, notices_by, notices_from, replay_by, replay_from};
 ghost use Rattle.ps_model.specs.TheCore.{core_of, the_core};
@@ -46,4 +48,9 @@ pub fn numbers_rise()
 /// An address that gets something of an event is among those that are asked.
 pub fn nobody_missed()
     ensures { (book : Book) (event : Event) (who : Jid) (t : Tree) → given book event who ≡ Some t → list_any (same_jid who) (asked book event) ≡ true }
+{}
+
+/// What an event of a node gives an address it gives to one that may read the node (XEP-0060 §4.5).
+pub fn only_readers_hear()
+    ensures { (book : Book) (event : Event) (node : NodeKey) (who : Jid) (t : Tree) → node_read event ≡ Some node → given book event who ≡ Some t → may_read book node who ≡ true }
 {}

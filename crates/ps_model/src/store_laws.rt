@@ -18,3 +18,8 @@ pub fn one_damage()
 pub fn damaged_has_none()
     ensures { (bytes : List ℕ) (at : ℕ) (E : List Entry) → IsDamagedAt bytes at → IsStore bytes E → ⊥ }
 {}
+
+/// No bytes have neither a list nor a place of damage: it can't be that no list is theirs, and no place is where they are damaged.
+pub fn list_or_damage()
+    ensures { (bytes : List ℕ) → ((E : List Entry) → ¬ IsStore bytes E) → ((at : ℕ) → ¬ IsDamagedAt bytes at) → ⊥ }
+{}
