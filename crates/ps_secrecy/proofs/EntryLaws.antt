@@ -1,5 +1,5 @@
 -- Each kind of entry, where it is accepted and where it isn't, keeps two worlds alike.
-use Rattle.std.proofs.Common.{◌≡◌, ℕ, ◌+◌, Bool, true, false, cond, ◌&&◌, not, List, [], ◌∷◌, length, Option, Some, None, refl, sym, ap, ap₂, ◌∙◌, subst}
+use Rattle.std.proofs.Common.{◌≡◌, ℕ, ◌+◌, Bool, true, false, cond, ◌&&◌, not, List, [], length, Option, Some, None, refl, sym, ap, ap₂, ◌∙◌, subst}
 use Rattle.std.specs.Prelude.{nat_lt, ◌==◌}
 use Rattle.std.proofs.lemmas.Bool.{true≢false}
 use Rattle.ps_types.specs.Same.{same_bare}
@@ -11,22 +11,19 @@ use Rattle.ps_types.specs.declared.jid.Jid.{Jid}
 use Rattle.ps_types.specs.declared.node.NodeKey.{NodeKey}
 use Rattle.ps_types.specs.declared.request.Request.{Request}
 use Rattle.ps_model.specs.After.{after, book_based, notices_at, request_on}
-use Rattle.ps_model.specs.BaseAfter.{accepts_row}
 use Rattle.ps_model.specs.BaseRead.{row_of}
 use Rattle.ps_model.specs.BaseRows.{BaseRow}
 use Rattle.ps_model.specs.Book.{State}
-use Rattle.ps_model.specs.Heard.{heard}
 use Rattle.ps_model.specs.Numbered.{row_notices, row_tallies}
 use Rattle.ps_model.specs.Replay.{accepted_at, is_booted, request_accepted, row_accepted}
 use Rattle.ps_model.specs.Taking.{request_in, tree_taken}
 use Rattle.ps_model.specs.Tallies.{handed_to, is_next_line, made_for}
 use Rattle.ps_model.specs.TwoWorlds.{IsShutOut, SameBut}
-use Rattle.ps_model.proofs.TallyLaws.{handed-like, made-like, same_bare-turned}
+use Rattle.ps_model.proofs.TallyLaws.{handed-like, made-like}
 use Rattle.ps_secrecy.specs.Alike.{IsBlind, LookAlike}
 use Rattle.ps_secrecy.specs.Deeds.{IsAbove, applied, applied_notices}
 use Rattle.ps_secrecy.proofs.BaseLaws.{base-on}
-use Rattle.ps_secrecy.proofs.Choice.{makes}
-use Rattle.ps_secrecy.proofs.Choices.{choice_of, makes-is}
+use Rattle.ps_secrecy.proofs.Choices.{choice_of}
 use Rattle.ps_secrecy.proofs.SameLaws.{nodes-are}
 use Rattle.ps_secrecy.proofs.StepLaws.{boot-on, change-on, gone-on, handed-on, handed-one-on, same-back}
 

@@ -1,14 +1,10 @@
 -- A line in one world: its reply, its entry, and what they leave; `full` is false.
-use Rattle.std.specs.Prelude.{Bool, false, cond, List, [], Option, Some, None, ℕ}
-use Rattle.ps_types.specs.Same.{same_bare}
+use Rattle.std.specs.Prelude.{false, cond, List, [], Option, Some, None, ℕ}
 use Rattle.ps_types.specs.Tree.{Tree}
 use Rattle.ps_types.specs.declared.entry.Arrival.{Arrival}
 use Rattle.ps_types.specs.declared.entry.Entry.{Entry}
 use Rattle.ps_types.specs.declared.entry.Entry.TheVariants.{Change}
-use Rattle.ps_types.specs.declared.entry.Notice.{Notice}
-use Rattle.ps_types.specs.declared.event.Event.{Event}
 use Rattle.ps_types.specs.declared.jid.Jid.{Jid}
-use Rattle.ps_model.specs.After.{after, notices_at}
 use Rattle.ps_model.specs.Book.{Book, State}
 use Rattle.ps_model.specs.Replies.{error_reply, if_answered, outcome_reply, refused_tree, moment_of}
 use Rattle.ps_model.specs.Taken.{Taken}

@@ -1,5 +1,5 @@
 -- The laws of secrecy, put together.
-use Rattle.std.proofs.Common.{◌≡◌, ℕ, Bool, List, [], ◌∷◌, ◌++◌, Option, Some, None, cond, refl, sym, ap, ap₂, ◌∙◌, subst, map, option_map}
+use Rattle.std.proofs.Common.{◌≡◌, ℕ, Bool, List, [], ◌∷◌, ◌++◌, Option, None, cond, refl, sym, ap, ◌∙◌, subst, option_map}
 use Rattle.std.specs.Prelude.{false, nat_le, filter}
 use Rattle.ps_types.specs.Print.{print}
 use Rattle.ps_types.specs.Tree.{Tree}
@@ -10,20 +10,20 @@ use Rattle.ps_types.specs.declared.event.Event.{Event}
 use Rattle.ps_types.specs.declared.jid.Jid.{Jid}
 use Rattle.ps_types.specs.declared.node.NodeKey.{NodeKey}
 use Rattle.ps_model.specs.declared.steps.Step.{Step}
-use Rattle.ps_model.specs.Book.{Book, State}
+use Rattle.ps_model.specs.Book.{State}
 use Rattle.ps_model.specs.Built.{is_built_event}
 use Rattle.ps_model.specs.Core.{Core}
 use Rattle.ps_model.specs.Heard.{is_from, reply_for}
 use Rattle.ps_model.specs.Machine.{run, start}
 use Rattle.ps_model.specs.Replay.{replay_by}
-use Rattle.ps_model.specs.Replies.{entry_of, reply_to}
+use Rattle.ps_model.specs.Replies.{entry_of}
 use Rattle.ps_model.specs.Taking as taking
 use Rattle.ps_model.specs.TwoWorlds.{IsShutOut, SameBut, Touches}
 use Rattle.ps_model.specs.World.{Said, World, all_taken}
 use Rattle.ps_secrecy.specs.Alike.{IsBlind, LookAlike, added, notes}
 use Rattle.ps_secrecy.specs.Runs.{AnswersAs, AreDenied, ArePairs}
 use Rattle.ps_secrecy.specs.Seen.{GetsTheSame, replies_to}
-use Rattle.ps_secrecy.proofs.AlikeHosts.{IsCore, seen}
+use Rattle.ps_secrecy.proofs.AlikeHosts.{IsCore}
 use Rattle.ps_secrecy.proofs.AlikeWorlds.{AlikeWorlds}
 use Rattle.ps_secrecy.proofs.ArriveLaws.{line-on, lines-on, lines-reply, reply-on}
 use Rattle.ps_secrecy.proofs.Choices.{choice_of, entries-are, replies-are}

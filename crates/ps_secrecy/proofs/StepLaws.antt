@@ -31,7 +31,6 @@ use Rattle.ps_model.proofs.TallyLaws.{made-handed, handed-one}
 use Rattle.ps_secrecy.proofs.Blank.{is_hidden, is_quiet}
 use Rattle.ps_secrecy.specs.Alike.{LookAlike}
 use Rattle.ps_secrecy.proofs.Choice.{Choice, makes}
-use Rattle.ps_model.specs.Heard.{heard}
 use Rattle.ps_secrecy.proofs.Heard.{due_to, hears}
 use Rattle.ps_secrecy.proofs.Stepped.{outs, stepped, said}
 use Rattle.ps_secrecy.proofs.Twin.{twin, Beside}

@@ -1,32 +1,22 @@
 -- Whole runs from one list and one boot.
-use Rattle.std.proofs.Common.{◌≡◌, ℕ, suc, List, [], ◌∷◌, ◌++◌, Option, Some, refl, sym, ap, ◌∙◌, subst, length, map, arith, option_map}
-use Rattle.std.specs.Prelude.{filter}
-use Rattle.std.proofs.lemmas.List.{map-append}
-use Rattle.ps_types.specs.Print.{print}
-use Rattle.ps_types.specs.Tree.{Tree}
-use Rattle.ps_types.specs.Same.{same_bare}
+use Rattle.std.proofs.Common.{◌≡◌, ℕ, suc, List, [], ◌∷◌, ◌++◌, Some, refl, sym, ap, subst, length, arith}
 use Rattle.ps_types.specs.declared.entry.Entry.{Entry}
 use Rattle.ps_types.specs.declared.entry.Entry.TheVariants.{Boot}
-use Rattle.ps_types.specs.declared.entry.Notice.{Notice}
 use Rattle.ps_types.specs.declared.jid.Jid.{Jid}
 use Rattle.ps_types.specs.declared.node.NodeKey.{NodeKey}
 use Rattle.ps_model.specs.declared.steps.Step.{Step}
-use Rattle.ps_model.specs.After.{after, notices_at}
 use Rattle.ps_model.specs.Book.{State, empty_state}
-use Rattle.ps_model.specs.Built.{is_built_event}
 use Rattle.ps_model.specs.Core.{Core}
 use Rattle.ps_model.specs.Machine.{run, start}
-use Rattle.ps_model.specs.Replay.{notices_from, of_bare, replay, replay_from}
-use Rattle.ps_model.specs.TheCore.{the_core}
+use Rattle.ps_model.specs.Replay.{replay_from}
 use Rattle.ps_model.specs.TwoWorlds.{IsShutOut}
 use Rattle.ps_model.specs.World.{zeros}
 use Rattle.ps_secrecy.proofs.AlikeHosts.{IsCore}
 use Rattle.ps_secrecy.proofs.AlikeWorlds.{AlikeWorlds, IsHeard}
 use Rattle.ps_secrecy.proofs.Choice.{Choice}
 use Rattle.ps_secrecy.proofs.Fronts.{AllBy, Fits}
-use Rattle.ps_model.specs.Heard.{placeless}
 use Rattle.ps_secrecy.specs.Runs.{ArePairs, AreDenied}
-use Rattle.ps_secrecy.proofs.AlikeRuns.{AlikeRuns, hearing}
+use Rattle.ps_secrecy.proofs.AlikeRuns.{AlikeRuns}
 use Rattle.ps_secrecy.proofs.ChangeLaws.{beside-itself}
 use Rattle.ps_secrecy.proofs.FrontLaws.{first-all}
 use Rattle.ps_secrecy.proofs.RunLaws.{state-on}

@@ -33,7 +33,7 @@ use Rattle.ps_secrecy.proofs.Lined.{entry_in, line_entry, line_reply, line_to}
 use Rattle.ps_secrecy.proofs.AlikeRuns.{AlikeRuns}
 use Rattle.ps_secrecy.proofs.ArriveLaws.{Ends, line-on, lines-on, reply-on}
 use Rattle.ps_secrecy.proofs.FrontLaws.{crash-on, entry-on, flush-on, now}
-use Rattle.ps_secrecy.proofs.HostLaws.{earlier-is, line-is, map-take, said-on, said_of, taken-is}
+use Rattle.ps_secrecy.proofs.HostLaws.{earlier-is, line-is, map-take, said-on, taken-is}
 use Rattle.ps_secrecy.proofs.ReplyLaws.{line-some, touch-some}
 use Rattle.ps_secrecy.proofs.RunLaws.{hands, run-on, state-on}
 use Rattle.ps_secrecy.proofs.StepLaws.{boot-on, gone-on}
