@@ -3,11 +3,17 @@ pub mod BookmarksHold
 pub mod Bytes
 pub mod CapabilitiesHold
 pub mod CollectionsHold
+pub mod ConditionsHold
+pub mod DiscoveryHold
+pub mod FullHold
 pub mod HomeHold
 pub mod LinesHold
 pub mod Moments
 pub mod NodesHold
 pub mod NoticesHold
+pub mod OptionsHold
+pub mod OwnersHold
 pub mod Parts
+pub mod PresenceHold
 pub mod Rows
 pub mod Serving
