@@ -7,6 +7,7 @@ pub mod ConditionsHold
 pub mod DiscoveryHold
 pub mod FullHold
 pub mod HomeHold
+pub mod LimitsHold
 pub mod LinesHold
 pub mod Moments
 pub mod NodesHold

@@ -12,6 +12,7 @@ pub mod Forms
 pub mod FullCases
 pub mod Handed
 pub mod HomeCases
+pub mod LimitCases
 pub mod LineCases
 pub mod NodeCases
 pub mod NoticeCases

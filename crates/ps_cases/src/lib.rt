@@ -16,6 +16,7 @@ mod collections;
 mod conditions;
 mod discovery;
 mod home;
+mod limits;
 mod lines;
 mod nodes;
 mod notices;
@@ -31,6 +32,7 @@ pub use conditions::{
 };
 pub use discovery::{entities_say_what_they_are, nodes_and_items_are_listed};
 pub use home::{last_item, roster_groups, wanted_items};
+pub use limits::greatest_numbers;
 pub use lines::{bad_lines, first_lines, served_as_in_cases};
 pub use nodes::{
     bookmarks_are_kept, configuration_shown, item_denials, item_ids, last_owner, nodes_are_found,
