@@ -1,5 +1,5 @@
 -- What stands for the list, computed, and how both go on.
-use Rattle.std.proofs.Common.{◌≡◌, ◌⊎◌, inl, inr, refl, ap, sym, subst, ◌∙◌, ℕ, Bool, true, false, ◌&&◌, ◌||◌, List, [], ◌∷◌, ◌++◌, drop, filter, cond, Option, Some, None, true≢false}
+use Rattle.std.proofs.Common.{◌≡◌, ◌⊎◌, inl, inr, refl, ap, sym, subst, ◌∙◌, ℕ, Bool, true, false, ◌&&◌, ◌||◌, List, [], ◌∷◌, ◌++◌, drop, filter, map, cond, Option, Some, None, true≢false}
 use Rattle.std.specs.Prelude.{not}
 use Rattle.std.specs.List.{list_all}
 use Rattle.std.proofs.lemmas.Bool.{and_parts}
@@ -19,15 +19,17 @@ use Rattle.ps_types.specs.declared.entry.Entry.{Entry}
 use Rattle.ps_types.specs.declared.entry.Entry.TheVariants.{Boot, Change, Handed, Gone, Base}
 use Rattle.ps_types.specs.declared.entry.Notice.{Notice}
 use Rattle.ps_types.specs.declared.jid.Jid.{Jid}
+use Rattle.ps_model.specs.After.{after}
 use Rattle.ps_model.specs.BaseRead.{row_of}
 use Rattle.ps_model.specs.BaseRows.{BaseRow, affiliation, subscription, item, link, contact, ver, counter, notice}
 use Rattle.ps_model.specs.Book.{Book, State, empty_state}
 use Rattle.ps_model.specs.Core.{handed}
-use Rattle.ps_model.specs.Replay.{accepted_at, is_booted, of_bare, row_accepted, to_address}
+use Rattle.ps_model.specs.Heard.{placeless}
+use Rattle.ps_model.specs.Replay.{IsLawfulFrom, accepted_at, is_booted, of_bare, row_accepted, to_address}
 use Rattle.ps_model.proofs.TallyLaws.{same_bare-Decides}
 use Rattle.ps_cases.proofs.Parts.{all_from, part-of}
 use Rattle.ps_cases.specs.Compacted.{are_accepted, base_by}
-use Rattle.ps_cases.specs.Running.{Line, entry_in, handed_by, left_by, reply_in, taken_in}
+use Rattle.ps_cases.specs.Running.{Line, entry_in, every, handed_by, left_by, reply_in, taken_in}
 use Rattle.ps_cases.specs.Words.{to_ann, to_bob}
 use Rattle.ps_bytes.specs.Bases as it
 
@@ -37,13 +39,17 @@ rows-stand = refl
 
 -- ---- lawful
 
-lawful : are_accepted empty_state (it.whole ++ it.more) ≡ true
+accepted-all : are_accepted empty_state (it.whole ++ it.more) ≡ true
 unfolding same.same_jid same.same_bare same.same_node text.escape_byte fmt.digits str.is_utf8 str.chars utf8.encode json.value lex.punctuate lex.lex content.content b64.encode_symbols sha.sha1 sha.digest_bytes sha.hash_after sha.compress sha.rounds sha.schedule sha.first_words
-lawful = refl
+accepted-all = refl
 
-lawful-there : are_accepted empty_state (it.rows ++ it.more) ≡ true
+accepted-there : are_accepted empty_state (it.rows ++ it.more) ≡ true
 unfolding same.same_jid same.same_bare same.same_node text.escape_byte fmt.digits str.is_utf8 str.chars utf8.encode json.value lex.punctuate lex.lex content.content b64.encode_symbols sha.sha1 sha.digest_bytes sha.hash_after sha.compress sha.rounds sha.schedule sha.first_words
-lawful-there = refl
+accepted-there = refl
+
+lawful-from : (s : State) (E : List Entry) → are_accepted s E ≡ true → IsLawfulFrom every s E
+lawful-from s [] e = tt
+lawful-from s (x ∷ E) e = let p = and_parts (accepted_at s x) (are_accepted (after every s x) E) e in (p.0, lawful-from (after every s x) E p.1)
 
 -- ---- alike: all but the count of entries is one
 
@@ -126,7 +132,7 @@ unfolding same.same_jid same.same_bare same.same_node text.escape_byte fmt.digit
 told-either = (refl, refl)
 
 abbrev Same : Jid → Type 0
-Same a = it.heard_of (to_address a behind) ≡ it.heard_of (drop (handed it.whole a) (to_address a before))
+Same a = map placeless (to_address a behind) ≡ map placeless (drop (handed it.whole a) (to_address a before))
 
 bob-same : Same to_bob
 unfolding same.same_jid same.same_bare same.same_node text.escape_byte fmt.digits str.is_utf8 str.chars utf8.encode json.value lex.punctuate lex.lex content.content b64.encode_symbols sha.sha1 sha.digest_bytes sha.hash_after sha.compress sha.rounds sha.schedule sha.first_words
@@ -148,8 +154,8 @@ by-address a true y p q = subst Same ((same_jid-Decides to_bob a).0 p) bob-same
 by-address a false true p q = subst Same ((same_jid-Decides to_ann a).0 q) ann-same
 by-address a false false p q = other-same a p q
 
-notices-same : (a : Jid) → it.heard_of (handed_by (it.rows ++ it.more) a) ≡ it.heard_of (drop (handed it.whole a) (handed_by (it.whole ++ it.more) a))
+notices-same : (a : Jid) → map placeless (handed_by (it.rows ++ it.more) a) ≡ map placeless (drop (handed it.whole a) (handed_by (it.whole ++ it.more) a))
 notices-same a = rw (part-of empty_state (it.rows ++ it.more) a) (rw (part-of empty_state (it.whole ++ it.more) a) (by-address a (same_jid to_bob a) (same_jid to_ann a) refl refl))
 
 pub serves-on : it.ServesOn it.whole it.rows it.more
-serves-on = record { lawful = lawful; lawful_there = lawful-there; alike = both-alike; notices = notices-same }
+serves-on = record { lawful = lawful-from empty_state (it.whole ++ it.more) accepted-all; lawful_there = lawful-from empty_state (it.rows ++ it.more) accepted-there; alike = both-alike; notices = notices-same }

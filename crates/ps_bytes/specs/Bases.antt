@@ -9,10 +9,11 @@ use Rattle.ps_types.specs.declared.jid.Jid.{Jid}
 use Rattle.ps_model.specs.After.{after}
 use Rattle.ps_model.specs.Book.{State, empty_state}
 use Rattle.ps_model.specs.Core.{handed}
-use Rattle.ps_model.specs.Replay.{accepted_at}
+use Rattle.ps_model.specs.Heard.{placeless}
+use Rattle.ps_model.specs.Replay.{accepted_at, lawful_by}
 use Rattle.ps_cases.specs.AccessCases.{approval, pending, q, question}
 use Rattle.ps_cases.specs.Case.{Exchange, boot, kept, list_of, made, own}
-use Rattle.ps_cases.specs.Compacted.{are_accepted, base_by, row}
+use Rattle.ps_cases.specs.Compacted.{row}
 use Rattle.ps_cases.specs.Forms.{account_form, form_with}
 use Rattle.ps_cases.specs.Handed.{event_of, message}
 use Rattle.ps_cases.specs.HomeCases.{answer, delay, has_bob, info, second, t}
@@ -104,16 +105,9 @@ abbrev pub StayAlike : State → State → List Entry → Type 0
 StayAlike s u [] = Unit {0}
 StayAlike s u (e ∷ F) = GoAlike (after every s e) (after every u e) × StayAlike (after every s e) (after every u e) F
 
--- a notice without its place
-abbrev pub heard : Notice → Jid × ℕ × List ℕ
-heard n = (n.to, n.number, n.line)
-
-abbrev pub heard_of : List Notice → List (Jid × ℕ × List ℕ)
-heard_of ns = map heard ns
-
 -- the other list is lawful with what follows where the first is, answers as the first after each entry of it, and makes the notices of the first without the handed ones
 pub record ServesOn (E B F : List Entry) : Type 0 where
-  pub lawful : are_accepted empty_state (E ++ F) ≡ true
-  pub lawful_there : are_accepted empty_state (B ++ F) ≡ true
+  pub lawful : lawful_by every (E ++ F)
+  pub lawful_there : lawful_by every (B ++ F)
   pub alike : StayAlike (left_by E) (left_by B) F
-  pub notices : (a : Jid) → heard_of (handed_by (B ++ F) a) ≡ heard_of (drop (handed E a) (handed_by (E ++ F) a))
+  pub notices : (a : Jid) → map placeless (handed_by (B ++ F) a) ≡ map placeless (drop (handed E a) (handed_by (E ++ F) a))

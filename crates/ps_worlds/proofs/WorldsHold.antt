@@ -1,6 +1,6 @@
 -- Three pairs of worlds that stay alike, and what is sent again in both, computed.
 use Rattle.std.proofs.Common.{inl, inr}
-use Rattle.std.specs.Prelude.{◌≡◌, refl, ℕ, List, [], ◌∷◌, None, false, codes}
+use Rattle.std.specs.Prelude.{◌≡◌, refl, ℕ, List, [], ◌∷◌, ◌++◌, None, false, codes}
 use lib.Utf8 as utf8
 use Rattle.json.specs.Json as json
 use Rattle.json.specs.Lex as lex
@@ -19,7 +19,7 @@ use Rattle.ps_types.specs.declared.request.Request.{Request}
 use Rattle.ps_model.specs.Access.{read}
 use Rattle.ps_model.specs.Book.{State}
 use Rattle.ps_model.specs.Stanza.{host_jid}
-use Rattle.ps_model.specs.TheCore.{the_core}
+use Rattle.ps_model.specs.TheCore.{core_of}
 use Rattle.ps_model.specs.TwoWorlds.{IsPair, IsShutOut, SameBut, Touches}
 use Rattle.ps_cases.proofs.Parts.{each-part}
 use Rattle.ps_cases.specs.AccessCases.{w}
@@ -293,10 +293,10 @@ pub commits-differ-holds : AreTwoWorlds it.secret it.to_alf it.commits_differ it
 unfolding same.same_jid same.same_bare same.same_node text.escape_byte fmt.digits
 commits-differ-holds = record { left = commits-differ-left; right = commits-differ-right; alike = commits-differ-alike; replies = refl; notices = refl }
 
-pub again-left : it.sent_after (lefts it.commits_differ) it.again ≡ it.left_told
-unfolding same.same_jid same.same_bare same.same_node text.escape_byte fmt.digits the_core
+pub again-left : it.sent_by_steps (lefts it.commits_differ) ≡ it.left_told ++ it.left_told
+unfolding same.same_jid same.same_bare same.same_node text.escape_byte fmt.digits core_of
 again-left = refl
 
-pub again-right : it.sent_after (rights it.commits_differ) it.again ≡ it.right_told
-unfolding same.same_jid same.same_bare same.same_node text.escape_byte fmt.digits the_core
+pub again-right : it.sent_by_steps (rights it.commits_differ) ≡ it.right_told ++ it.right_told
+unfolding same.same_jid same.same_bare same.same_node text.escape_byte fmt.digits core_of
 again-right = refl

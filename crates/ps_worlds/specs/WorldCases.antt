@@ -8,6 +8,7 @@ use Rattle.ps_types.specs.declared.jid.Jid.{Jid}
 use Rattle.ps_types.specs.declared.node.NodeKey.{NodeKey}
 use Rattle.ps_model.specs.Machine as machine
 use Rattle.ps_model.specs.Stanza.{host_jid}
+use Rattle.ps_model.specs.World.{all_sent}
 use Rattle.ps_model.specs.declared.steps.Step.{Step}
 use Rattle.ps_model.specs.declared.steps.Step.TheVariants.{Crash, Emit}
 use Rattle.ps_cases.specs.AccessCases.{w}
@@ -107,5 +108,6 @@ right_told = told_at 5
 abbrev pub again : List Step
 again = Emit to_alf ∷ Crash 1 ∷ Emit to_alf ∷ []
 
-abbrev pub sent_after : List Exchange → List Step → List Notice
-sent_after given steps = ((machine.world core service (list_of given) steps).addresses to_alf).sent
+-- all that was sent to alf, before the crash and after it
+abbrev pub sent_by_steps : List Exchange → List Notice
+sent_by_steps given = all_sent ((machine.world core service (list_of given) again).addresses to_alf)

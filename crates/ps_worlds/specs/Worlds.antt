@@ -1,8 +1,6 @@
 -- Two services that differ in the items of nodes that an address may not read: what comes in both, and what the address hears of it.
-use Rattle.std.specs.Prelude.{◌≡◌, ◌&&◌, Bool, false, ℕ, List, map, [], ◌∷◌, Option, None, Some, option_map, codes, if◌then◌else◌}
+use Rattle.std.specs.Prelude.{◌≡◌, Bool, ℕ, List, map, [], ◌∷◌, Option, option_map, if◌then◌else◌}
 use Rattle.ps_types.specs.Print.{print}
-use Rattle.ps_types.specs.Same.{same_bare}
-use Rattle.ps_types.specs.Shape.{attr_text}
 use Rattle.ps_types.specs.Tree.{Tree}
 use Rattle.ps_types.specs.declared.entry.Entry.{Entry}
 use Rattle.ps_types.specs.declared.entry.Entry.TheVariants as entry
@@ -10,13 +8,13 @@ use Rattle.ps_types.specs.declared.entry.Notice.{Notice}
 use Rattle.ps_types.specs.declared.jid.Jid.{Jid}
 use Rattle.ps_types.specs.declared.node.NodeKey.{NodeKey}
 use Rattle.ps_model.specs.Book.{State}
-use Rattle.ps_model.specs.Replay.{replay_from, to_address}
-use Rattle.ps_model.specs.Stanza.{jid_of}
+use Rattle.ps_model.specs.Heard.{heard, is_from}
+use Rattle.ps_model.specs.Replay.{replay_from}
 use Rattle.ps_model.specs.TwoWorlds.{IsPair, SameBut}
 use Rattle.ps_model.specs.declared.steps.Step.{Step}
 use Rattle.ps_model.specs.declared.steps.Step.TheVariants.{Arrive, Broken, Gone, Record}
 use Rattle.ps_cases.specs.Case.{Exchange, Holds, Sent, answered, booted, kept, line_of, made, own}
-use Rattle.ps_cases.specs.Running.{every}
+use Rattle.ps_cases.specs.Running.{every, taken_in}
 
 -- ---- what comes in the one world and in the other
 
@@ -54,12 +52,9 @@ AreAlike S a s t ((x, y) ∷ rest) = SameBut S a s t × IsPair S a s t (step_of 
 
 -- ---- what the address hears
 
-abbrev pub is_by : Jid → Option Jid → Bool
-is_by a None = false
-is_by a (Some from) = same_bare a from
-
-abbrev pub is_sender : Jid → Sent → Bool
-is_sender a sent = is_by a (jid_of (attr_text (codes "from") sent.tree))
+-- whether the line of the stanza is the address's
+abbrev pub is_of : Jid → Sent → Bool
+is_of a sent = is_from a (taken_in (line_of sent) booted.book)
 
 abbrev pub reply_if : Bool → Option Tree → List (Option (List ℕ)) → List (Option (List ℕ))
 reply_if asked reply rest = if asked then option_map print reply ∷ rest else rest
@@ -67,16 +62,9 @@ reply_if asked reply rest = if asked then option_map print reply ∷ rest else r
 -- the printed replies to its lines
 abbrev pub replies_to : Jid → List Exchange → List (Option (List ℕ))
 replies_to a [] = []
-replies_to a (kept sent reply ∷ rest) = reply_if (is_sender a sent) reply (replies_to a rest)
-replies_to a (answered sent reply ∷ rest) = reply_if (is_sender a sent) reply (replies_to a rest)
+replies_to a (kept sent reply ∷ rest) = reply_if (is_of a sent) reply (replies_to a rest)
+replies_to a (answered sent reply ∷ rest) = reply_if (is_of a sent) reply (replies_to a rest)
 replies_to a (own e ∷ rest) = replies_to a rest
-
--- a notice without its place
-abbrev pub heard : Notice → Jid × ℕ × List ℕ
-heard n = (n.to, n.number, n.line)
-
-abbrev pub hears : Jid → List Notice → List (Jid × ℕ × List ℕ)
-hears a told = map heard (to_address a told)
 
 -- each world is a case of its own; they stay alike to the address, which is answered and told the same
 pub record AreTwoWorlds (S : List NodeKey) (a : Jid) (pairs : List (Exchange × Exchange)) (left_told right_told : List Notice) : Type 0 where
@@ -84,4 +72,4 @@ pub record AreTwoWorlds (S : List NodeKey) (a : Jid) (pairs : List (Exchange × 
   pub right : Holds (rights pairs) right_told
   pub alike : AreAlike S a booted booted pairs
   pub replies : replies_to a (lefts pairs) ≡ replies_to a (rights pairs)
-  pub notices : hears a left_told ≡ hears a right_told
+  pub notices : heard a left_told ≡ heard a right_told

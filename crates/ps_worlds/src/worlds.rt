@@ -1,5 +1,5 @@
 // Two services that differ in the items of a node that an address may not read. Each function is its contract.
-ghost use Rattle.std.specs.Prelude.{◌≡◌, []};
+ghost use Rattle.std.specs.Prelude.{◌≡◌, [], ◌++◌};
 ghost use Rattle.ps_worlds.specs.WorldCases as cases;
 ghost use Rattle.ps_worlds.specs.Worlds.{AreTwoWorlds, lefts, rights};
 
@@ -17,6 +17,6 @@ pub fn evictions_stay_unseen()
 /// is what a crash lets be sent again.
 pub fn commits_stay_unseen()
     ensures alike { AreTwoWorlds cases.secret cases.to_alf cases.commits_differ cases.left_told cases.right_told }
-    ensures left_again { cases.sent_after (lefts cases.commits_differ) cases.again ≡ cases.left_told }
-    ensures right_again { cases.sent_after (rights cases.commits_differ) cases.again ≡ cases.right_told }
+    ensures left_again { cases.sent_by_steps (lefts cases.commits_differ) ≡ cases.left_told ++ cases.left_told }
+    ensures right_again { cases.sent_by_steps (rights cases.commits_differ) ≡ cases.right_told ++ cases.right_told }
 {}
