@@ -1,5 +1,5 @@
 -- What the service does with lines, where every kind of request is built and every event is told.
-use Rattle.std.specs.Prelude.{ℕ, Bool, true, false, List, [], ◌∷◌, ◌++◌, Option, Some, None}
+use Rattle.std.specs.Prelude.{ℕ, Bool, true, ◌&&◌, not, List, [], ◌∷◌, ◌++◌, Option, Some, None}
 use Rattle.ps_types.specs.Tree.{Tree}
 use Rattle.ps_types.specs.declared.config.NodeConfig.{NodeConfig}
 use Rattle.ps_types.specs.declared.denial.Condition.{Condition}
@@ -36,25 +36,26 @@ handed_by E a = notices_from every empty_state E a
 
 -- ---- one line
 
--- the host of its stream, its number there, and what came
+-- the host of its stream, its number there, what came, and whether the journal has no room for an entry
 pub record Line : Type 0 where
   pub host : List ℕ
   pub number : ℕ
   pub arrival : Arrival
+  pub full : Bool
 
 abbrev pub taken_in : Line → Book → Taken
 taken_in line book = taken line.host book.service line.arrival
-
-abbrev pub reply_in : Taken → Book → Line → Option Tree
-reply_in (asked t r) book line = outcome_reply t r false (judged no_limits book r)
-reply_in other book line = reply_by other book line.number false
 
 -- the Book differs afterwards, or the kind makes an entry always
 abbrev pub keeps : Book → Request → Bool
 keeps book r = commits_by r.ask book (changed r None book)
 
+abbrev pub reply_in : Taken → Book → Line → Option Tree
+reply_in (asked t r) book line = outcome_reply t r (keeps book r && line.full) (judged no_limits book r)
+reply_in other book line = reply_by other book line.number line.full
+
 abbrev pub entry_in : Taken → Book → Line → Option Entry
-entry_in (asked t r) book line = outcome_entry (keeps book r) (Change line.host line.number (moment_of line.arrival) t) (judged no_limits book r)
+entry_in (asked t r) book line = outcome_entry (keeps book r && not line.full) (Change line.host line.number (moment_of line.arrival) t) (judged no_limits book r)
 entry_in other book line = None
 
 -- ---- one after the other

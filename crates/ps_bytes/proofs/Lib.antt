@@ -1,0 +1,3 @@
+pub mod BasesHold
+pub mod Frames
+pub mod StoresHold

@@ -1,0 +1,3 @@
+pub mod RunCases
+pub mod WorldCases
+pub mod Worlds
