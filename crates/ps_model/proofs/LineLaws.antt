@@ -13,6 +13,7 @@ use Rattle.ps_types.specs.Cutting.{parts_from}
 use Rattle.ps_types.specs.LineTree.{line_tree, json_of, shallow, tree_from}
 use Rattle.ps_types.specs.declared.jid.Jid.{Jid}
 use Rattle.ps_types.proofs.AddressLaws.{parts-again, spells-from}
+use Rattle.ps_model.specs.ReadFrom.{IsReadFrom}
 use Rattle.ps_model.specs.Stanza.{jid_of}
 use Rattle.ps_types.specs.Print.{client}
 use Rattle.ps_types.specs.Reading.{IsJson, Reads, tree_of}
@@ -45,18 +46,18 @@ no-json text h = rw (none-read text (is_utf8 text) (read text) refl refl h) refl
 
 -- ---- what a line was read from
 
-shallow-read : (text : List ℕ) (d : Data) → IsJson text d → (o : Option Tree) → tree_of client d ≡ o → (t : Tree) → shallow o ≡ Ok t → (d : Data) × IsJson text d × (tree_of client d ≡ Some t) × (levels t ≤ max_levels)
+shallow-read : (text : List ℕ) (d : Data) → IsJson text d → (o : Option Tree) → tree_of client d ≡ o → (t : Tree) → shallow o ≡ Ok t → IsReadFrom text t
 shallow-read text d is None at t e = absurd (cc e)
 shallow-read text d is (Some u) at t e = by (nat_le (levels u) max_levels) refl e
   where
-    by : (b : Bool) → nat_le (levels u) max_levels ≡ b → cond b (Ok u) (Err L4) ≡ Ok t → (d : Data) × IsJson text d × (tree_of client d ≡ Some t) × (levels t ≤ max_levels)
-    by true low e = let same : u ≡ t = cc e in subst (λ (v : Tree). (d : Data) × IsJson text d × (tree_of client d ≡ Some v) × (levels v ≤ max_levels)) same (d, is, at, (let l : levels u ≤ max_levels = grind (arith, nat_tests) in l))
+    by : (b : Bool) → nat_le (levels u) max_levels ≡ b → cond b (Ok u) (Err L4) ≡ Ok t → IsReadFrom text t
+    by true low e = let same : u ≡ t = cc e in subst (IsReadFrom text) same (record { value = d; json = is; tree = at; shallow = (let l : levels u ≤ max_levels = grind (arith, nat_tests) in l) })
     by false low e = absurd (cc e)
 
-pub line-read : (text : List ℕ) (t : Tree) → line_tree text ≡ Ok t → (d : Data) × IsJson text d × (tree_of client d ≡ Some t) × (levels t ≤ max_levels)
+pub line-read : (text : List ℕ) (t : Tree) → line_tree text ≡ Ok t → IsReadFrom text t
 line-read text t e = by (is_utf8 text) (read text) refl refl e
   where
-    by : (b : Bool) (found : Option Data) → is_utf8 text ≡ b → read text ≡ found → tree_from (cond b found None) ≡ Ok t → (d : Data) × IsJson text d × (tree_of client d ≡ Some t) × (levels t ≤ max_levels)
+    by : (b : Bool) (found : Option Data) → is_utf8 text ≡ b → read text ≡ found → tree_from (cond b found None) ≡ Ok t → IsReadFrom text t
     by true (Some d) utf8 at e = shallow-read text d (IsUtf8-from_is_utf8 text utf8, at) (tree_of client d) refl t e
     by true None utf8 at e = absurd (cc e)
     by false found utf8 at e = absurd (cc e)

@@ -1,5 +1,5 @@
 -- Who is given something of an event of a node may read the node.
-use Rattle.std.proofs.Common.{◌≡◌, ℕ, Bool, true, false, cond, Option, Some, None, refl, ap, subst, sym, ◌∙◌}
+use Rattle.std.proofs.Common.{◌≡◌, ℕ, Bool, true, false, cond, Option, Some, None, refl, subst}
 use Rattle.std.specs.Prelude.{◌&&◌, codes}
 use Rattle.ps_types.specs.Items.{last_item}
 use Rattle.ps_types.specs.Nodes.{config_at}

@@ -1,20 +1,18 @@
 -- A sink has what was said on it.
-use Rattle.std.proofs.Common.{◌≡◌, ℕ, Bool, true, false, cond, List, [], ◌∷◌, ◌++◌, Some, refl, sym, ap, ◌∙◌}
-use Rattle.std.specs.Prelude.{All, filter, map, not, codes, ◌&&◌, Ok}
+use Rattle.std.proofs.Common.{◌≡◌, ℕ, cond, List, [], ◌∷◌, ◌++◌, refl, ap, ◌∙◌}
+use Rattle.std.specs.Prelude.{All, filter, map, Ok}
 use Rattle.std.proofs.lemmas.List.Elements.{All-nil, All-cons}
 use Rattle.std.specs.List.{AllByRecursion}
 use Rattle.ps_types.specs.Form.{IsTree}
 use Rattle.ps_types.specs.LineTree.{line_tree}
-use Rattle.ps_types.specs.Lines.{AreWritten, NoNewline, joined, whole_lines}
+use Rattle.ps_types.specs.Lines.{NoNewline, joined, whole_lines}
 use Rattle.ps_types.specs.Print.{print}
 use Rattle.ps_types.specs.Same.{same_bare}
-use Rattle.ps_types.specs.Shape.{attr_text}
 use Rattle.ps_types.specs.Tree.{Tree}
 use Rattle.ps_types.specs.declared.jid.Jid.{Jid}
 use Rattle.ps_types.proofs.Lines.{written_one}
 use Rattle.ps_types.proofs.PrintLaws.{print_reads}
-use Rattle.ps_model.specs.Stanza.{jid_of}
-use Rattle.ps_model.specs.Streams.{IsSaying, Saying, is_note, is_reply, is_to, line_of, note, notes, notes_in, passes, replies, replies_in, reply}
+use Rattle.ps_model.specs.Streams.{IsSaying, Saying, is_note, is_reply, line_of, note, notes, notes_in, passes, replies, replies_in, reply}
 use Rattle.ps_model.proofs.LineLaws.{reads-line}
 use Rattle.ps_model.proofs.OneLine.{print-line}
 

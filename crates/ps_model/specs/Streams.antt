@@ -1,8 +1,9 @@
 -- What stands in the bytes of a sink: its whole lines are replies and notices.
-use Rattle.std.specs.Prelude.{◌≡◌, ℕ, Bool, true, false, not, ◌&&◌, ◌||◌, List, [], ◌∷◌, filter, codes, Option, Some, None, Result, Ok, Err, if◌then◌else◌}
+use Rattle.std.specs.Prelude.{◌≡◌, ℕ, Bool, true, false, not, ◌&&◌, ◌||◌, List, [], ◌∷◌, ◌++◌, filter, map, codes, Option, Some, None, Result, Ok, Err, if◌then◌else◌}
+use Rattle.std.specs.List.{AllByRecursion}
 use Rattle.ps_types.specs.Form.{IsTree}
 use Rattle.ps_types.specs.LineTree.{line_tree}
-use Rattle.ps_types.specs.Lines.{whole_lines}
+use Rattle.ps_types.specs.Lines.{NoNewline, joined, whole_lines}
 use Rattle.ps_types.specs.Namespaces.{line_ns}
 use Rattle.ps_types.specs.Print.{print}
 use Rattle.ps_types.specs.Same.{same_bare}
@@ -60,3 +61,11 @@ abbrev pub notes_in : List Saying → Jid → List (List ℕ)
 notes_in [] a = []
 notes_in (reply t ∷ more) a = notes_in more a
 notes_in (note to t ∷ more) a = if same_bare a to then print t ∷ notes_in more a else notes_in more a
+
+-- a sink that holds the lines of these, and a rest without a newline
+pub record AreSaid (said : List Saying) (rest : List ℕ) : Type 0 where
+  pub each : AllByRecursion IsSaying said
+  pub part : NoNewline rest
+
+abbrev pub sink_of : List Saying → List ℕ → List ℕ
+sink_of said rest = joined (map line_of said) ++ rest

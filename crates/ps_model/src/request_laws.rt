@@ -1,5 +1,5 @@
 // Laws of what a line is taken as. Each function is its contract.
-ghost use Rattle.std.specs.Prelude.{◌≡◌, ◌<◌, ◌≤◌, List, ℕ, None, Some, Ok, Err};
+ghost use Rattle.std.specs.Prelude.{◌≡◌, ◌<◌, List, ℕ, None, Some, Ok, Err};
 ghost use Rattle.serde_json.specs.Data.{Data};
 ghost use Rattle.ps_types.specs.declared.denial.LineRefusal.TheVariants.{L2, L3, L4};
 ghost use Rattle.ps_types.specs.Form.{max_levels};
@@ -11,6 +11,7 @@ ghost use Rattle.ps_types.specs.Address.{Spells};
 ghost use Rattle.ps_types.specs.declared.jid.Jid.{Jid};
 ghost use Rattle.ps_types.specs.declared.request.Request.{Request};
 ghost use Rattle.ps_model.specs.CoreLaws.{AreSame};
+ghost use Rattle.ps_model.specs.ReadFrom.{IsReadFrom};
 ghost use Rattle.ps_model.specs.Spelled.{SpellsRequest};
 ghost use Rattle.ps_model.specs.Stanza.{jid_of};
 ghost use Rattle.ps_model.specs.Taken.{asked};
@@ -41,7 +42,7 @@ pub fn one_request()
 
 /// What is the tree of a line is JSON that reads as it, and has 32 levels at most.
 pub fn line_is_read()
-    ensures { (text : List ℕ) (t : Tree) → line_tree text ≡ Ok t → (d : Data) × IsJson text d × (tree_of client d ≡ Some t) × (levels t ≤ max_levels) }
+    ensures { (text : List ℕ) (t : Tree) → line_tree text ≡ Ok t → IsReadFrom text t }
 {}
 
 /// A text has the address that it spells, and none where it spells none.
