@@ -15,7 +15,7 @@ for part in src specs proofs; do
     cp -r "$top/crates/ps_turn/$part" "$scratch/crates/ps_turn/"
 done
 cp "$top/HANDLES" "$scratch/"
-printf 'ps_turn may_wait=3 tests_may=Threads+Wait: atomic_table\nturn_bench: ps_turn\n' > "$scratch/crates.txt"
+printf 'ps_turn may_wait=6 tests_may=Threads+Wait: atomic_table\nturn_bench: ps_turn\n' > "$scratch/crates.txt"
 git init -q "$scratch"
 for name in main visits; do
     cp "$here/program/$name.rt.txt" "$program/src/$name.rt"
