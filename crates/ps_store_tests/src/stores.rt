@@ -1,9 +1,11 @@
 // Stores in memory: begun, appended to, damaged, upgraded, and crashed after each call of the disk.
 ghost use Rattle.std.specs.Prelude.{◌≢◌, [], IfOk};
 
-use crate::{AppendRefusal, EntriesRefusal, Journal, JournalRefusal, JournalWhy, Verdict, judge};
 use ps_base::Memory;
 use ps_disk::{Disk, MemDisk, Torn};
+use ps_journal::{
+    AppendRefusal, EntriesRefusal, Journal, JournalRefusal, JournalWhy, Verdict, judge,
+};
 use ps_record::{Batch, EntryRefusal, read_entry};
 use std::alloc::Global;
 use std::process::Abort;

@@ -1,5 +1,5 @@
 // Forms that are read as configurations and options, and what is printed for them.
-use crate::{
+use ps_config::{
     ConfigRefusal, OptionsRefusal, config_form, configs_stay_bounded, default_config, has_row,
     options_form, printed_config_reads_back, printed_options_read_back, read_config, read_options,
 };

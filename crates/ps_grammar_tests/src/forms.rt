@@ -1,46 +1,25 @@
 // Forms that are read from trees, looked into and printed.
-use crate::build::{element, put_pair, words};
-use crate::{FormRefusal, form_tree, form_type, get, printed_form_reads_back, read_form};
-use ps_types::{Attrs, Child, Elem, Form, FormKind, Kids, Text};
+use ps_forms::{FormRefusal, form_tree, form_type, get, printed_form_reads_back, read_form};
+use ps_types::{Elem, Form, FormKind};
+use ps_wire::read_tree;
 use std::alloc::Global;
 use std::process::Abort;
 use std::test::Fail;
 
 const CONFIG: &str = "http://jabber.org/protocol/pubsub#node_config";
 
-fn value(alloc: Global, text: &str) -> Result<Child, Fail> {
-    let kids = words(alloc, text)?;
-    Ok(Child::Tree(element(alloc, "value", Attrs::new(alloc), kids)?))
-}
-
-fn field(alloc: Global, var: &str, first: &str, second: &str) -> Result<Child, Fail> {
-    let mut attrs = Attrs::new(alloc);
-    put_pair(alloc, &mut attrs, "var", var)?;
-    let mut kids = Kids::new(alloc);
-    kids.push(value(alloc, first)?)?;
-    kids.push(value(alloc, second)?)?;
-    Ok(Child::Tree(element(alloc, "field", attrs, kids)?))
-}
-
-fn fields(alloc: Global) -> Result<Kids, Fail> {
-    let mut kids = Kids::new(alloc);
-    kids.push(field(alloc, "FORM_TYPE", CONFIG, "")?)?;
-    kids.push(Child::Words(Text::of(alloc, "\n")?))?;
-    kids.push(field(alloc, "", "skipped", "too")?)?;
-    kids.push(field(alloc, "pubsub#max_items", "1", "2")?)?;
-    kids.push(field(alloc, "pubsub#max_items", "3", "4")?)?;
-    Ok(kids)
-}
+// Two values of each field: of the form's type, of none, and twice of one.
+const FIELDS: &str =
+    r#"[{"n":"field","a":{"var":"FORM_TYPE"},"c":[{"n":"value","c":["http://jabber.org/protocol/pubsub#node_config"]},{"n":"value"}]},"\n",{"n":"field","c":[{"n":"value","c":["skipped"]},{"n":"value","c":["too"]}]},{"n":"field","a":{"var":"pubsub#max_items"},"c":[{"n":"value","c":["1"]},{"n":"value","c":["2"]}]},{"n":"field","a":{"var":"pubsub#max_items"},"c":[{"n":"value","c":["3"]},{"n":"value","c":["4"]}]}]"#;
 
 fn tree(alloc: Global, name: &str, ns: &str, kind: &str) -> Result<Elem, Fail> {
-    let mut attrs = Attrs::new(alloc);
-    put_pair(alloc, &mut attrs, "type", kind)?;
-    let name = Text::of(alloc, name)?;
-    let ns = Text::of(alloc, ns)?;
-    if name.is_empty() {
-        return Err(Fail::from("no name"));
+    let line = format!(in alloc;
+        r#"{{"n":"{name}","ns":"{ns}","a":{{"type":"{kind}"}},"c":{FIELDS}}}"#
+    )?;
+    match read_tree(alloc, line.as_bytes()) {
+        Ok(tree) => Ok(tree),
+        Err(_) => Err(Fail::from("the line is no tree")),
     }
-    Ok(Elem::new(name, ns, attrs, fields(alloc)?))
 }
 
 fn looks_right(rt: &impl Abort, form: &Form) {

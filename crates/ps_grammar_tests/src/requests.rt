@@ -1,5 +1,5 @@
 // Each kind of request as it is spelled and written, and what a request and a denial hold.
-use crate::{TakenTree, read_request, request_tree, take_tree};
+use ps_request::{TakenTree, read_request, request_tree, take_tree};
 use ps_types::{Ask, Condition, Elem, Request, Text};
 use ps_wire::{print_tree, read_tree};
 use std::alloc::Global;

@@ -1,5 +1,8 @@
-use crate::{Clock, ConstClock, MemClock, MemWorld, RealClock, RealWorld, World, WorldRefusal};
+// What a world gives by names, in memory and on the machine.
 use ps_disk::{Disk, MemDisk};
+use ps_outside::{
+    Clock, ConstClock, MemClock, MemWorld, RealClock, RealWorld, World, WorldRefusal,
+};
 use ps_types::Text;
 use ps_wire::{MemSink, MemSource, Sink, Source};
 use std::test::Fail;

@@ -1,5 +1,5 @@
 // A disk in memory beside the model's words, and a real file.
-use crate::{Disk, FileDisk, MemDisk, Torn, write_kept};
+use ps_disk::{Disk, FileDisk, MemDisk, Torn, write_kept};
 use std::alloc::Global;
 use std::fs::OpenOptions;
 use std::process::Abort;

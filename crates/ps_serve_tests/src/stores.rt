@@ -1,5 +1,5 @@
 // Whole runs over a store that was there before, or that stays.
-use crate::tests::{BOTH_ANSWERED, FIRST, Failing, MADE, NONE, SERVE, code_of, told, world_of};
+use crate::runs::{BOTH_ANSWERED, FIRST, Failing, MADE, NONE, SERVE, code_of, told, world_of};
 use ps_disk::{MemDisk, Torn};
 use ps_journal::{Journal, JournalRefusal};
 use ps_outside::MemWorld;

@@ -1,5 +1,5 @@
 // Entries of the format's table as bytes, and what is none.
-use crate::{Batch, EntryRefusal, put_entry, read_entry};
+use ps_record::{Batch, EntryRefusal, put_entry, read_entry};
 use ps_types::Entry;
 use std::alloc::Global;
 use std::process::Abort;

@@ -1,7 +1,7 @@
 // Whole runs over a world in memory.
-use crate::run;
 use ps_disk::MemDisk;
 use ps_outside::MemWorld;
+use ps_serve::run;
 use ps_types::Text;
 use ps_wire::{MemSink, MemSource};
 use std::alloc::Global;

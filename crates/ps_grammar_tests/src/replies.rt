@@ -1,4 +1,5 @@
-use crate::{Head, condition, error_reply, message, refused, result_reply};
+// Replies, messages and refusals, and the words of each condition.
+use ps_names::{Head, condition, error_reply, message, refused, result_reply};
 use ps_types::{Condition, Elem, Jid, Kids, LineRefusal, Text};
 use std::alloc::Global;
 use std::process::Abort;
