@@ -5,6 +5,7 @@ use ps_wire::{
     NextLineRefusal, Source, WriteFault, write_line,
 };
 use std::fs;
+use std::process::Abort;
 use std::test::Fail;
 
 // Five answers of a reader over these bytes, whose reads of these numbers fail.
@@ -59,11 +60,16 @@ fn ends_fail_where_they_are_told(rt: HostRuntime) -> Result<(), Fail> {
     assert_eq!(rt; told.as_str(), "one;(fault);(fault);(fault);(fault);");
 
     let mut sink = MemSink::new(rt.alloc(), &[5])?;
-    assert_eq!(rt; write_line(&mut sink, b"one"), Ok(()));
-    assert_eq!(rt; write_line(&mut sink, b"two"), Err(WriteFault));
+    fails_at_the_second(&rt, &mut sink);
+    Ok(())
+}
+
+// Writes two lines to a sink whose fifth call fails.
+fn fails_at_the_second(rt: &impl Abort, sink: &mut MemSink) {
+    assert_eq!(rt; write_line(sink, b"one"), Ok(()));
+    assert_eq!(rt; write_line(sink, b"two"), Err(WriteFault));
     assert_eq!(rt; sink.bytes(), b"one\ntwo".as_slice());
     assert_eq!(rt; sink.refused(), 0);
-    Ok(())
 }
 
 #[test]

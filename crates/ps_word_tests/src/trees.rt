@@ -1,6 +1,8 @@
 // Texts, and trees that are built, read and printed.
 use ps_types::{Attrs, Child, Elem, Kids, Text, TextRefusal};
 use ps_wire::{TreeRefusal, print_tree, read_tree};
+use std::alloc::Global;
+use std::process::Abort;
 use std::test::Fail;
 
 const CREATE: &str =
@@ -58,16 +60,16 @@ fn an_element_gives_its_attributes_and_children(rt: HostRuntime) -> Result<(), F
 }
 
 // Why a line is refused.
-fn refusal(rt: &HostRuntime, line: &[u8]) -> Option<TreeRefusal> {
-    match read_tree(rt.alloc(), line) {
+fn refusal(alloc: Global, line: &[u8]) -> Option<TreeRefusal> {
+    match read_tree(alloc, line) {
         Ok(_) => None,
         Err(e) => Some(e),
     }
 }
 
 // That many trees inside one another.
-fn nested(rt: &HostRuntime, levels: usize) -> Result<String, Fail> {
-    let mut line = String::new(rt.alloc());
+fn nested(alloc: Global, levels: usize) -> Result<String, Fail> {
+    let mut line = String::new(alloc);
     for _ in 0..levels {
         line.push_str("{\"n\":\"a\",\"c\":[")?;
     }
@@ -77,12 +79,11 @@ fn nested(rt: &HostRuntime, levels: usize) -> Result<String, Fail> {
     Ok(line)
 }
 
-#[test]
-fn a_line_that_is_no_tree_is_refused(rt: HostRuntime) -> Result<(), Fail> {
-    let full = padded(&rt, CREATE, 262_144)?;
+// Tells of each line why it is refused; the first is of the greatest length.
+fn are_refused(rt: &impl Abort, alloc: Global, full: &[u8]) {
     let (half, _) = CREATE.as_bytes().split_at(CREATE.len() / 2);
     for (line, want) in [
-        (full.as_bytes(), None),
+        (full, None),
         (b" { \"n\" : \"a\", \"c\":[\"x\",{\"n\":\"b\"}] } ", None),
         (half, Some(TreeRefusal::L2)),
         (b"", Some(TreeRefusal::L2)),
@@ -95,20 +96,28 @@ fn a_line_that_is_no_tree_is_refused(rt: HostRuntime) -> Result<(), Fail> {
         (b"{\"n\":\"iq\",\"x\":1}", Some(TreeRefusal::L3)),
         (b"{\"a\":{\"id\":1},\"n\":\"iq\"}", Some(TreeRefusal::L3)),
     ] {
-        assert_eq!(rt; refusal(&rt, line), want, "{line:?}");
+        assert_eq!(rt; refusal(alloc, line), want, "{line:?}");
     }
+}
+
+// Why trees of so many levels are refused.
+fn depths_are_refused(rt: &impl Abort, alloc: Global) -> Result<(), Fail> {
     for (levels, want) in [
         (32, None),
         (33, Some(TreeRefusal::L4)),
         (100, Some(TreeRefusal::L2)),
     ] {
-        assert_eq!(rt;
-            refusal(&rt, nested(&rt, levels)?.as_bytes()),
-            want,
-            "{levels}"
-        );
+        let line = nested(alloc, levels)?;
+        assert_eq!(rt; refusal(alloc, line.as_bytes()), want, "{levels}");
     }
     Ok(())
+}
+
+#[test]
+fn a_line_that_is_no_tree_is_refused(rt: HostRuntime) -> Result<(), Fail> {
+    let full = padded(&rt, CREATE, 262_144)?;
+    are_refused(&rt, rt.alloc(), full.as_bytes());
+    depths_are_refused(&rt, rt.alloc())
 }
 
 #[test]
