@@ -50,11 +50,7 @@ pub fn write<R: Wait>(
 }
 
 // Notes in the diary that the journal will have all of it, and answers how many entries that are.
-fn begin<R: Wait>(
-    rt: &R,
-    twin: &Twin<Diary, Journal>,
-    seat: &mut TwinSeat<Diary, Journal>,
-) -> u64
+fn begin<R: Wait>(rt: &R, twin: &Twin<Diary, Journal>, seat: &mut TwinSeat<Diary, Journal>) -> u64
     requires { IsSeatOf twin.now seat.old × HasJournal seat.old }
     ensures seat { IsSeatOf twin.now seat.new × HasJournal seat.new }
     ensures number { number_of seat.new ≡ number_of seat.old }

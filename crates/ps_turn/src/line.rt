@@ -4,8 +4,9 @@
 // gives back wakes one sleeper, and doesn't wait for it: who comes first is served first, so that the value is never out with a thread that has
 // still to wake. A seat that was woken in vain a few times draws a ticket all the same, and nobody is served before it who has none yet.
 //
-// The bell has 1 where a seat sleeps that has no ticket, and 2 where one sleeps that has. Who gives back takes both. A seat that was woken sets 1
-// again before it looks, since others may sleep.
+// All sleep on the bell. It has 1 where a seat sleeps that has no ticket, and 2 where one sleeps that has. A seat sets its number, looks once more,
+// and sleeps only while the bell is as it left it. Who gives back looks at the bell after that, and takes what is there before it wakes anyone. A seat
+// that was woken sets its number again before it looks, since others may sleep.
 ghost use Rattle.std.specs.Prelude.{◌≡◌, ◌<◌, IfSome, IfNone};
 ghost use mathlib.Core.Option.{none};
 ghost use Rattle.atomic_table.specs.Table.{step};
@@ -157,8 +158,7 @@ pub fn wait_for<L: Play<S, V>, S, V, K, P: TableRule<S, V, K>, R: Wait>(
     unreachable!()
 }
 
-// While that ticket is served, lets other threads run, and then sleeps, where a sleeper watches the low half of the word. It may also
-// return earlier.
+// While that ticket is served, lets other threads run, and then sleeps. It may also return earlier.
 fn give_way<S, V, K, P: TableRule<S, V, K>, R: Wait>(
     rt: &R,
     table: &Shared<S, V, K, P>,
@@ -177,11 +177,13 @@ fn give_way<S, V, K, P: TableRule<S, V, K>, R: Wait>(
             return;
         }
     }
-    note(table, seat, line, 2);
-    table.park(rt, line.serving, (serving % (1 << 32)) as u32);
+    let asleep = note(table, seat, line, 2);
+    if table.peek(line.serving) == serving {
+        table.park(rt, line.bell, ((asleep | 2) % (1 << 32)) as u32);
+    }
 }
 
-/// Wakes one of the seats that sleep without a ticket, and those that have one.
+/// Wakes one of the seats that sleep, or all where one of them has a ticket.
 pub fn wake<S, V, K, P: TableRule<S, V, K>>(
     table: &Shared<S, V, K, P>,
     seat: &mut Seat<S, V>,
@@ -197,9 +199,8 @@ pub fn wake<S, V, K, P: TableRule<S, V, K>>(
     }
     let asleep = table.swap::<Ring>(seat, line.bell, 0);
     if asleep / 2 % 2 == 1 {
-        table.wake_all(line.serving);
-    }
-    if asleep % 2 == 1 {
+        table.wake_all(line.bell);
+    } else {
         table.wake_one(line.bell);
     }
 }

@@ -1,6 +1,7 @@
 -- Lists of seats.
 use Rattle.std.proofs.Common.{◌≡◌, ◌⊎◌, ℕ, zero, suc, ◌+◌, ◌<◌, List, [], ◌∷◌, ◌++◌, length, set, true, refl, sym, get_or, ap, ◌∙◌, subst, inl, inr, ⊎_elim, arith, append_assoc, length-append}
 use Rattle.std.specs.Prelude.{Some, slice_get}
+use Rattle.std.proofs.lemmas.Option.{slice_get-get_or, slice_get_within, get_or_from_slice_get}
 use Rattle.ps_turn.specs.declared.view.View.{View}
 use Rattle.ps_turn.specs.declared.view.Ended.{Ended}
 use Rattle.ps_turn.specs.declared.view.Stage.TheVariants.{Idle}
@@ -147,3 +148,23 @@ module _ {V J I : Type 0} where
   -- no seat is left
   pub taken_whole : (v : View I) (left all : List (TwinSeat V J I)) → length left ≡ 0 → Taken v left all → Taken v [] all
   taken_whole v left all none t = subst (λ (l : List (TwinSeat V J I)). Taken v l all) (no_items left none) t
+
+element : {X : Type 0} (l : List X) (n : ℕ) → n < length l → (x : X) × (slice_get l n ≡ Some x)
+element [] n low = absurd (omega arith)
+element (x ∷ xs) n low = (get_or (x ∷ xs) n x, slice_get-get_or (x ∷ xs) n x low)
+
+module _ {V J I : Type 0} where
+  -- as many seats as the twin has, each free and at the place of its number
+  pub all_back : (t : Twin V J I) (seats : List (TwinSeat V J I)) → length seats ≡ seats_of t → ((k : ℕ) (s : TwinSeat V J I) → slice_get seats k ≡ Some s → IsSeatOf t s × IsFree s × (number_of s ≡ k)) → AreAll t seats
+  all_back t seats len each = record {
+    each = λ k s e. (let h = each k s e in (h.0, h.1));
+    all = λ n low. (let x = element seats n (omega (arith, len)) in (n, x.0, x.1, (each n x.0 x.1).2));
+  }
+
+  -- new seats, of which each was worked at its place
+  pub all_worked : (t : Twin V J I) (before after : List (TwinSeat V J I)) → AreNew t before → length after ≡ length before
+      → ((k : ℕ) (d : TwinSeat V J I) → k < length before → IsSeatOf t (get_or after k d) × IsFree (get_or after k d) × (number_of (get_or after k d) ≡ k)) → AreAll t after
+  all_worked t before after new len each = all_back t after (len ∙ new.all) (λ k s e.
+      let low : k < length before = omega (arith, len, slice_get_within after k s e) in
+      let is = get_or_from_slice_get after k s s e in
+      subst (λ (u : TwinSeat V J I). IsSeatOf t u × IsFree u × (number_of u ≡ k)) is (each k s low))
