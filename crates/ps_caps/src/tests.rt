@@ -17,17 +17,12 @@ const ITEMS: &str = "http://jabber.org/protocol/disco#items";
 
 const MUC: &str = "http://jabber.org/protocol/muc";
 
-fn elem(
-    alloc: Global,
-    name: &str,
-    ns: &str,
-    pairs: &[(&str, &str)],
-    kids: Kids,
-) -> Result<Elem, Fail> {
-    let mut attrs = Attrs::new(alloc);
-    for (name, value) in pairs {
-        attrs.put(Text::of(alloc, name)?, Text::of(alloc, value)?)?;
-    }
+fn put(alloc: Global, attrs: &mut Attrs, name: &str, value: &str) -> Result<(), Fail> {
+    attrs.put(Text::of(alloc, name)?, Text::of(alloc, value)?)?;
+    Ok(())
+}
+
+fn elem(alloc: Global, name: &str, ns: &str, attrs: Attrs, kids: Kids) -> Result<Elem, Fail> {
     if name.is_empty() {
         return Err(Fail::from("no name"));
     }
@@ -43,53 +38,79 @@ fn add_identity(
     lang: &str,
     name: &str,
 ) -> Result<(), Fail> {
-    let pairs = [
-        ("category", "client"),
-        ("type", kind),
-        ("xml:lang", lang),
-        ("name", name),
-    ];
-    kids.push(Child::Tree(elem(alloc, "identity", INFO, &pairs, Kids::new(alloc))?))?;
+    let mut attrs = Attrs::new(alloc);
+    put(alloc, &mut attrs, "category", "client")?;
+    put(alloc, &mut attrs, "type", kind)?;
+    put(alloc, &mut attrs, "xml:lang", lang)?;
+    put(alloc, &mut attrs, "name", name)?;
+    let identity = elem(alloc, "identity", INFO, attrs, Kids::new(alloc))?;
+    kids.push(Child::Tree(identity))?;
     Ok(())
 }
 
 fn add_feature(alloc: Global, kids: &mut Kids, var: &str) -> Result<(), Fail> {
-    kids.push(Child::Tree(elem(alloc, "feature", INFO, &[("var", var)], Kids::new(alloc))?))?;
+    let mut attrs = Attrs::new(alloc);
+    put(alloc, &mut attrs, "var", var)?;
+    let feature = elem(alloc, "feature", INFO, attrs, Kids::new(alloc))?;
+    kids.push(Child::Tree(feature))?;
     Ok(())
 }
 
+fn add_value(alloc: Global, kids: &mut Kids, value: &str) -> Result<(), Fail> {
+    let mut words = Kids::new(alloc);
+    words.push(Child::Words(Text::of(alloc, value)?))?;
+    let value = elem(alloc, "value", DATA, Attrs::new(alloc), words)?;
+    kids.push(Child::Tree(value))?;
+    Ok(())
+}
+
+// A field of one value, or of two where the second isn't empty.
 fn add_field(
     alloc: Global,
     kids: &mut Kids,
     kind: &str,
     var: &str,
-    values: &[&str],
+    first: &str,
+    second: &str,
 ) -> Result<(), Fail> {
     let mut inner = Kids::new(alloc);
-    for value in values {
-        let mut words = Kids::new(alloc);
-        words.push(Child::Words(Text::of(alloc, value)?))?;
-        inner.push(Child::Tree(elem(alloc, "value", DATA, &[], words)?))?;
+    if !first.is_empty() {
+        add_value(alloc, &mut inner, first)?;
     }
-    let field = elem(alloc, "field", DATA, &[("type", kind), ("var", var)], inner)?;
+    if !second.is_empty() {
+        add_value(alloc, &mut inner, second)?;
+    }
+    let mut attrs = Attrs::new(alloc);
+    put(alloc, &mut attrs, "type", kind)?;
+    put(alloc, &mut attrs, "var", var)?;
+    let field = elem(alloc, "field", DATA, attrs, inner)?;
     kids.push(Child::Tree(field))?;
     Ok(())
 }
 
 fn add_form(alloc: Global, kids: &mut Kids, fields: Kids) -> Result<(), Fail> {
-    kids.push(Child::Tree(elem(alloc, "x", DATA, &[("type", "result")], fields)?))?;
+    let mut attrs = Attrs::new(alloc);
+    put(alloc, &mut attrs, "type", "result")?;
+    let form = elem(alloc, "x", DATA, attrs, fields)?;
+    kids.push(Child::Tree(form))?;
     Ok(())
 }
 
 // A form of that type alone.
-fn add_typed(alloc: Global, kids: &mut Kids, kind: &str, types: &[&str]) -> Result<(), Fail> {
+fn add_typed(
+    alloc: Global,
+    kids: &mut Kids,
+    kind: &str,
+    first: &str,
+    second: &str,
+) -> Result<(), Fail> {
     let mut fields = Kids::new(alloc);
-    add_field(alloc, &mut fields, kind, "FORM_TYPE", types)?;
+    add_field(alloc, &mut fields, kind, "FORM_TYPE", first, second)?;
     add_form(alloc, kids, fields)
 }
 
 fn info(alloc: Global, kids: Kids) -> Result<Info, Fail> {
-    let query = elem(alloc, "query", INFO, &[], kids)?;
+    let query = elem(alloc, "query", INFO, Attrs::new(alloc), kids)?;
     Ok(read_info(alloc, &query)?)
 }
 
@@ -138,12 +159,12 @@ fn the_simple_example(rt: HostRuntime) -> Result<(), Fail> {
 fn the_complex_example(rt: HostRuntime) -> Result<(), Fail> {
     let alloc = rt.alloc();
     let mut fields = Kids::new(alloc);
-    add_field(alloc, &mut fields, "", "os", &["Mac"])?;
-    add_field(alloc, &mut fields, "hidden", "FORM_TYPE", &[SOFTWARE])?;
-    add_field(alloc, &mut fields, "", "ip_version", &["ipv6", "ipv4"])?;
-    add_field(alloc, &mut fields, "", "os_version", &["10.5.1"])?;
-    add_field(alloc, &mut fields, "", "software", &["Psi"])?;
-    add_field(alloc, &mut fields, "", "software_version", &["0.11"])?;
+    add_field(alloc, &mut fields, "", "os", "Mac", "")?;
+    add_field(alloc, &mut fields, "hidden", "FORM_TYPE", SOFTWARE, "")?;
+    add_field(alloc, &mut fields, "", "ip_version", "ipv6", "ipv4")?;
+    add_field(alloc, &mut fields, "", "os_version", "10.5.1", "")?;
+    add_field(alloc, &mut fields, "", "software", "Psi", "")?;
+    add_field(alloc, &mut fields, "", "software_version", "0.11", "")?;
     let mut kids = Kids::new(alloc);
     add_identity(alloc, &mut kids, "pc", "en", "Psi 0.11")?;
     for var in [CAPS, INFO, ITEMS, MUC] {
@@ -168,12 +189,12 @@ fn what_is_repeated_is_ill_formed(rt: HostRuntime) -> Result<(), Fail> {
     }
     is_ill_formed(&rt, alloc, kids)?;
     let mut kids = Kids::new(alloc);
-    add_typed(alloc, &mut kids, "hidden", &[SOFTWARE])?;
-    add_typed(alloc, &mut kids, "hidden", &["urn:a"])?;
-    add_typed(alloc, &mut kids, "hidden", &[SOFTWARE])?;
+    add_typed(alloc, &mut kids, "hidden", SOFTWARE, "")?;
+    add_typed(alloc, &mut kids, "hidden", "urn:a", "")?;
+    add_typed(alloc, &mut kids, "hidden", SOFTWARE, "")?;
     is_ill_formed(&rt, alloc, kids)?;
     let mut kids = Kids::new(alloc);
-    add_typed(alloc, &mut kids, "hidden", &[SOFTWARE, "urn:a"])?;
+    add_typed(alloc, &mut kids, "hidden", SOFTWARE, "urn:a")?;
     is_ill_formed(&rt, alloc, kids)
 }
 
@@ -183,10 +204,10 @@ fn what_is_near_it_is_well_formed(rt: HostRuntime) -> Result<(), Fail> {
     let mut kids = Kids::new(alloc);
     add_identity(alloc, &mut kids, "pc", "en", "Psi")?;
     add_identity(alloc, &mut kids, "pc", "en", "Psi 2")?;
-    add_typed(alloc, &mut kids, "hidden", &[SOFTWARE, SOFTWARE])?;
-    add_typed(alloc, &mut kids, "", &[SOFTWARE, "urn:a"])?;
-    add_typed(alloc, &mut kids, "", &[SOFTWARE])?;
-    add_typed(alloc, &mut kids, "hidden", &[])?;
+    add_typed(alloc, &mut kids, "hidden", SOFTWARE, SOFTWARE)?;
+    add_typed(alloc, &mut kids, "", SOFTWARE, "urn:a")?;
+    add_typed(alloc, &mut kids, "", SOFTWARE, "")?;
+    add_typed(alloc, &mut kids, "hidden", "", "")?;
     is_well_formed(&rt, alloc, kids)?;
     has_ver(&rt, alloc, Kids::new(alloc), "2jmj7l5rSw0yVb/vlWAYkK/YBwk=")
 }
