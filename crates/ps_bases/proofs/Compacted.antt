@@ -14,7 +14,7 @@ use Rattle.ps_model.specs.BaseRows.{BaseRow, row_tree}
 use Rattle.ps_model.specs.Book.{Book, State, empty_state}
 use Rattle.ps_model.specs.Core.{handed}
 use Rattle.ps_model.specs.Numbered.{row_notices}
-use Rattle.ps_model.specs.Replay.{IsLawfulFrom, lawful_by, notices_from, of_bare, replay_from, to_address}
+use Rattle.ps_model.specs.Replay.{lawful_by, notices_from, of_bare, replay_from, to_address}
 use Rattle.ps_model.specs.Replies.{reply_to, entry_of}
 use Rattle.ps_model.proofs.Going.{notices-append, replay-append}
 use Rattle.ps_bases.specs.Laws.{ReadBack, ServesOn}

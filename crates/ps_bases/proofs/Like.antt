@@ -1,5 +1,5 @@
 -- Two States that serve alike: equal Books, equal numbers for each address, equal lines; the count of entries and the order of the numbers may differ.
-use Rattle.std.specs.Prelude.{◌≡◌, ℕ, List, []}
+use Rattle.std.specs.Prelude.{◌≡◌, List, []}
 use Rattle.ps_types.specs.declared.jid.Jid.{Jid}
 use Rattle.ps_types.specs.declared.rows.TallyRow.{TallyRow}
 use Rattle.ps_model.specs.Book.{Book, State}

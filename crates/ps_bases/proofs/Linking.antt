@@ -1,26 +1,19 @@
 -- Nodes without their collections, and then the links in their order, rebuild nodes and links.
-use Rattle.std.proofs.Common.{◌≡◌, ℕ, Bool, true, false, cond, ◌||◌, List, [], ◌∷◌, ◌++◌, map, Option, Some, None, option_map, refl, sym, ap, ap₂, ◌∙◌, append_assoc, append-nil}
-use Rattle.std.specs.Prelude.{find, is_none, is_some}
+use Rattle.std.proofs.Common.{◌≡◌, Bool, true, false, cond, ◌||◌, List, [], ◌∷◌, ◌++◌, map, Some, refl, sym, ap, ◌∙◌, append_assoc, append-nil}
+use Rattle.std.specs.Prelude.{find, is_none}
 use Rattle.std.specs.List.{list_any}
-use Rattle.std.specs.Option.{option_or}
-use Rattle.std.proofs.lemmas.Bool.{true≢false}
-use Rattle.std.proofs.lemmas.List.Folds.{find-append}
-use Rattle.ps_base.specs.Rows.{change_row}
-use Rattle.ps_types.specs.declared.config.NodeConfig.{NodeConfig}
 use Rattle.ps_types.specs.declared.node.NodeKey.{NodeKey}
 use Rattle.ps_types.specs.declared.rows.LinkRow.{LinkRow}
 use Rattle.ps_types.specs.declared.rows.NodeRow.{NodeRow}
-use Rattle.ps_types.specs.Links.{is_link_at, is_link_of, is_link_to}
-use Rattle.ps_types.specs.Nodes.{config_at, is_node, node_at, stands, with_config}
-use Rattle.ps_types.specs.Same.{same_node}
-use Rattle.ps_types.proofs.Same.{same_node-Decides}
-use Rattle.ps_model.specs.BaseAfter.{book_with, in_collection, is_collection_at, takes_link}
+use Rattle.ps_types.specs.Links.{is_link_at, is_link_of}
+use Rattle.ps_types.specs.Nodes.{stands}
+use Rattle.ps_model.specs.BaseAfter.{book_with, takes_link}
 use Rattle.ps_model.specs.BaseRows.{link}
 use Rattle.ps_model.specs.Book.{Book, State}
 use Rattle.std.specs.List.{AllByRecursion as Each}
 use Rattle.ps_bases.proofs.Placed.{AreFresh}
 use Rattle.ps_books.specs.Keys.{AreApart, link_key, node_key}
-use Rattle.ps_books.specs.Linked.{IsConfigured, IsLinkRow, name_in, named}
+use Rattle.ps_books.specs.Linked.{IsLinkRow, named}
 use Rattle.ps_bases.proofs.Placed.{ArePlaced, with_row, with_rows}
 use Rattle.ps_books.proofs.Naming.{kind-named, linked, none-of, stands-named}
 use Rattle.ps_bases.proofs.Folds.{fresh-more}

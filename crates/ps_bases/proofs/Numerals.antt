@@ -1,5 +1,5 @@
 -- No more notices are handed than there are, and those that aren't handed are numbered from the handed ones on.
-use Rattle.std.proofs.Common.{◌≡◌, ℕ, zero, suc, ◌+◌, ◌<◌, ◌≤◌, Bool, true, false, cond, drop, List, [], ◌∷◌, ◌++◌, length, Option, Some, refl, sym, ap, subst, ◌∙◌, arith, append_assoc, append-nil, length-append}
+use Rattle.std.proofs.Common.{◌≡◌, ℕ, zero, suc, ◌+◌, ◌<◌, ◌≤◌, Bool, true, false, cond, drop, List, [], ◌∷◌, ◌++◌, length, Some, refl, sym, ap, subst, arith, append_assoc, append-nil, length-append}
 use Rattle.std.specs.Prelude.{slice_get}
 use Rattle.ps_types.specs.Same.{same_jid}
 use Rattle.ps_types.specs.declared.entry.Entry.{Entry}
@@ -8,11 +8,10 @@ use Rattle.ps_types.specs.declared.entry.Notice.{Notice}
 use Rattle.ps_types.specs.declared.event.Event.{Event}
 use Rattle.ps_types.specs.declared.jid.Jid.{Jid}
 use Rattle.ps_types.proofs.Same.{same_jid-Decides}
-use Rattle.ps_model.specs.After as step
 use Rattle.ps_model.specs.Book.{State, empty_state}
 use Rattle.ps_model.specs.Core.{handed}
 use Rattle.ps_model.specs.Numbers.{counter_of}
-use Rattle.ps_model.specs.Replay.{IsLawfulFrom, accepted_at, lawful_by, notices_by, notices_from, replay_by, replay_from, to_address}
+use Rattle.ps_model.specs.Replay.{IsLawfulFrom, accepted_at, lawful_by, notices_by, notices_from, replay_by}
 use Rattle.ps_model.specs.Tallies.{handed_to, made_for}
 use Rattle.ps_bases.proofs.Placed.{lawful-join}
 use Rattle.ps_model.proofs.Going.{notices-append, replay-append}

@@ -1,5 +1,5 @@
 -- Rows of a compacted store without their trees: what they leave, and each at a place that it has; and what each kind asks of its row.
-use Rattle.std.specs.Prelude.{◌≡◌, ℕ, ◌+◌, Bool, true, false, not, ◌&&◌, List, [], ◌∷◌, ◌++◌, map, Option, Some, None, find, is_none}
+use Rattle.std.specs.Prelude.{◌≡◌, ◌+◌, Bool, true, false, not, ◌&&◌, List, [], ◌∷◌, ◌++◌, map, Option, Some, None, find, is_none}
 use Rattle.std.specs.List.{AllByRecursion}
 use Rattle.ps_types.specs.declared.config.NodeConfig.{NodeConfig}
 use Rattle.ps_types.specs.declared.entry.Entry.{Entry}

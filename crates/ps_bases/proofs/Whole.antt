@@ -7,11 +7,9 @@ use Rattle.ps_types.specs.Same.{same_bare}
 use Rattle.ps_types.specs.declared.entry.Notice.{Notice}
 use Rattle.ps_types.specs.declared.jid.Jid.{Jid}
 use Rattle.ps_types.specs.declared.node.NodeKey.{NodeKey}
-use Rattle.ps_types.specs.declared.rows.AffilRow.{AffilRow}
 use Rattle.ps_types.specs.declared.rows.ItemRow.{ItemRow}
 use Rattle.ps_types.specs.declared.rows.LinkRow.{LinkRow}
 use Rattle.ps_types.specs.declared.rows.NodeRow.{NodeRow}
-use Rattle.ps_types.specs.declared.rows.SubRow.{SubRow}
 use Rattle.ps_types.specs.declared.rows.TallyRow.{TallyRow}
 use Rattle.ps_types.specs.Items.{item_count}
 use Rattle.ps_types.specs.Nodes.{config_at, node_at}
@@ -26,7 +24,7 @@ use Rattle.ps_bases.specs.Told.{told_of}
 use Rattle.ps_bases.proofs.Like.{IsAsleep, unset}
 use Rattle.std.specs.List.{AllByRecursion as Each}
 use Rattle.ps_bases.proofs.Placed.{AreFresh, IsNumbered, IsItemRow, keeps_items}
-use Rattle.ps_books.specs.Keys.{AreApart, HasKeys, item_key, link_key, node_key}
+use Rattle.ps_books.specs.Keys.{AreApart, HasKeys, item_key, link_key}
 use Rattle.ps_books.specs.Linked.{IsConfigured, IsLinkRow, named}
 use Rattle.ps_books.specs.Rows.{IsAffilRow, IsSubRow}
 use Rattle.ps_bases.proofs.Placed.{ArePlaced, with_row, with_rows}

@@ -19,7 +19,7 @@ use Rattle.ps_model.specs.BaseRead.{row_of}
 use Rattle.ps_model.specs.BaseRows.{BaseRow, row_tree}
 use Rattle.ps_model.specs.Book.{empty_state}
 use Rattle.ps_model.specs.Core.{handed}
-use Rattle.ps_model.specs.Replay.{lawful_by, notices_from, replay_by, replay_from}
+use Rattle.ps_model.specs.Replay.{lawful_by, notices_from, replay_from}
 use Rattle.ps_model.specs.Replies.{reply_to, entry_of}
 use Rattle.ps_model.specs.Tallies.{handed_to}
 use Rattle.ps_bases.specs.Told.{told_of}
