@@ -56,7 +56,7 @@ module _ (told : Event → Bool) (blind : IsBlind told) (S : List NodeKey) (a : 
   handed-even s t h to like =
       ap (λ b. b && (length to.resource == 0) && nat_lt (handed_to to s.tallies) (made_for to s.tallies)) (booted-same s t h)
       ∙ ap₂ (λ m n. is_booted t && (length to.resource == 0) && nat_lt m n)
-          (sym (handed-like a to s.tallies like) ∙ h.handed ∙ handed-like a to t.tallies like) (sym (made-like a to s.tallies like) ∙ h.made ∙ made-like a to t.tallies like)
+      (sym (handed-like a to s.tallies like) ∙ h.handed ∙ handed-like a to t.tallies like) (sym (made-like a to s.tallies like) ∙ h.made ∙ made-like a to t.tallies like)
 
   handed-both : (s t : State) → SameBut S a s t → (to : Jid) (b c : Bool) → b ≡ c → After s t (Handed to) b c
   unfolding After choice_of

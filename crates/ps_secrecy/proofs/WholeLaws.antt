@@ -243,9 +243,11 @@ module _ (choice : Choice) (S : List NodeKey) (a : Jid) (core : Core) (service :
         where
           step-of : (x y : ℕ × Option Said) → Some x ≡ Some y → x.0 ≡ y.0
           step-of x y e = let f : x ≡ y = cc e in ap (λ (z : ℕ × Option Said). z.0) f
+
       at : (parts : List ℕ → HostPart) (d : Bool) → (if d then record (parts k) { taken = (parts k).taken + 1 } else parts k).taken ≡ (if d then (parts k).taken + 1 else (parts k).taken)
       at parts true = refl
       at parts false = refl
+
       by : (b c : Bool) → b ≡ c → ((if b then record v { hosts = at_host h (λ part. record part { taken = part.taken + 1 }) v.hosts } else v).hosts k).taken
           ≡ ((if c then record w { hosts = at_host h (λ part. record part { taken = part.taken + 1 }) w.hosts } else w).hosts k).taken
       by true true is = at v.hosts (bytes_eq k h) ∙ ap (λ n. if bytes_eq k h then n + 1 else n) (same k) ∙ sym (at w.hosts (bytes_eq k h))

@@ -145,9 +145,9 @@ module _ (choice : Choice) (S : List NodeKey) (a : Jid) (core : Core) (service :
       (replied v h n one ∙ line-some choice S a (st v.entries) (st w.entries) l.state h n m one ∙ sym (replied w h m one))
       (is_from a (taking.taken h service one)) refl refl
       (λ from x y e f.
-          let there : reply-by w h n one ≡ reply-by w h m one = ap (λ k. reply-by w h (k + 1) one) (al.lines h) in
-          let same : x ≡ y = some-one x y (sym e ∙ replies-same v w al h n one from ∙ there ∙ f) in
-          λ i. record { line = al.lines h i + 1; arrival = one; full = false; place = 0; upto = 0; step = al.fronts.steps i + 1; reply = same i })
+      let there : reply-by w h n one ≡ reply-by w h m one = ap (λ k. reply-by w h (k + 1) one) (al.lines h) in
+      let same : x ≡ y = some-one x y (sym e ∙ replies-same v w al h n one from ∙ there ∙ f) in
+      λ i. record { line = al.lines h i + 1; arrival = one; full = false; place = 0; upto = 0; step = al.fronts.steps i + 1; reply = same i })
     where
       some-one : (x y : List ℕ) → Some x ≡ Some y → x ≡ y
       some-one x y e = cc e

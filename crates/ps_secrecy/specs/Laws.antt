@@ -31,7 +31,7 @@ abbrev pub EachLineIsSecret : Type 0
 EachLineIsSecret =
     (told : Event → Bool) → IsBlind told → (S : List NodeKey) (a : Jid) (s t : State) → SameBut S a s t → (host : List ℕ) (line line2 : ℕ) (one : Arrival)
     → (let o = entry_of host s.book line one false in let p = entry_of host t.book line2 one false in
-        IsShutOut S a (added told s o).book → IsShutOut S a (added told t p).book → LookAlike S a (added told s o) (added told t p) (notes told s o) (notes told t p))
+    IsShutOut S a (added told s o).book → IsShutOut S a (added told t p).book → LookAlike S a (added told s o) (added told t p) (notes told s o) (notes told t p))
 
 -- and so after two lines of others for the items of one of the nodes, of which a gets no reply
 abbrev pub EachPairIsSecret : Type 0
@@ -39,8 +39,8 @@ EachPairIsSecret =
     (told : Event → Bool) → IsBlind told → (S : List NodeKey) (a : Jid) (s t : State) → SameBut S a s t → (host : List ℕ) (node : NodeKey) (line line2 : ℕ) (one two : Arrival)
     → Touches S a s host one node → Touches S a t host two node
     → (let o = entry_of host s.book line one false in let p = entry_of host t.book line2 two false in
-        IsShutOut S a (added told s o).book → IsShutOut S a (added told t p).book
-        → LookAlike S a (added told s o) (added told t p) (notes told s o) (notes told t p) × (reply_for a host s.book line one false ≡ None) × (reply_for a host t.book line2 two false ≡ None))
+    IsShutOut S a (added told s o).book → IsShutOut S a (added told t p).book
+    → LookAlike S a (added told s o) (added told t p) (notes told s o) (notes told t p) × (reply_for a host s.book line one false ≡ None) × (reply_for a host t.book line2 two false ≡ None))
 
 -- and so after any entry; one that isn't accepted in one of the worlds does nothing there
 abbrev pub EachEntryIsSecret : Type 0
@@ -56,4 +56,4 @@ EachRunIsSecret =
     (told : Event → Bool) → IsBlind told → (core : Core) → AnswersAs told core → (S : List NodeKey) (a : Jid) → a.resource ≡ [] → (service : List ℕ) (E : List Entry) (xs ys : List Step)
     → IsShutOut S a (replay_by told (E ++ Boot service ∷ [])).book
     → (let w = start core service E in
-        ArePairs told core service S a w w xs ys → AreDenied told core service S a w xs → AreDenied told core service S a w ys → GetsTheSame a service (run core service w xs) (run core service w ys))
+    ArePairs told core service S a w w xs ys → AreDenied told core service S a w xs → AreDenied told core service S a w ys → GetsTheSame a service (run core service w xs) (run core service w ys))
