@@ -41,8 +41,8 @@ not-empty y b after is same =
 
 -- ---- texts and hosts
 
-pub utf8 : (t : List ℕ) → is_utf8 t ≡ true → IsUtf8 t
-utf8 t e = IsUtf8-from_is_utf8 t e
+pub is-text : (t : List ℕ) → is_utf8 t ≡ true → IsUtf8 t
+is-text t e = IsUtf8-from_is_utf8 t e
 
 pub pubsub-host : IsHostName (codes "pubsub.example")
 pubsub-host = record { parts = record { local = refl; host = (codes "pubsub", codes "example" ∷ [], refl, (refl, tt), refl); resource = refl; short = refl }; local = refl; host = refl }

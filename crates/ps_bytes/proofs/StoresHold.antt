@@ -15,9 +15,9 @@ use Rattle.ps_types.specs.declared.entry.Entry.TheVariants.{Boot, Change, Gone, 
 use Rattle.ps_model.specs.At.{IsDamagedAt, IsStore}
 use Rattle.ps_model.specs.Damage.{NoEntry}
 use Rattle.ps_model.specs.Entries.{IsBare, IsEntryIn, IsWritten, spelling}
-use Rattle.ps_model.specs.Store.{Begun, IsBody, spelled}
+use Rattle.ps_model.specs.Store.{Begun, IsBody, is_unbegun, spelled}
 use Rattle.ps_cases.specs.LineCases.{first_tree}
-use Rattle.ps_bytes.proofs.Frames.{a-host, not-empty, not-whole, pubsub-host, utf8}
+use Rattle.ps_bytes.proofs.Frames.{a-host, not-empty, not-whole, pubsub-host, is-text}
 use Rattle.ps_bytes.specs.Stores as it
 
 not-open : (gate : ℕ) → (gate ≡ 1 → ⊥) → gate ≢ 1
@@ -74,16 +74,16 @@ begins : (b : Bool) → (b || true) ≡ true
 begins true = refl
 begins false = refl
 
+begun-not : (rest : List ℕ) → is_unbegun (0 ∷ rest) ≡ true
+begun-not rest = rw (begins (length rest == 0)) refl
+
 pub zero-first : (rest : List ℕ) → IsStore (0 ∷ rest) []
-zero-first rest = record { spells = inr (headless (length (take 8 (0 ∷ rest)) == 8), (rw (begins (length rest == 0)) refl, refl)); each = tt }
+zero-first rest = record { spells = inr (headless (length (take 8 (0 ∷ rest)) == 8), begun-not rest, refl); each = tt }
 
 -- ---- the header and the frame
 
 pub bad-header : IsDamagedAt it.other_header 0
-bad-header = inl (record { no_header = refl; unbegun = refl; at_first = refl })
-
-shut-open : (bytes : List ℕ) → (1 ≢ 1) → ⊥
-shut-open bytes h = h refl
+bad-header = inl (record { no_header = refl; begun = refl; at_first = refl })
 
 pub cut-off : IsDamagedAt it.cut 8
 cut-off = inr (inl (record {
@@ -131,7 +131,7 @@ handed-none = inr (inr (record {
   behind = spelling (Handed it.nobody);
   reads = record {
     parts = it.one_boot ∷ []; entries = []; others = []; each = ((boot-entry _, tt), tt); each_entry = tt; are = refl; stands = refl;
-    begun = record { header = refl; each = (boot-fits 0, record { some = omega arith; fits = omega arith }, tt); split = refl; shut = λ e. absurd (cc e) };
+    begun = record { header = refl; each = (boot-fits 0, (record { some = omega arith; fits = omega arith }, tt)); split = refl; shut = λ e. absurd (cc e) };
   };
   each = (refl, tt);
   bad = inr (Handed it.nobody, [], record { entry = nobody-bare; suits = refl }, refl, refl);
@@ -142,16 +142,15 @@ handed-none = inr (inr (record {
 has-form : HasForm first_tree
 unfolding str.is_utf8 str.chars utf8.encode
 has-form = (
-  record { name_is_text = utf8 _ refl; named = λ e. absurd (cc e); ns_is_text = utf8 _ refl; texts = (utf8 _ refl, utf8 _ refl, utf8 _ refl, utf8 _ refl, utf8 _ refl, utf8 _ refl, utf8 _ refl, utf8 _ refl, tt); sorted = ((refl, refl, refl, tt), (refl, refl, tt), (refl, tt), tt, tt) },
-  (
-    record { name_is_text = utf8 _ refl; named = λ e. absurd (cc e); ns_is_text = utf8 _ refl; texts = tt; sorted = tt },
-    (
-      record { name_is_text = utf8 _ refl; named = λ e. absurd (cc e); ns_is_text = utf8 _ refl; texts = (utf8 _ refl, utf8 _ refl, tt); sorted = (tt, tt) },
-      tt
-    ),
-    tt
-  ),
-  tt
+  record {
+    name_is_text = is-text _ refl; named = λ e. absurd (cc e); ns_is_text = is-text _ refl;
+    texts = (is-text _ refl, is-text _ refl, (is-text _ refl, is-text _ refl, (is-text _ refl, is-text _ refl, (is-text _ refl, is-text _ refl, tt))));
+    sorted = ((refl, (refl, (refl, tt))), ((refl, (refl, tt)), ((refl, tt), (tt, tt))));
+  },
+  ((
+    record { name_is_text = is-text _ refl; named = λ e. absurd (cc e); ns_is_text = is-text _ refl; texts = tt; sorted = tt },
+    ((record { name_is_text = is-text _ refl; named = λ e. absurd (cc e); ns_is_text = is-text _ refl; texts = (is-text _ refl, is-text _ refl, tt); sorted = (tt, tt) }, tt), tt)
+  ), tt)
 )
 
 written : IsWritten first_tree
@@ -165,7 +164,7 @@ change-entry : IsEntryIn true it.change
 change-entry = record { entry = (a-host, omega arith, omega arith, written); suits = refl }
 
 moment-begun : (version : ℕ) → Begun (it.with_moment version) (it.boot_bytes 0 ∷ it.change_bytes ∷ [])
-moment-begun version = record { header = refl; each = (boot-fits 0, change-fits, tt); split = refl; shut = λ e. absurd (cc e) }
+moment-begun version = record { header = refl; each = (boot-fits 0, (change-fits, tt)); split = refl; shut = λ e. absurd (cc e) }
 
 change-spelled : spelling it.change ≡ it.change_bytes
 unfolding text.escape_byte fmt.digits
@@ -174,8 +173,8 @@ change-spelled = refl
 pub opens : IsStore (it.with_moment it.two) (it.one_boot ++ it.change ∷ [])
 unfolding same.same_jid same.same_bare same.same_node text.escape_byte fmt.digits
 opens = record {
-  spells = inl (record { parts = it.one_boot ∷ (it.change ∷ []) ∷ []; each = ((boot-entry true, tt), (change-entry, tt), tt); begun = moment-begun it.two; are = refl });
-  each = (refl, refl, tt);
+  spells = inl (record { parts = it.one_boot ∷ (it.change ∷ []) ∷ []; each = ((boot-entry true, tt), ((change-entry, tt), tt)); begun = moment-begun it.two; are = refl });
+  each = (refl, (refl, tt));
 }
 
 no-moment : (e : Entry) (bytes rest : List ℕ) → IsEntryIn false e → 4 ∷ bytes ≡ spelling e ++ rest → ⊥

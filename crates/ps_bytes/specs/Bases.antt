@@ -1,25 +1,22 @@
 -- A list with a verified capability string, a moment, a pending subscription, a recorded notice and two that aren't, what stands for it, and how both go on.
-use Rattle.std.specs.Prelude.{◌≡◌, ℕ, Bool, true, List, map, [], ◌∷◌, ◌++◌, Option, None, drop, codes}
+use Rattle.std.specs.Prelude.{◌≡◌, ℕ, List, map, [], ◌∷◌, ◌++◌, Option, None, drop, codes}
 use Rattle.ps_types.specs.Shape.{element}
 use Rattle.ps_types.specs.Tree.{Tree, tree, none, words}
 use Rattle.ps_types.specs.declared.entry.Entry.{Entry}
-use Rattle.ps_types.specs.declared.entry.Entry.TheVariants.{Base, Handed}
+use Rattle.ps_types.specs.declared.entry.Entry.TheVariants.{Base, Boot, Handed}
 use Rattle.ps_types.specs.declared.entry.Notice.{Notice}
 use Rattle.ps_types.specs.declared.jid.Jid.{Jid}
-use Rattle.ps_model.specs.After.{after}
-use Rattle.ps_model.specs.Book.{State, empty_state}
 use Rattle.ps_model.specs.Core.{handed}
 use Rattle.ps_model.specs.Heard.{placeless}
-use Rattle.ps_model.specs.Replay.{accepted_at, lawful_by}
-use Rattle.ps_cases.specs.AccessCases.{approval, pending, q, question}
-use Rattle.ps_cases.specs.Case.{Exchange, boot, kept, list_of, made, own}
+use Rattle.ps_cases.specs.AccessCases.{pending, q, question}
+use Rattle.ps_cases.specs.Case.{Exchange, kept, list_of, own}
 use Rattle.ps_cases.specs.Compacted.{row}
 use Rattle.ps_cases.specs.Forms.{account_form, form_with}
-use Rattle.ps_cases.specs.Handed.{event_of, message}
-use Rattle.ps_cases.specs.HomeCases.{answer, delay, has_bob, info, second, t}
+use Rattle.ps_cases.specs.Handed.{event_of, message, notice}
+use Rattle.ps_cases.specs.HomeCases.{answer, asked, delay, has_bob, info, second, t}
 use Rattle.ps_cases.specs.PresenceCases.{is_present, resource, test_client, ver}
-use Rattle.ps_cases.specs.Running.{Line, entry_in, every, handed_by, left_by, reply_in, taken_in}
-use Rattle.ps_cases.specs.Words.{User, ann, bob, bare_bob, service, to_ann, to_b, to_bob, at_home, at_time, create_with, done, field, payload, publish, published, sends, sets, subscribe}
+use Rattle.ps_cases.specs.Running.{Line, entry_in, handed_by, lawful_in, left_by, reply_in, taken_in}
+use Rattle.ps_cases.specs.Words.{User, ann, bob, bare_bob, service, to_b, to_bob, at_home, at_time, create_with, done, field, payload, publish, published, sends, sets, subscribe}
 
 -- ---- the list
 
@@ -86,28 +83,27 @@ rows =
     ∷ notice_row (codes "bob@b.example/p") last_line
     ∷ []
 
+-- ---- what this list tells, and what its rows tell
+
+abbrev pub told : List Notice
+told = asked bob_p 3 1 ver ∷ notice bob_p 4 2 last_line ∷ question 6 1 ∷ []
+
+abbrev pub told_again : List Notice
+told_again = question 9 1 ∷ notice bob_p 10 2 last_line ∷ []
+
 -- ---- how both go on
 
--- the next boot; another resource of bob's is there and isn't asked; ann publishes and lets bob in; his second notice is recorded
-abbrev pub more : List Entry
-more =
-    boot
-    ∷ made (is_present 1 (resource (codes "r")) ∷ done (at_home (sets ann 1 (publish t (codes "n")))) [] ∷ approval 2 (codes "1") ∷ own (Handed to_bob) ∷ [])
+abbrev pub reply_after : List Entry → Line → Option Tree
+reply_after E line = reply_in (taken_in line (left_by E).book) (left_by E).book line
 
--- every further line gets the same reply and makes the same entry, and every further entry is accepted in both or in none
-pub record GoAlike (s u : State) : Type 0 where
-  pub replies : (line : Line) → reply_in (taken_in line s.book) s.book line ≡ reply_in (taken_in line u.book) u.book line
-  pub entries : (line : Line) → entry_in (taken_in line s.book) s.book line ≡ entry_in (taken_in line u.book) u.book line
-  pub accepted : (e : Entry) → accepted_at s e ≡ accepted_at u e
+abbrev pub entry_after : List Entry → Line → Option Entry
+entry_after E line = entry_in (taken_in line (left_by E).book) (left_by E).book line
 
--- after each of these entries
-abbrev pub StayAlike : State → State → List Entry → Type 0
-StayAlike s u [] = Unit {0}
-StayAlike s u (e ∷ F) = GoAlike (after every s e) (after every u e) × StayAlike (after every s e) (after every u e) F
-
--- the other list is lawful with what follows where the first is, answers as the first after each entry of it, and makes the notices of the first without the handed ones
-pub record ServesOn (E B F : List Entry) : Type 0 where
-  pub lawful : lawful_by every (E ++ F)
-  pub lawful_there : lawful_by every (B ++ F)
-  pub alike : StayAlike (left_by E) (left_by B) F
-  pub notices : (a : Jid) → map placeless (handed_by (B ++ F) a) ≡ map placeless (drop (handed E a) (handed_by (E ++ F) a))
+-- whatever follows from the next boot on is lawful behind one where it is behind the other, each line gets the same reply and makes the same entry, and the
+-- notices are those of the first without the handed ones
+pub record ServesOn (E B : List Entry) : Type 0 where
+  pub forth : (service : List ℕ) (F : List Entry) → lawful_in (E ++ Boot service ∷ F) → lawful_in (B ++ Boot service ∷ F)
+  pub back : (service : List ℕ) (F : List Entry) → lawful_in (B ++ Boot service ∷ F) → lawful_in (E ++ Boot service ∷ F)
+  pub replies : (service : List ℕ) (F : List Entry) (line : Line) → reply_after (E ++ Boot service ∷ F) line ≡ reply_after (B ++ Boot service ∷ F) line
+  pub entries : (service : List ℕ) (F : List Entry) (line : Line) → entry_after (E ++ Boot service ∷ F) line ≡ entry_after (B ++ Boot service ∷ F) line
+  pub notices : (service : List ℕ) (F : List Entry) (a : Jid) → map placeless (handed_by (B ++ Boot service ∷ F) a) ≡ map placeless (drop (handed E a) (handed_by (E ++ Boot service ∷ F) a))

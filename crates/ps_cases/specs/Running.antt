@@ -1,5 +1,5 @@
 -- What the service does with lines, where every kind of request is built and every event is told.
-use Rattle.std.specs.Prelude.{ℕ, Bool, true, ◌&&◌, not, List, [], ◌∷◌, ◌++◌, Option, Some, None}
+use Rattle.std.specs.Prelude.{ℕ, Bool, true, false, ◌&&◌, not, List, [], ◌∷◌, ◌++◌, Option, Some, None}
 use Rattle.ps_types.specs.Tree.{Tree}
 use Rattle.ps_types.specs.declared.config.NodeConfig.{NodeConfig}
 use Rattle.ps_types.specs.declared.denial.Condition.{Condition}
@@ -14,10 +14,12 @@ use Rattle.ps_model.specs.Book.{Book, State, empty_state}
 use Rattle.ps_model.specs.Changes.{changed}
 use Rattle.ps_model.specs.Check.{judged}
 use Rattle.ps_model.specs.Commits.{commits_by}
-use Rattle.ps_model.specs.Replay.{replay_from, notices_from}
+use Rattle.ps_model.specs.Outcome.{is_accepted}
+use Rattle.ps_model.specs.Replay.{AreAcceptedFrom, accepted_at, is_booted, replay_from, notices_from}
 use Rattle.ps_model.specs.Replies.{moment_of, outcome_entry, outcome_reply, reply_by}
 use Rattle.ps_model.specs.Taken.{Taken, asked}
-use Rattle.ps_model.specs.Taking.{taken}
+use Rattle.ps_model.specs.Taking.{request_in, taken, tree_taken}
+use Rattle.ps_model.specs.Tallies.{is_next_line}
 
 -- ---- nothing is kept out as not built
 
@@ -57,6 +59,21 @@ reply_in other book line = reply_by other book line.number line.full
 abbrev pub entry_in : Taken → Book → Line → Option Entry
 entry_in (asked t r) book line = outcome_entry (keeps book r && not line.full) (Change line.host line.number (moment_of line.arrival) t) (judged no_limits book r)
 entry_in other book line = None
+
+-- ---- one entry
+
+abbrev pub request_kept : Option Request → Book → Bool
+request_kept None book = false
+request_kept (Some r) book = is_accepted (judged no_limits book r) && keeps book r
+
+-- it is accepted at its place
+abbrev pub accepted_in : State → Entry → Bool
+accepted_in s (Change host line moment t) = is_booted s && request_kept (request_in (tree_taken host s.book.service t)) s.book && is_next_line host line s.lines
+accepted_in s e = accepted_at s e
+
+-- each is
+abbrev pub lawful_in : List Entry → Type 0
+lawful_in E = AreAcceptedFrom every accepted_in empty_state E
 
 -- ---- one after the other
 

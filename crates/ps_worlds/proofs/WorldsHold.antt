@@ -167,7 +167,7 @@ unfolding same.same_jid same.same_bare same.same_node text.escape_byte fmt.digit
 items-differ-right = record { replies = refl; entries = refl; notices = each-part (rights it.items_differ) [] refl }
 
 pub items-differ-holds : AreTwoWorlds it.secret it.to_alf it.items_differ [] []
-unfolding same.same_jid same.same_bare same.same_node text.escape_byte fmt.digits
+unfolding same.same_jid same.same_bare same.same_node text.escape_byte fmt.digits str.is_utf8 str.chars utf8.encode json.value lex.punctuate lex.lex content.content
 items-differ-holds = record { left = items-differ-left; right = items-differ-right; alike = items-differ-alike; replies = refl; notices = refl }
 
 abbrev evictions_left_1 : State
@@ -225,7 +225,7 @@ unfolding same.same_jid same.same_bare same.same_node text.escape_byte fmt.digit
 evictions-differ-right = record { replies = refl; entries = refl; notices = each-part (rights it.evictions_differ) [] refl }
 
 pub evictions-differ-holds : AreTwoWorlds it.secret it.to_alf it.evictions_differ [] []
-unfolding same.same_jid same.same_bare same.same_node text.escape_byte fmt.digits
+unfolding same.same_jid same.same_bare same.same_node text.escape_byte fmt.digits str.is_utf8 str.chars utf8.encode json.value lex.punctuate lex.lex content.content
 evictions-differ-holds = record { left = evictions-differ-left; right = evictions-differ-right; alike = evictions-differ-alike; replies = refl; notices = refl }
 
 abbrev commits_left_1 : State
@@ -290,7 +290,7 @@ unfolding same.same_jid same.same_bare same.same_node text.escape_byte fmt.digit
 commits-differ-right = record { replies = refl; entries = refl; notices = each-part (rights it.commits_differ) it.right_told refl }
 
 pub commits-differ-holds : AreTwoWorlds it.secret it.to_alf it.commits_differ it.left_told it.right_told
-unfolding same.same_jid same.same_bare same.same_node text.escape_byte fmt.digits
+unfolding same.same_jid same.same_bare same.same_node text.escape_byte fmt.digits str.is_utf8 str.chars utf8.encode json.value lex.punctuate lex.lex content.content
 commits-differ-holds = record { left = commits-differ-left; right = commits-differ-right; alike = commits-differ-alike; replies = refl; notices = refl }
 
 pub again-left : it.sent_by_steps (lefts it.commits_differ) ≡ it.left_told ++ it.left_told
