@@ -8,3 +8,4 @@ pub mod Nth
 pub mod Sought
 pub mod Alike
 pub mod Any
+pub mod Endings

@@ -3,3 +3,4 @@ pub mod Placed
 pub mod Digests
 pub mod Kin
 pub mod RowKeys
+pub mod Around

@@ -6,6 +6,7 @@
 #![tactic(auto)]
 
 mod address_rows;
+mod around;
 mod digests;
 mod index;
 mod node_rows;

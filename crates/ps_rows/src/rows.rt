@@ -4,8 +4,10 @@ ghost use Rattle.ps_base.specs.Rows.{put_row, without, without_first, keep_newes
 ghost use Rattle.std.specs.List.{AllZip, list_any};
 ghost use Rattle.ps_rows.specs.declared.index.Index.TheVariants.{Key, Node};
 ghost use Rattle.ps_rows.specs.Kin.{AsksKin};
+ghost use Rattle.ps_rows.specs.Around.{own_and_last};
 ghost use Rattle.ps_rows.specs.Standing.{AsksBy, standing};
 
+use crate::around::gather_around;
 use crate::index::Index;
 use crate::row::{Ask, Row};
 use crate::slots::Slots;
@@ -203,6 +205,20 @@ impl<R: Row + Clone> Rows<R> {
         ensures rows { IfOk result (λ rows. AllZip R.is_clone (filter (A.passes ask.now) self.now.rows) rows.items) }
     {
         gather(&self.slots, index, ask, alloc)
+    }
+
+    /// Copies of the rows that pass, and of the last row that does not, in their order. Beside the rows that pass it goes through the empty places
+    /// at the end.
+    pub fn list_around<A: Ask<R>>(
+        &self,
+        index: Index,
+        ask: &A,
+        alloc: Global,
+    ) -> Result<Vec<R>, Memory>
+        requires asks { AsksBy (A.passes ask.now) (λ seed. R.by seed index) (λ seed. A.seeks seed ask.now) }
+        ensures rows { IfOk result (λ rows. AllZip R.is_clone (own_and_last (A.passes ask.now) self.now.rows) rows.items) }
+    {
+        gather_around(&self.slots, index, ask, alloc)
     }
 
     /// A table with the same rows.

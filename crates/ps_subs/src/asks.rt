@@ -86,8 +86,7 @@ impl<'a> Ask<SubRow> for SubscribedBy<'a> {
     ghost seeks = { λ seed ask. bare_digest seed ask.who.now };
 
     fn passes(&self, row: &SubRow) -> bool {
-        self.node.is_same(&row.node)
-            && (self.who.same_bare(&row.who) && is_subscribed(row.state))
+        self.node.is_same(&row.node) && (self.who.same_bare(&row.who) && is_subscribed(row.state))
     }
 
     fn digest(&self, seed: u64) -> u64 {
