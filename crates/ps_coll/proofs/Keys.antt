@@ -24,9 +24,9 @@ module _ {R : Type 0} (f g : R → Bool) where
   either false true false d = refl
   either false false c d = refl
 
-  pub any-either : (rows : List R) → list_any f rows || list_any g rows ≡ list_any (λ x. f x || g x) rows
-  any-either [] = refl
-  any-either (x ∷ xs) = either (f x) (list_any f xs) (g x) (list_any g xs) ∙ ap (λ b. (f x || g x) || b) (any-either xs)
+  pub any_either : (rows : List R) → list_any f rows || list_any g rows ≡ list_any (λ x. f x || g x) rows
+  any_either [] = refl
+  any_either (x ∷ xs) = either (f x) (list_any f xs) (g x) (list_any g xs) ∙ ap (λ b. (f x || g x) || b) (any_either xs)
 
   gone : (x : R) (xs ys : List R) (a b : Bool) → g x ≡ b → without g xs ≡ ys → without g (cond (not a) (x ∷ xs) xs) ≡ cond (not (a || b)) (x ∷ ys) ys
   gone x xs ys true b e r = r
