@@ -1,5 +1,5 @@
 -- The link of one child, and the links to one collection, have one digest; rows of either of two tests.
-use Rattle.std.proofs.Common.{◌≡◌, ℕ, Bool, true, false, cond, not, ◌||◌, List, [], ◌∷◌, refl, ap, ◌∙◌}
+use Rattle.std.proofs.Common.{◌≡◌, ℕ, Bool, true, false, cond, not, ◌||◌, List, [], ◌∷◌, refl, ap, sym, ◌∙◌}
 use Rattle.std.specs.List.{list_any}
 use Rattle.ps_base.specs.Rows.{without}
 use Rattle.ps_types.specs.declared.node.NodeKey.{NodeKey}
@@ -24,7 +24,7 @@ module _ {R : Type 0} (f g : R → Bool) where
   either false true false d = refl
   either false false c d = refl
 
-  pub any_either : (rows : List R) → list_any f rows || list_any g rows ≡ list_any (λ x. f x || g x) rows
+  any_either : (rows : List R) → list_any f rows || list_any g rows ≡ list_any (λ x. f x || g x) rows
   any_either [] = refl
   any_either (x ∷ xs) = either (f x) (list_any f xs) (g x) (list_any g xs) ∙ ap (λ b. (f x || g x) || b) (any_either xs)
 
@@ -36,3 +36,18 @@ module _ {R : Type 0} (f g : R → Bool) where
   pub without-either : (rows : List R) → without g (without f rows) ≡ without (λ x. f x || g x) rows
   without-either [] = refl
   without-either (x ∷ xs) = gone x (without f xs) (without (λ y. f y || g y) xs) (f x) (g x) refl (without-either xs)
+
+  yes : (p q : Bool) → p ≡ true → p || q ≡ true
+  yes true q h = refl
+  yes false q h = cc
+
+  skip : (p q : Bool) → p ≡ false → p || q ≡ q
+  skip true q h = cc
+  skip false q h = refl
+
+  -- the first test is asked, and the second where no row passes the first
+  pub either-then : (rows : List R) (a : Bool) → a ≡ list_any f rows → a ≡ true → a ≡ list_any (λ x. f x || g x) rows
+  either-then rows a e t = t ∙ (sym (yes (list_any f rows) (list_any g rows) (sym e ∙ t)) ∙ any_either rows)
+
+  pub either-else : (rows : List R) (a b : Bool) → a ≡ list_any f rows → a ≡ false → b ≡ list_any g rows → b ≡ list_any (λ x. f x || g x) rows
+  either-else rows a b e t k = k ∙ (sym (skip (list_any f rows) (list_any g rows) (sym e ∙ t)) ∙ any_either rows)

@@ -27,7 +27,11 @@ pub fn is_reached(rows: &Rows<LinkRow>, node: &NodeKey, collection: &NodeKey, de
     false
 }
 
-pub fn ancestors_of(alloc: Global, rows: &Rows<LinkRow>, node: &NodeKey) -> Result<Vec<NodeKey>, Memory>
+pub fn ancestors_of(
+    alloc: Global,
+    rows: &Rows<LinkRow>,
+    node: &NodeKey,
+) -> Result<Vec<NodeKey>, Memory>
     ensures { IfOk result (λ nodes. nodes.items ≡ above node.now rows.now.rows) }
 {
     let mut nodes = Vec::new(alloc);

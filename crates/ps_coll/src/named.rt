@@ -37,7 +37,6 @@ pub fn has_child(rows: &Rows<LinkRow>, collection: &NodeKey) -> bool
     rows.any(Index::Node, &ask)
 }
 
-#[tactic(auto, using(crate::proofs::Keys::any_either))]
 pub fn is_named(rows: &Rows<LinkRow>, node: &NodeKey) -> bool
     ensures { result ≡ list_any (is_link_at node.now) rows.now.rows }
 {

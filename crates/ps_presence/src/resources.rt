@@ -32,11 +32,7 @@ pub fn is_present_among(rows: &Rows<ResourceRow>, who: &Jid) -> bool
     }
 }
 
-fn rows_of(
-    alloc: Global,
-    rows: &Rows<ResourceRow>,
-    bare: &Jid,
-) -> Result<Vec<ResourceRow>, Memory>
+fn rows_of(alloc: Global, rows: &Rows<ResourceRow>, bare: &Jid) -> Result<Vec<ResourceRow>, Memory>
     ensures { IfOk result (λ found. found.items ≡ filter (is_resource_at bare.now) rows.now.rows) }
 {
     let ask = OfBare { who: bare };

@@ -1,5 +1,5 @@
 -- The subscriptions of one node, of one bare address, and of a node and an address, have one digest.
-use Rattle.std.proofs.Common.{◌≡◌, ℕ, true, List}
+use Rattle.std.proofs.Common.{◌≡◌, ℕ, true, ◌&&◌, List}
 use Rattle.std.specs.Prelude.{bytes_eq}
 use Rattle.ps_types.specs.declared.jid.Jid.{Jid}
 use Rattle.ps_types.specs.declared.node.NodeKey.{NodeKey}
@@ -24,7 +24,7 @@ pub sub_of : (node : NodeKey) (who : Jid) → AsksBy (λ row. is_sub_of node who
 sub_of node who seed = record { alike = λ row h. (let p = both (same_node node row.node) (same_jid who row.who) h in one_jid_at seed node row.node who row.who p.0 p.1) }
 
 pub subscribed : (node : NodeKey) (who : Jid) → AsksBy (λ row. subscribes node who row) (λ seed. sub_by seed Bare) (λ seed. bare_digest seed who)
-subscribed node who seed = record { alike = λ row h. (let p = both (same_node node row.node) _ h in let q = both (same_bare who row.who) (is_subscribed row.state) p.1 in one_address seed who row.who q.0) }
+subscribed node who seed = record { alike = λ row h. (let p = both (same_node node row.node && same_bare who row.who) (is_subscribed row.state) h in let q = both (same_node node row.node) (same_bare who row.who) p.0 in one_address seed who row.who q.1) }
 
 -- with a subscription all of its node are of the node
 pub kin_at_node : (node : NodeKey) → AsksKin sub_kin (λ row. is_sub_at node row)
