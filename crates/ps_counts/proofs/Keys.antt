@@ -1,16 +1,14 @@
 -- The counts of one node, and those of a node and a bare address, have one digest.
-use Rattle.std.proofs.Common.{◌≡◌, ℕ, true, List, refl}
-use Rattle.std.specs.Prelude.{bytes_eq}
+use Rattle.std.proofs.Common.{◌≡◌, ℕ, true, refl}
 use Rattle.ps_types.specs.declared.jid.Jid.{Jid}
 use Rattle.ps_types.specs.declared.node.NodeKey.{NodeKey}
 use Rattle.ps_types.specs.declared.rows.CountRow.{CountRow}
 use Rattle.ps_types.specs.Counts.{is_count_at, is_count_of}
-use Rattle.ps_types.specs.Same.{same_bare, same_jid, same_node}
+use Rattle.ps_types.specs.Same.{same_bare, same_node}
 use Rattle.ps_rows.specs.declared.index.Index.{Index}
 use Rattle.ps_rows.specs.declared.index.Index.TheVariants.{Key, Node, Bare}
 use Rattle.ps_rows.specs.Digests.{node_digest, bare_at_digest}
 use Rattle.ps_rows.specs.RowKeys.{count_by, count_kin}
-use Rattle.ps_rows.specs.Kin.{AsksKin}
 use Rattle.ps_rows.specs.Standing.{AsksBy}
 use Rattle.ps_rows.proofs.Sought.{both, one_node, one_bare_at, node-back}
 
