@@ -1,11 +1,9 @@
 -- The contacts of one account, and those of an account and an address, have one digest.
-use Rattle.std.proofs.Common.{◌≡◌, ℕ, true, List, refl}
-use Rattle.std.specs.Prelude.{bytes_eq}
+use Rattle.std.proofs.Common.{◌≡◌, ℕ, true, refl}
 use Rattle.ps_types.specs.declared.jid.Jid.{Jid}
-use Rattle.ps_types.specs.declared.node.NodeKey.{NodeKey}
 use Rattle.ps_types.specs.declared.rows.RosterRow.{RosterRow}
 use Rattle.ps_types.specs.Rosters.{is_contact_at, is_contact_of}
-use Rattle.ps_types.specs.Same.{same_bare, same_jid, same_node}
+use Rattle.ps_types.specs.Same.{same_bare}
 use Rattle.ps_rows.specs.declared.index.Index.{Index}
 use Rattle.ps_rows.specs.declared.index.Index.TheVariants.{Key, Node, Bare}
 use Rattle.ps_rows.specs.Digests.{bare_digest, pair_digest}

@@ -1,6 +1,5 @@
 -- The subscriptions of one node, of one bare address, and of a node and an address, have one digest.
-use Rattle.std.proofs.Common.{◌≡◌, ℕ, true, ◌&&◌, List}
-use Rattle.std.specs.Prelude.{bytes_eq}
+use Rattle.std.proofs.Common.{◌≡◌, ℕ, true, ◌&&◌}
 use Rattle.ps_types.specs.declared.jid.Jid.{Jid}
 use Rattle.ps_types.specs.declared.node.NodeKey.{NodeKey}
 use Rattle.ps_types.specs.declared.rows.SubRow.{SubRow}
