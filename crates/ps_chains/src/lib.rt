@@ -13,6 +13,8 @@ mod chains;
 mod ends;
 mod links;
 mod small;
+#[cfg(test)]
+mod tests;
 
 pub use chains::Chains;
 pub use ends::Ends;

@@ -1,0 +1,68 @@
+// What is asked of affiliations.
+ghost use Rattle.std.specs.Prelude.{◌≡◌};
+ghost use Rattle.ps_types.specs.Affils.{is_affil_of, is_affil_at, is_affil_by};
+ghost use Rattle.ps_rows.specs.Digests.{bare_at_digest, bare_digest, node_digest};
+
+use ps_rows::{Ask, bare_at_digest, bare_digest, node_digest};
+use ps_types::{AffilRow, Jid, NodeKey};
+
+/// The affiliation of a node and a bare address.
+#[derive(Drop)]
+pub struct AffilOf<'a> {
+    pub node: &'a NodeKey,
+    pub who: &'a Jid,
+}
+
+impl<'a> Ask<AffilRow> for AffilOf<'a> {
+    ghost passes = { λ ask row. is_affil_of ask.node.now ask.who.now row };
+
+    ghost seeks = { λ seed ask. bare_at_digest seed ask.node.now ask.who.now };
+
+    fn passes(&self, row: &AffilRow) -> bool {
+        self.node.is_same(&row.node) && self.who.same_bare(&row.who)
+    }
+
+    fn digest(&self, seed: u64) -> u64 {
+        bare_at_digest(seed, self.node, self.who)
+    }
+}
+
+/// The affiliations of a node.
+#[derive(Drop)]
+pub struct AtNode<'a> {
+    pub node: &'a NodeKey,
+}
+
+impl<'a> Ask<AffilRow> for AtNode<'a> {
+    ghost passes = { λ ask row. is_affil_at ask.node.now row };
+
+    ghost seeks = { λ seed ask. node_digest seed ask.node.now };
+
+    fn passes(&self, row: &AffilRow) -> bool {
+        self.node.is_same(&row.node)
+    }
+
+    fn digest(&self, seed: u64) -> u64 {
+        node_digest(seed, self.node)
+    }
+}
+
+/// The affiliations of a bare address.
+#[derive(Drop)]
+pub struct Held<'a> {
+    pub who: &'a Jid,
+}
+
+impl<'a> Ask<AffilRow> for Held<'a> {
+    ghost passes = { λ ask row. is_affil_by ask.who.now row };
+
+    ghost seeks = { λ seed ask. bare_digest seed ask.who.now };
+
+    fn passes(&self, row: &AffilRow) -> bool {
+        self.who.same_bare(&row.who)
+    }
+
+    fn digest(&self, seed: u64) -> u64 {
+        bare_digest(seed, self.who)
+    }
+}
