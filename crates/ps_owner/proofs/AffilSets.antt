@@ -45,9 +45,10 @@ abbrev asks : NodeKey → AskRow → AffilRow → Bool
 asks node row x = is_affil_of node (bare row.jid) x
 
 marks : (node : NodeKey) (row : AskRow) (x : AffilRow) → asks node row x ≡ true → (is_affil_at node x ≡ true) × (is_affil_of node x.who (asked_affil node row) ≡ true)
-marks node row x h =
-    (and-left (same_node node x.node) (same_bare (bare row.jid) x.who) h,
-    and-both (same_node node node) (same_bare x.who (bare row.jid)) (same_node-itself node) (bare-back (bare row.jid) x.who (and-right (same_node node x.node) (same_bare (bare row.jid) x.who) h)))
+marks node row x h = (
+  and-left (same_node node x.node) (same_bare (bare row.jid) x.who) h,
+  and-both (same_node node node) (same_bare x.who (bare row.jid)) (same_node-itself node) (bare-back (bare row.jid) x.who (and-right (same_node node x.node) (same_bare (bare row.jid) x.who) h)),
+)
 
 covered : (node : NodeKey) (rows : List AskRow) (asked : List AffilRow) → asked ≡ map (asked_affil node) rows → Covers (asks node) (is_among node asked) rows
 covered node rows asked is =

@@ -29,9 +29,10 @@ module _ {R : Type 0} (of : AskRow → R → Bool) where
 
     pub covers-among : (rows : List AskRow) → Covers (among (map mark rows)) rows
     covers-among [] = tt
-    covers-among (row ∷ rows) =
-        (λ x k. head (at x) (same x (mark row)) (mark row) (find (same x) (map mark rows)) (marks row x k).0 (marks row x k).1,
-        covers-more (among (map mark rows)) (among (mark row ∷ map mark rows)) (λ x h. some-more (at x) (same x (mark row)) (mark row) (find (same x) (map mark rows)) h) rows (covers-among rows))
+    covers-among (row ∷ rows) = (
+      λ x k. head (at x) (same x (mark row)) (mark row) (find (same x) (map mark rows)) (marks row x k).0 (marks row x k).1,
+      covers-more (among (map mark rows)) (among (mark row ∷ map mark rows)) (λ x h. some-more (at x) (same x (mark row)) (mark row) (find (same x) (map mark rows)) h) rows (covers-among rows),
+    )
 
 pub and-left : (a b : Bool) → (a && b) ≡ true → a ≡ true
 and-left true b h = refl

@@ -36,9 +36,10 @@ asks node row x = is_sub_of node row.jid x
 
 marks : (node : NodeKey) (row : AskRow) (x : SubRow) → asks node row x ≡ true → (is_sub_at node x ≡ true) × (is_sub_of node x.who (asked_sub node row) ≡ true)
 marks node row x h =
-    let w = (same_jid-Decides row.jid x.who).0 (and-right (same_node node x.node) (same_jid row.jid x.who) h) in
-    (and-left (same_node node x.node) (same_jid row.jid x.who) h,
-    and-both (same_node node node) (same_jid x.who row.jid) (same_node-itself node) ((same_jid-Decides x.who row.jid).1 (sym w)))
+    let w = (same_jid-Decides row.jid x.who).0 (and-right (same_node node x.node) (same_jid row.jid x.who) h) in (
+      and-left (same_node node x.node) (same_jid row.jid x.who) h,
+      and-both (same_node node node) (same_jid x.who row.jid) (same_node-itself node) ((same_jid-Decides x.who row.jid).1 (sym w)),
+    )
 
 covered : (node : NodeKey) (rows : List AskRow) (asked : List SubRow) → asked ≡ map (asked_sub node) rows → Covers (asks node) (is_among node asked) rows
 covered node rows asked is =
@@ -55,7 +56,7 @@ module _ (own : SubRow → Bool) (node : NodeKey) (who : Jid) (inside : (x : Sub
   sets-kept : (s : SubState) → Sets own (λ xs. put_row test (sub_with node who s xs) xs)
   sets-kept s = record {
     around = λ xs. around-put own test inside (sub_with node who s xs) (mine s xs) xs
-    ∙ ap (λ o. put_row test (record { node = node; who = who; state = s; options = options_in o }) (own_and_last own xs)) (sym (find-around own test inside xs));
+        ∙ ap (λ o. put_row test (record { node = node; who = who; state = s; options = options_in o }) (own_and_last own xs)) (sym (find-around own test inside xs));
     grown = λ xs ys g. grown-put own test inside (sub_with node who s ys) (mine s ys) xs ys g;
     any = λ q h xs. any-put test q (λ x t. h x (inside x t)) (sub_with node who s xs) xs (h (sub_with node who s xs) (mine s xs));
     count = λ q h xs. count-put test q (λ x t. h x (inside x t)) (sub_with node who s xs) xs (h (sub_with node who s xs) (mine s xs));

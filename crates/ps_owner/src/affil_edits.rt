@@ -11,12 +11,22 @@ use std::alloc::Global;
 
 /// The rows of the addresses that are asked for, before and after, with the last other row of the table. So it shows whether the whole
 /// table is as it was, where a row that goes and comes back is the last one.
-#[derive(Drop)]
 pub struct AffilEdit {
     /// A row for each address that is asked for.
     pub asked: Affils,
     pub before: Vec<AffilRow>,
     pub after: Vec<AffilRow>,
+}
+
+// By hand, so that an edit is let go by one call wherever a function ends.
+impl Drop for AffilEdit {
+    fn drop(self) {
+        let AffilEdit {
+            asked: _,
+            before: _,
+            after: _,
+        } = self;
+    }
 }
 
 // A row for each that is asked for, whatever it says.

@@ -10,12 +10,22 @@ use std::alloc::Global;
 
 /// The rows of the addresses that are asked for, before and after, with the last other row of the table. So it shows whether the whole
 /// table is as it was, where a row that goes and comes back is the last one.
-#[derive(Drop)]
 pub struct SubEdit {
     /// A row for each address that is asked for.
     pub asked: Subs,
     pub before: Vec<SubRow>,
     pub after: Vec<SubRow>,
+}
+
+// By hand, so that an edit is let go by one call wherever a function ends.
+impl Drop for SubEdit {
+    fn drop(self) {
+        let SubEdit {
+            asked: _,
+            before: _,
+            after: _,
+        } = self;
+    }
 }
 
 fn asked_row(node: &NodeKey, row: &AskRow) -> Result<SubRow, Memory>
