@@ -1,12 +1,18 @@
 // What is asked of affiliations.
 ghost use Rattle.std.specs.Prelude.{◌≡◌};
-ghost use Rattle.ps_types.specs.Affils.{is_affil_of, is_affil_at, is_affil_by};
+ghost use Rattle.ps_types.specs.Affils.{is_affil_of, is_affil_at, is_affil_by, is_owner};
 ghost use Rattle.ps_affil.specs.Among.{is_among, is_other_owner};
 ghost use Rattle.ps_rows.specs.Digests.{bare_at_digest, bare_digest, node_digest};
 
 use crate::affils::Affils;
 use ps_rows::{Ask, bare_at_digest, bare_digest, node_digest};
 use ps_types::{Affil, AffilRow, Jid, NodeKey};
+
+fn is_owner(affil: Affil) -> bool
+    ensures { result ≡ is_owner affil }
+{
+    matches!(affil, Affil::Owner)
+}
 
 /// The affiliation of a node and a bare address.
 #[derive(Drop)]
@@ -105,7 +111,7 @@ impl<'a> Ask<AffilRow> for OtherOwner<'a> {
     fn passes(&self, row: &AffilRow) -> bool {
         let here = self.node.is_same(&row.node);
         !(here && self.others.row_of(self.node, &row.who).is_some())
-            && (here && matches!(row.affil, Affil::Owner))
+            && (here && is_owner(row.affil))
     }
 
     fn digest(&self, seed: u64) -> u64 {
