@@ -1,11 +1,12 @@
 -- The affiliations of one node, of one bare address, and of both, have one digest.
 use Rattle.std.proofs.Common.{◌≡◌, ℕ, true, List}
-use Rattle.std.specs.Prelude.{bytes_eq}
+use Rattle.std.specs.Prelude.{bytes_eq, find, is_some, not}
 use Rattle.ps_types.specs.declared.jid.Jid.{Jid}
 use Rattle.ps_types.specs.declared.node.NodeKey.{NodeKey}
 use Rattle.ps_types.specs.declared.rows.AffilRow.{AffilRow}
-use Rattle.ps_types.specs.Affils.{is_affil_at, is_affil_by, is_affil_of}
+use Rattle.ps_types.specs.Affils.{is_affil_at, is_affil_by, is_affil_of, is_owner}
 use Rattle.ps_types.specs.Same.{same_bare, same_jid, same_node}
+use Rattle.ps_affil.specs.Among.{is_among, is_other_owner, owns_at}
 use Rattle.ps_rows.specs.declared.index.Index.{Index}
 use Rattle.ps_rows.specs.declared.index.Index.TheVariants.{Key, Node, Bare}
 use Rattle.ps_rows.specs.Digests.{node_digest, bare_at_digest, bare_digest}
@@ -31,3 +32,9 @@ alike seed row old Bare h = one_address seed row.who old.who (both (same_node ro
 
 pub kin : (row old : AffilRow) → is_affil_of row.node row.who old ≡ true → affil_kin old row ≡ true
 kin row old h = node-back row.node old.node (both (same_node row.node old.node) (same_bare row.who old.who) h).0
+
+pub among : (node : NodeKey) (others : List AffilRow) → AsksBy (is_among node others) (λ seed. affil_by seed Node) (λ seed. node_digest seed node)
+among node others seed = record { alike = λ row h. one_node seed node row.node (both (same_node node row.node) (is_some (find (is_affil_of node row.who) others)) h).0 }
+
+pub other_owner : (node : NodeKey) (others : List AffilRow) → AsksBy (is_other_owner node others) (λ seed. affil_by seed Node) (λ seed. node_digest seed node)
+other_owner node others seed = record { alike = λ row h. one_node seed node row.node (both (same_node node row.node) (is_owner row.affil) (both (not (is_among node others row)) (owns_at node row) h).1).0 }

@@ -3,8 +3,11 @@ ghost use Rattle.std.specs.Prelude.{◌≡◌, ◌+◌, ◌<◌, ◌≤◌, [], 
 ghost use Rattle.ps_base.specs.Rows.{put_row, without};
 ghost use Rattle.ps_types.specs.Affils.{is_affil_of, affil_at, affils_with, affils_of, affils_held, affils_without};
 ghost use Rattle.ps_rows.specs.Standing.{standing};
+ghost use Rattle.std.specs.List.{list_any};
+ghost use Rattle.ps_affil.specs.Among.{is_among, is_other_owner};
+ghost use Rattle.ps_rows.specs.Around.{own_and_last};
 
-use crate::asks::{AffilOf, AtNode, Held};
+use crate::asks::{AffilOf, Among, AtNode, Held, OtherOwner};
 use ps_rows::{Index, Rows};
 use ps_types::{Affil, AffilRow, Jid, Memory, NodeKey};
 use std::alloc::Global;
@@ -136,6 +139,27 @@ impl Affils {
     {
         let ask = Held { who };
         self.rows.list(Index::Bare, &ask, alloc)
+    }
+
+    /// The rows of a node of addresses of which others have a row there, with the last row of the table that is none of these.
+    pub fn concerned(
+        &self,
+        alloc: Global,
+        node: &NodeKey,
+        others: &Affils,
+    ) -> Result<Vec<AffilRow>, Memory>
+        ensures rows { IfOk result (λ rows. rows.items ≡ own_and_last (is_among node.now others.now.rows) self.now.rows) }
+    {
+        let ask = Among { node, others };
+        self.rows.list_around(Index::Node, &ask, alloc)
+    }
+
+    /// Whether an address owns a node of which others have no row there.
+    pub fn has_other_owner(&self, node: &NodeKey, others: &Affils) -> bool
+        ensures owner { result ≡ list_any (is_other_owner node.now others.now.rows) self.now.rows }
+    {
+        let ask = OtherOwner { node, others };
+        self.rows.any(Index::Node, &ask)
     }
 
     /// Takes away the rows of a node. It takes no memory.

@@ -1,10 +1,18 @@
 // What is asked of affiliations.
 ghost use Rattle.std.specs.Prelude.{◌≡◌};
-ghost use Rattle.ps_types.specs.Affils.{is_affil_of, is_affil_at, is_affil_by};
+ghost use Rattle.ps_types.specs.Affils.{is_affil_of, is_affil_at, is_affil_by, is_owner};
+ghost use Rattle.ps_affil.specs.Among.{is_among, is_other_owner};
 ghost use Rattle.ps_rows.specs.Digests.{bare_at_digest, bare_digest, node_digest};
 
+use crate::affils::Affils;
 use ps_rows::{Ask, bare_at_digest, bare_digest, node_digest};
-use ps_types::{AffilRow, Jid, NodeKey};
+use ps_types::{Affil, AffilRow, Jid, NodeKey};
+
+fn is_owner(affil: Affil) -> bool
+    ensures { result ≡ is_owner affil }
+{
+    matches!(affil, Affil::Owner)
+}
 
 /// The affiliation of a node and a bare address.
 #[derive(Drop)]
@@ -64,5 +72,49 @@ impl<'a> Ask<AffilRow> for Held<'a> {
 
     fn digest(&self, seed: u64) -> u64 {
         bare_digest(seed, self.who)
+    }
+}
+
+/// The affiliations at a node of addresses of which others have a row there.
+#[derive(Drop)]
+pub struct Among<'a> {
+    pub node: &'a NodeKey,
+    pub others: &'a Affils,
+}
+
+impl<'a> Ask<AffilRow> for Among<'a> {
+    ghost passes = { λ ask row. is_among ask.node.now ask.others.now.rows row };
+
+    ghost seeks = { λ seed ask. node_digest seed ask.node.now };
+
+    fn passes(&self, row: &AffilRow) -> bool {
+        self.node.is_same(&row.node) && self.others.row_of(self.node, &row.who).is_some()
+    }
+
+    fn digest(&self, seed: u64) -> u64 {
+        node_digest(seed, self.node)
+    }
+}
+
+/// An owner's affiliation at a node, but of an address of which others have a row there.
+#[derive(Drop)]
+pub struct OtherOwner<'a> {
+    pub node: &'a NodeKey,
+    pub others: &'a Affils,
+}
+
+impl<'a> Ask<AffilRow> for OtherOwner<'a> {
+    ghost passes = { λ ask row. is_other_owner ask.node.now ask.others.now.rows row };
+
+    ghost seeks = { λ seed ask. node_digest seed ask.node.now };
+
+    fn passes(&self, row: &AffilRow) -> bool {
+        let here = self.node.is_same(&row.node);
+        !(here && self.others.row_of(self.node, &row.who).is_some())
+            && (here && is_owner(row.affil))
+    }
+
+    fn digest(&self, seed: u64) -> u64 {
+        node_digest(seed, self.node)
     }
 }

@@ -29,7 +29,7 @@ nothing : (resource : List ℕ) → [] ≡ of_bare resource []
 nothing [] = refl
 nothing (x ∷ resource) = refl
 
-part-of : (s : State) (E : List Entry) (a : Jid) → notices_from every s E a ≡ to_address a (all_from s E)
+pub part-of : (s : State) (E : List Entry) (a : Jid) → notices_from every s E a ≡ to_address a (all_from s E)
 part-of s [] a = nothing a.resource
 part-of s (e ∷ E) a = rw (part-of (after every s e) E a) (part-append a (notices_at every s e) (all_from (after every s e) E))
 

@@ -1,5 +1,5 @@
 -- A worked case: lines, what each comes to, and what is handed to whom.
-use Rattle.std.specs.Prelude.{◌≡◌, ℕ, List, [], ◌∷◌, Option, codes}
+use Rattle.std.specs.Prelude.{◌≡◌, ℕ, Bool, List, [], ◌∷◌, Option, codes}
 use Rattle.ps_types.specs.Print.{print}
 use Rattle.ps_types.specs.Tree.{Tree}
 use Rattle.ps_types.specs.declared.entry.Arrival.TheVariants.{Line as Bytes}
@@ -11,16 +11,17 @@ use Rattle.ps_model.specs.Book.{State}
 use Rattle.ps_model.specs.Replay.{to_address}
 use Rattle.ps_cases.specs.Running.{Line, Step, comes, makes, entries, handed_by, left_by, replies}
 
--- a stanza: the host of its stream, the number of its line, its moment if there is a clock, and its tree
+-- a stanza: the host of its stream, the number of its line, its moment if there is a clock, whether the journal is full, and its tree
 pub record Sent : Type 0 where
   pub host : List ℕ
   pub number : ℕ
   pub moment : Option ℕ
+  pub full : Bool
   pub tree : Tree
 
 -- the line has the tree's print
 abbrev pub line_of : Sent → Line
-line_of sent = record { host = sent.host; number = sent.number; arrival = Bytes (print sent.tree) sent.moment }
+line_of sent = record { host = sent.host; number = sent.number; arrival = Bytes (print sent.tree) sent.moment; full = sent.full }
 
 -- a stanza that makes an entry, and one that makes none, each with its reply, if it gets one; or an entry that the service makes by itself
 pub data Exchange : Type 0 where

@@ -1,8 +1,5 @@
 -- A compacted store: its rows, what they leave, and that the store goes on as the longer one would.
 use Rattle.std.specs.Prelude.{ℕ, Bool, true, ◌&&◌, bytes_eq, List, map, [], ◌∷◌, ◌++◌, codes}
-use Rattle.ps_types.specs.Config.{config_form}
-use Rattle.ps_types.specs.Defaults.{service_config}
-use Rattle.ps_types.specs.Forms.{form_tree}
 use Rattle.ps_types.specs.Shape.{element}
 use Rattle.ps_types.specs.Tree.{Tree, tree, none, words}
 use Rattle.ps_types.specs.declared.entry.Entry.{Entry}
@@ -14,6 +11,7 @@ use Rattle.ps_model.specs.Entries.{body}
 use Rattle.ps_model.specs.Replay.{accepted_at}
 use Rattle.ps_cases.specs.Case.{boot, change_of, list_of}
 use Rattle.ps_cases.specs.CollectionCases.{deep}
+use Rattle.ps_cases.specs.Forms.{form_shown}
 use Rattle.ps_cases.specs.Handed.{event_of, message}
 use Rattle.ps_cases.specs.HomeCases.{t, wanting}
 use Rattle.ps_cases.specs.NodeCases.{unnamed}
@@ -37,7 +35,7 @@ abbrev pub at_news : List (List ℕ × List ℕ) → List (List ℕ × List ℕ)
 at_news attrs = (codes "name", codes "news") ∷ (codes "service", service) ∷ attrs
 
 abbrev pub news_row : Entry
-news_row = row (codes "node") (at_news ((codes "creator", codes "ann@a.example") ∷ [])) (form_tree (config_form service_config) ∷ [])
+news_row = row (codes "node") (at_news ((codes "creator", codes "ann@a.example") ∷ [])) (form_shown [] ∷ [])
 
 abbrev pub owner_row : Entry
 owner_row = row (codes "affiliation") (at_news ((codes "affiliation", codes "owner") ∷ (codes "jid", codes "ann@a.example") ∷ [])) []

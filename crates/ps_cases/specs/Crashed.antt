@@ -4,18 +4,18 @@ use Rattle.ps_types.specs.declared.entry.Entry.{Entry}
 use Rattle.ps_types.specs.declared.entry.Notice.{Notice}
 use Rattle.ps_model.specs.Core.{Core}
 use Rattle.ps_model.specs.Machine as machine
-use Rattle.ps_model.specs.TheCore.{the_core}
+use Rattle.ps_model.specs.TheCore.{core_of}
 use Rattle.ps_model.specs.declared.steps.Step.{Step}
 use Rattle.ps_model.specs.declared.steps.Step.TheVariants.{Crash, Emit, Flush, Record}
 use Rattle.ps_cases.specs.Case.{change_of, list_of}
 use Rattle.ps_cases.specs.Handed.{event_of, headline}
 use Rattle.ps_cases.specs.NoticeCases.{i2, published_item}
-use Rattle.ps_cases.specs.Running.{handed_by}
+use Rattle.ps_cases.specs.Running.{every}
 use Rattle.ps_cases.specs.Words.{ann, sent_by, news, publish, service, sets, to_bob}
 
 -- the service where every event is told
 abbrev pub core : Core
-core = record the_core { notices = handed_by }
+core = core_of every
 
 -- one more item after the first
 abbrev pub given : List Entry

@@ -30,6 +30,24 @@ conflict = plain (codes "cancel") (codes "conflict")
 abbrev pub not_acceptable : Denial
 not_acceptable = plain (codes "modify") (codes "not-acceptable")
 
+abbrev pub bad_request : Denial
+bad_request = plain (codes "modify") (codes "bad-request")
+
+abbrev pub bad_address : Denial
+bad_address = plain (codes "modify") (codes "jid-malformed")
+
+abbrev pub no_room : Denial
+no_room = plain (codes "wait") (codes "resource-constraint")
+
+abbrev pub not_here : Denial
+not_here = plain (codes "cancel") (codes "service-unavailable")
+
+abbrev pub unknown : Denial
+unknown = plain (codes "cancel") (codes "feature-not-implemented")
+
+abbrev pub too_many_subscriptions : Denial
+too_many_subscriptions = more (codes "wait") (codes "policy-violation") (codes "too-many-subscriptions")
+
 abbrev pub bad : List ℕ → Denial
 bad extra = more (codes "modify") (codes "bad-request") extra
 

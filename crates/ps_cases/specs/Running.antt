@@ -1,5 +1,5 @@
 -- What the service does with lines, where every kind of request is built and every event is told.
-use Rattle.std.specs.Prelude.{ℕ, Bool, true, false, List, [], ◌∷◌, ◌++◌, Option, Some, None}
+use Rattle.std.specs.Prelude.{ℕ, Bool, true, false, ◌&&◌, not, List, [], ◌∷◌, ◌++◌, Option, Some, None}
 use Rattle.ps_types.specs.Tree.{Tree}
 use Rattle.ps_types.specs.declared.config.NodeConfig.{NodeConfig}
 use Rattle.ps_types.specs.declared.denial.Condition.{Condition}
@@ -14,10 +14,12 @@ use Rattle.ps_model.specs.Book.{Book, State, empty_state}
 use Rattle.ps_model.specs.Changes.{changed}
 use Rattle.ps_model.specs.Check.{judged}
 use Rattle.ps_model.specs.Commits.{commits_by}
-use Rattle.ps_model.specs.Replay.{replay_from, notices_from}
+use Rattle.ps_model.specs.Outcome.{is_accepted}
+use Rattle.ps_model.specs.Replay.{AreAcceptedFrom, accepted_at, is_booted, replay_from, notices_from}
 use Rattle.ps_model.specs.Replies.{moment_of, outcome_entry, outcome_reply, reply_by}
 use Rattle.ps_model.specs.Taken.{Taken, asked}
-use Rattle.ps_model.specs.Taking.{taken}
+use Rattle.ps_model.specs.Taking.{request_in, taken, tree_taken}
+use Rattle.ps_model.specs.Tallies.{is_next_line}
 
 -- ---- nothing is kept out as not built
 
@@ -36,26 +38,42 @@ handed_by E a = notices_from every empty_state E a
 
 -- ---- one line
 
--- the host of its stream, its number there, and what came
+-- the host of its stream, its number there, what came, and whether the journal has no room for an entry
 pub record Line : Type 0 where
   pub host : List ℕ
   pub number : ℕ
   pub arrival : Arrival
+  pub full : Bool
 
 abbrev pub taken_in : Line → Book → Taken
 taken_in line book = taken line.host book.service line.arrival
-
-abbrev pub reply_in : Taken → Book → Line → Option Tree
-reply_in (asked t r) book line = outcome_reply t r false (judged no_limits book r)
-reply_in other book line = reply_by other book line.number false
 
 -- the Book differs afterwards, or the kind makes an entry always
 abbrev pub keeps : Book → Request → Bool
 keeps book r = commits_by r.ask book (changed r None book)
 
+abbrev pub reply_in : Taken → Book → Line → Option Tree
+reply_in (asked t r) book line = outcome_reply t r (keeps book r && line.full) (judged no_limits book r)
+reply_in other book line = reply_by other book line.number line.full
+
 abbrev pub entry_in : Taken → Book → Line → Option Entry
-entry_in (asked t r) book line = outcome_entry (keeps book r) (Change line.host line.number (moment_of line.arrival) t) (judged no_limits book r)
+entry_in (asked t r) book line = outcome_entry (keeps book r && not line.full) (Change line.host line.number (moment_of line.arrival) t) (judged no_limits book r)
 entry_in other book line = None
+
+-- ---- one entry
+
+abbrev pub request_kept : Option Request → Book → Bool
+request_kept None book = false
+request_kept (Some r) book = is_accepted (judged no_limits book r) && keeps book r
+
+-- it is accepted at its place
+abbrev pub accepted_in : State → Entry → Bool
+accepted_in s (Change host line moment t) = is_booted s && request_kept (request_in (tree_taken host s.book.service t)) s.book && is_next_line host line s.lines
+accepted_in s e = accepted_at s e
+
+-- each is
+abbrev pub lawful_in : List Entry → Type 0
+lawful_in E = AreAcceptedFrom every accepted_in empty_state E
 
 -- ---- one after the other
 

@@ -1,5 +1,5 @@
 -- Lines, replies and trees in short: the service is pubsub.example, its users are of a.example and b.example.
-use Rattle.std.specs.Prelude.{ℕ, List, [], ◌∷◌, ◌++◌, Option, Some, None, codes}
+use Rattle.std.specs.Prelude.{ℕ, Bool, true, false, List, [], ◌∷◌, ◌++◌, Option, Some, None, codes}
 use Rattle.std.specs.Fmt.{decimal}
 use Rattle.ps_types.specs.Namespaces.{pubsub_ns, owner_ns, data_ns}
 use Rattle.ps_types.specs.Print.{client}
@@ -60,11 +60,12 @@ to_cid = to_b (codes "cid") []
 
 -- ---- what they ask
 
--- an iq: its sender, number and moment, its `to`, whose answer it gets, its type and its one child
+-- an iq: its sender, number and moment, whether the journal is full, its `to`, whose answer it gets, its type and its one child
 pub record Iq : Type 0 where
   pub user : User
   pub number : ℕ
   pub moment : Option ℕ
+  pub full : Bool
   pub to : List ℕ
   pub from : List ℕ
   pub type : List ℕ
@@ -75,10 +76,10 @@ iq from id to type kids = element (codes "iq") client ((codes "from", from) ∷ 
 
 -- its id is its number
 abbrev pub sent_by : Iq → Sent
-sent_by q = record { host = q.user.host; number = q.number; moment = q.moment; tree = iq q.user.address (decimal q.number) q.to q.type (q.child ∷ []) }
+sent_by q = record { host = q.user.host; number = q.number; moment = q.moment; full = q.full; tree = iq q.user.address (decimal q.number) q.to q.type (q.child ∷ []) }
 
 abbrev pub sets : User → ℕ → Tree → Iq
-sets user number child = record { user = user; number = number; moment = None; to = service; from = service; type = codes "set"; child = child }
+sets user number child = record { user = user; number = number; moment = None; full = false; to = service; from = service; type = codes "set"; child = child }
 
 abbrev pub gets : User → ℕ → Tree → Iq
 gets user number child = record (sets user number child) { type = codes "get" }
@@ -90,9 +91,13 @@ at_home q = record q { to = codes "ann@a.example"; from = codes "ann@a.example" 
 abbrev pub at_time : ℕ → Iq → Iq
 at_time moment q = record q { moment = Some moment }
 
+-- the same where the journal has no room
+abbrev pub without_room : Iq → Iq
+without_room q = record q { full = true }
+
 -- a stanza of another kind
 abbrev pub sends : User → ℕ → Tree → Sent
-sends user number t = record { host = user.host; number = number; moment = None; tree = t }
+sends user number t = record { host = user.host; number = number; moment = None; full = false; tree = t }
 
 -- ---- what they are answered
 
@@ -110,8 +115,16 @@ shown q kids = answered (sent_by q) (reply q (codes "result") kids)
 abbrev pub Denial : Type 0
 Denial = List ℕ × List Tree
 
+abbrev pub error_of : Denial → Tree
+error_of (type, kids) = element (codes "error") client ((codes "type", type) ∷ []) kids
+
 abbrev pub denied : Iq → Denial → Exchange
-denied q (type, kids) = answered (sent_by q) (reply q (codes "error") (element (codes "error") client ((codes "type", type) ∷ []) kids ∷ []))
+denied q why = answered (sent_by q) (reply q (codes "error") (error_of why ∷ []))
+
+-- a stanza of another kind is denied by one of its name, to that address
+abbrev pub denied_as : List ℕ → List ℕ → Sent → Denial → Exchange
+denied_as name to sent why =
+    answered sent (Some (element name client ((codes "from", service) ∷ (codes "to", to) ∷ (codes "type", codes "error") ∷ []) (error_of why ∷ [])))
 
 -- ---- `pubsub` and its parts
 

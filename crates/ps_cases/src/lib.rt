@@ -13,16 +13,26 @@
 mod access;
 mod capabilities;
 mod collections;
+mod conditions;
+mod discovery;
 mod home;
+mod limits;
 mod lines;
 mod nodes;
 mod notices;
+mod owners;
+mod presence;
 mod stores;
 
 pub use access::{approval_is_asked, refusal_is_told, subscribers_publish, whitelist_in_order};
 pub use capabilities::{exact_answer_counts, example_hash, repeated_feature};
 pub use collections::{collections_stay, deep_notice, near_notice, new_node_is_told};
+pub use conditions::{
+    bad_addresses, bad_requests, denied_approvals, no_room, unsupported_by_collections,
+};
+pub use discovery::{entities_say_what_they_are, nodes_and_items_are_listed};
 pub use home::{last_item, roster_groups, wanted_items};
+pub use limits::greatest_numbers;
 pub use lines::{bad_lines, first_lines, served_as_in_cases};
 pub use nodes::{
     bookmarks_are_kept, configuration_shown, item_denials, item_ids, last_owner, nodes_are_found,
@@ -31,4 +41,8 @@ pub use nodes::{
 pub use notices::{
     each_address_once, each_kind_is_told, item_is_handed, retraction_on_request, told_while_present,
 };
+pub use owners::{
+    affiliations_are_listed, cancelled_form, options_are_kept, subscriptions_are_set,
+};
+pub use presence::{absent_is_not_told, verified_is_not_asked};
 pub use stores::{compacted_rows, compacted_store, one_boot_store, sent_again, stamps};

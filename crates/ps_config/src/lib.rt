@@ -22,8 +22,6 @@ mod options;
 mod print;
 mod read;
 mod row;
-#[cfg(test)]
-mod tests;
 mod values;
 
 pub use defaults::default_config;

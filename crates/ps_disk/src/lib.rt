@@ -22,6 +22,3 @@ pub use file::FileDisk;
 pub use kept::write_kept;
 pub use memory::MemDisk;
 pub use replay::Torn;
-
-#[cfg(test)]
-mod tests;

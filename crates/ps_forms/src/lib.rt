@@ -13,8 +13,6 @@ mod kids;
 mod laws;
 mod print;
 mod read;
-#[cfg(test)]
-mod tests;
 
 pub use find::{form_type, get};
 pub use kids::{attr, has_name, next_child, text_of, texts_of};

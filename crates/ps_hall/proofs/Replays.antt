@@ -11,11 +11,11 @@ use Rattle.ps_model.specs.Built.{is_built_event}
 use Rattle.ps_model.specs.CoreLaws.{IsLawful}
 use Rattle.ps_model.specs.Damage.{ReadUpTo}
 use Rattle.ps_model.specs.Entries.{IsHostName, spelling}
-use Rattle.ps_model.specs.Replay.{accepted, after, lawful, replay, replay_from, IsLawfulFrom}
+use Rattle.ps_model.specs.Replay.{accepted, after, lawful, replay}
 use Rattle.ps_model.specs.Store.{spelled}
 use Rattle.ps_model.specs.TheCore.{the_core}
-use Rattle.ps_model.proofs.Going.{replay-append}
-use Rattle.ps_model.proofs.TheLaws.{the-laws}
+use Rattle.ps_model.proofs.Going.{accepted-more, replay-append}
+use Rattle.ps_model.proofs.TheLaws.{of-todays-places, the-laws}
 use Rattle.ps_journal.specs.Judged.{IsDamaged, IsFound}
 use Rattle.ps_journal.specs.Opened.{IsOpened}
 use Rattle.ps_journal.specs.Places.{entries_in}
@@ -28,19 +28,8 @@ use Rattle.ps_hall.proofs.Laid.{count-is}
 
 -- ---- lawful lists
 
-lawful-more : (E : List Entry) (s : State) (e : Entry) → IsLawfulFrom s E → accepted (replay_from is_built_event s E) e ≡ true → IsLawfulFrom s (E ++ e ∷ [])
-lawful-more [] s e l ok = (ok, tt)
-lawful-more (x ∷ E) s e l ok = (l.0, lawful-more E (after s x) e l.1 ok)
-
-each-at : (E : List Entry) (s : State) → IsLawfulFrom s E → (p : ℕ) (e : Entry) → slice_get E p ≡ Some e → accepted (replay_from is_built_event s (take p E)) e ≡ true
-each-at [] s l zero e h = absurd (cc h)
-each-at [] s l (suc p) e h = absurd (cc h)
-each-at (x ∷ E) s l zero e h = let same : x ≡ e = cc h in subst (λ (y : Entry). accepted s y ≡ true) same l.0
-each-at (x ∷ E) s l (suc p) e h = each-at E (after s x) l.1 p e h
-
 pub lawful-core : (E : List Entry) → lawful E → IsLawful the_core E
-unfolding the_core
-lawful-core E l p e h = each-at E empty_state l p e h
+lawful-core E l = of-todays-places E l
 
 pub replay-snoc : (E : List Entry) (e : Entry) → replay (E ++ e ∷ []) ≡ after (replay E) e
 replay-snoc E e = replay-append is_built_event E (e ∷ []) empty_state
@@ -78,7 +67,7 @@ replayed_more placed i one old new within is so_far taken =
     let E = entries_in (take i placed) in
     let more = entries_more placed i one within is in
     record {
-      each = subst lawful (sym more) (lawful-more E empty_state one.entry so_far.each (subst (λ (t : State). accepted t one.entry ≡ true) so_far.state taken.0));
+      each = subst lawful (sym more) (accepted-more is_built_event accepted E one.entry empty_state so_far.each (subst (λ (t : State). accepted t one.entry ≡ true) so_far.state taken.0));
       state = taken.1 ∙ (ap (λ (t : State). after t one.entry) so_far.state ∙ (sym (replay-snoc E one.entry) ∙ ap replay (sym more)));
     }
 

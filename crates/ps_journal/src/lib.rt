@@ -25,6 +25,3 @@ pub use journal::{AppendRefusal, EntriesRefusal, Journal, JournalRefusal};
 pub use judging::{Placed, Verdict, judge};
 pub use laws::{damaged_spells_nothing, one_damage, one_list, unbegun_spells};
 pub use opening::JournalWhy;
-
-#[cfg(test)]
-mod tests;

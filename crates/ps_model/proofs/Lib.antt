@@ -20,3 +20,7 @@ pub mod AskedKinds
 pub mod AskedWays
 pub mod AskedStanza
 pub mod Differs
+pub mod OneLine
+pub mod StreamLaws
+pub mod ReaderLaws
+pub mod SomeDamage

@@ -15,10 +15,9 @@ use Rattle.ps_model.specs.BaseAfter.{is_bare, is_number}
 use Rattle.ps_model.specs.BaseRead.{row_of}
 use Rattle.ps_model.specs.BaseRows.{BaseRow, node, affiliation, subscription, item, link, contact, ver, made, counter, notice}
 use Rattle.ps_model.specs.Book.{State, empty_state}
-use Rattle.ps_model.specs.Built.{is_built_entry, is_built_event}
 use Rattle.ps_model.specs.Core.{handed}
 use Rattle.ps_model.specs.Numbers.{counter_in, counter_of}
-use Rattle.ps_model.specs.Replay.{IsLawfulFrom, after, replay_from, accepted, accepted_at, is_booted, lawful, notices, row_accepted}
+use Rattle.ps_model.specs.Replay.{IsLawfulFrom, replay_from, accepted_at, is_booted, lawful_by, notices_by, row_accepted}
 use Rattle.ps_model.specs.Replay as replay
 use Rattle.ps_types.specs.declared.event.Event.{Event}
 use Rattle.ps_model.specs.Tallies.{handed_to, made_for, more_made}
@@ -170,72 +169,16 @@ row-stepped a s (Some (contact r)) is = same-stepped a s.tallies
 row-stepped a s (Some (ver r)) is = same-stepped a s.tallies
 row-stepped a s (Some (made r)) is = same-stepped a s.tallies
 
-handed-stepped : (a : Jid) (s : State) (to : Jid) → Stepped a s.tallies (after s (Handed to)).tallies [] (λ x. x)
-unfolding Stepped
-handed-stepped a s to = inl (record { gives = nothing a s.tallies (after s (Handed to)).tallies (made-handed a to s.tallies); skips = λ x. refl })
-
-entry-stepped : (a : Jid) (s : State) (e : Entry) → accepted s e ≡ true → Stepped a s.tallies (after s e).tallies (step.notices_at is_built_event s e) (ahead e a)
-entry-stepped a s (Boot service) is = due-stepped a s.count s.tallies (step.handed_out is_built_event s (Boot service))
-entry-stepped a s (Change host line moment t) is = due-stepped a s.count s.tallies (step.handed_out is_built_event s (Change host line moment t))
-entry-stepped a s (Gone host) is = due-stepped a s.count s.tallies (step.handed_out is_built_event s (Gone host))
-entry-stepped a s (Handed to) is = handed-stepped a s to
-entry-stepped a s (Base row) is = row-stepped a s (row_of row) (and_parts (not (is_booted s)) (row_accepted (row_of row) s) (and_parts (is_built_entry (Base row)) (accepted_at s (Base row)) is).1).1
-
 -- the number that the first notice of a list follows, where it would be m
 pub start : ℕ → List Entry → Jid → ℕ
 start m [] a = m
 start m (e ∷ E) a = ahead e a (start m E a)
-
--- ---- whole lists
 
 -- where some were made there is no counter any more
 past-some : (a : Jid) (before after : List TallyRow) (ns : List Notice) (over : ℕ → ℕ) → 0 < made_for a before → Stepped a before after ns over → (0 < made_for a after) × ((x : ℕ) → over x ≡ x)
 unfolding Stepped
 past-some a before after ns over some (inl plain) = (let e = plain.gives.makes in omega (arith, e), plain.skips)
 past-some a before after ns over some (inr counted) = absurd (let e = counted.none_before in let no-zero : 0 < 0 = omega (arith, e) in omega (arith, no-zero))
-
-no-counter : (a : Jid) (E : List Entry) (s : State) → IsLawfulFrom s E → 0 < made_for a s.tallies → (m : ℕ) → start m E a ≡ m
-unfolding start
-no-counter a [] s is some m = refl
-no-counter a (e ∷ E) s is some m =
-    let p = past-some a s.tallies (after s e).tallies (step.notices_at is_built_event s e) (ahead e a) some (entry-stepped a s e is.0) in
-    p.1 (start m E a) ∙ no-counter a E (after s e) is.1 p.0 m
-
--- whether the entry makes a notice for the address, or none
-some-or-none : (a : Jid) (s : State) (e : Entry) (E : List Entry) → IsLawfulFrom (after s e) E → RiseFrom (start (made_for a (after s e).tallies) E a) (notices_from is_built_event (after s e) E a)
-    → (ns : List Notice) → RiseFrom (made_for a s.tallies) ns → made_for a (after s e).tallies ≡ made_for a s.tallies + length ns
-    → RiseFrom (start (made_for a s.tallies) E a) (ns ++ notices_from is_built_event (after s e) E a)
-some-or-none a s e E is later [] rise makes =
-    let rest = notices_from is_built_event (after s e) E a in
-    let same : made_for a (after s e).tallies ≡ made_for a s.tallies = omega (arith, makes) in
-    subst (λ k. RiseFrom (start k E a) rest) same later
-some-or-none a s e E is later (n ∷ ns) rise makes =
-    let rest = notices_from is_built_event (after s e) E a in
-    let some : 0 < made_for a (after s e).tallies = omega (arith, makes) in
-    let later-from : start (made_for a (after s e).tallies) E a ≡ made_for a s.tallies + length (n ∷ ns) = no-counter a E (after s e) is some (made_for a (after s e).tallies) ∙ makes in
-    let from : start (made_for a s.tallies) E a ≡ made_for a s.tallies = no-counter a E (after s e) is some (made_for a s.tallies) in
-    rw from (rise-append (made_for a s.tallies) (n ∷ ns) rest rise (subst (λ k. RiseFrom k rest) later-from later))
-
--- the notices of an entry, before those of the entries after it
-goes-on : (a : Jid) (s : State) (e : Entry) (E : List Entry) → IsLawfulFrom (after s e) E → RiseFrom (start (made_for a (after s e).tallies) E a) (notices_from is_built_event (after s e) E a)
-    → Stepped a s.tallies (after s e).tallies (step.notices_at is_built_event s e) (ahead e a)
-    → RiseFrom (ahead e a (start (made_for a s.tallies) E a)) (to_address a (step.notices_at is_built_event s e) ++ notices_from is_built_event (after s e) E a)
-unfolding Stepped
-goes-on a s e E is later (inr counted) =
-    let rest = notices_from is_built_event (after s e) E a in
-    let some : 0 < made_for a (after s e).tallies = rw counted.now counted.some in
-    let from : start (made_for a (after s e).tallies) E a ≡ counted.number = no-counter a E (after s e) is some (made_for a (after s e).tallies) ∙ counted.now in
-    rw (counted.no_notices, counted.takes (start (made_for a s.tallies) E a)) (subst (λ k. RiseFrom k rest) from later)
-goes-on a s e E is later (inl plain) =
-    let ns = to_address a (step.notices_at is_built_event s e) in
-    let rest = notices_from is_built_event (after s e) E a in
-    subst (λ k. RiseFrom k (ns ++ rest)) (sym (plain.skips (start (made_for a s.tallies) E a)))
-    (some-or-none a s e E is later ns plain.gives.rise plain.gives.makes)
-
-lawful-rise : (a : Jid) (E : List Entry) (s : State) → IsLawfulFrom s E → RiseFrom (start (made_for a s.tallies) E a) (notices_from is_built_event s E a)
-unfolding start
-lawful-rise a [] s is = tt
-lawful-rise a (e ∷ E) s is = goes-on a s e E is.1 (lawful-rise a E (after s e) is.1) (entry-stepped a s e is.0)
 
 start-is : (E : List Entry) (a : Jid) → start 0 E a ≡ counter_of E a
 unfolding start
@@ -246,56 +189,113 @@ start-is (Handed to ∷ E) a = start-is E a
 start-is (Gone host ∷ E) a = start-is E a
 start-is (Base row ∷ E) a = ap (counter_in (row_of row) a) (start-is E a)
 
-numbers-by : (E : List Entry) (a : Jid) → lawful E → (resource : List ℕ) → a.resource ≡ resource → (k : ℕ) (n : Notice) → slice_get (notices E a) k ≡ Some n → n.number ≡ counter_of E a + (k + 1)
-numbers-by E a is [] bare k n at =
-    let same = of-bare is_built_event E empty_state a bare in
-    rise-at (counter_of E a) (notices_from is_built_event empty_state E a) (subst (λ m. RiseFrom m (notices_from is_built_event empty_state E a)) (start-is E a) (lawful-rise a E empty_state is)) k n
-    (sym (ap (λ ns. slice_get ns k) same) ∙ at)
-numbers-by E a is (x ∷ resource) full k n at =
-    let same = of-full is_built_event E empty_state a x resource full in
-    absurd (let no : None ≡ Some n = sym (ap (λ ns. slice_get ns k) same) ∙ at in cc no)
+module _ (told : Event → Bool) where
+  handed-stepped : (a : Jid) (s : State) (to : Jid) → Stepped a s.tallies (step.after told s (Handed to)).tallies [] (λ x. x)
+  unfolding Stepped
+  handed-stepped a s to = inl (record { gives = nothing a s.tallies (step.after told s (Handed to)).tallies (made-handed a to s.tallies); skips = λ x. refl })
 
-pub numbers-rise : (E : List Entry) (a : Jid) → lawful E → (k : ℕ) (n : Notice) → slice_get (notices E a) k ≡ Some n → n.number ≡ counter_of E a + (k + 1)
-numbers-rise E a is k n at = numbers-by E a is a.resource refl k n at
+  entry-stepped : (a : Jid) (s : State) (e : Entry) → accepted_at s e ≡ true → Stepped a s.tallies (step.after told s e).tallies (step.notices_at told s e) (ahead e a)
+  entry-stepped a s (Boot service) is = due-stepped a s.count s.tallies (step.handed_out told s (Boot service))
+  entry-stepped a s (Change host line moment t) is = due-stepped a s.count s.tallies (step.handed_out told s (Change host line moment t))
+  entry-stepped a s (Gone host) is = due-stepped a s.count s.tallies (step.handed_out told s (Gone host))
+  entry-stepped a s (Handed to) is = handed-stepped a s to
+  entry-stepped a s (Base row) is = row-stepped a s (row_of row) (and_parts (not (is_booted s)) (row_accepted (row_of row) s) is).1
 
--- ---- how many were made and handed in all
+  -- ---- whole lists
 
-some-made : (a : Jid) (s : State) (e : Entry) (E : List Entry) → IsLawfulFrom (after s e) E
-    → made_for a (replay_from is_built_event (after s e) E).tallies ≡ start (made_for a (after s e).tallies) E a + length (notices_from is_built_event (after s e) E a)
-    → (ns : List Notice) → made_for a (after s e).tallies ≡ made_for a s.tallies + length ns
-    → made_for a (replay_from is_built_event (after s e) E).tallies ≡ start (made_for a s.tallies) E a + length (ns ++ notices_from is_built_event (after s e) E a)
-some-made a s e E is later [] makes =
-    let rest = notices_from is_built_event (after s e) E a in
-    let same : made_for a (after s e).tallies ≡ made_for a s.tallies = omega (arith, makes) in
-    later ∙ ap (λ k. start k E a + length rest) same
-some-made a s e E is later (n ∷ ns) makes =
-    let rest = notices_from is_built_event (after s e) E a in
-    let some : 0 < made_for a (after s e).tallies = omega (arith, makes) in
-    let one = no-counter a E (after s e) is some (made_for a (after s e).tallies) in
-    let two = no-counter a E (after s e) is some (made_for a s.tallies) in
-    omega (arith, later, one, two, makes, length-append (n ∷ ns) rest)
+  no-counter : (a : Jid) (E : List Entry) (s : State) → IsLawfulFrom told s E → 0 < made_for a s.tallies → (m : ℕ) → start m E a ≡ m
+  unfolding start
+  no-counter a [] s is some m = refl
+  no-counter a (e ∷ E) s is some m =
+      let p = past-some a s.tallies (step.after told s e).tallies (step.notices_at told s e) (ahead e a) some (entry-stepped a s e is.0) in
+      p.1 (start m E a) ∙ no-counter a E (step.after told s e) is.1 p.0 m
 
-made-total-by : (a : Jid) (s : State) (e : Entry) (E : List Entry) → IsLawfulFrom (after s e) E
-    → made_for a (replay_from is_built_event (after s e) E).tallies ≡ start (made_for a (after s e).tallies) E a + length (notices_from is_built_event (after s e) E a)
-    → Stepped a s.tallies (after s e).tallies (step.notices_at is_built_event s e) (ahead e a)
-    → made_for a (replay_from is_built_event (after s e) E).tallies ≡ ahead e a (start (made_for a s.tallies) E a) + length (to_address a (step.notices_at is_built_event s e) ++ notices_from is_built_event (after s e) E a)
-unfolding Stepped
-made-total-by a s e E is later (inr counted) =
-    let m = made_for a (after s e).tallies in
-    let rest = notices_from is_built_event (after s e) E a in
-    let some : 0 < m = rw counted.now counted.some in
-    let from : start m E a ≡ counted.number = no-counter a E (after s e) is some m ∙ counted.now in
-    later ∙ ap (λ k. k + length rest) (from ∙ sym (counted.takes (start (made_for a s.tallies) E a)))
-    ∙ ap (λ (ns : List Notice). ahead e a (start (made_for a s.tallies) E a) + length (ns ++ rest)) (sym counted.no_notices)
-made-total-by a s e E is later (inl plain) =
-    let ns = to_address a (step.notices_at is_built_event s e) in
-    let rest = notices_from is_built_event (after s e) E a in
-    some-made a s e E is later ns plain.gives.makes ∙ ap (λ k. k + length (ns ++ rest)) (sym (plain.skips (start (made_for a s.tallies) E a)))
+  -- whether the entry makes a notice for the address, or none
+  some-or-none : (a : Jid) (s : State) (e : Entry) (E : List Entry) → IsLawfulFrom told (step.after told s e) E → RiseFrom (start (made_for a (step.after told s e).tallies) E a) (notices_from told (step.after told s e) E a)
+      → (ns : List Notice) → RiseFrom (made_for a s.tallies) ns → made_for a (step.after told s e).tallies ≡ made_for a s.tallies + length ns
+      → RiseFrom (start (made_for a s.tallies) E a) (ns ++ notices_from told (step.after told s e) E a)
+  some-or-none a s e E is later [] rise makes =
+      let rest = notices_from told (step.after told s e) E a in
+      let same : made_for a (step.after told s e).tallies ≡ made_for a s.tallies = omega (arith, makes) in
+      subst (λ k. RiseFrom (start k E a) rest) same later
+  some-or-none a s e E is later (n ∷ ns) rise makes =
+      let rest = notices_from told (step.after told s e) E a in
+      let some : 0 < made_for a (step.after told s e).tallies = omega (arith, makes) in
+      let later-from : start (made_for a (step.after told s e).tallies) E a ≡ made_for a s.tallies + length (n ∷ ns) = no-counter a E (step.after told s e) is some (made_for a (step.after told s e).tallies) ∙ makes in
+      let from : start (made_for a s.tallies) E a ≡ made_for a s.tallies = no-counter a E (step.after told s e) is some (made_for a s.tallies) in
+      rw from (rise-append (made_for a s.tallies) (n ∷ ns) rest rise (subst (λ k. RiseFrom k rest) later-from later))
 
-pub made-total : (a : Jid) (E : List Entry) (s : State) → IsLawfulFrom s E → made_for a (replay_from is_built_event s E).tallies ≡ start (made_for a s.tallies) E a + length (notices_from is_built_event s E a)
-unfolding start
-made-total a [] s is = (let e : made_for a s.tallies ≡ made_for a s.tallies + 0 = omega arith in e)
-made-total a (e ∷ E) s is = made-total-by a s e E is.1 (made-total a E (after s e) is.1) (entry-stepped a s e is.0)
+  -- the notices of an entry, before those of the entries after it
+  goes-on : (a : Jid) (s : State) (e : Entry) (E : List Entry) → IsLawfulFrom told (step.after told s e) E → RiseFrom (start (made_for a (step.after told s e).tallies) E a) (notices_from told (step.after told s e) E a)
+      → Stepped a s.tallies (step.after told s e).tallies (step.notices_at told s e) (ahead e a)
+      → RiseFrom (ahead e a (start (made_for a s.tallies) E a)) (to_address a (step.notices_at told s e) ++ notices_from told (step.after told s e) E a)
+  unfolding Stepped
+  goes-on a s e E is later (inr counted) =
+      let rest = notices_from told (step.after told s e) E a in
+      let some : 0 < made_for a (step.after told s e).tallies = rw counted.now counted.some in
+      let from : start (made_for a (step.after told s e).tallies) E a ≡ counted.number = no-counter a E (step.after told s e) is some (made_for a (step.after told s e).tallies) ∙ counted.now in
+      rw (counted.no_notices, counted.takes (start (made_for a s.tallies) E a)) (subst (λ k. RiseFrom k rest) from later)
+  goes-on a s e E is later (inl plain) =
+      let ns = to_address a (step.notices_at told s e) in
+      let rest = notices_from told (step.after told s e) E a in
+      subst (λ k. RiseFrom k (ns ++ rest)) (sym (plain.skips (start (made_for a s.tallies) E a)))
+      (some-or-none a s e E is later ns plain.gives.rise plain.gives.makes)
+
+  lawful-rise : (a : Jid) (E : List Entry) (s : State) → IsLawfulFrom told s E → RiseFrom (start (made_for a s.tallies) E a) (notices_from told s E a)
+  unfolding start
+  lawful-rise a [] s is = tt
+  lawful-rise a (e ∷ E) s is = goes-on a s e E is.1 (lawful-rise a E (step.after told s e) is.1) (entry-stepped a s e is.0)
+
+  numbers-by : (E : List Entry) (a : Jid) → lawful_by told E → (resource : List ℕ) → a.resource ≡ resource → (k : ℕ) (n : Notice) → slice_get (notices_by told E a) k ≡ Some n → n.number ≡ counter_of E a + (k + 1)
+  numbers-by E a is [] bare k n at =
+      let same = of-bare told E empty_state a bare in
+      rise-at (counter_of E a) (notices_from told empty_state E a) (subst (λ m. RiseFrom m (notices_from told empty_state E a)) (start-is E a) (lawful-rise a E empty_state is)) k n
+      (sym (ap (λ ns. slice_get ns k) same) ∙ at)
+  numbers-by E a is (x ∷ resource) full k n at =
+      let same = of-full told E empty_state a x resource full in
+      absurd (let no : None ≡ Some n = sym (ap (λ ns. slice_get ns k) same) ∙ at in cc no)
+
+  pub numbers-rise : (E : List Entry) (a : Jid) → lawful_by told E → (k : ℕ) (n : Notice) → slice_get (notices_by told E a) k ≡ Some n → n.number ≡ counter_of E a + (k + 1)
+  numbers-rise E a is k n at = numbers-by E a is a.resource refl k n at
+
+  -- ---- how many were made and handed in all
+
+  some-made : (a : Jid) (s : State) (e : Entry) (E : List Entry) → IsLawfulFrom told (step.after told s e) E
+      → made_for a (replay_from told (step.after told s e) E).tallies ≡ start (made_for a (step.after told s e).tallies) E a + length (notices_from told (step.after told s e) E a)
+      → (ns : List Notice) → made_for a (step.after told s e).tallies ≡ made_for a s.tallies + length ns
+      → made_for a (replay_from told (step.after told s e) E).tallies ≡ start (made_for a s.tallies) E a + length (ns ++ notices_from told (step.after told s e) E a)
+  some-made a s e E is later [] makes =
+      let rest = notices_from told (step.after told s e) E a in
+      let same : made_for a (step.after told s e).tallies ≡ made_for a s.tallies = omega (arith, makes) in
+      later ∙ ap (λ k. start k E a + length rest) same
+  some-made a s e E is later (n ∷ ns) makes =
+      let rest = notices_from told (step.after told s e) E a in
+      let some : 0 < made_for a (step.after told s e).tallies = omega (arith, makes) in
+      let one = no-counter a E (step.after told s e) is some (made_for a (step.after told s e).tallies) in
+      let two = no-counter a E (step.after told s e) is some (made_for a s.tallies) in
+      omega (arith, later, one, two, makes, length-append (n ∷ ns) rest)
+
+  made-total-by : (a : Jid) (s : State) (e : Entry) (E : List Entry) → IsLawfulFrom told (step.after told s e) E
+      → made_for a (replay_from told (step.after told s e) E).tallies ≡ start (made_for a (step.after told s e).tallies) E a + length (notices_from told (step.after told s e) E a)
+      → Stepped a s.tallies (step.after told s e).tallies (step.notices_at told s e) (ahead e a)
+      → made_for a (replay_from told (step.after told s e) E).tallies ≡ ahead e a (start (made_for a s.tallies) E a) + length (to_address a (step.notices_at told s e) ++ notices_from told (step.after told s e) E a)
+  unfolding Stepped
+  made-total-by a s e E is later (inr counted) =
+      let m = made_for a (step.after told s e).tallies in
+      let rest = notices_from told (step.after told s e) E a in
+      let some : 0 < m = rw counted.now counted.some in
+      let from : start m E a ≡ counted.number = no-counter a E (step.after told s e) is some m ∙ counted.now in
+      later ∙ ap (λ k. k + length rest) (from ∙ sym (counted.takes (start (made_for a s.tallies) E a)))
+      ∙ ap (λ (ns : List Notice). ahead e a (start (made_for a s.tallies) E a) + length (ns ++ rest)) (sym counted.no_notices)
+  made-total-by a s e E is later (inl plain) =
+      let ns = to_address a (step.notices_at told s e) in
+      let rest = notices_from told (step.after told s e) E a in
+      some-made a s e E is later ns plain.gives.makes ∙ ap (λ k. k + length (ns ++ rest)) (sym (plain.skips (start (made_for a s.tallies) E a)))
+
+  pub made-total : (a : Jid) (E : List Entry) (s : State) → IsLawfulFrom told s E → made_for a (replay_from told s E).tallies ≡ start (made_for a s.tallies) E a + length (notices_from told s E a)
+  unfolding start
+  made-total a [] s is = (let e : made_for a s.tallies ≡ made_for a s.tallies + 0 = omega arith in e)
+  made-total a (e ∷ E) s is = made-total-by a s e E is.1 (made-total a E (step.after told s e) is.1) (entry-stepped a s e is.0)
 
 -- ---- the same of what was handed
 
@@ -360,33 +360,23 @@ length-zero : (xs : List ℕ) → length xs ≡ 0 → xs ≡ []
 length-zero [] e = refl
 length-zero (x ∷ xs) e = absurd (let no : 0 < 0 = omega (arith, e) in omega (arith, no))
 
-pub handed-is-bare : (s : State) (to : Jid) → accepted s (Handed to) ≡ true → to.resource ≡ []
+pub handed-is-bare : (s : State) (to : Jid) → accepted_at s (Handed to) ≡ true → to.resource ≡ []
 handed-is-bare s to is =
-    let p = (and_parts (is_built_entry (Handed to)) (accepted_at s (Handed to)) is).1 in
+    let p = is in
     let q = all_three (is_booted s) (length to.resource == 0) (nat_lt (handed_to to s.tallies) (made_for to s.tallies)) p in
     length-zero to.resource (eqb-true (length to.resource) 0 q.0)
 
-pub handed-has-one : (s : State) (to : Jid) → accepted s (Handed to) ≡ true → handed_to to s.tallies < made_for to s.tallies
+pub handed-has-one : (s : State) (to : Jid) → accepted_at s (Handed to) ≡ true → handed_to to s.tallies < made_for to s.tallies
 handed-has-one s to is =
-    let p = (and_parts (is_built_entry (Handed to)) (accepted_at s (Handed to)) is).1 in
+    let p = is in
     let q = all_three (is_booted s) (length to.resource == 0) (nat_lt (handed_to to s.tallies) (made_for to s.tallies)) p in
     ltb-true (handed_to to s.tallies) (made_for to s.tallies) q.1
-
-entry-handed : (a : Jid) → a.resource ≡ [] → (s : State) (e : Entry) → accepted s e ≡ true → HandedStep a s.tallies (after s e).tallies (one e a) (ahead e a)
-unfolding HandedStep
-entry-handed a bare s (Boot service) is = kept-handed a s.tallies (after s (Boot service)).tallies (tallied-handed a (step.handed_out is_built_event s (Boot service)) s.tallies)
-entry-handed a bare s (Change host line moment t) is = kept-handed a s.tallies (after s (Change host line moment t)).tallies (tallied-handed a (step.handed_out is_built_event s (Change host line moment t)) s.tallies)
-entry-handed a bare s (Gone host) is = kept-handed a s.tallies (after s (Gone host)).tallies (tallied-handed a (step.handed_out is_built_event s (Gone host)) s.tallies)
-entry-handed a bare s (Handed to) is =
-    let same = bare-tests a to bare (handed-is-bare s to is) (same_bare a to) (same_jid to a) refl refl in
-    inl (record { keeps = handed-one a to s.tallies (same_bare a to) refl ∙ ap (λ b. handed_to a s.tallies + cond b 1 0) same; skips = λ x. refl })
-entry-handed a bare s (Base row) is = row-handed a s (row_of row) (and_parts (not (is_booted s)) (row_accepted (row_of row) s) (and_parts (is_built_entry (Base row)) (accepted_at s (Base row)) is).1).1
 
 -- where a record is accepted some notice was made
 no-zero : 0 < 0 → ⊥
 no-zero h = omega (arith, h)
 
-one-made : (a : Jid) → a.resource ≡ [] → (s : State) (e : Entry) → accepted s e ≡ true → 0 < one e a → 0 < made_for a s.tallies
+one-made : (a : Jid) → a.resource ≡ [] → (s : State) (e : Entry) → accepted_at s e ≡ true → 0 < one e a → 0 < made_for a s.tallies
 one-made a bare s (Handed to) is some = by (same_jid to a) refl some
   where
     by : (b : Bool) → same_jid to a ≡ b → 0 < cond b 1 0 → 0 < made_for a s.tallies
@@ -408,44 +398,55 @@ handed-more (Handed to) E a = by (same_jid to a)
     by true = (let z : suc (handed E a) ≡ 1 + handed E a = omega arith in z)
     by false = (let z : handed E a ≡ 0 + handed E a = omega arith in z)
 
-handed-by : (a : Jid) → a.resource ≡ [] → (s : State) (e : Entry) (E : List Entry) → accepted s e ≡ true → IsLawfulFrom (after s e) E
-    → handed_to a (replay_from is_built_event (after s e) E).tallies ≡ start (handed_to a (after s e).tallies) E a + handed E a
-    → HandedStep a s.tallies (after s e).tallies (one e a) (ahead e a) → (0 < made_for a s.tallies → 0 < made_for a (after s e).tallies)
-    → handed_to a (replay_from is_built_event (after s e) E).tallies ≡ ahead e a (start (handed_to a s.tallies) E a) + (one e a + handed E a)
-unfolding HandedStep
-handed-by a bare s e E ok is later (inr sets) grows =
-    let n = handed_to a (after s e).tallies in
-    let some : 0 < made_for a (after s e).tallies = rw sets.made_now sets.some in
-    let from : start n E a ≡ sets.number = no-counter a E (after s e) is some n ∙ sets.now in
-    let takes = sets.takes (start (handed_to a s.tallies) E a) in
-    let none = sets.none_more in
-    omega (arith, later, from, takes, none)
-handed-by a bare s e E ok is later (inl keeps) grows = at (one e a) refl
-  where
-    skips : ahead e a (start (handed_to a s.tallies) E a) ≡ start (handed_to a s.tallies) E a
-    skips = keeps.skips (start (handed_to a s.tallies) E a)
+module _ (told : Event → Bool) where
+  entry-handed : (a : Jid) → a.resource ≡ [] → (s : State) (e : Entry) → accepted_at s e ≡ true → HandedStep a s.tallies (step.after told s e).tallies (one e a) (ahead e a)
+  unfolding HandedStep
+  entry-handed a bare s (Boot service) is = kept-handed a s.tallies (step.after told s (Boot service)).tallies (tallied-handed a (step.handed_out told s (Boot service)) s.tallies)
+  entry-handed a bare s (Change host line moment t) is = kept-handed a s.tallies (step.after told s (Change host line moment t)).tallies (tallied-handed a (step.handed_out told s (Change host line moment t)) s.tallies)
+  entry-handed a bare s (Gone host) is = kept-handed a s.tallies (step.after told s (Gone host)).tallies (tallied-handed a (step.handed_out told s (Gone host)) s.tallies)
+  entry-handed a bare s (Handed to) is =
+      let same = bare-tests a to bare (handed-is-bare s to is) (same_bare a to) (same_jid to a) refl refl in
+      inl (record { keeps = handed-one a to s.tallies (same_bare a to) refl ∙ ap (λ b. handed_to a s.tallies + cond b 1 0) same; skips = λ x. refl })
+  entry-handed a bare s (Base row) is = row-handed a s (row_of row) (and_parts (not (is_booted s)) (row_accepted (row_of row) s) is).1
 
-    at : (k : ℕ) → one e a ≡ k → handed_to a (replay_from is_built_event (after s e) E).tallies ≡ ahead e a (start (handed_to a s.tallies) E a) + (one e a + handed E a)
-    at zero none =
-        let same : handed_to a (after s e).tallies ≡ handed_to a s.tallies = omega (arith, keeps.keeps, none) in
-        omega (arith, later, ap (λ k. start k E a) same, skips, none)
-    at (suc k) more =
-        let some : 0 < made_for a (after s e).tallies = grows (one-made a bare s e ok (omega (arith, more))) in
-        omega (arith, later, no-counter a E (after s e) is some (handed_to a (after s e).tallies), no-counter a E (after s e) is some (handed_to a s.tallies), keeps.keeps, skips)
+  handed-by : (a : Jid) → a.resource ≡ [] → (s : State) (e : Entry) (E : List Entry) → accepted_at s e ≡ true → IsLawfulFrom told (step.after told s e) E
+      → handed_to a (replay_from told (step.after told s e) E).tallies ≡ start (handed_to a (step.after told s e).tallies) E a + handed E a
+      → HandedStep a s.tallies (step.after told s e).tallies (one e a) (ahead e a) → (0 < made_for a s.tallies → 0 < made_for a (step.after told s e).tallies)
+      → handed_to a (replay_from told (step.after told s e) E).tallies ≡ ahead e a (start (handed_to a s.tallies) E a) + (one e a + handed E a)
+  unfolding HandedStep
+  handed-by a bare s e E ok is later (inr sets) grows =
+      let n = handed_to a (step.after told s e).tallies in
+      let some : 0 < made_for a (step.after told s e).tallies = rw sets.made_now sets.some in
+      let from : start n E a ≡ sets.number = no-counter told a E (step.after told s e) is some n ∙ sets.now in
+      let takes = sets.takes (start (handed_to a s.tallies) E a) in
+      let none = sets.none_more in
+      omega (arith, later, from, takes, none)
+  handed-by a bare s e E ok is later (inl keeps) grows = at (one e a) refl
+    where
+      skips : ahead e a (start (handed_to a s.tallies) E a) ≡ start (handed_to a s.tallies) E a
+      skips = keeps.skips (start (handed_to a s.tallies) E a)
 
-pub handed-total : (a : Jid) → a.resource ≡ [] → (E : List Entry) (s : State) → IsLawfulFrom s E → handed_to a (replay_from is_built_event s E).tallies ≡ start (handed_to a s.tallies) E a + handed E a
-unfolding start
-handed-total a bare [] s is = (let e : handed_to a s.tallies ≡ handed_to a s.tallies + 0 = omega arith in e)
-handed-total a bare (e ∷ E) s is =
-    handed-by a bare s e E is.0 is.1 (handed-total a bare E (after s e) is.1) (entry-handed a bare s e is.0)
-    (λ some. (past-some a s.tallies (after s e).tallies (step.notices_at is_built_event s e) (ahead e a) some (entry-stepped a s e is.0)).0)
-    ∙ ap (λ k. ahead e a (start (handed_to a s.tallies) E a) + k) (sym (handed-more e E a))
+      at : (k : ℕ) → one e a ≡ k → handed_to a (replay_from told (step.after told s e) E).tallies ≡ ahead e a (start (handed_to a s.tallies) E a) + (one e a + handed E a)
+      at zero none =
+          let same : handed_to a (step.after told s e).tallies ≡ handed_to a s.tallies = omega (arith, keeps.keeps, none) in
+          omega (arith, later, ap (λ k. start k E a) same, skips, none)
+      at (suc k) more =
+          let some : 0 < made_for a (step.after told s e).tallies = grows (one-made a bare s e ok (omega (arith, more))) in
+          omega (arith, later, no-counter told a E (step.after told s e) is some (handed_to a (step.after told s e).tallies), no-counter told a E (step.after told s e) is some (handed_to a s.tallies), keeps.keeps, skips)
 
--- so the two numbers of the State compare as the notices and the records of the list do
-pub totals : (a : Jid) → a.resource ≡ [] → (E : List Entry) → lawful E
-    → (m : ℕ) × (made_for a (replay.replay E).tallies ≡ m + length (notices E a)) × (handed_to a (replay.replay E).tallies ≡ m + handed E a)
-totals a bare E is = (
-  start 0 E a,
-  made-total a E empty_state is ∙ ap (λ (ns : List Notice). start 0 E a + length ns) (sym (of-bare is_built_event E empty_state a bare)),
-  handed-total a bare E empty_state is,
-)
+  pub handed-total : (a : Jid) → a.resource ≡ [] → (E : List Entry) (s : State) → IsLawfulFrom told s E → handed_to a (replay_from told s E).tallies ≡ start (handed_to a s.tallies) E a + handed E a
+  unfolding start
+  handed-total a bare [] s is = (let e : handed_to a s.tallies ≡ handed_to a s.tallies + 0 = omega arith in e)
+  handed-total a bare (e ∷ E) s is =
+      handed-by a bare s e E is.0 is.1 (handed-total a bare E (step.after told s e) is.1) (entry-handed a bare s e is.0)
+      (λ some. (past-some a s.tallies (step.after told s e).tallies (step.notices_at told s e) (ahead e a) some (entry-stepped told a s e is.0)).0)
+      ∙ ap (λ k. ahead e a (start (handed_to a s.tallies) E a) + k) (sym (handed-more e E a))
+
+  -- so the two numbers of the State compare as the notices and the records of the list do
+  pub totals : (a : Jid) → a.resource ≡ [] → (E : List Entry) → lawful_by told E
+      → (m : ℕ) × (made_for a (replay.replay_by told E).tallies ≡ m + length (notices_by told E a)) × (handed_to a (replay.replay_by told E).tallies ≡ m + handed E a)
+  totals a bare E is = (
+    start 0 E a,
+    made-total told a E empty_state is ∙ ap (λ (ns : List Notice). start 0 E a + length ns) (sym (of-bare told E empty_state a bare)),
+    handed-total a bare E empty_state is,
+  )

@@ -207,7 +207,7 @@ frames_one (b ∷ bs) (c ∷ cs) x y are are' some some' none none' same =
 
 -- ---- the store
 
-header_size : (bytes : List ℕ) → is_header (take 8 bytes) ≡ true → length (take 8 bytes) ≡ 8
+pub header_size : (bytes : List ℕ) → is_header (take 8 bytes) ≡ true → length (take 8 bytes) ≡ 8
 header_size bytes is = eqb-true (length (take 8 bytes)) 8 (and_parts (length (take 8 bytes) == 8) (bytes_eq (take 7 (take 8 bytes)) magic) is).0
 
 pub behind_header : (bytes : List ℕ) (bs : List (List ℕ)) (rest : List ℕ) → is_header (take 8 bytes) ≡ true → bytes ≡ take 8 bytes ++ frames bs ++ rest → drop 8 bytes ≡ frames bs ++ rest

@@ -26,3 +26,8 @@ pub record BadEntry (bytes : List ℕ) (at : ℕ) : Type 0 where
 -- the header, then a frame, then an entry
 abbrev pub IsDamagedAt : List ℕ → ℕ → Type 0
 IsDamagedAt bytes at = BadHeader bytes at ⊎ (BadFrame bytes at ⊎ BadEntry bytes at)
+
+-- no list is that of the bytes, and no place is where they are damaged
+pub record HasNeither (bytes : List ℕ) : Type 0 where
+  pub no_list : (E : List Entry) → IsStore bytes E → ⊥
+  pub no_damage : (at : ℕ) → IsDamagedAt bytes at → ⊥

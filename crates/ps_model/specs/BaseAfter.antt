@@ -30,6 +30,7 @@ use Rattle.ps_model.specs.Book.{Book, State}
 use Rattle.ps_model.specs.CheckForms.{is_collection}
 use Rattle.ps_model.specs.Entries.{end_of_time}
 use Rattle.ps_model.specs.NoticeTrees.{notice_id}
+use Rattle.ps_model.specs.Steps.{is_short}
 use Rattle.ps_model.specs.Tallies.{made_for, more_made, tallies_with}
 
 -- ---- what it adds
@@ -99,14 +100,27 @@ abbrev pub is_notice_line : Jid → ℕ → List ℕ → Result Tree LineRefusal
 is_notice_line to number line (Err why) = false
 is_notice_line to number line (Ok t) = bytes_eq line (print t) && bytes_eq (attr_text (codes "to") t) (jid_text to) && bytes_eq (attr_text (codes "id") t) (notice_id number)
 
+-- beside the rows that are there
+abbrev pub has_place : BaseRow → State → Bool
+has_place (node r) s = not (stands r.key s.book.nodes) && (length r.config.collection == 0)
+has_place (affiliation r) s = is_some_affil r.affil && stands r.node s.book.nodes && is_bare r.who && is_none (find (is_affil_of r.node r.who) s.book.affils)
+has_place (subscription r) s = (is_pending r.state || is_subscribed r.state) && stands r.node s.book.nodes && is_none (sub_row r.node r.who s.book.subs)
+has_place (item r) s = takes_item (config_at r.node s.book.nodes) r s.book
+has_place (link r) s = takes_link r s.book
+has_place (contact r) s = is_none (contact_at r.account r.contact s.book.rosters)
+has_place (ver r) s = is_none (ver_at r.ver s.book.vers)
+has_place (made r) s = stands r.node s.book.nodes && is_none (find (is_count_of r.node r.who) s.book.counts) && is_number r.made
+has_place (counter who handed) s = is_bare who && is_number handed && (made_for who s.tallies == 0)
+has_place (notice to line) s = is_notice_line to (made_for to s.tallies + 1) line (line_tree line)
+
+-- the addresses that a request makes bare are bare, and names and ids have a length that a request may give them; an id that was made may be longer
+abbrev pub is_well_formed : BaseRow → Bool
+is_well_formed (node r) = is_bare r.creator && is_bare r.key.service && nat_lt 0 (length r.key.name) && is_short r.key.name
+is_well_formed (item r) = is_bare r.publisher && nat_lt 0 (length r.id)
+is_well_formed (link r) = nat_lt 0 (length r.collection.name)
+is_well_formed (contact r) = is_bare r.account && is_bare r.contact
+is_well_formed (made r) = is_bare r.who
+is_well_formed _ = true
+
 abbrev pub accepts_row : BaseRow → State → Bool
-accepts_row (node r) s = not (stands r.key s.book.nodes) && (length r.config.collection == 0)
-accepts_row (affiliation r) s = is_some_affil r.affil && stands r.node s.book.nodes && is_bare r.who && is_none (find (is_affil_of r.node r.who) s.book.affils)
-accepts_row (subscription r) s = (is_pending r.state || is_subscribed r.state) && stands r.node s.book.nodes && is_none (sub_row r.node r.who s.book.subs)
-accepts_row (item r) s = takes_item (config_at r.node s.book.nodes) r s.book
-accepts_row (link r) s = takes_link r s.book
-accepts_row (contact r) s = is_none (contact_at r.account r.contact s.book.rosters)
-accepts_row (ver r) s = is_none (ver_at r.ver s.book.vers)
-accepts_row (made r) s = stands r.node s.book.nodes && is_none (find (is_count_of r.node r.who) s.book.counts) && is_number r.made
-accepts_row (counter who handed) s = is_bare who && is_number handed && (made_for who s.tallies == 0)
-accepts_row (notice to line) s = is_notice_line to (made_for to s.tallies + 1) line (line_tree line)
+accepts_row r s = is_well_formed r && has_place r s

@@ -12,6 +12,10 @@ use Rattle.ps_model.specs.Core.{Core, handed}
 abbrev pub IsLawful : Core → List Entry → Type 0
 IsLawful core E = (p : ℕ) (e : Entry) → slice_get E p ≡ Some e → core.accepted (take p E) e ≡ true
 
+-- two ways to say one thing
+abbrev pub AreSame : Type 0 → Type 0 → Type 0
+AreSame P Q = (P → Q) × (Q → P)
+
 -- a boot is in the list
 abbrev pub HasBoot : List Entry → Type 0
 HasBoot [] = ⊥

@@ -8,6 +8,7 @@ use Rattle.ps_types.specs.Tree.{Tree}
 use Rattle.ps_types.specs.declared.event.Event.{Event}
 use Rattle.ps_types.specs.declared.event.Event.TheVariants.{Items, Retract, Purge, Delete, Configuration, Associate, Approval, Told, Last, Question}
 use Rattle.ps_types.specs.declared.jid.Jid.{Jid}
+use Rattle.ps_types.specs.declared.node.NodeKey.{NodeKey}
 use Rattle.ps_model.specs.Book.{Book}
 use Rattle.ps_model.specs.NoticeTrees.{message, retract_tree, named_tree, told_tree, approval_form, only, question}
 use Rattle.ps_model.specs.Stanza.{host_jid}
@@ -37,3 +38,16 @@ asked book (Told node who state) = who ∷ []
 asked book (Last node to by_subscription moment) = to ∷ []
 asked book (Question to caps) = to ∷ []
 asked book _ = map (λ row. row.who) book.subs ++ map (λ row. row.who) book.resources
+
+-- the node that an event is of, where a right to read it is asked
+abbrev pub node_read : Event → Option NodeKey
+node_read (Items node item) = Some node
+node_read (Retract node id) = Some node
+node_read (Purge node) = Some node
+node_read (Delete node) = Some node
+node_read (Configuration node) = Some node
+node_read (Associate node collection) = Some node
+node_read (Last node to by_subscription moment) = Some node
+node_read (Approval node owner subscriber) = None
+node_read (Told node subscriber state) = None
+node_read (Question to caps) = None

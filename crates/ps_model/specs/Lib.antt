@@ -45,14 +45,17 @@ pub mod EventSubs
 pub mod Events
 pub mod Given
 pub mod Grammar
+pub mod Heard
 pub mod ItemIds
 pub mod Last
+pub mod ListLaws
 pub mod Lists
 pub mod Machine
 pub mod NoticeTrees
 pub mod Numbered
 pub mod Numbers
 pub mod Outcome
+pub mod ReadFrom
 pub mod Replay
 pub mod Replies
 pub mod SameRows

@@ -10,7 +10,7 @@ use Rattle.ps_model.specs.declared.steps.Role.TheVariants.{Reader, Writer}
 use Rattle.ps_model.specs.declared.steps.Step.{Step}
 use Rattle.ps_model.specs.declared.steps.Step.TheVariants.{Arrive, Flush, Take, Emit, Record, Gone, Ended, Broken, Crash}
 use Rattle.ps_model.specs.Core.{Core, handed}
-use Rattle.ps_model.specs.World.{Said, Flight, Nothing, Unrecorded, Recorded, HostPart, World, ends, first, durable, fresh_host, fresh_address, at_host, at_address, with_entry, zeros}
+use Rattle.ps_model.specs.World.{Said, Flight, Nothing, Unrecorded, Recorded, HostPart, World, ends, first, durable, address_with, all_taken, fresh_address, fresh_host, host_with, at_host, at_address, with_entry, zeros}
 
 -- one more line, which may get a reply
 abbrev pub answered : ℕ → Arrival → Bool → ℕ → ℕ → ℕ → Option (List ℕ) → HostPart → HostPart
@@ -25,7 +25,7 @@ landed m Unrecorded = Unrecorded
 landed m (Recorded t) = if nat_le t m then Nothing else Recorded t
 
 abbrev pub flushes : World → ℕ → World
-flushes w m = record w { flushed = m; addresses = λ k. record { sent = (w.addresses k).sent; flight = landed m (w.addresses k).flight } }
+flushes w m = record w { flushed = m; addresses = λ k. record (w.addresses k) { flight = landed m (w.addresses k).flight } }
 
 -- the first reply that is not taken, where it is released
 abbrev pub took : World → List ℕ → Option Said → World
@@ -34,7 +34,7 @@ took w h (Some s) = if nat_le s.step w.flushed then record w { hosts = at_host h
 
 -- the first notice that is not handed, where nothing is in flight and its entry is durable
 abbrev pub emits : World → Jid → Flight → Option Notice → World
-emits w a Nothing (Some n) = if nat_lt n.place (durable w) then record w { addresses = at_address a (λ part. record { sent = part.sent ++ n ∷ []; flight = Unrecorded }) w.addresses } else w
+emits w a Nothing (Some n) = if nat_lt n.place (durable w) then record w { addresses = at_address a (λ part. record part { sent = part.sent ++ n ∷ []; flight = Unrecorded }) w.addresses } else w
 emits w a Nothing None = w
 emits w a Unrecorded next = w
 emits w a (Recorded t) next = w
@@ -42,7 +42,7 @@ emits w a (Recorded t) next = w
 abbrev pub records : World → Jid → Flight → World
 records w a Unrecorded =
     let next = with_entry w (Some (Handed a)) in
-    record next { addresses = at_address a (λ part. record { sent = part.sent; flight = Recorded (w.steps + 1) }) w.addresses }
+    record next { addresses = at_address a (λ part. record part { flight = Recorded (w.steps + 1) }) w.addresses }
 records w a Nothing = w
 records w a (Recorded t) = w
 
@@ -61,7 +61,7 @@ module _ (core : Core) (boot : List ℕ) where
       let next = with_entry w (core.entry w.entries h line arrival full) in
       record next { hosts = at_host h (answered line arrival full (length w.entries) (length next.entries) (w.steps + 1) (core.reply w.entries h line arrival full)) w.hosts }
 
-  -- the entries of the first m steps stay, and a boot follows, which is flushed
+  -- the entries of the first m steps stay, and a boot follows, which is flushed; replies that aren't taken are lost, nothing is in flight any more, and lines are counted anew
   abbrev pub crashes : World → ℕ → World
   crashes w m =
       record {
@@ -71,8 +71,8 @@ module _ (core : Core) (boot : List ℕ) where
         steps = w.steps;
         flushed = w.steps + 1;
         broken = false;
-        hosts = λ k. fresh_host;
-        addresses = λ k. fresh_address;
+        hosts = λ k. host_with (all_taken (w.hosts k));
+        addresses = λ k. address_with ((w.addresses k).earlier ++ (w.addresses k).sent ∷ []);
       }
 
   -- what a step does, besides that it counts; one whose condition fails does nothing

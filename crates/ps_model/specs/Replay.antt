@@ -26,17 +26,6 @@ of_bare (x ∷ resource) notices = []
 abbrev pub to_address : Jid → List Notice → List Notice
 to_address a notices = of_bare a.resource (filter (λ n. same_bare n.to a) notices)
 
--- ---- where these events are told
-module _ (told : Event → Bool) where
-  -- from this State on
-  abbrev pub replay_from : State → List Entry → State
-  replay_from s [] = s
-  replay_from s (e ∷ E) = replay_from (step.after told s e) E
-
-  abbrev pub notices_from : State → List Entry → Jid → List Notice
-  notices_from s [] a = []
-  notices_from s (e ∷ E) a = to_address a (step.notices_at told s e) ++ notices_from (step.after told s e) E a
-
 -- ---- acceptance
 
 -- the service host is set at the first boot
@@ -59,10 +48,39 @@ accepted_at s (Handed to) = is_booted s && (length to.resource == 0) && nat_lt (
 accepted_at s (Gone host) = is_booted s
 accepted_at s (Base row) = not (is_booted s) && row_accepted (row_of row) s
 
-abbrev pub accepted : State → Entry → Bool
-accepted s e = is_built_entry e && accepted_at s e
+-- ---- where these events are told
+module _ (told : Event → Bool) where
+  -- from this State on
+  abbrev pub replay_from : State → List Entry → State
+  replay_from s [] = s
+  replay_from s (e ∷ E) = replay_from (step.after told s e) E
+
+  abbrev pub notices_from : State → List Entry → Jid → List Notice
+  notices_from s [] a = []
+  notices_from s (e ∷ E) a = to_address a (step.notices_at told s e) ++ notices_from (step.after told s e) E a
+
+  -- each entry is accepted at its place, by this test
+  abbrev pub AreAcceptedFrom : (State → Entry → Bool) → State → List Entry → Type 0
+  AreAcceptedFrom accepts s [] = Unit {0}
+  AreAcceptedFrom accepts s (e ∷ E) = (accepts s e ≡ true) × AreAcceptedFrom accepts (step.after told s e) E
+
+  abbrev pub IsLawfulFrom : State → List Entry → Type 0
+  IsLawfulFrom s E = AreAcceptedFrom accepted_at s E
+
+  abbrev pub lawful_by : List Entry → Type 0
+  lawful_by E = IsLawfulFrom empty_state E
+
+  -- the State that a list of entries leaves, and the notices that it makes for a bare address, in order
+  abbrev pub replay_by : List Entry → State
+  replay_by E = replay_from empty_state E
+
+  abbrev pub notices_by : List Entry → Jid → List Notice
+  notices_by E a = notices_from empty_state E a
 
 -- ---- today
+
+abbrev pub accepted : State → Entry → Bool
+accepted s e = is_built_entry e && accepted_at s e
 
 abbrev pub after : State → Entry → State
 after s e = step.after is_built_event s e
@@ -75,10 +93,6 @@ replay E = replay_from is_built_event empty_state E
 abbrev pub notices : List Entry → Jid → List Notice
 notices E a = notices_from is_built_event empty_state E a
 
-abbrev pub IsLawfulFrom : State → List Entry → Type 0
-IsLawfulFrom s [] = Unit {0}
-IsLawfulFrom s (e ∷ E) = (accepted s e ≡ true) × IsLawfulFrom (after s e) E
-
 -- each entry is accepted at its place
 abbrev pub lawful : List Entry → Type 0
-lawful E = IsLawfulFrom empty_state E
+lawful E = AreAcceptedFrom is_built_event accepted empty_state E

@@ -1,8 +1,11 @@
 -- What stands in the bytes of a sink: its whole lines are replies and notices.
-use Rattle.std.specs.Prelude.{ℕ, Bool, false, not, ◌&&◌, ◌||◌, List, filter, codes, Option, Some, None, Result, Ok, Err}
+use Rattle.std.specs.Prelude.{◌≡◌, ℕ, Bool, true, false, not, ◌&&◌, ◌||◌, List, [], ◌∷◌, ◌++◌, filter, map, codes, Option, Some, None, Result, Ok, Err, if◌then◌else◌}
+use Rattle.std.specs.List.{AllByRecursion}
+use Rattle.ps_types.specs.Form.{IsTree}
 use Rattle.ps_types.specs.LineTree.{line_tree}
-use Rattle.ps_types.specs.Lines.{whole_lines}
+use Rattle.ps_types.specs.Lines.{NoNewline, joined, whole_lines}
 use Rattle.ps_types.specs.Namespaces.{line_ns}
+use Rattle.ps_types.specs.Print.{print}
 use Rattle.ps_types.specs.Same.{same_bare}
 use Rattle.ps_types.specs.Shape.{attr_text}
 use Rattle.ps_types.specs.Tree.{Tree, is_named}
@@ -32,3 +35,37 @@ replies out = filter (λ line. passes is_reply (line_tree line)) (whole_lines ou
 
 abbrev pub notes : List ℕ → Jid → List (List ℕ)
 notes out a = filter (λ line. passes (is_note a) (line_tree line)) (whole_lines out)
+
+-- ---- what is said on a stream
+
+-- a reply, or a notice to an address
+pub data Saying : Type 0 where
+  reply : Tree → Saying
+  note : Jid → Tree → Saying
+
+abbrev pub IsSaying : Saying → Type 0
+IsSaying (reply t) = IsTree t × (is_reply t ≡ true)
+IsSaying (note to t) = IsTree t × (is_reply t ≡ false) × (jid_of (attr_text (codes "to") t) ≡ Some to)
+
+abbrev pub line_of : Saying → List ℕ
+line_of (reply t) = print t
+line_of (note to t) = print t
+
+-- the lines of the replies, and those of the notices to a bare address, in order
+abbrev pub replies_in : List Saying → List (List ℕ)
+replies_in [] = []
+replies_in (reply t ∷ more) = print t ∷ replies_in more
+replies_in (note to t ∷ more) = replies_in more
+
+abbrev pub notes_in : List Saying → Jid → List (List ℕ)
+notes_in [] a = []
+notes_in (reply t ∷ more) a = notes_in more a
+notes_in (note to t ∷ more) a = if same_bare a to then print t ∷ notes_in more a else notes_in more a
+
+-- a sink that holds the lines of these, and a rest without a newline
+pub record AreSaid (said : List Saying) (rest : List ℕ) : Type 0 where
+  pub each : AllByRecursion IsSaying said
+  pub part : NoNewline rest
+
+abbrev pub sink_of : List Saying → List ℕ → List ℕ
+sink_of said rest = joined (map line_of said) ++ rest

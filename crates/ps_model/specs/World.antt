@@ -1,5 +1,6 @@
 -- What the machine holds.
 use Rattle.std.specs.Prelude.{ℕ, ◌+◌, ◌++◌, ◌∷◌, [], suc, Bool, false, cond, nat_le, bytes_eq, List, take, Option, Some, None, if◌then◌else◌}
+use Rattle.std.specs.List.{flat_map}
 use Rattle.ps_types.specs.Same.{same_jid}
 use Rattle.ps_types.specs.declared.entry.Arrival.{Arrival}
 use Rattle.ps_types.specs.declared.entry.Entry.{Entry}
@@ -22,16 +23,19 @@ pub data Flight : Type 0 where
   Unrecorded : Flight
   Recorded : (step : ℕ) → Flight
 
--- what is kept for one host since the last crash: its line number, and its replies in line order, of which the first `taken` are taken; one is released once its step is flushed
+-- what is kept for one host: the replies that were taken before the last crash, and since then its line number and its replies in line order, of which the first
+-- `taken` are taken; one is released once its step is flushed
 pub record HostPart : Type 0 where
+  pub earlier : List Said
   pub line : ℕ
   pub said : List Said
   pub taken : ℕ
   pub reader_ended : Bool
   pub writer_ended : Bool
 
--- what is kept for one address since the last crash
+-- what is kept for one address: what was sent between the boots before, a list for each crash, and since the last crash
 pub record AddressPart : Type 0 where
+  pub earlier : List (List Notice)
   pub sent : List Notice
   pub flight : Flight
 
@@ -57,11 +61,25 @@ first m w = take (ends m w.made) w.entries
 abbrev pub durable : World → ℕ
 durable w = ends w.flushed w.made
 
+-- a host and an address of which nothing but this is known
+abbrev pub host_with : List Said → HostPart
+host_with earlier = record { earlier = earlier; line = 0; said = []; taken = 0; reader_ended = false; writer_ended = false }
+
+abbrev pub address_with : List (List Notice) → AddressPart
+address_with earlier = record { earlier = earlier; sent = []; flight = Nothing }
+
 abbrev pub fresh_host : HostPart
-fresh_host = record { line = 0; said = []; taken = 0; reader_ended = false; writer_ended = false }
+fresh_host = host_with []
 
 abbrev pub fresh_address : AddressPart
-fresh_address = record { sent = []; flight = Nothing }
+fresh_address = address_with []
+
+-- all replies that were taken, and all notices that were sent
+abbrev pub all_taken : HostPart → List Said
+all_taken part = part.earlier ++ take part.taken part.said
+
+abbrev pub all_sent : AddressPart → List Notice
+all_sent part = flat_map (λ sent. sent) part.earlier ++ part.sent
 
 -- the part of one host, or of one address, is changed
 abbrev pub at_host : List ℕ → (HostPart → HostPart) → (List ℕ → HostPart) → List ℕ → HostPart

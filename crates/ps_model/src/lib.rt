@@ -15,11 +15,18 @@ mod request_laws;
 mod stamp_laws;
 mod steps;
 mod store_laws;
+mod stream_laws;
 
 pub use access_laws::{nodes_stay_bounded, outcast_is_forbidden};
-pub use laws::{lawful_prefix, nobody_missed, notices_grow, numbers_rise, replay_goes_on};
+pub use laws::{
+    lawful_at_each_place, lawful_prefix, nobody_missed, notices_grow, numbers_rise,
+    only_readers_hear, replay_goes_on,
+};
 pub use machine_laws::service_keeps_the_laws;
-pub use request_laws::{line_reads, one_request, spelled_is_taken, taken_is_spelled};
+pub use request_laws::{
+    address_is_spelled, line_is_read, line_reads, one_request, spelled_is_taken, taken_is_spelled,
+};
 pub use stamp_laws::stamp_is_utc;
 pub use steps::{Role, Step};
-pub use store_laws::{damaged_has_none, one_damage, one_list};
+pub use store_laws::{damaged_has_none, list_or_damage, one_damage, one_list};
+pub use stream_laws::sink_has_what_is_said;

@@ -7,8 +7,13 @@ ghost use Rattle.ps_types.specs.LineTree.{line_tree};
 ghost use Rattle.ps_types.specs.Print.{client};
 ghost use Rattle.ps_types.specs.Reading.{IsJson, Reads, tree_of};
 ghost use Rattle.ps_types.specs.Tree.{Tree, levels};
+ghost use Rattle.ps_types.specs.Address.{Spells};
+ghost use Rattle.ps_types.specs.declared.jid.Jid.{Jid};
 ghost use Rattle.ps_types.specs.declared.request.Request.{Request};
+ghost use Rattle.ps_model.specs.CoreLaws.{AreSame};
+ghost use Rattle.ps_model.specs.ReadFrom.{IsReadFrom};
 ghost use Rattle.ps_model.specs.Spelled.{SpellsRequest};
+ghost use Rattle.ps_model.specs.Stanza.{jid_of};
 ghost use Rattle.ps_model.specs.Taken.{asked};
 ghost use Rattle.ps_model.specs.Taking.{tree_taken};
 
@@ -33,4 +38,14 @@ pub fn taken_is_spelled()
 /// A tree spells one request at most.
 pub fn one_request()
     ensures { (host service : List ℕ) (t : Tree) (r s : Request) → SpellsRequest host service t r → SpellsRequest host service t s → r ≡ s }
+{}
+
+/// What is the tree of a line is JSON that reads as it, and has 32 levels at most.
+pub fn line_is_read()
+    ensures { (text : List ℕ) (t : Tree) → line_tree text ≡ Ok t → IsReadFrom text t }
+{}
+
+/// A text has the address that it spells, and none where it spells none.
+pub fn address_is_spelled()
+    ensures { (text : List ℕ) (j : Jid) → AreSame (jid_of text ≡ Some j) (Spells text j) }
 {}

@@ -2,7 +2,7 @@
 ghost use Rattle.std.specs.Prelude.{◌≡◌, List, ℕ};
 ghost use Rattle.ps_types.specs.declared.entry.Entry.{Entry};
 ghost use Rattle.ps_model.specs.Store.{spelled};
-ghost use Rattle.ps_model.specs.At.{IsStore, IsDamagedAt};
+ghost use Rattle.ps_model.specs.At.{HasNeither, IsDamagedAt, IsStore};
 
 /// The bytes of a store spell one list of entries at most.
 pub fn one_list()
@@ -17,4 +17,10 @@ pub fn one_damage()
 /// A damaged store has no list.
 pub fn damaged_has_none()
     ensures { (bytes : List ℕ) (at : ℕ) (E : List Entry) → IsDamagedAt bytes at → IsStore bytes E → ⊥ }
+{}
+
+/// No bytes have neither a list nor a place of damage: it can't be that no list is theirs, and no place is where they
+/// are damaged.
+pub fn list_or_damage()
+    ensures { (bytes : List ℕ) → ¬ HasNeither bytes }
 {}

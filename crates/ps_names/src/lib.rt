@@ -8,8 +8,6 @@
 mod build;
 mod conditions;
 mod replies;
-#[cfg(test)]
-mod tests;
 
 pub use build::{element, only, put, put_pair};
 pub use conditions::condition;

@@ -31,10 +31,16 @@ pub struct NodeRef<'a> {
 }
 
 /// The nodes in the order of their making, and how many more are taken without memory.
-#[derive(Drop)]
 pub struct Nodes {
     nodes: IndexMap<NodeKey, NodeRest>,
     made: IndexMap<u64, Tally>,
+}
+
+// By hand, so that a table is let go by one call wherever a function ends.
+impl Drop for Nodes {
+    fn drop(self) {
+        let Nodes { nodes: _, made: _ } = self;
+    }
 }
 
 impl Model for Nodes {

@@ -13,8 +13,6 @@ mod mem_clock;
 mod mem_world;
 mod real;
 mod shelf;
-#[cfg(test)]
-mod tests;
 mod world;
 
 pub use clock::{Clock, ConstClock, RealClock};

@@ -43,7 +43,7 @@ pub(crate) fn host_of(alloc: Global, bytes: &[u8]) -> Result<Text, Unread>
     match Jid::read(alloc, bytes) {
         Ok(jid) => {
             if is_only_host(&jid, bytes) {
-                Ok(jid.host)
+                Ok(jid.into_host())
             } else {
                 Err(Unread::Bad)
             }

@@ -19,6 +19,3 @@ pub use laws::one_entry;
 pub use raw::u32_at;
 pub use reading::{EntryRefusal, read_entry};
 pub use writing::put_entry;
-
-#[cfg(test)]
-mod tests;

@@ -30,8 +30,6 @@ mod router;
 mod rows;
 mod stanza;
 mod taking;
-#[cfg(test)]
-mod tests;
 mod whole;
 mod written;
 

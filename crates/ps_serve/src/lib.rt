@@ -26,12 +26,8 @@
 
 mod ending;
 mod status;
-#[cfg(test)]
-mod store_tests;
 mod storing;
 mod stream;
-#[cfg(test)]
-mod tests;
 mod turn;
 mod whole;
 mod words;

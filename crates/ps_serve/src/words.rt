@@ -64,7 +64,7 @@ fn host_in(address: Jid) -> Result<Text, WordsRefusal>
     ensures usage { IsErrOf result WordsRefusal.Usage → host_in_address address ≡ None }
 {
     if address.local.is_empty() && address.resource.is_empty() {
-        Ok(address.host)
+        Ok(address.into_host())
     } else {
         Err(WordsRefusal::Usage)
     }

@@ -1,10 +1,12 @@
 -- The subscriptions of one node, of one bare address, and of a node and an address, have one digest.
-use Rattle.std.proofs.Common.{◌≡◌, ℕ, true, ◌&&◌}
+use Rattle.std.proofs.Common.{◌≡◌, ℕ, true, ◌&&◌, List}
+use Rattle.std.specs.Prelude.{is_some}
 use Rattle.ps_types.specs.declared.jid.Jid.{Jid}
 use Rattle.ps_types.specs.declared.node.NodeKey.{NodeKey}
 use Rattle.ps_types.specs.declared.rows.SubRow.{SubRow}
-use Rattle.ps_types.specs.Subs.{is_sub_at, is_sub_by, is_sub_of, is_subscribed, subscribes}
+use Rattle.ps_types.specs.Subs.{is_sub_at, is_sub_by, is_sub_of, is_subscribed, sub_row, subscribes}
 use Rattle.ps_types.specs.Same.{same_bare, same_jid, same_node}
+use Rattle.ps_subs.specs.Among.{is_among}
 use Rattle.ps_rows.specs.declared.index.Index.{Index}
 use Rattle.ps_rows.specs.declared.index.Index.TheVariants.{Key, Node, Bare}
 use Rattle.ps_rows.specs.Digests.{node_digest, jid_at_digest, bare_digest}
@@ -37,3 +39,6 @@ alike seed row old Bare h = one_address seed row.who old.who (bare_of_jid row.wh
 
 pub kin : (row old : SubRow) → is_sub_of row.node row.who old ≡ true → sub_kin old row ≡ true
 kin row old h = node-back row.node old.node (both (same_node row.node old.node) (same_jid row.who old.who) h).0
+
+pub among : (node : NodeKey) (others : List SubRow) → AsksBy (is_among node others) (λ seed. sub_by seed Node) (λ seed. node_digest seed node)
+among node others seed = record { alike = λ row h. one_node seed node row.node (both (same_node node row.node) (is_some (sub_row node row.who others)) h).0 }

@@ -1,8 +1,10 @@
 // What is asked of subscriptions.
 ghost use Rattle.std.specs.Prelude.{◌≡◌};
 ghost use Rattle.ps_types.specs.Subs.{is_sub_of, is_sub_at, is_sub_by, is_subscribed, subscribes};
+ghost use Rattle.ps_subs.specs.Among.{is_among};
 ghost use Rattle.ps_rows.specs.Digests.{bare_digest, jid_at_digest, node_digest};
 
+use crate::subs::Subs;
 use ps_rows::{Ask, bare_digest, jid_at_digest, node_digest};
 use ps_types::{Jid, NodeKey, SubRow, SubState};
 
@@ -91,5 +93,26 @@ impl<'a> Ask<SubRow> for SubscribedBy<'a> {
 
     fn digest(&self, seed: u64) -> u64 {
         bare_digest(seed, self.who)
+    }
+}
+
+/// The subscriptions at a node of addresses of which others have a row there.
+#[derive(Drop)]
+pub struct Among<'a> {
+    pub node: &'a NodeKey,
+    pub others: &'a Subs,
+}
+
+impl<'a> Ask<SubRow> for Among<'a> {
+    ghost passes = { λ ask row. is_among ask.node.now ask.others.now.rows row };
+
+    ghost seeks = { λ seed ask. node_digest seed ask.node.now };
+
+    fn passes(&self, row: &SubRow) -> bool {
+        self.node.is_same(&row.node) && self.others.row_of(self.node, &row.who).is_some()
+    }
+
+    fn digest(&self, seed: u64) -> u64 {
+        node_digest(seed, self.node)
     }
 }

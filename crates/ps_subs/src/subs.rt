@@ -3,8 +3,10 @@ ghost use Rattle.std.specs.Prelude.{◌≡◌, ◌+◌, ◌<◌, ◌≤◌, [], 
 ghost use Rattle.ps_base.specs.Rows.{put_row, without};
 ghost use Rattle.ps_types.specs.Subs.{is_sub_of, sub_row, sub_at, sub_count, subscribed_in, subs_with, subs_of, subs_held, subs_without};
 ghost use Rattle.ps_rows.specs.Standing.{standing};
+ghost use Rattle.ps_subs.specs.Among.{is_among};
+ghost use Rattle.ps_rows.specs.Around.{own_and_last};
 
-use crate::asks::{AtNode, Held, SubOf, SubscribedBy};
+use crate::asks::{Among, AtNode, Held, SubOf, SubscribedBy};
 use ps_rows::{Index, Rows};
 use ps_types::{Jid, Memory, NodeKey, SubRow, SubState};
 use std::alloc::Global;
@@ -152,6 +154,19 @@ impl Subs {
     {
         let ask = Held { who };
         self.rows.list(Index::Bare, &ask, alloc)
+    }
+
+    /// The rows of a node of addresses of which others have a row there, with the last row of the table that is none of these.
+    pub fn concerned(
+        &self,
+        alloc: Global,
+        node: &NodeKey,
+        others: &Subs,
+    ) -> Result<Vec<SubRow>, Memory>
+        ensures rows { IfOk result (λ rows. rows.items ≡ own_and_last (is_among node.now others.now.rows) self.now.rows) }
+    {
+        let ask = Among { node, others };
+        self.rows.list_around(Index::Node, &ask, alloc)
     }
 
     /// Takes away the rows of a node. It takes no memory.

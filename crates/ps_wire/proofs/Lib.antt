@@ -4,6 +4,6 @@ pub mod Written
 pub mod Pieces
 pub mod Gaining
 pub mod Depths
-pub mod Puts
 pub mod Attrs
 pub mod Kids
+pub mod Sent

@@ -4,6 +4,6 @@ pub mod AtEnd
 pub mod Line
 pub mod Reading
 pub mod Writing
-pub mod Putting
+pub mod Sending
 pub mod Taking
 pub mod Answer

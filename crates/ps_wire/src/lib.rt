@@ -35,6 +35,3 @@ pub use ps_base::{Bytes, Failed, Memory};
 pub use read::{TreeRefusal, read_tree};
 pub use streams::{Sink, Source};
 pub use writes::{WriteFault, write_line};
-
-#[cfg(test)]
-mod tests;

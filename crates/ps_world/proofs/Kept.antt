@@ -18,7 +18,7 @@ use Rattle.ps_model.specs.declared.steps.Role.{Role}
 use Rattle.ps_model.specs.declared.steps.Role.TheVariants.{Reader, Writer}
 use Rattle.ps_model.specs.Core.{Core, handed}
 use Rattle.ps_model.specs.CoreLaws.{Laws, IsLawful, HasBoot}
-use Rattle.ps_model.specs.World.{Said, Flight, Nothing, Unrecorded, Recorded, HostPart, AddressPart, World, ends, durable, with_entry, at_host, at_address, fresh_host, fresh_address, zeros}
+use Rattle.ps_model.specs.World.{Said, Flight, Nothing, Unrecorded, Recorded, HostPart, AddressPart, World, ends, durable, with_entry, at_host, at_address, host_with, address_with, all_taken, zeros}
 use Rattle.ps_model.specs.Machine.{answered, landed, flushes, took, emits, records, ends_role, crashes, counted, happens, run, start, world}
 use Rattle.ps_world.specs.Sound.{IsAnswer, IsSaid, AreInOrder, HostSound, AddressSound, Sound, behind, IsBy, AllBy, as_list}
 use Rattle.ps_world.proofs.Lists.{get-snoc, take-whole, length-front, ends-le, ends-mono, ends-all, by-more, by-snoc, by-take, piece-more}
@@ -26,7 +26,7 @@ use Rattle.ps_world.proofs.Grows.{boot-front, boot-last, handed-append, notices-
 use Rattle.ps_world.proofs.Parts.{Extends, extends-none, extends-some, said-later, host-later, address-later, front}
 
 -- what a choice has where each of its parts has it
-chosen : {X : Type 0} (P : X → Type 0) (b : Bool) (x y : X) → (b ≡ true → P x) → (b ≡ false → P y) → P (if b then x else y)
+pub chosen : {X : Type 0} (P : X → Type 0) (b : Bool) (x y : X) → (b ≡ true → P x) → (b ≡ false → P y) → P (if b then x else y)
 chosen P true x y f g = f refl
 chosen P false x y f g = g refl
 
@@ -133,7 +133,7 @@ module _ (core : Core) (laws : Laws core) where
 
   flushes_kept : (w : World) (m : ℕ) → Sound core w → w.flushed ≤ m → m ≤ w.steps → Sound core (counted (flushes w m))
   flushes_kept w m is low high =
-      keeps w m w.broken w.hosts (λ k. record { sent = (w.addresses k).sent; flight = landed m (w.addresses k).flight }) low high is (λ h. host_same w m h is low)
+      keeps w m w.broken w.hosts (λ k. record (w.addresses k) { flight = landed m (w.addresses k).flight }) low high is (λ h. host_same w m h is low)
       (λ a. let part = is.addresses a in
       let f = (w.addresses a).flight in
       address-later core laws w.entries w.made w.steps None w.entries w.made (none w is) w.opened w.flushed m a (w.addresses a) (landed m f) is.opened low high
@@ -165,7 +165,7 @@ module _ (core : Core) (laws : Laws core) where
       (λ t. let e : b ≡ a = (same_jid-Decides b a).0 t in subst (λ (j : Jid). AddressSound core E made opened n flushed j (f (w.addresses j))) (sym e) one)
       (λ t. others b (λ e. let u = (same_jid-Decides b a).1 e in false≢true (sym t ∙ u)))
 
-  sends : (w : World) (a : Jid) (n : Notice) → Sound core w → (w.addresses a).flight ≡ Nothing → slice_get (core.notices w.entries a) (handed w.entries a) ≡ Some n → n.place < durable w → AddressSound core w.entries w.made w.opened w.steps w.flushed a (record { sent = (w.addresses a).sent ++ n ∷ []; flight = Unrecorded })
+  sends : (w : World) (a : Jid) (n : Notice) → Sound core w → (w.addresses a).flight ≡ Nothing → slice_get (core.notices w.entries a) (handed w.entries a) ≡ Some n → n.place < durable w → AddressSound core w.entries w.made w.opened w.steps w.flushed a (record (w.addresses a) { sent = (w.addresses a).sent ++ n ∷ []; flight = Unrecorded })
   sends w a n is idle got low =
       let part = is.addresses a in
       let b = handed (take w.opened w.entries) a in
@@ -183,11 +183,11 @@ module _ (core : Core) (laws : Laws core) where
         by = tt;
       }
 
-  emits_kept : (w : World) (a : Jid) (n : Notice) → Sound core w → (w.addresses a).flight ≡ Nothing → slice_get (core.notices w.entries a) (handed w.entries a) ≡ Some n → n.place < durable w → Sound core (counted (record w { addresses = at_address a (λ part. record { sent = part.sent ++ n ∷ []; flight = Unrecorded }) w.addresses }))
+  emits_kept : (w : World) (a : Jid) (n : Notice) → Sound core w → (w.addresses a).flight ≡ Nothing → slice_get (core.notices w.entries a) (handed w.entries a) ≡ Some n → n.place < durable w → Sound core (counted (record w { addresses = at_address a (λ part. record part { sent = part.sent ++ n ∷ []; flight = Unrecorded }) w.addresses }))
   emits_kept w a n is idle got low =
-      keeps w w.flushed w.broken w.hosts (at_address a (λ part. record { sent = part.sent ++ n ∷ []; flight = Unrecorded }) w.addresses) (omega arith) is.flushed is (λ h. host_same w w.flushed h is (omega arith))
-      (at_this w a (λ part. record { sent = part.sent ++ n ∷ []; flight = Unrecorded }) (w.steps + 1) w.flushed w.opened w.entries w.made (λ b other. address_same w b is)
-      (address-later core laws w.entries w.made w.steps None w.entries w.made (none w is) w.opened w.flushed w.flushed a (record { sent = (w.addresses a).sent ++ n ∷ []; flight = Unrecorded }) Unrecorded is.opened (omega arith) is.flushed refl (λ k l g. refl) tt (sends w a n is idle got low)))
+      keeps w w.flushed w.broken w.hosts (at_address a (λ part. record part { sent = part.sent ++ n ∷ []; flight = Unrecorded }) w.addresses) (omega arith) is.flushed is (λ h. host_same w w.flushed h is (omega arith))
+      (at_this w a (λ part. record part { sent = part.sent ++ n ∷ []; flight = Unrecorded }) (w.steps + 1) w.flushed w.opened w.entries w.made (λ b other. address_same w b is)
+      (address-later core laws w.entries w.made w.steps None w.entries w.made (none w is) w.opened w.flushed w.flushed a (record (w.addresses a) { sent = (w.addresses a).sent ++ n ∷ []; flight = Unrecorded }) Unrecorded is.opened (omega arith) is.flushed refl (λ k l g. refl) tt (sends w a n is idle got low)))
 
   -- what a step owes that may make an entry
   makes : (w : World) (more : Option Entry) (F : List Entry) (now : List ℕ) (hosts : List ℕ → HostPart) (addresses : Jid → AddressPart) → Sound core w → Extends w.entries w.made w.steps more F now → IsLawful core F → ((h : List ℕ) → HostSound core F now (w.steps + 1) w.flushed h (hosts h)) → ((a : Jid) → AddressSound core F now w.opened (w.steps + 1) w.flushed a (addresses a)) → Sound core (counted (record w { entries = F; made = now; hosts = hosts; addresses = addresses }))
@@ -244,10 +244,10 @@ module _ (core : Core) (laws : Laws core) where
       let one : handed w.entries a + 1 ≡ b + length (w.addresses a).sent = ap (λ r. handed r a + 1) (sym all) ∙ (ap (λ f. handed (take (ends n w.made) w.entries) a + behind f n) (sym sent) ∙ part.count n is.flushed (omega arith)) in
       let few : handed w.entries a < length (core.notices w.entries a) = (let d = part.durable in let le = notices-take core laws (ends w.flushed w.made) w.entries a in omega (arith, d, le, one)) in
       let itself : handed (e ∷ []) a ≡ 1 = ap (λ t. cond t (suc zero) zero) ((same_jid-Decides a a).1 refl) in
-      makes w (Some e) F now w.hosts (at_address a (λ p. record { sent = p.sent; flight = Recorded (w.steps + 1) }) w.addresses) is x
+      makes w (Some e) F now w.hosts (at_address a (λ p. record p { flight = Recorded (w.steps + 1) }) w.addresses) is x
       (lawful-snoc core laws w.entries e is.lawful (laws.handed_ok w.entries a is.lawful is.boot few))
       (λ k. host_on w (Some e) F now k is x (let g = laws.greatest_handed w.entries a k in let l = (is.hosts k).greatest in omega (arith, g, l)))
-      (at_this w a (λ p. record { sent = p.sent; flight = Recorded (w.steps + 1) }) (n + 1) w.flushed w.opened F now
+      (at_this w a (λ p. record p { flight = Recorded (w.steps + 1) }) (n + 1) w.flushed w.opened F now
       (λ c other. address_on w (Some e) F now c is x (handed_not w e c (handed_one w a c other (same_jid a c) refl)))
       (address-later core laws w.entries w.made n (Some e) F now x w.opened w.flushed w.flushed a (w.addresses a) (Recorded (n + 1)) is.opened (omega arith) is.flushed
       (let f = handed-append w.entries (e ∷ []) a in let z : behind (Recorded (n + 1)) (n + 1) ≡ 0 = cond_yes (n + 1) (n + 1) (omega arith) in let u : behind (w.addresses a).flight n ≡ 1 = ap (λ g. behind g n) sent in omega (arith, f, z, u, itself))
@@ -344,8 +344,8 @@ module _ (core : Core) (laws : Laws core) where
       (subst (λ (f : Entry). core.greatest (w.entries ++ f ∷ []) h ≤ line) (sym kind) (let g = laws.greatest_same w.entries h line change.0 change.1 in omega (arith, g)))
 
   -- after the opening, or a crash, nothing is known but the list
-  fresh_kept : (boot : List ℕ) → boot ≢ [] → (E : List Entry) (now : List ℕ) (n : ℕ) (broken : Bool) → IsLawful core E → length now ≡ length (E ++ Boot boot ∷ []) → AllBy n now → Sound core (record { entries = E ++ Boot boot ∷ []; made = now; opened = length (E ++ Boot boot ∷ []); steps = n; flushed = n; broken = broken; hosts = λ k. fresh_host; addresses = λ k. fresh_address })
-  fresh_kept boot some E now n broken ok sizes by =
+  fresh_kept : (boot : List ℕ) → boot ≢ [] → (E : List Entry) (now : List ℕ) (n : ℕ) (broken : Bool) (said : List ℕ → List Said) (sent : Jid → List (List Notice)) → IsLawful core E → length now ≡ length (E ++ Boot boot ∷ []) → AllBy n now → Sound core (record { entries = E ++ Boot boot ∷ []; made = now; opened = length (E ++ Boot boot ∷ []); steps = n; flushed = n; broken = broken; hosts = λ k. host_with (said k); addresses = λ k. address_with (sent k) })
+  fresh_kept boot some E now n broken said sent ok sizes by =
       let F = E ++ Boot boot ∷ [] in
       let more : length F ≡ length E + 1 = length-append E (Boot boot ∷ []) in
       let all : ends n now ≡ length F = ends-all n n now by (omega arith) ∙ sizes in
@@ -387,10 +387,10 @@ module _ (core : Core) (laws : Laws core) where
       let front_len : length (take c w.entries) ≡ c = length-front c w.entries within in
       let now = take c w.made ++ (w.steps + 1) ∷ [] in
       let len : length (take c w.entries ++ Boot boot ∷ []) ≡ c + 1 = (let a = length-append (take c w.entries) (Boot boot ∷ []) in omega (arith, a, front_len)) in
-      let kept = fresh_kept boot some (take c w.entries) now (w.steps + 1) false (lawful-take core laws c w.entries is.lawful)
+      let kept = fresh_kept boot some (take c w.entries) now (w.steps + 1) false (λ k. all_taken (w.hosts k)) (λ k. (w.addresses k).earlier ++ (w.addresses k).sent ∷ []) (lawful-take core laws c w.entries is.lawful)
       (let a = length-append (take c w.made) ((w.steps + 1) ∷ []) in let b = length-front c w.made (ends-le m w.made) in omega (arith, a, b, len))
       (by-snoc (w.steps + 1) (w.steps + 1) (take c w.made) (omega arith) (by-more w.steps (w.steps + 1) (take c w.made) (omega arith) (by-take w.steps c w.made is.by))) in
-      subst (λ (o : ℕ). Sound core (record { entries = take c w.entries ++ Boot boot ∷ []; made = now; opened = o; steps = w.steps + 1; flushed = w.steps + 1; broken = false; hosts = λ k. fresh_host; addresses = λ k. fresh_address })) len kept
+      subst (λ (o : ℕ). Sound core (record { entries = take c w.entries ++ Boot boot ∷ []; made = now; opened = o; steps = w.steps + 1; flushed = w.steps + 1; broken = false; hosts = λ k. host_with (all_taken (w.hosts k)); addresses = λ k. address_with ((w.addresses k).earlier ++ (w.addresses k).sent ∷ []) })) len kept
 
   -- the first reply that is not taken, by whether there is one
   took_kept : (w : World) (h : List ℕ) (next : Option Said) → Sound core w → slice_get (w.hosts h).said (w.hosts h).taken ≡ next → Sound core (counted (took w h next))
@@ -401,7 +401,7 @@ module _ (core : Core) (laws : Laws core) where
 
   emits_at : (w : World) (a : Jid) (flight : Flight) (next : Option Notice) → Sound core w → (w.addresses a).flight ≡ flight → slice_get (core.notices w.entries a) (handed w.entries a) ≡ next → Sound core (counted (emits w a flight next))
   emits_at w a Nothing (Some n) is idle got =
-      chosen (λ v. Sound core (counted v)) (nat_lt n.place (durable w)) (record w { addresses = at_address a (λ part. record { sent = part.sent ++ n ∷ []; flight = Unrecorded }) w.addresses }) w
+      chosen (λ v. Sound core (counted v)) (nat_lt n.place (durable w)) (record w { addresses = at_address a (λ part. record part { sent = part.sent ++ n ∷ []; flight = Unrecorded }) w.addresses }) w
       (λ t. emits_kept w a n is idle got (lt_from n.place (durable w) t)) (λ t. counts w is)
   emits_at w a Nothing None is idle got = counts w is
   emits_at w a Unrecorded next is idle got = counts w is
@@ -433,7 +433,7 @@ module _ (core : Core) (laws : Laws core) where
   run_kept boot some w (s ∷ ss) is = run_kept boot some (happens core boot w s) ss (happens_kept boot some w s is)
 
   pub start_kept : (boot : List ℕ) → boot ≢ [] → (E : List Entry) → IsLawful core E → Sound core (start core boot E)
-  start_kept boot some E ok = fresh_kept boot some E (zeros (E ++ Boot boot ∷ [])) 0 false ok (length-zeros (E ++ Boot boot ∷ [])) (by-zeros (E ++ Boot boot ∷ []))
+  start_kept boot some E ok = fresh_kept boot some E (zeros (E ++ Boot boot ∷ [])) 0 false (λ k. []) (λ k. []) ok (length-zeros (E ++ Boot boot ∷ [])) (by-zeros (E ++ Boot boot ∷ []))
 
   -- after every list of steps
   pub world_kept : (boot : List ℕ) → boot ≢ [] → (E : List Entry) (steps : List Step) → IsLawful core E → Sound core (world core boot E steps)

@@ -78,7 +78,7 @@ module _ (core : Core) (laws : Laws core) (E : List Entry) (made : List ℕ) (n 
   pub notices-later : (a : Jid) → (rest : List Notice) × (core.notices F a ≡ core.notices E a ++ rest)
   notices-later a = let b = begins core laws E (as_list more) a in (b.more, ap (λ r. core.notices r a) x.after ∙ b.after)
 
-  pub address-later : (opened f f_now : ℕ) (a : Jid) (part : AddressPart) (flight : Flight) → opened ≤ ends f made → f ≤ f_now → f_now ≤ n → handed F a + behind flight (n + 1) ≡ handed E a + behind part.flight n → ((k : ℕ) → f_now ≤ k → k ≤ n → behind flight k ≡ behind part.flight k) → IsBy flight (n + 1) → AddressSound core E made opened n f a part → AddressSound core F now opened (n + 1) f_now a (record { sent = part.sent; flight = flight })
+  pub address-later : (opened f f_now : ℕ) (a : Jid) (part : AddressPart) (flight : Flight) → opened ≤ ends f made → f ≤ f_now → f_now ≤ n → handed F a + behind flight (n + 1) ≡ handed E a + behind part.flight n → ((k : ℕ) → f_now ≤ k → k ≤ n → behind flight k ≡ behind part.flight k) → IsBy flight (n + 1) → AddressSound core E made opened n f a part → AddressSound core F now opened (n + 1) f_now a (record part { flight = flight })
   address-later opened f f_now a part flight open_in l fits last same by is =
       let open_le : opened ≤ length E = let le = ends-le f made in omega (arith, le, x.before, open_in) in
       let base : take opened F ≡ take opened E = front opened open_le in

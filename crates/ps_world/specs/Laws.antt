@@ -1,22 +1,22 @@
--- The laws of the machine over the service, for every list of steps and any number of hosts.
+-- The laws of the machine over a service, for every list of steps, with any number of crashes and of hosts.
 use Rattle.std.specs.Prelude.{◌≢◌, ℕ, ◌≤◌, ◌++◌, ◌∷◌, [], List}
 use Rattle.ps_types.specs.declared.entry.Entry.{Entry}
+use Rattle.ps_types.specs.declared.entry.Entry.TheVariants.{Boot}
 use Rattle.ps_model.specs.declared.steps.Step.{Step}
 use Rattle.ps_model.specs.declared.steps.Step.TheVariants.{Crash}
 use Rattle.ps_model.specs.Core.{Core}
-use Rattle.ps_model.specs.CoreLaws.{Laws, IsLawful}
-use Rattle.ps_model.specs.Machine as machine
-use Rattle.ps_model.specs.TheCore.{the_core, world}
-use Rattle.ps_world.specs.Holds.{WorldHolds, CrashHolds}
+use Rattle.ps_model.specs.CoreLaws.{IsLawful}
+use Rattle.ps_model.specs.Machine.{world}
+use Rattle.ps_world.specs.Holds.{CrashHolds, StillHolds, WorldHolds}
 
 -- begun with a lawful list and a boot of the service, what is said and sent after these steps is what the list says
-abbrev pub EachRunHolds : Type 0
-EachRunHolds = (E : List Entry) (service : List ℕ) (steps : List Step) → IsLawful the_core E → service ≢ [] → WorldHolds the_core (world E service steps)
+abbrev pub EachRunHolds : Core → Type 0
+EachRunHolds core = (E : List Entry) (service : List ℕ) (steps : List Step) → IsLawful core E → service ≢ [] → WorldHolds core (E ++ Boot service ∷ []) (world core service E steps)
 
--- and a crash that follows, which leaves any number of steps from the flushed ones on, takes none of it away
-abbrev pub EachCrashHolds : Type 0
-EachCrashHolds = (E : List Entry) (service : List ℕ) (steps : List Step) (m : ℕ) → IsLawful the_core E → service ≢ [] → (let w = world E service steps in w.flushed ≤ m → m ≤ w.steps → CrashHolds the_core w (world E service (steps ++ Crash m ∷ [])))
+-- and steps that follow, with any number of crashes, take none of it away
+abbrev pub EachStepStays : Core → Type 0
+EachStepStays core = (E : List Entry) (service : List ℕ) (steps more : List Step) → IsLawful core E → service ≢ [] → StillHolds core (world core service E steps) (world core service E (steps ++ more))
 
--- the same of every service that keeps what the laws rest on
-abbrev pub EachServiceHolds : Type 0
-EachServiceHolds = (core : Core) → Laws core → (E : List Entry) (service : List ℕ) (steps : List Step) → IsLawful core E → service ≢ [] → WorldHolds core (machine.world core service E steps)
+-- nor does one crash, which leaves any number of steps from the flushed ones on, and repeats at most one notice of an address
+abbrev pub EachCrashHolds : Core → Type 0
+EachCrashHolds core = (E : List Entry) (service : List ℕ) (steps : List Step) (m : ℕ) → IsLawful core E → service ≢ [] → (let w = world core service E steps in w.flushed ≤ m → m ≤ w.steps → CrashHolds core w (world core service E (steps ++ Crash m ∷ [])))

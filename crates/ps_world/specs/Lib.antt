@@ -1,3 +1,4 @@
 pub mod Sound
+pub mod Lasting
 pub mod Holds
 pub mod Laws

@@ -1,11 +1,13 @@
 //! The laws of the machine of steps that `ps_model` defines, for every list of steps and any number of hosts.
 //!
-//! `specs/Laws.antt` has the laws: `EachRunHolds` and `EachCrashHolds`. `specs/Holds.antt` says what they promise of a world: `IsReleased` (a reply whose line is flushed),
-//! `IsSaidIn` (it is the service's reply at its place, and its line's entry stands there), `WorldHolds` and `CrashHolds`. `specs/Sound.antt` has the invariant that each step keeps.
+//! `specs/Laws.antt` has the laws, of any service: `EachRunHolds`, `EachStepStays` and `EachCrashHolds`. `specs/Holds.antt` says what they promise of a world: `IsReleased`
+//! (a reply whose line is flushed), `IsSaidIn` (it is the service's reply at its place, and its line's entry stands there), `AreRounds` (what was sent from one boot to
+//! the next), `WorldHolds` (at any time), `StillHolds` (after any more steps, crashes among them) and `CrashHolds` (after one crash). `specs/Sound.antt` and
+//! `specs/Lasting.antt` have the invariants that each step keeps.
 //!
 //! Each function here has an empty body: its contract is the law.
 #![tactic(auto)]
 
 mod laws;
 
-pub use laws::{each_crash_holds, each_run_holds, each_service_holds};
+pub use laws::{each_crash_holds, each_run_holds, each_service_holds, each_step_stays};

@@ -30,8 +30,20 @@ impl Annals for Diary {
 
     ghost maker = { λ entry. entry.by };
 
+    ghost firm = { λ diary. 0 };
+
+    ghost mark = { λ diary. (0, 0) };
+
     fn length(&self) -> u64 {
         self.entries.len() as u64
+    }
+
+    fn firm(&self) -> u64 {
+        0
+    }
+
+    fn mark(&self) -> (u64, u64) {
+        (0, 0)
     }
 }
 

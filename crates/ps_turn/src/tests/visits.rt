@@ -33,8 +33,20 @@ impl Annals for Visits {
 
     ghost maker = { λ visit. visit.by };
 
+    ghost firm = { λ visits. 0 };
+
+    ghost mark = { λ visits. (0, 0) };
+
     fn length(&self) -> u64 {
         self.count
+    }
+
+    fn firm(&self) -> u64 {
+        0
+    }
+
+    fn mark(&self) -> (u64, u64) {
+        (0, 0)
     }
 }
 

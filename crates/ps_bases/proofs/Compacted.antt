@@ -1,0 +1,126 @@
+-- A list and its compacted one, each followed by entries that begin with a boot.
+use Rattle.std.proofs.Common.{◌≡◌, ℕ, zero, suc, ◌≤◌, Bool, true, false, cond, List, [], ◌∷◌, ◌++◌, length, map, drop, filter, Option, Some, refl, sym, ap, ap₂, subst, ◌∙◌, arith}
+use Rattle.std.specs.List.{flat_map}
+use Rattle.ps_types.specs.Same.{same_bare}
+use Rattle.ps_types.specs.declared.entry.Entry.{Entry}
+use Rattle.ps_types.specs.declared.entry.Entry.TheVariants.{Boot, Base}
+use Rattle.ps_types.specs.declared.entry.Notice.{Notice}
+use Rattle.ps_types.specs.declared.event.Event.{Event}
+use Rattle.ps_types.specs.declared.jid.Jid.{Jid}
+use Rattle.ps_model.specs.After as step
+use Rattle.ps_model.specs.Base.{base_of, rows_of, told_addresses, unhanded}
+use Rattle.ps_model.specs.BaseAfter.{is_well_formed}
+use Rattle.ps_model.specs.BaseRows.{BaseRow, row_tree}
+use Rattle.ps_model.specs.Book.{Book, State, empty_state}
+use Rattle.ps_model.specs.Core.{handed}
+use Rattle.ps_model.specs.Numbered.{row_notices}
+use Rattle.ps_model.specs.Replay.{lawful_by, notices_from, of_bare, replay_from, to_address}
+use Rattle.ps_model.specs.Replies.{reply_to, entry_of}
+use Rattle.ps_model.proofs.Going.{notices-append, replay-append}
+use Rattle.ps_bases.specs.Laws.{ReadBack, ServesOn}
+use Rattle.ps_bases.specs.Told.{Told, told_of}
+use Rattle.ps_bases.proofs.Like.{IsAsleep, IsLike}
+use Rattle.std.specs.List.{AllByRecursion as Each}
+use Rattle.ps_bases.proofs.Placed.{lawful-join, lawful-split, base_entries, with_row, with_rows}
+use Rattle.ps_bases.proofs.Alike.{address-told, like-lawful, like-replay, like-told, map-append, woken}
+use Rattle.ps_bases.proofs.Folds.{rows-lawful, rows-replay}
+use Rattle.ps_bases.proofs.Numbering.{notices_by}
+use Rattle.ps_bases.proofs.Whole.{AreSoundNumbers, IsSoundBook, rebuilt-whole}
+
+pub filter-append : (p : Notice → Bool) (xs ys : List Notice) → filter p (xs ++ ys) ≡ filter p xs ++ filter p ys
+filter-append p [] ys = refl
+filter-append p (x ∷ xs) ys = at (p x) (filter-append p xs ys)
+  where
+    at : (b : Bool) → filter p (xs ++ ys) ≡ filter p xs ++ filter p ys → cond b (x ∷ filter p (xs ++ ys)) (filter p (xs ++ ys)) ≡ cond b (x ∷ filter p xs) (filter p xs) ++ filter p ys
+    at true h = ap (λ ns. x ∷ ns) h
+    at false h = h
+
+bare-append : (resource : List ℕ) (xs ys : List Notice) → of_bare resource (xs ++ ys) ≡ of_bare resource xs ++ of_bare resource ys
+bare-append [] xs ys = refl
+bare-append (x ∷ resource) xs ys = refl
+
+to-append : (a : Jid) (xs ys : List Notice) → to_address a (xs ++ ys) ≡ to_address a xs ++ to_address a ys
+to-append a xs ys = ap (of_bare a.resource) (filter-append (λ n. same_bare n.to a) xs ys) ∙ bare-append a.resource (filter (λ n. same_bare n.to a) xs) (filter (λ n. same_bare n.to a) ys)
+
+to-none : (resource : List ℕ) → of_bare resource [] ≡ []
+to-none [] = refl
+to-none (x ∷ resource) = refl
+
+turn-told : (x y z w : List Notice) → map told_of x ≡ map told_of y → map told_of z ≡ map told_of w → map told_of (x ++ z) ≡ map told_of (y ++ w)
+turn-told x y z w p q = map-append told_of x z ∙ ap₂ (λ (a b : List Told). a ++ b) p q ∙ sym (map-append told_of y w)
+
+drop-front : (k : ℕ) (xs ys : List Notice) → k ≤ length xs → drop k (xs ++ ys) ≡ drop k xs ++ ys
+drop-front zero xs ys few = refl
+drop-front (suc k) [] ys few = absurd (over k few)
+  where
+    over : (k : ℕ) → suc k ≤ 0 → ⊥
+    over k h = omega (arith, h)
+drop-front (suc k) (x ∷ xs) ys few = drop-front k xs ys (less k (length xs) few)
+  where
+    less : (k n : ℕ) → suc k ≤ suc n → k ≤ n
+    less k n h = omega (arith, h)
+
+module _ (telling : Event → Bool) where
+  row-entry : (r : BaseRow) (s : State) → ReadBack r → step.after telling s (Base (row_tree r)) ≡ with_row s r
+  row-entry r s reads = rows-replay telling (r ∷ []) s (reads, tt)
+
+  -- the notices of the rows, by address
+  rows-notices : (rows : List BaseRow) (s : State) (a : Jid) → Each ReadBack rows → notices_from telling s (base_entries rows) a ≡ to_address a (notices_by s rows)
+  rows-notices [] s a reads = sym (to-none a.resource)
+  rows-notices (r ∷ rows) s a reads =
+      ap₂ (λ (o : Option BaseRow) (x : State). to_address a (row_notices s.count s.tallies o) ++ notices_from telling x (base_entries rows) a) reads.0 (row-entry r s reads.0)
+      ∙ ap (λ (ns : List Notice). to_address a (row_notices s.count s.tallies (Some r)) ++ ns) (rows-notices rows (with_row s r) a reads.1)
+      ∙ sym (to-append a (row_notices s.count s.tallies (Some r)) (notices_by (with_row s r) rows))
+
+  turned-asleep : (s t : State) → IsAsleep s t → IsAsleep t s
+  turned-asleep s t is = record { book = sym is.book; numbers = record { made = λ a. sym (is.numbers.made a); handed = λ a. sym (is.numbers.handed a) } }
+
+  -- a boot itself gives no notice
+  boot-told : (service : List ℕ) (F : List Entry) (s t : State) (a : Jid) → IsLike (step.after telling t (Boot service)) (step.after telling s (Boot service))
+      → map told_of (notices_from telling t (Boot service ∷ F) a) ≡ map told_of (notices_from telling s (Boot service ∷ F) a)
+  boot-told service F s t a like =
+      let x = notices_from telling (step.after telling t (Boot service)) F a in
+      let y = notices_from telling (step.after telling s (Boot service)) F a in
+      ap (λ (ns : List Notice). map told_of (ns ++ x)) (to-none a.resource) ∙ like-told telling F (step.after telling t (Boot service)) (step.after telling s (Boot service)) like a
+      ∙ sym (ap (λ (ns : List Notice). map told_of (ns ++ y)) (to-none a.resource))
+
+  pub serves-on : (E : List Entry) → lawful_by telling E → IsSoundBook (replay_from telling empty_state E).book → AreSoundNumbers (replay_from telling empty_state E).tallies (unhanded telling E) → Each ReadBack (rows_of telling E) → Each (λ r. is_well_formed r ≡ true) (rows_of telling E)
+      → ((a : Jid) → handed E a ≤ length (notices_from telling empty_state E a))
+      → ((a : Jid) → to_address a (flat_map (unhanded telling E) (told_addresses (replay_from telling empty_state E).tallies)) ≡ unhanded telling E a)
+      → ServesOn telling E (base_of telling E)
+  serves-on E is sound numbers reads formed few own =
+      let s = replay_from telling empty_state E in
+      let rows = rows_of telling E in
+      let B = base_of telling E in
+      let whole = rebuilt-whole s (unhanded telling E) sound numbers in
+      let t = replay_from telling empty_state B in
+      let at : t ≡ with_rows empty_state rows = rows-replay telling rows empty_state reads in
+      let asleep : IsAsleep s t = subst (λ (x : State). IsAsleep s x) (sym at) whole.asleep in
+      let lawful-base : lawful_by telling B = rows-lawful telling rows empty_state refl reads formed whole.accepted in
+      let like : (service : List ℕ) → IsLike (step.after telling s (Boot service)) (step.after telling t (Boot service)) = λ service. woken telling service s t asleep in
+      let ekil : (service : List ℕ) → IsLike (step.after telling t (Boot service)) (step.after telling s (Boot service)) = λ service. woken telling service t s (turned-asleep s t asleep) in
+      let books : (service : List ℕ) (F : List Entry) → (replay_from telling empty_state (E ++ Boot service ∷ F)).book ≡ (replay_from telling empty_state (B ++ Boot service ∷ F)).book =
+      λ service F. ap (λ (x : State). x.book) (replay-append telling E (Boot service ∷ F) empty_state)
+      ∙ (like-replay telling F (step.after telling s (Boot service)) (step.after telling t (Boot service)) (like service)).book
+      ∙ sym (ap (λ (x : State). x.book) (replay-append telling B (Boot service ∷ F) empty_state)) in
+      record {
+        forth = λ service F all.
+            let rest = (lawful-split telling E (Boot service ∷ F) empty_state all).1 in
+            lawful-join telling B (Boot service ∷ F) empty_state lawful-base (rest.0, like-lawful telling F (step.after telling s (Boot service)) (step.after telling t (Boot service)) (like service) rest.1);
+        back = λ service F all.
+            let rest = (lawful-split telling B (Boot service ∷ F) empty_state all).1 in
+            lawful-join telling E (Boot service ∷ F) empty_state is (rest.0, like-lawful telling F (step.after telling t (Boot service)) (step.after telling s (Boot service)) (ekil service) rest.1);
+        replies = λ service F host line arrival full. ap (λ (b : Book). reply_to host b line arrival full) (books service F);
+        entries = λ service F host line arrival full. ap (λ (b : Book). entry_of host b line arrival full) (books service F);
+        notices = λ service F a.
+            let after-E = notices_from telling s (Boot service ∷ F) a in
+            let after-B = notices_from telling t (Boot service ∷ F) a in
+            let old : map told_of (notices_from telling empty_state B a) ≡ map told_of (unhanded telling E a) =
+            ap (map told_of) (rows-notices rows empty_state a reads)
+            ∙ address-told a (notices_by empty_state rows) (flat_map (unhanded telling E) (told_addresses s.tallies)) whole.told
+            ∙ ap (map told_of) (own a) in
+            let new : map told_of after-B ≡ map told_of after-E = boot-told service F s t a (ekil service) in
+            ap (map told_of) (notices-append telling B (Boot service ∷ F) empty_state a)
+            ∙ turn-told (notices_from telling empty_state B a) (unhanded telling E a) after-B after-E old new
+            ∙ ap (map told_of) (sym (ap (drop (handed E a)) (notices-append telling E (Boot service ∷ F) empty_state a) ∙ drop-front (handed E a) (notices_from telling empty_state E a) after-E (few a)));
+      }

@@ -1,0 +1,15 @@
+pub mod Placed
+pub mod Like
+pub mod Alike
+pub mod Folds
+pub mod Linking
+pub mod Others
+pub mod Numbering
+pub mod Whole
+pub mod Compacted
+pub mod Counted
+pub mod Numerals
+pub mod Sorting
+pub mod TallyRows
+pub mod Rooms
+pub mod ServesOn

@@ -1,0 +1,12 @@
+pub mod Parts
+pub mod Keys
+pub mod Naming
+pub mod Keyed
+pub mod KeyedKinds
+pub mod LinkedKinds
+pub mod RowedKinds
+pub mod LeafKinds
+pub mod Reached
+pub mod Kept
+pub mod FormedKinds
+pub mod Formed

@@ -1,0 +1,5 @@
+pub mod Keys
+pub mod Laws
+pub mod Linked
+pub mod Rows
+pub mod Sound

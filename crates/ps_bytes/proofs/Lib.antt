@@ -1,0 +1,4 @@
+pub mod BasesHold
+pub mod Frames
+pub mod GoingOn
+pub mod StoresHold

@@ -1,0 +1,14 @@
+use Rattle.std.proofs.Common.{◌≡◌, ◌++◌, length, map}
+use Rattle.std.specs.Prelude.{codes}
+use Rattle.ps_types.specs.CapString.{identity_of}
+use Rattle.ps_types.specs.Elem.{nodes}
+use Rattle.ps_types.specs.Namespaces.{info_ns}
+use Rattle.ps_types.specs.Shape.{children_of}
+use Rattle.ps_forms.proofs.Children.{named}
+use Rattle.ps_caps.proofs.info.identities_of.Given as goal
+
+abbrev pub invariant-loop-child : goal.invariant-loop-child
+invariant-loop-child l = l.identities ++ map identity_of (named (codes "identity") info_ns (nodes l.rest)) ≡ map identity_of (children_of (codes "identity") info_ns l.query)
+
+abbrev pub decreases-loop-child : goal.decreases-loop-child
+decreases-loop-child l = length l.rest

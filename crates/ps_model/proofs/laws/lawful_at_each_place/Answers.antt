@@ -1,0 +1,9 @@
+use Rattle.ps_model.proofs.TheLaws.{of-places, of-todays-places, places-of, todays-lawful, todays-places}
+use Rattle.ps_model.proofs.laws.lawful_at_each_place.Goals as goal
+
+pub returns : goal.returns
+returns c = record {
+  told = λ told E. (places-of told E, of-places told E);
+  today = λ E. (todays-places E, of-todays-places E);
+  stays = todays-lawful;
+}

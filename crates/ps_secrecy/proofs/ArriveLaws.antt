@@ -1,0 +1,185 @@
+-- A line, or a pair of lines, in both worlds.
+use Rattle.std.proofs.Common.{◌≡◌, ℕ, Bool, true, false, cond, List, [], Option, Some, None, refl, sym, ap, ◌∙◌, subst}
+use Rattle.std.specs.Prelude.{Result, Ok, Err, codes, bytes_eq}
+use Rattle.std.specs.List.{list_all}
+use Rattle.ps_types.specs.declared.denial.Condition.{Condition}
+use Rattle.ps_types.specs.declared.denial.Condition.TheVariants.{C25}
+use Rattle.ps_types.specs.declared.denial.LineRefusal.{LineRefusal}
+use Rattle.ps_types.specs.declared.denial.LineRefusal.TheVariants.{L6, L7}
+use Rattle.ps_types.specs.declared.entry.Arrival.{Arrival}
+use Rattle.ps_types.specs.declared.entry.Arrival.TheVariants as arrival
+use Rattle.ps_types.specs.declared.entry.Entry.{Entry}
+use Rattle.ps_types.specs.declared.entry.Entry.TheVariants.{Change}
+use Rattle.ps_types.specs.declared.jid.Jid.{Jid}
+use Rattle.ps_types.specs.declared.node.NodeKey.{NodeKey}
+use Rattle.ps_types.specs.declared.request.Ask.{Ask}
+use Rattle.ps_types.specs.declared.request.Request.{Request}
+use Rattle.ps_types.specs.Shape.{attr_text}
+use Rattle.ps_types.specs.LineTree.{line_tree}
+use Rattle.ps_types.specs.Nodes.{stands}
+use Rattle.ps_types.specs.Same.{same_bare}
+use Rattle.ps_types.specs.Tree.{Tree}
+use Rattle.ps_model.specs.After.{after, notices_at, request_on}
+use Rattle.ps_model.specs.Asking.{ask_of}
+use Rattle.ps_model.specs.Book.{Book, State}
+use Rattle.ps_model.specs.CheckForms.{node_of}
+use Rattle.ps_model.specs.Replies.{moment_of, outcome_reply}
+use Rattle.ps_model.specs.Stanza.{is_served, is_stanza, jid_of, target_of}
+use Rattle.ps_model.specs.Taken.{Taken}
+use Rattle.ps_model.specs.Taken as taken
+use Rattle.ps_model.specs.Taking.{ask_taken, head_of, is_white, request_in, result_taken, sender_taken, target_taken, tree_taken}
+use Rattle.ps_model.specs.Taking as taking
+use Rattle.ps_model.specs.TwoWorlds.{IsShutOut, SameBut, Touches, is_in}
+use Rattle.ps_secrecy.proofs.Choice.{Choice, makes, verdict}
+use Rattle.ps_model.specs.Heard.{heard}
+use Rattle.ps_model.specs.Heard.{is_from}
+use Rattle.ps_secrecy.specs.Alike.{added, notes}
+use Rattle.ps_secrecy.proofs.Lined.{entry_in, reply_in, line_entry, line_to}
+use Rattle.ps_secrecy.proofs.Stepped.{stepped}
+use Rattle.ps_secrecy.proofs.Twin.{Beside}
+use Rattle.ps_secrecy.proofs.ChangeLaws.{by-twin}
+use Rattle.ps_secrecy.proofs.CheckLaws.{judged-same}
+use Rattle.ps_secrecy.proofs.SameLaws.{nodes-are}
+use Rattle.ps_secrecy.specs.Alike.{LookAlike}
+use Rattle.ps_secrecy.proofs.StepLaws.{Touch, beside-of, change-on, pair-on}
+
+-- ---- the tree of a request is read as the request again
+
+asked-tree : (o : Result Ask Condition) (u t : Tree) (from target : Jid) (r : Request) → ask_taken u from target o ≡ taken.asked t r → u ≡ t
+asked-tree (Err why) u t from target r e = absurd (cc e)
+asked-tree (Ok ask) u t from target r e = cc e
+
+target-tree : (service : List ℕ) (o : Option Jid) (u t : Tree) (from : Jid) (r : Request) → target_taken service u from o ≡ taken.asked t r → u ≡ t
+target-tree service None u t from r e = absurd (cc e)
+target-tree service (Some target) u t from r e = by (is_served service target) e
+  where
+    by : (b : Bool) → cond b (ask_taken u from target (ask_of service u from target)) (taken.denied (head_of u from target) C25) ≡ taken.asked t r → u ≡ t
+    by true e = asked-tree (ask_of service u from target) u t from target r e
+    by false e = absurd (cc e)
+
+sender-tree : (host service : List ℕ) (o : Option Jid) (u t : Tree) (r : Request) → sender_taken host service u o ≡ taken.asked t r → u ≡ t
+sender-tree host service None u t r e = absurd (cc e)
+sender-tree host service (Some from) u t r e = by (bytes_eq from.host host) (is_stanza u) e
+  where
+    by : (b c : Bool) → cond b (cond c (target_taken service u from (target_of u from)) (taken.refused L7)) (taken.refused L6) ≡ taken.asked t r → u ≡ t
+    by true true e = target-tree service (target_of u from) u t from r e
+    by true false e = absurd (cc e)
+    by false c e = absurd (cc e)
+
+tree-tree : (host service : List ℕ) (u t : Tree) (r : Request) → tree_taken host service u ≡ taken.asked t r → u ≡ t
+tree-tree host service u t r e =
+    let o = jid_of (attr_text (codes "from") u) in
+    sender-tree host service o u t r e
+
+line-tree : (host service : List ℕ) (o : Result Tree LineRefusal) (t : Tree) (r : Request) → result_taken host service o ≡ taken.asked t r → tree_taken host service t ≡ taken.asked t r
+line-tree host service (Err why) t r e = absurd (cc e)
+line-tree host service (Ok u) t r e = subst (λ (v : Tree). tree_taken host service v ≡ taken.asked t r) (tree-tree host service u t r e) e
+
+pub arrival-tree : (host service : List ℕ) (a : Arrival) (t : Tree) (r : Request) → taking.taken host service a ≡ taken.asked t r → tree_taken host service t ≡ taken.asked t r
+arrival-tree host service arrival.TooLong t r e = absurd (cc e)
+arrival-tree host service (arrival.Line bytes moment) t r e = by (list_all is_white bytes) e
+  where
+    by : (b : Bool) → cond b taken.silent (result_taken host service (line_tree bytes)) ≡ taken.asked t r → tree_taken host service t ≡ taken.asked t r
+    by true e = absurd (cc e)
+    by false e = line-tree host service (line_tree bytes) t r e
+
+on-tree : (host : List ℕ) (book : Book) (line : Arrival) (t : Tree) (r : Request) → taking.taken host book.service line ≡ taken.asked t r → request_on host book t ≡ Some r
+on-tree host book line t r e = ap request_in (arrival-tree host book.service line t r e)
+
+-- ---- where the entry is made
+
+added-is : (choice : Choice) (s : State) (b : Bool) (e : Entry) → added choice.told s (cond b (Some e) None) ≡ cond b (after choice.told s e) s
+added-is choice s true e = refl
+added-is choice s false e = refl
+
+notes-is : (choice : Choice) (s : State) (b : Bool) (e : Entry) → notes choice.told s (cond b (Some e) None) ≡ cond b (notices_at choice.told s e) []
+notes-is choice s true e = refl
+notes-is choice s false e = refl
+
+module _ (S : List NodeKey) (a : Jid) where
+  -- the two worlds after what the lines made
+  abbrev pub Ends : Choice → State → State → Option Entry → Option Entry → Type 0
+  Ends choice s t o p = LookAlike S a (added choice.told s o) (added choice.told t p) (notes choice.told s o) (notes choice.told t p)
+
+  one-line : (choice : Choice) (s t : State) → SameBut S a s t → (host : List ℕ) (line line2 : ℕ) (m : Option ℕ) (x : Taken)
+      → ((u : Tree) (r : Request) → x ≡ taken.asked u r → (request_on host s.book u ≡ Some r) × (request_on host t.book u ≡ Some r))
+      → IsShutOut S a (added choice.told s (entry_in choice x host s.book line m)).book → IsShutOut S a (added choice.told t (entry_in choice x host t.book line2 m)).book
+      → Ends choice s t (entry_in choice x host s.book line m) (entry_in choice x host t.book line2 m)
+  one-line choice s t h host line line2 m taken.silent on shut shut2 = record { same = h; hear = refl }
+  one-line choice s t h host line line2 m (taken.refused why) on shut shut2 = record { same = h; hear = refl }
+  one-line choice s t h host line line2 m (taken.denied head why) on shut shut2 = record { same = h; hear = refl }
+  one-line choice s t h host line line2 m (taken.asked u r) on shut shut2 =
+      let e = Change host line m u in
+      let f = Change host line2 m u in
+      let p = on u r refl in
+      let b = added-is choice s (makes choice s.book r) e in
+      let c = added-is choice t (makes choice t.book r) f in
+      let k = change-on S a nodes-are choice s t h m r host host line line2 u u p.0 p.1 (subst (λ (w : State). IsShutOut S a w.book) b shut) (subst (λ (w : State). IsShutOut S a w.book) c shut2) in
+      record {
+        same = subst (λ (w : State). SameBut S a w (added choice.told t (cond (makes choice t.book r) (Some f) None))) (sym b) (subst (λ (w : State). SameBut S a (stepped choice s r e) w) (sym c) k.same);
+        hear = ap (heard a) (notes-is choice s (makes choice s.book r) e) ∙ k.hear ∙ ap (heard a) (sym (notes-is choice t (makes choice t.book r) f));
+      }
+
+  -- ---- one line in both worlds
+
+  pub line-on : (choice : Choice) (s t : State) → SameBut S a s t → (host : List ℕ) (line line2 : ℕ) (one : Arrival)
+      → IsShutOut S a (added choice.told s (line_entry choice s host line one)).book → IsShutOut S a (added choice.told t (line_entry choice t host line2 one)).book
+      → Ends choice s t (line_entry choice s host line one) (line_entry choice t host line2 one)
+  line-on choice s t h host line line2 one shut shut2 =
+      let x = taking.taken host s.book.service one in
+      let y = taking.taken host t.book.service one in
+      let e : x ≡ y = ap (λ (service : List ℕ). taking.taken host service one) h.service in
+      let m = moment_of one in
+      subst (λ (z : Taken). LookAlike S a (added choice.told s (entry_in choice x host s.book line m)) (added choice.told t (entry_in choice z host t.book line2 m)) (notes choice.told s (entry_in choice x host s.book line m)) (notes choice.told t (entry_in choice z host t.book line2 m))) e
+      (one-line choice s t h host line line2 m x (λ u r is. (on-tree host s.book one u r is, on-tree host t.book one u r (sym e ∙ is))) shut
+      (subst (λ (z : Taken). IsShutOut S a (added choice.told t (entry_in choice z host t.book line2 m)).book) (sym e) shut2))
+
+  -- ---- the reply to one who is shut out
+
+  judged-there : (choice : Choice) (x y : Book) → Beside S a x y → IsShutOut S a x → (r : Request) → same_bare r.from a ≡ true → verdict choice x r ≡ verdict choice y r
+  judged-there choice x y h shut r same = by-twin S a (λ (b : Book). verdict choice x r ≡ verdict choice b r) x y h (λ i c is ks. ap (choice.wrap x.service r) (sym (judged-same S a x shut i c is ks choice.limits r same)))
+
+  reply-by : (choice : Choice) (s t : State) → SameBut S a s t → (line : ℕ) (x : Taken) (b : Bool) → is_from a x ≡ b → cond b (reply_in choice x s.book line) None ≡ cond b (reply_in choice x t.book line) None
+  reply-by choice s t h line x false is = refl
+  reply-by choice s t h line taken.silent true is = refl
+  reply-by choice s t h line (taken.refused why) true is = refl
+  reply-by choice s t h line (taken.denied head why) true is = refl
+  reply-by choice s t h line (taken.asked u r) true is = ap (outcome_reply u r false) (judged-there choice s.book t.book (beside-of S a s t h) h.shut_out r is)
+
+  pub reply-on : (choice : Choice) (s t : State) → SameBut S a s t → (host : List ℕ) (line : ℕ) (one : Arrival) → line_to choice a s host line one ≡ line_to choice a t host line one
+  reply-on choice s t h host line one =
+      reply-by choice s t h line (taking.taken host s.book.service one) (is_from a (taking.taken host s.book.service one)) refl
+      ∙ ap (λ (service : List ℕ). cond (is_from a (taking.taken host service one)) (reply_in choice (taking.taken host service one) t.book line) None) h.service
+
+  -- ---- two lines of others for the items of one node of these
+
+  touch-of : (s : State) (host : List ℕ) (one : Arrival) (node : NodeKey) (p : Touches S a s host one node) → Touch S a s.book p.request
+  touch-of s host one node p =
+      let e : node_of p.request node.name ≡ node = λ i. record { service = p.service i; name = node.name } in
+      record { name = node.name; asks = p.name; is_one = ap (is_in S) e ∙ p.is_one; there = ap (λ (n : NodeKey). stands n s.book.nodes) e ∙ p.stands; other = p.other }
+
+  entry-is : (choice : Choice) (s : State) (host : List ℕ) (line : ℕ) (one : Arrival) (u : Tree) (r : Request) → taking.taken host s.book.service one ≡ taken.asked u r
+      → line_entry choice s host line one ≡ cond (makes choice s.book r) (Some (Change host line (moment_of one) u)) None
+  entry-is choice s host line one u r e = ap (λ (x : Taken). entry_in choice x host s.book line (moment_of one)) e
+
+  pub lines-on : (choice : Choice) (s t : State) → SameBut S a s t → (host : List ℕ) (node : NodeKey) (line line2 : ℕ) (one two : Arrival) → Touches S a s host one node → Touches S a t host two node
+      → IsShutOut S a (added choice.told s (line_entry choice s host line one)).book → IsShutOut S a (added choice.told t (line_entry choice t host line2 two)).book
+      → Ends choice s t (line_entry choice s host line one) (line_entry choice t host line2 two)
+  lines-on choice s t h host node line line2 one two p q shut shut2 =
+      let e = Change host line (moment_of one) p.tree in
+      let f = Change host line2 (moment_of two) q.tree in
+      let b : added choice.told s (line_entry choice s host line one) ≡ stepped choice s p.request e = ap (added choice.told s) (entry-is choice s host line one p.tree p.request p.is_taken) ∙ added-is choice s (makes choice s.book p.request) e in
+      let c : added choice.told t (line_entry choice t host line2 two) ≡ stepped choice t q.request f = ap (added choice.told t) (entry-is choice t host line2 two q.tree q.request q.is_taken) ∙ added-is choice t (makes choice t.book q.request) f in
+      let k = pair-on S a choice s t h (moment_of one) (moment_of two) p.request q.request host host line line2 p.tree q.tree (on-tree host s.book one p.tree p.request p.is_taken) (on-tree host t.book two q.tree q.request q.is_taken)
+      (touch-of s host one node p) (touch-of t host two node q) (subst (λ (w : State). IsShutOut S a w.book) b shut) (subst (λ (w : State). IsShutOut S a w.book) c shut2) in
+      record {
+        same = subst (λ (w : State). SameBut S a w (added choice.told t (line_entry choice t host line2 two))) (sym b) (subst (λ (w : State). SameBut S a (stepped choice s p.request e) w) (sym c) k.same);
+        hear =
+            ap (λ (o : Option Entry). heard a (notes choice.told s o)) (entry-is choice s host line one p.tree p.request p.is_taken) ∙ ap (heard a) (notes-is choice s (makes choice s.book p.request) e)
+            ∙ k.hear
+            ∙ ap (heard a) (sym (notes-is choice t (makes choice t.book q.request) f)) ∙ ap (λ (o : Option Entry). heard a (notes choice.told t o)) (sym (entry-is choice t host line2 two q.tree q.request q.is_taken));
+      }
+
+  -- neither gets a reply that is to an address of a
+  pub lines-reply : (choice : Choice) (s : State) (host : List ℕ) (node : NodeKey) (line : ℕ) (one : Arrival) → Touches S a s host one node → line_to choice a s host line one ≡ None
+  lines-reply choice s host node line one p = ap (λ (x : Taken). cond (is_from a x) (reply_in choice x s.book line) None) p.is_taken ∙ ap (λ (b : Bool). cond b (outcome_reply p.tree p.request false (verdict choice s.book p.request)) None) p.other

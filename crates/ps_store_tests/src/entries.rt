@@ -1,0 +1,100 @@
+// Entries of the format's table as bytes, and what is none.
+use ps_record::{Batch, EntryRefusal, put_entry, read_entry};
+use ps_types::Entry;
+use std::alloc::Global;
+use std::process::Abort;
+use std::test::Fail;
+
+// The table of entries: each kind, with and without a moment. Between the bars stands one entry.
+const BOOT: &[u8] = b"\x00\x00\x0epubsub.example";
+
+const CHANGE: &[u8] = b"\x01\x00\x09a.example\0\0\0\0\0\0\0\x02\0\0\0\x10{\"n\":\"presence\"}";
+
+const CHANGE_AT: &[u8] =
+    b"\x04\x00\x09a.example\0\0\0\0\0\0\0\x02\0\0\0\0\x3b\x9a\xca\x00\0\0\0\x10{\"n\":\"presence\"}";
+
+// The last second of the year 9998.
+const LAST: &[u8] =
+    b"\x04\x00\x09a.example\0\0\0\0\0\0\0\x02\0\0\0\x3a\xfe\x13\x0d\xff\0\0\0\x10{\"n\":\"presence\"}";
+
+const HANDED: &[u8] = b"\x02\x00\x0dbob@b.example";
+
+const GONE: &[u8] = b"\x03\x00\x09a.example";
+
+const BASE: &[u8] = b"\x05\0\0\0\x1e{\"n\":\"ver\",\"ns\":\"urn:pubsubd\"}";
+
+#[test]
+fn each_kind_is_read_and_written_back(rt: HostRuntime) -> Result<(), Fail> {
+    for bytes in [BOOT, CHANGE, CHANGE_AT, LAST, HANDED, GONE, BASE] {
+        let (entry, next) = read_entry(rt.alloc(), bytes, 0)?;
+        assert_eq!(rt; next, bytes.len() as u64);
+        assert_eq!(rt; put_entry(rt.alloc(), &entry)?.as_slice(), bytes);
+    }
+    let (entry, next) = read_entry(rt.alloc(), CHANGE_AT, 0)?;
+    assert_eq!(rt; next, 48);
+    if let Entry::Change {
+        host,
+        line,
+        moment,
+        tree,
+    } = &entry
+    {
+        assert_eq!(rt; host.as_str(), "a.example");
+        assert_eq!(rt; (*line, *moment), (2, Some(1_000_000_000)));
+        assert_eq!(rt; tree.name.as_str(), "presence");
+    }
+    Ok(())
+}
+
+#[test]
+fn what_is_printed_otherwise_is_no_entry(rt: HostRuntime) {
+    let others: [&[u8]; 12] = [
+        b"",
+        b"\x09\x00\x0epubsub.example",
+        b"\x00\x00\x0fpubsub.example",
+        b"\x00\x00\x0ePubsub.example",
+        b"\x00\x00\x05a@b.c",
+        b"\x00\x00\x00",
+        b"\x02\x00\x0fbob@b.example/1",
+        b"\x01\x00\x09a.example\0\0\0\0\0\0\0\x02\0\0\0\x11{\"n\": \"presence\"}",
+        b"\x01\x00\x09a.example\0\0\0\0\0\0\0\x02\0\0\0\x11{\"n\":\"presence\"}",
+        b"\x01\x00\x09a.example\0\0\0\0\0\0\0\x02\0\0\0\x01{",
+        b"\x04\x00\x09a.example\0\0\0\0\0\0\0\x02\0\0\0\x3a\xfe\x13\x0e\x00\0\0\0\x10{\"n\":\"presence\"}",
+        b"\x05\0\0\0\x26{\"n\":\"ver\",\"ns\":\"urn:pubsubd\",\"x\":\"1\"}",
+    ];
+    for (i, bytes) in others.iter().enumerate() {
+        let refused = read_entry(rt.alloc(), bytes, 0).err();
+        assert_eq!(rt; refused, Some(EntryRefusal::Bad(0)), "at {i}");
+    }
+    assert_eq!(rt;
+        read_entry(rt.alloc(), BOOT, 18).err(),
+        Some(EntryRefusal::Bad(18))
+    );
+    assert_eq!(rt;
+        read_entry(rt.alloc(), BOOT, 3).err(),
+        Some(EntryRefusal::Bad(3))
+    );
+}
+
+// Adds the entry that the bytes spell.
+fn push(rt: &impl Abort, alloc: Global, batch: &mut Batch, bytes: &[u8]) -> Result<(), Fail> {
+    let (entry, next) = read_entry(alloc, bytes, 0)?;
+    assert!(rt; next <= 1000 && batch.len() <= 1000);
+    batch.push(&entry)?;
+    Ok(())
+}
+
+#[test]
+fn a_batch_is_a_frame_behind_its_gate(rt: HostRuntime) -> Result<(), Fail> {
+    let mut batch = Batch::new(rt.alloc())?;
+    assert_eq!(rt; (batch.len(), batch.frame()), (0, b"\0\0\0\0\0".as_slice()));
+    push(&rt, rt.alloc(), &mut batch, GONE)?;
+    assert_eq!(rt; batch.len(), 12);
+    push(&rt, rt.alloc(), &mut batch, BOOT)?;
+    assert_eq!(rt; batch.len(), 29);
+    assert_eq!(rt;
+        batch.frame(),
+        b"\0\0\0\x1d\x03\x00\x09a.example\x00\x00\x0epubsub.example\0".as_slice()
+    );
+    Ok(())
+}

@@ -1,0 +1,225 @@
+// Stores in memory: begun, appended to, damaged, upgraded, and crashed after each call of the disk.
+ghost use Rattle.std.specs.Prelude.{◌≢◌, [], IfOk};
+
+use ps_base::Memory;
+use ps_disk::{Disk, MemDisk, Torn};
+use ps_journal::{
+    AppendRefusal, EntriesRefusal, Journal, JournalRefusal, JournalWhy, Verdict, judge,
+};
+use ps_record::{Batch, EntryRefusal, read_entry};
+use std::alloc::Global;
+use std::process::Abort;
+use std::test::Fail;
+
+const BOOT: &[u8] = b"\x00\x00\x0epubsub.example";
+
+const GONE: &[u8] = b"\x03\x00\x09a.example";
+
+// A store of version 1 with one Boot, and its closed gate.
+const WHOLE: [u8; 31] = *b"PUBSUBJ1\x01\0\0\0\x11\0\0\x0epubsub.example7";
+
+// A batch of the one entry that the bytes spell.
+fn batch_of(alloc: Global, bytes: &[u8]) -> Result<Batch, Memory>
+    ensures { IfOk result (λ b. b ≢ []) }
+{
+    match read_entry(alloc, bytes, 0) {
+        Ok((entry, next)) => {
+            if next > 1000 {
+                return Err(Memory);
+            }
+            let mut batch = Batch::new(alloc)?;
+            batch.push(&entry)?;
+            Ok(batch)
+        }
+        Err(_) => Err(Memory),
+    }
+}
+
+// The journal of a disk that opens, and how many entries it has.
+fn opened(alloc: Global, disk: MemDisk) -> Option<(Journal<MemDisk>, usize)> {
+    match Journal::open(alloc, disk) {
+        Ok((journal, placed)) => Some((journal, placed.len())),
+        Err(refusal) => {
+            let JournalRefusal { disk: _, why: _ } = refusal;
+            None
+        }
+    }
+}
+
+// How many entries a store has after a crash.
+fn after_crash(alloc: Global, disk: &MemDisk, calls: u64, torn: Torn) -> Option<usize> {
+    if calls > disk.calls() {
+        return None;
+    }
+    let crashed = disk.crashed(alloc, calls, torn).ok()?;
+    let (journal, count) = opened(alloc, crashed)?;
+    let _ = journal.close();
+    Some(count)
+}
+
+const TORN: [Torn; 5] = [
+    Torn::Lost,
+    Torn::Whole,
+    Torn::Filled(0),
+    Torn::Filled(1),
+    Torn::Filled(80),
+];
+
+// Opening begins the store by the calls 1 to 9, and each append makes four. Whatever a crash does to the calls since the last sync,
+// an entry is there once its append has answered Ok, and isn't before the last call but one.
+#[test]
+fn a_crash_after_each_call_leaves_a_front(rt: HostRuntime) -> Result<(), Fail> {
+    let boot = batch_of(rt.alloc(), BOOT)?;
+    let gone = batch_of(rt.alloc(), GONE)?;
+    let disk = MemDisk::new(rt.alloc(), b"", &[])?;
+    let (mut journal, count) = opened(rt.alloc(), disk).ok_or("not opened")?;
+    let begun = journal.length();
+    let refused = journal.append(&boot, 30);
+    let first = journal.append(&boot, 31);
+    let full = journal.append(&gone, 47);
+    let second = journal.append(&gone, 48);
+    let length = journal.length();
+    let entries = journal.entries(rt.alloc());
+    let disk = journal.close();
+    assert_eq!(rt; (count, begun, length, disk.calls()), (0, 9, 48, 19));
+    assert_eq!(rt;
+        (refused, full),
+        (Err(AppendRefusal::Full), Err(AppendRefusal::Full))
+    );
+    assert!(rt; first.is_ok() && second.is_ok());
+    assert_eq!(rt; entries.ok().map(|list| list.len()), Some(2));
+    assert_eq!(rt;
+        disk.bytes(),
+        b"PUBSUBJ2\x01\0\0\0\x11\0\0\x0epubsub.example\x01\0\0\0\x0c\x03\0\x09a.example\0".as_slice()
+    );
+    for calls in 0..=17 {
+        for torn in TORN {
+            let count = after_crash(rt.alloc(), &disk, calls, torn);
+            let (least, most) = match calls {
+                0..12 => (0, 0),
+                12 => (0, 1),
+                13..16 => (1, 1),
+                16 => (1, 2),
+                _ => (2, 2),
+            };
+            let held = count.ok_or("not opened")?;
+            assert!(rt; least <= held && held <= most, "{calls}");
+        }
+    }
+    assert_eq!(rt; after_crash(rt.alloc(), &disk, 12, Torn::Lost), Some(0));
+    assert_eq!(rt; after_crash(rt.alloc(), &disk, 12, Torn::Whole), Some(1));
+    Ok(())
+}
+
+// Where call 10, the append's first, or one of the three behind it fails, the journal is broken for good, and opens again.
+#[test]
+fn a_fault_breaks_the_journal_for_good(rt: HostRuntime) -> Result<(), Fail> {
+    let boot = batch_of(rt.alloc(), BOOT)?;
+    for call in 10..=13 {
+        let disk = MemDisk::new(rt.alloc(), b"", &[call])?;
+        let (mut journal, _) = opened(rt.alloc(), disk).ok_or("not opened")?;
+        let whole = journal.broken();
+        let first = journal.append(&boot, 100);
+        let broken = journal.broken();
+        let again = journal.append(&boot, 100);
+        let entries = journal.entries(rt.alloc());
+        let disk = journal.close();
+        assert_eq!(rt; (whole, broken, disk.fault_count()), (None, Some(1), 1));
+        assert_eq!(rt;
+            (first, again),
+            (Err(AppendRefusal::Store), Err(AppendRefusal::Store))
+        );
+        assert_eq!(rt; entries.err(), Some(EntriesRefusal::Store));
+        assert_eq!(rt; disk.calls(), call);
+        for torn in TORN {
+            let held = after_crash(rt.alloc(), &disk, call, torn).ok_or("not opened")?;
+            assert!(rt; held == 0 || (call >= 12 && held == 1));
+        }
+    }
+    for call in 1..=9 {
+        let disk = MemDisk::new(rt.alloc(), b"", &[call])?;
+        match Journal::open(rt.alloc(), disk) {
+            Ok((journal, _)) => {
+                let _ = journal.close();
+                return Err(Fail::from("opened"));
+            }
+            Err(refusal) => {
+                let JournalRefusal { disk, why } = refusal;
+                assert!(rt; matches!(why, JournalWhy::Store));
+                assert_eq!(rt;
+                    after_crash(rt.alloc(), &disk, call, Torn::Filled(1)),
+                    Some(0)
+                );
+            }
+        }
+    }
+    Ok(())
+}
+
+// A store of version 1 opens with its entry and is one of version 2 then. A crash meanwhile leaves the entry.
+#[test]
+fn a_store_of_version_1_is_upgraded(rt: HostRuntime) -> Result<(), Fail> {
+    for version in [b'1', b'z', b'2'] {
+        let mut bytes = WHOLE;
+        bytes[7] = version;
+        let disk = MemDisk::new(rt.alloc(), &bytes, &[])?;
+        let (journal, count) = opened(rt.alloc(), disk).ok_or("not opened")?;
+        let disk = journal.close();
+        bytes[7] = b'2';
+        assert_eq!(rt; (count, disk.bytes()), (1, bytes.as_slice()));
+        for calls in 0..=disk.calls() {
+            for torn in TORN {
+                assert_eq!(rt; after_crash(rt.alloc(), &disk, calls, torn), Some(1));
+            }
+        }
+    }
+    Ok(())
+}
+
+// Where a store is damaged, and how many entries are before.
+fn damage(alloc: Global, bytes: &[u8]) -> Option<(u64, usize)> {
+    match judge(alloc, bytes) {
+        Verdict::Damaged(at, before) => Some((at, before.len())),
+        _ => None,
+    }
+}
+
+fn entries_of(alloc: Global, bytes: &[u8]) -> Option<usize> {
+    let (journal, count) = opened(alloc, MemDisk::new(alloc, bytes, &[]).ok()?)?;
+    let _ = journal.close();
+    Some(count)
+}
+
+#[test]
+fn damage_is_found_where_it_stands(rt: HostRuntime) -> Result<(), Fail> {
+    let opens: [&[u8]; 4] = [b"", b"\x50", &[0; 40], b"?UBSUBJ1\0"];
+    for bytes in opens {
+        assert_eq!(rt; entries_of(rt.alloc(), bytes), Some(0));
+    }
+    assert_eq!(rt; entries_of(rt.alloc(), &WHOLE), Some(1));
+    let tag4 =
+        b"PUBSUBJ1\x01\0\0\0\x11\0\0\x0epubsub.example\x01\0\0\0\x30\x04\0\x09a.example\0\0\0\0\0\0\0\x01\0\0\0\0\x3b\x9a\xca\x00\0\0\0\x10{\"n\":\"presence\"}\0";
+    let mut second = *tag4;
+    second[7] = b'2';
+    assert_eq!(rt; entries_of(rt.alloc(), &second), Some(2));
+    let mut head = WHOLE;
+    head[0] = 0x51;
+    let mut entry = WHOLE;
+    entry[13] = 9;
+    let damaged: [(&[u8], (u64, usize)); 9] = [
+        (&head, (0, 0)),
+        (b"Q2", (0, 0)),
+        (b"PUBSUBK1\0", (0, 0)),
+        (&WHOLE[..8], (8, 0)),
+        (&WHOLE[..30], (8, 0)),
+        (b"PUBSUBJ1\x01\0\0\0\x12\0\0\x0epubsub.example7", (8, 0)),
+        (b"PUBSUBJ1\x01\0\0\0\0\0\0\x0epubsub.example7", (8, 0)),
+        (&entry, (13, 0)),
+        (tag4, (35, 1)),
+    ];
+    for (bytes, want) in damaged {
+        assert_eq!(rt; damage(rt.alloc(), bytes), Some(want));
+        assert_eq!(rt; entries_of(rt.alloc(), bytes), None);
+    }
+    Ok(())
+}

@@ -1,0 +1,4 @@
+pub mod Likeness
+pub mod ManyHold
+pub mod RunsHold
+pub mod WorldsHold

@@ -1,0 +1,4 @@
+pub mod ManyCases
+pub mod RunCases
+pub mod WorldCases
+pub mod Worlds
