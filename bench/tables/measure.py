@@ -1,6 +1,5 @@
 #!/usr/bin/env python3
 """measure.py COUNT: in the folder of the program, what it tells, and bytes a row beside the rows alone."""
-import resource
 import subprocess
 import sys
 
@@ -14,8 +13,7 @@ def peak(words):
     return told, int(next(it for it in told if it.startswith("peak")).split()[1])
 
 
-subprocess.run(["rt", "try"], check=True, stdout=subprocess.DEVNULL)
-program = subprocess.run(["find", "out", "-maxdepth", "2", "-name", "tables_bench*", "-type", "f", "-perm", "-100"], stdout=subprocess.PIPE, text=True, check=True).stdout.split()[0]
+program = "out/tables_bench"
 for line in peak([program])[0]:
     words = line.split()
     if len(words) == 3 and words[0] not in ("places", "held"):

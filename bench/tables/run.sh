@@ -1,7 +1,7 @@
 #!/bin/sh
 # How fast a table is with 100,000 rows, and how many bytes it takes beside each row.
-# Wants `rt` and `python3`. It builds the program of program/ in a scratch repository over copies of the crates that it stands on, without
-# proving it, and prints for each call how often it ran and its nanoseconds, the places before and after a million rows came and went, and
+# Wants `rt` and `python3`. It proves and builds the program of program/ in a scratch repository over copies of the crates that it
+# stands on, and prints for each call how often it ran and its nanoseconds, the places before and after a million rows came and went, and
 # for items and subscriptions, with COUNT rows (100000), the peak of memory beside the rows alone.
 set -eu
 here=$(cd "$(dirname "$0")" && pwd)
@@ -22,4 +22,5 @@ program=$scratch/crates/tables_bench
 mkdir -p "$program/src"
 cp "$here/program/main.rt.txt" "$program/src/main.rt"
 cd "$program"
+rt run > "$scratch/log" 2>&1 || { tail -20 "$scratch/log"; exit 1; }
 python3 "$here/measure.py" "${COUNT:-100000}"
