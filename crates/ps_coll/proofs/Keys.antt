@@ -1,9 +1,8 @@
 -- The link of one child, and the links to one collection, have one digest; rows of either of two tests.
-use Rattle.std.proofs.Common.{◌≡◌, ℕ, Bool, true, false, cond, not, ◌||◌, List, [], ◌∷◌, refl, ap, sym, ◌∙◌}
+use Rattle.std.proofs.Common.{◌≡◌, Bool, true, false, cond, not, ◌||◌, List, [], ◌∷◌, refl, ap, sym, ◌∙◌}
 use Rattle.std.specs.List.{list_any}
 use Rattle.ps_base.specs.Rows.{without}
 use Rattle.ps_types.specs.declared.node.NodeKey.{NodeKey}
-use Rattle.ps_types.specs.declared.rows.LinkRow.{LinkRow}
 use Rattle.ps_types.specs.Links.{is_link_of, is_link_to}
 use Rattle.ps_rows.specs.declared.index.Index.TheVariants.{Key, Node}
 use Rattle.ps_rows.specs.Digests.{node_digest}

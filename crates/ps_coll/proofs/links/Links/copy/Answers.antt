@@ -1,4 +1,4 @@
-use Rattle.std.proofs.Common.{◌≡◌, ◌∙◌, ap, rules}
+use Rattle.std.proofs.Common.{◌∙◌, ap, rules}
 use Rattle.ps_rows.proofs.Alike.{all_same}
 use Rattle.ps_coll.proofs.links.Links.copy.Goals as goal
 
