@@ -1,6 +1,5 @@
 pub mod AccessHold
 pub mod BookmarksHold
-pub mod Bytes
 pub mod CapabilitiesHold
 pub mod CollectionsHold
 pub mod ConditionsHold

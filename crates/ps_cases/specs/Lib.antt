@@ -16,7 +16,6 @@ pub mod LimitCases
 pub mod LineCases
 pub mod NodeCases
 pub mod NoticeCases
-pub mod OneBoot
 pub mod OptionCases
 pub mod OwnerCases
 pub mod PresenceCases

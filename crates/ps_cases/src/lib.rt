@@ -7,7 +7,7 @@
 //! exactly the replies that `given` names and make exactly the entries that it marks, and that of these entries each address is handed exactly its part of
 //! `told`. `Running` is the service in it: the model's own steps, where every kind of request is built and every event is told; `Today` compares it with what is
 //! built. `Words`, `Denials`, `Forms` and `Handed` are stanzas, replies and notices in short; the stanzas of each case stand in the files `..Cases`.
-//! `Compacted`, `Crashed` and `OneBoot` go on from entries of these.
+//! `Compacted` and `Crashed` go on from entries of these.
 #![tactic(auto)]
 
 mod access;
@@ -45,4 +45,4 @@ pub use owners::{
     affiliations_are_listed, cancelled_form, options_are_kept, subscriptions_are_set,
 };
 pub use presence::{absent_is_not_told, verified_is_not_asked};
-pub use stores::{compacted_rows, compacted_store, one_boot_store, sent_again, stamps};
+pub use stores::{compacted_rows, compacted_store, sent_again, stamps};

@@ -1,24 +1,15 @@
 // Stores, crashes and moments. Each function is its contract.
 ghost use Rattle.std.specs.Prelude.{◌≡◌, [], ◌∷◌, ◌++◌, codes, true};
-ghost use Rattle.ps_model.specs.At.{IsDamagedAt};
 ghost use Rattle.ps_model.specs.Stamp.{stamp};
-ghost use Rattle.ps_model.specs.Store.{spelled};
 ghost use Rattle.ps_cases.specs.Compacted as compacted;
 ghost use Rattle.ps_cases.specs.Crashed as crashed;
 ghost use Rattle.ps_cases.specs.NoticeCases.{item_line, item_notice};
-ghost use Rattle.ps_cases.specs.OneBoot.{one_boot, store};
 
 /// A notice that was sent without a durable record is sent again after a crash; one with a durable record is not.
 pub fn sent_again()
     ensures unrecorded { crashed.sent_after crashed.unrecorded ≡ item_notice ∷ [] }
     ensures lost { crashed.sent_after crashed.lost ≡ item_notice ∷ [] }
     ensures recorded { crashed.sent_after crashed.recorded ≡ crashed.second ∷ [] }
-{}
-
-/// The bytes of a store with one boot, and where they are damaged with another first byte of the entry.
-pub fn one_boot_store()
-    ensures spelled { spelled (store 0) one_boot }
-    ensures damaged { IsDamagedAt (store 9) 13 }
 {}
 
 /// The texts of three moments.
