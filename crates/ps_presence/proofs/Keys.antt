@@ -1,6 +1,5 @@
 -- The resource of one address, those of one bare address and of one host, and the rows of one capability string have one digest.
 use Rattle.std.proofs.Common.{◌≡◌, ℕ, true, List}
-use Rattle.std.specs.Prelude.{bytes_eq}
 use Rattle.ps_types.specs.declared.jid.Jid.{Jid}
 use Rattle.ps_types.specs.declared.rows.ResourceRow.{ResourceRow}
 use Rattle.ps_types.specs.Resources.{is_resource_of, is_resource_at, is_resource_on}
