@@ -5,8 +5,9 @@
 //! the node stands. `specs/Plans.antt` says how the plan of a request, which the crates above make, answers for the model's check of
 //! it; what several kinds of request share, and what is done once they are accepted, is here: the steps of their checks, the forms that
 //! configure a node ([`new_config`], [`config_given`]), the id of an item ([`item_id`]), what a subscription comes to ([`base_options`],
-//! [`given_options`], [`new_state`]), the rows that an owner asks for ([`asked_affil_row`], [`asked_state`]), and the trees that replies
-//! are made of ([`about`], `specs/Replies.antt`).
+//! [`given_options`], [`new_state`]), the rows that an owner asks for ([`asked_affil_row`], [`asked_state`]), how rows are set
+//! ([`set_asked_affils`], [`set_asked_subs`], [`set_state`], [`set_sub`]), and the trees that replies are made of ([`about`],
+//! `specs/Replies.antt`).
 #![tactic(auto)]
 
 mod addresses;
@@ -16,6 +17,7 @@ mod forms;
 mod ids;
 mod making;
 mod replies;
+mod setting;
 mod steps;
 mod subscribing;
 mod tables;
@@ -31,6 +33,7 @@ pub use ids::item_id;
 pub use making::{max_nodes, must_be_collection, must_have_room};
 pub use ps_types::{Rule, Verdict};
 pub use replies::about;
+pub use setting::{new_sub, set_asked_affils, set_asked_subs, set_state, set_sub};
 pub use steps::{allow, built_limit, key_of, must_be_leaf, must_stand, pass, pass_if};
 pub use subscribing::{base_options, given_options, new_state};
 pub use tables::Tables;

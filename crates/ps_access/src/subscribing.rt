@@ -8,6 +8,7 @@ ghost use Rattle.ps_access.specs.Plans.{PassesWith};
 ghost use Rattle.ps_access.specs.Tables.{book_of};
 
 use crate::forms::{form_in, is_submitted};
+use crate::setting::options_of;
 use crate::tables::Tables;
 use crate::verdicts::verdict_subscribe;
 use ps_config::read_options;
@@ -22,13 +23,7 @@ const SUBSCRIBE_OPTIONS: &str = "http://jabber.org/protocol/pubsub#subscribe_opt
 pub fn base_options(tables: &Tables, node: &NodeKey, who: &Jid) -> SubOptions
     ensures options { result ≡ model.base_options (book_of tables.now) node.now who.now }
 {
-    match tables.subs.row_of(node, who) {
-        Some(row) => row.options,
-        None => SubOptions {
-            items: true,
-            deep: false,
-        },
-    }
+    options_of(&tables.subs, node, who)
 }
 
 fn options_in(form: &Form, base: SubOptions) -> Result<SubOptions, PlanRefusal>

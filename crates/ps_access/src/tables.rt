@@ -17,7 +17,6 @@ use ps_types::Text;
 use std::alloc::Global;
 
 /// The service host and the tables of its rows.
-#[derive(Drop)]
 pub struct Tables {
     /// Empty until the first boot.
     pub service: Text,
@@ -34,6 +33,24 @@ pub struct Tables {
     pub cache: Cache,
     /// The ids that were made.
     pub counts: Counts,
+}
+
+// By hand, so that tables are let go by one call wherever a function ends.
+impl Drop for Tables {
+    fn drop(self) {
+        let Tables {
+            service: _,
+            nodes: _,
+            affils: _,
+            subs: _,
+            items: _,
+            links: _,
+            roster: _,
+            presence: _,
+            cache: _,
+            counts: _,
+        } = self;
+    }
 }
 
 // Tables are made in three parts, since each of many fields that may fail costs the proof of all before it.

@@ -1,42 +1,40 @@
--- The rows of one node and bare address have one digest.
-use Rattle.std.proofs.Common.{◌≡◌, Bool, true, false, ◌&&◌, refl, subst}
-use Rattle.std.specs.Prelude.{bytes_eq, nat_eq}
-use Rattle.std.specs.Cmp.{nat_eq_equiv}
-use Rattle.std.proofs.lemmas.Slice.Eq.{bytes_eq-Decides}
+-- The affiliations of one node, of one bare address, and of both, have one digest.
+use Rattle.std.proofs.Common.{◌≡◌, ℕ, true, List}
+use Rattle.std.specs.Prelude.{bytes_eq, find, is_some, not}
 use Rattle.ps_types.specs.declared.jid.Jid.{Jid}
 use Rattle.ps_types.specs.declared.node.NodeKey.{NodeKey}
 use Rattle.ps_types.specs.declared.rows.AffilRow.{AffilRow}
-use Rattle.ps_types.specs.Affils.{is_affil_of}
-use Rattle.ps_types.specs.Same.{same_jid, same_node, same_bare}
-use Rattle.ps_affil.specs.Placed.{digest_of, row_digest}
+use Rattle.ps_types.specs.Affils.{is_affil_at, is_affil_by, is_affil_of, is_owner}
+use Rattle.ps_types.specs.Same.{same_bare, same_jid, same_node}
+use Rattle.ps_affil.specs.Among.{is_among, is_other_owner, owns_at}
+use Rattle.ps_rows.specs.declared.index.Index.{Index}
+use Rattle.ps_rows.specs.declared.index.Index.TheVariants.{Key, Node, Bare}
+use Rattle.ps_rows.specs.Digests.{node_digest, bare_at_digest, bare_digest}
+use Rattle.ps_rows.specs.RowKeys.{affil_by, affil_kin}
+use Rattle.ps_rows.specs.Kin.{AsksKin}
+use Rattle.ps_rows.specs.Standing.{AsksBy}
+use Rattle.ps_rows.proofs.Sought.{both, one_node, one_address, one_bare_at, node-back}
 
-both : (a b : Bool) → a && b ≡ true → (a ≡ true) × (b ≡ true)
-both true true h = (refl, refl)
-both true false h = cc
-both false b h = cc
+pub at_node : (node : NodeKey) → AsksBy (λ row. is_affil_at node row) (λ seed. affil_by seed Node) (λ seed. node_digest seed node)
+at_node node seed = record { alike = λ row h. one_node seed node row.node h }
 
-node_parts : (a b : NodeKey) → same_node a b ≡ true → (a.service.local ≡ b.service.local) × (a.service.host ≡ b.service.host) × (a.name ≡ b.name)
-unfolding same_node same_jid
-node_parts a b h =
-    let p = both _ (bytes_eq a.name b.name) h in
-    let q = both (bytes_eq a.service.local b.service.local) _ p.0 in
-    let r = both (bytes_eq a.service.host b.service.host) _ q.1 in
-    ((bytes_eq-Decides a.service.local b.service.local).0 q.0, (bytes_eq-Decides a.service.host b.service.host).0 r.0, (bytes_eq-Decides a.name b.name).0 p.1)
+pub held : (who : Jid) → AsksBy (λ row. is_affil_by who row) (λ seed. affil_by seed Bare) (λ seed. bare_digest seed who)
+held who seed = record { alike = λ row h. one_address seed who row.who h }
 
-bare_parts : (a b : Jid) → same_bare a b ≡ true → (a.local ≡ b.local) × (a.host ≡ b.host)
-unfolding same_bare
-bare_parts a b h =
-    let p = both (bytes_eq a.local b.local) (bytes_eq a.host b.host) h in
-    ((bytes_eq-Decides a.local b.local).0 p.0, (bytes_eq-Decides a.host b.host).0 p.1)
+pub affil_of : (node : NodeKey) (who : Jid) → AsksBy (λ row. is_affil_of node who row) (λ seed. affil_by seed Key) (λ seed. bare_at_digest seed node who)
+affil_of node who seed = record { alike = λ row h. (let p = both (same_node node row.node) (same_bare who row.who) h in one_bare_at seed node row.node who row.who p.0 p.1) }
 
-pub one_digest : (node : NodeKey) (who : Jid) (row : AffilRow) → is_affil_of node who row ≡ true → digest_of node who ≡ row_digest row
-unfolding digest_of
-one_digest node who row h =
-    let p = both (same_node node row.node) (same_bare who row.who) h in
-    let n = node_parts node row.node p.0 in
-    let w = bare_parts who row.who p.1 in
-    rw (n.0, n.1, n.2, w.0, w.1) refl
+-- a row of the same key has the same digests
+pub alike : (seed : ℕ) (row old : AffilRow) (index : Index) → is_affil_of row.node row.who old ≡ true → affil_by seed index old ≡ affil_by seed index row
+alike seed row old Key h = let p = both (same_node row.node old.node) (same_bare row.who old.who) h in one_bare_at seed row.node old.node row.who old.who p.0 p.1
+alike seed row old Node h = one_node seed row.node old.node (both (same_node row.node old.node) (same_bare row.who old.who) h).0
+alike seed row old Bare h = one_address seed row.who old.who (both (same_node row.node old.node) (same_bare row.who old.who) h).1
 
--- a row that passes has the digest that is looked for
-pub has_digest : (node : NodeKey) (who : Jid) (row : AffilRow) → is_affil_of node who row ≡ true → nat_eq (digest_of node who) (row_digest row) ≡ true
-has_digest node who row h = subst (λ d. nat_eq (digest_of node who) d ≡ true) (one_digest node who row h) (nat_eq_equiv.refl (digest_of node who))
+pub kin : (row old : AffilRow) → is_affil_of row.node row.who old ≡ true → affil_kin old row ≡ true
+kin row old h = node-back row.node old.node (both (same_node row.node old.node) (same_bare row.who old.who) h).0
+
+pub among : (node : NodeKey) (others : List AffilRow) → AsksBy (is_among node others) (λ seed. affil_by seed Node) (λ seed. node_digest seed node)
+among node others seed = record { alike = λ row h. one_node seed node row.node (both (same_node node row.node) (is_some (find (is_affil_of node row.who) others)) h).0 }
+
+pub other_owner : (node : NodeKey) (others : List AffilRow) → AsksBy (is_other_owner node others) (λ seed. affil_by seed Node) (λ seed. node_digest seed node)
+other_owner node others seed = record { alike = λ row h. one_node seed node row.node (both (same_node node row.node) (is_owner row.affil) (both (not (is_among node others row)) (owns_at node row) h).1).0 }

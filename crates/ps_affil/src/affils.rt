@@ -1,31 +1,31 @@
 // The table.
 ghost use Rattle.std.specs.Prelude.{◌≡◌, ◌+◌, ◌<◌, ◌≤◌, [], ◌∷◌, ◌++◌, IfOk, OnOk, length, slice_get, option_copied, find};
+ghost use Rattle.ps_base.specs.Rows.{put_row, without};
 ghost use Rattle.ps_types.specs.Affils.{is_affil_of, affil_at, affils_with, affils_of, affils_held, affils_without};
+ghost use Rattle.ps_rows.specs.Standing.{standing};
+ghost use Rattle.std.specs.List.{list_any};
+ghost use Rattle.ps_affil.specs.Among.{is_among, is_other_owner};
+ghost use Rattle.ps_rows.specs.Around.{own_and_last};
 
-use crate::places::{add, affil_among, put, remove_all_of, remove_of, row_among};
-use ps_places::Places;
-use ps_table::Rows;
+use crate::asks::{AffilOf, Among, AtNode, Held, OtherOwner};
+use ps_rows::{Index, Rows};
 use ps_types::{Affil, AffilRow, Jid, Memory, NodeKey};
 use std::alloc::Global;
 use std::marker::Model;
 
-/// What addresses are at nodes: rows in order of making, and how many more are taken without memory.
+/// Affiliations in the order of their making, and how many more are taken without memory.
 #[derive(Drop)]
 pub struct Affils {
     rows: Rows<AffilRow>,
-    places: Box<Places>,
 }
 
 impl Model for Affils {
     ghost use Rattle.ps_base.specs.Rows.{Table};
     ghost use Rattle.ps_types.specs.declared.rows.AffilRow.{AffilRow};
-    ghost use Rattle.ps_affil.specs.Placed.{IsPlaced, room_of};
 
     ghost Value = { Table AffilRow };
 
-    ghost view = { λ t. record { rows = t.rows.rows; spare = room_of t.rows t.places.value } };
-
-    ghost invariant = { λ t. IsPlaced t.rows.rows t.places.value.rows };
+    ghost view = { λ t. t.rows };
 }
 
 impl Affils {
@@ -35,7 +35,15 @@ impl Affils {
     {
         Ok(Affils {
             rows: Rows::new(alloc),
-            places: Box::new(alloc, Places::new(alloc))?,
+        })
+    }
+
+    /// The empty table, whose digests go by a seed that no stranger knows. No answer depends on it.
+    pub fn seeded(alloc: Global, seed: u64) -> Result<Affils, Memory>
+        ensures empty { IfOk result (λ t. t.rows ≡ []) }
+    {
+        Ok(Affils {
+            rows: Rows::seeded(alloc, seed),
         })
     }
 
@@ -46,7 +54,14 @@ impl Affils {
         self.rows.len()
     }
 
-    /// The row at a place, counted from 0.
+    /// The places of the rows, in order, of which some are empty. To go over the table, go over them.
+    pub fn places(&self) -> &[Option<AffilRow>]
+        ensures rows { standing result.now ≡ self.now.rows }
+    {
+        self.rows.places()
+    }
+
+    /// The row at a place, counted from 0. It goes through the table once rows have gone: [`Affils::places`] serves a walk.
     pub fn row(&self, at: u64) -> Option<&AffilRow>
         ensures row { option_copied result ≡ slice_get self.now.rows at }
     {
@@ -59,8 +74,7 @@ impl Affils {
         ensures room { OnOk result (rows ≤ self.new.spare) }
         ensures kept { self.old.spare ≤ self.new.spare }
     {
-        self.rows.reserve(rows)?;
-        self.places.reserve(rows as usize)
+        self.rows.reserve(rows)
     }
 
     /// A table with the same rows.
@@ -69,7 +83,6 @@ impl Affils {
     {
         Ok(Affils {
             rows: self.rows.copy()?,
-            places: Box::new(*Box::allocator(&self.places), self.places.copy()?)?,
         })
     }
 
@@ -77,14 +90,18 @@ impl Affils {
     pub fn get(&self, node: &NodeKey, who: &Jid) -> Affil
         ensures affil { result ≡ affil_at node.now who.now self.now.rows }
     {
-        affil_among(&self.rows, &self.places, node, who)
+        match self.row_of(node, who) {
+            Some(row) => row.affil,
+            None => Affil::Nothing,
+        }
     }
 
     /// The row of a bare address at a node.
     pub fn row_of(&self, node: &NodeKey, who: &Jid) -> Option<&AffilRow>
         ensures row { option_copied result ≡ find (is_affil_of node.now who.now) self.now.rows }
     {
-        row_among(&self.rows, &self.places, node, who)
+        let ask = AffilOf { node, who };
+        self.rows.find(Index::Key, &ask)
     }
 
     /// Adds a row as the last one, as a list of rows is read back. It takes no memory.
@@ -93,7 +110,7 @@ impl Affils {
         ensures rows { self.new.rows ≡ self.old.rows ++ row ∷ [] }
         ensures room { self.old.spare ≤ self.new.spare + 1 }
     {
-        add(&mut self.rows, &mut self.places, row);
+        self.rows.add(row);
     }
 
     /// Sets what an address is at a node. It takes no memory.
@@ -103,8 +120,8 @@ impl Affils {
         ensures room { self.old.spare ≤ self.new.spare + 1 }
     {
         match row.affil {
-            Affil::Nothing => remove_of(&mut self.rows, &mut self.places, &row.node, &row.who),
-            _ => put(&mut self.rows, &mut self.places, row),
+            Affil::Nothing => remove(&mut self.rows, &row),
+            _ => put(&mut self.rows, row),
         }
     }
 
@@ -112,26 +129,37 @@ impl Affils {
     pub fn of_node(&self, alloc: Global, node: &NodeKey) -> Result<Vec<AffilRow>, Memory>
         ensures rows { IfOk result (λ rows. rows.items ≡ affils_of node.now self.now.rows) }
     {
-        let mut rows = Vec::new(alloc);
-        for row in self.rows.as_slice() {
-            if node.is_same(&row.node) {
-                rows.push(row.clone()?)?;
-            }
-        }
-        Ok(rows)
+        let ask = AtNode { node };
+        self.rows.list(Index::Node, &ask, alloc)
     }
 
     /// The rows of a bare address.
     pub fn of_address(&self, alloc: Global, who: &Jid) -> Result<Vec<AffilRow>, Memory>
         ensures rows { IfOk result (λ rows. rows.items ≡ affils_held who.now self.now.rows) }
     {
-        let mut rows = Vec::new(alloc);
-        for row in self.rows.as_slice() {
-            if who.same_bare(&row.who) {
-                rows.push(row.clone()?)?;
-            }
-        }
-        Ok(rows)
+        let ask = Held { who };
+        self.rows.list(Index::Bare, &ask, alloc)
+    }
+
+    /// The rows of a node of addresses of which others have a row there, with the last row of the table that is none of these.
+    pub fn concerned(
+        &self,
+        alloc: Global,
+        node: &NodeKey,
+        others: &Affils,
+    ) -> Result<Vec<AffilRow>, Memory>
+        ensures rows { IfOk result (λ rows. rows.items ≡ own_and_last (is_among node.now others.now.rows) self.now.rows) }
+    {
+        let ask = Among { node, others };
+        self.rows.list_around(Index::Node, &ask, alloc)
+    }
+
+    /// Whether an address owns a node of which others have no row there.
+    pub fn has_other_owner(&self, node: &NodeKey, others: &Affils) -> bool
+        ensures owner { result ≡ list_any (is_other_owner node.now others.now.rows) self.now.rows }
+    {
+        let ask = OtherOwner { node, others };
+        self.rows.any(Index::Node, &ask)
     }
 
     /// Takes away the rows of a node. It takes no memory.
@@ -139,6 +167,22 @@ impl Affils {
         ensures rows { self.new.rows ≡ affils_without node.now self.old.rows }
         ensures room { self.old.spare ≤ self.new.spare }
     {
-        remove_all_of(&mut self.rows, &mut self.places, node);
+        let ask = AtNode { node };
+        self.rows.take_away(Index::Node, &ask);
     }
+}
+
+fn put(rows: &mut Rows<AffilRow>, row: AffilRow)
+    requires room { 0 < rows.old.spare }
+    ensures rows { rows.new.rows ≡ put_row (is_affil_of row.node row.who) row rows.old.rows }
+    ensures room { rows.old.spare ≤ rows.new.spare + 1 }
+{
+    rows.put(row);
+}
+
+fn remove(rows: &mut Rows<AffilRow>, row: &AffilRow)
+    ensures rows { rows.new.rows ≡ without (is_affil_of row.now.node row.now.who) rows.old.rows }
+    ensures room { rows.old.spare ≤ rows.new.spare }
+{
+    rows.take_away(Index::Key, row);
 }

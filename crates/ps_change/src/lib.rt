@@ -12,7 +12,5 @@ mod create;
 mod delete;
 mod items;
 mod subs;
-#[cfg(test)]
-mod tests;
 
 pub use changes::change;

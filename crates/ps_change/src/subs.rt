@@ -1,58 +1,28 @@
 // What becomes of subscriptions (XEP-0060 §6, §8.6, §8.8.2).
-ghost use Rattle.std.specs.Prelude.{◌≡◌, true, IfOk, OnOk, Result};
+ghost use Rattle.std.specs.Prelude.{◌≡◌, true, OnOk, Result};
 ghost use Rattle.ps_types.specs.declared.config.SubOptions.{SubOptions};
 ghost use Rattle.ps_types.specs.declared.denial.Condition.{Condition};
 ghost use Rattle.ps_types.specs.Nodes.{stands};
-ghost use Rattle.ps_types.specs.Subs.{subs_with};
 ghost use Rattle.ps_types.specs.Values.{is_true};
 ghost use Rattle.ps_model.specs.ChangeEntity.{options_change, subscribe_change, subscribed_by, unsubscribe_change};
 ghost use Rattle.ps_model.specs.ChangeOwner as model;
-ghost use Rattle.ps_model.specs.ChangeOwner.{approve_change, sub_with, subs_change};
+ghost use Rattle.ps_model.specs.ChangeOwner.{approve_change, subs_change};
 ghost use Rattle.ps_model.specs.Steps.{denial_of};
 ghost use Rattle.ps_access.specs.Plans.{PassesWith};
 ghost use Rattle.ps_access.specs.Tables.{book_of};
 
-use ps_access::{Tables, asked_state, base_options, given_options, new_state};
-use ps_base::Memory;
-use ps_subs::Subs;
-use ps_types::{
-    AskRow, Elem, Jid, NodeKey, PlanRefusal, Request, SubOptions, SubRow, SubState, Text,
+use ps_access::{
+    Tables, base_options, given_options, new_state, new_sub, set_asked_subs, set_state, set_sub,
 };
+use ps_base::Memory;
+use ps_types::{AskRow, Elem, Jid, NodeKey, PlanRefusal, Request, SubOptions, SubState, Text};
 use std::alloc::Global;
-
-fn row(node: &NodeKey, who: &Jid, state: SubState, options: SubOptions) -> Result<SubRow, Memory>
-    ensures { IfOk result (λ r. r ≡ record { node = node.now; who = who.now; state = state; options = options }) }
-{
-    Ok(SubRow {
-        node: node.clone()?,
-        who: who.clone()?,
-        state,
-        options,
-    })
-}
-
-fn set(subs: &mut Subs, row: SubRow) -> Result<(), Memory>
-    ensures { OnOk result (subs.new.rows ≡ subs_with row subs.old.rows) }
-{
-    subs.reserve(1)?;
-    subs.set(row);
-    Ok(())
-}
-
-// Sets how far a subscription has come, where none removes it. A row keeps its options, and a new one has the defaults.
-fn set_state(tables: &mut Tables, node: &NodeKey, who: &Jid, state: SubState) -> Result<(), Memory>
-    ensures subs { OnOk result (tables.new.subs.rows ≡ subs_with (sub_with node.now who.now state tables.old.subs.rows) tables.old.subs.rows) }
-    ensures rest { OnOk result (book_of tables.new ≡ record (book_of tables.old) { subs = tables.new.subs.rows }) }
-{
-    let row = row(node, who, state, base_options(tables, node, who))?;
-    set(&mut tables.subs, row)
-}
 
 /// Takes the subscription of exactly this address away.
 pub fn unsubscribe(tables: &mut Tables, node: &NodeKey, who: &Jid) -> Result<(), Memory>
     ensures book { OnOk result (book_of tables.new ≡ unsubscribe_change node.now who.now (book_of tables.old)) }
 {
-    set_state(tables, node, who, SubState::Nothing)
+    set_state(&mut tables.subs, node, who, SubState::Nothing)
 }
 
 fn approved(allowed: &Text) -> SubState
@@ -69,17 +39,14 @@ fn approved(allowed: &Text) -> SubState
 pub fn approve(tables: &mut Tables, node: &NodeKey, who: &Jid, allowed: &Text) -> Result<(), Memory>
     ensures book { OnOk result (book_of tables.new ≡ approve_change node.now who.now allowed.now (book_of tables.old)) }
 {
-    set_state(tables, node, who, approved(allowed))
+    set_state(&mut tables.subs, node, who, approved(allowed))
 }
 
 /// Sets the rows that are asked for in order, where none removes.
 pub fn set_subs(tables: &mut Tables, node: &NodeKey, rows: &[AskRow]) -> Result<(), Memory>
     ensures book { OnOk result (book_of tables.new ≡ subs_change node.now rows.now (book_of tables.old)) }
 {
-    for row in rows {
-        set_state(tables, node, &row.jid, asked_state(row))?;
-    }
-    Ok(())
+    set_asked_subs(&mut tables.subs, node, rows)
 }
 
 // Options that aren't given leave all as it is.
@@ -94,8 +61,8 @@ fn subscribe_with(
 {
     match options {
         Ok(options) => {
-            let row = row(node, who, state, options)?;
-            set(&mut tables.subs, row)
+            let row = new_sub(node, who, state, options)?;
+            set_sub(&mut tables.subs, row)
         }
         Err(PlanRefusal::Denied(_)) => Ok(()),
         Err(PlanRefusal::Memory) => Err(Memory),

@@ -2,12 +2,13 @@
 ghost use Rattle.std.specs.Prelude.{◌≡◌, IfOk};
 ghost use Rattle.ps_types.specs.Links.{above, is_under};
 
-use crate::places::collection_among;
+use crate::named::collection_among;
+use ps_rows::Rows;
 use ps_types::{LinkRow, Memory, NodeKey};
 use std::alloc::Global;
 
-pub fn is_reached(rows: &[LinkRow], node: &NodeKey, collection: &NodeKey, deep: bool) -> bool
-    ensures { result ≡ is_under node.now collection.now deep rows.now }
+pub fn is_reached(rows: &Rows<LinkRow>, node: &NodeKey, collection: &NodeKey, deep: bool) -> bool
+    ensures { result ≡ is_under node.now collection.now deep rows.now.rows }
 {
     let mut left = if deep { rows.len() } else { 1 };
     let mut at = collection_among(rows, node);
@@ -26,8 +27,12 @@ pub fn is_reached(rows: &[LinkRow], node: &NodeKey, collection: &NodeKey, deep: 
     false
 }
 
-pub fn ancestors_of(alloc: Global, rows: &[LinkRow], node: &NodeKey) -> Result<Vec<NodeKey>, Memory>
-    ensures { IfOk result (λ nodes. nodes.items ≡ above node.now rows.now) }
+pub fn ancestors_of(
+    alloc: Global,
+    rows: &Rows<LinkRow>,
+    node: &NodeKey,
+) -> Result<Vec<NodeKey>, Memory>
+    ensures { IfOk result (λ nodes. nodes.items ≡ above node.now rows.now.rows) }
 {
     let mut nodes = Vec::new(alloc);
     let mut left = rows.len();

@@ -2,10 +2,11 @@
 ghost use Rattle.std.specs.Prelude.{◌≡◌, ◌+◌, ◌<◌, ◌≤◌, [], not, IfOk, OnOk, OnErr, length, slice_get, option_copied, is_err};
 ghost use Rattle.std.specs.List.{list_any};
 ghost use Rattle.ps_types.specs.Links.{collection_of, has_children, above, is_under, is_link_at, links_with, links_without};
+ghost use Rattle.ps_rows.specs.Standing.{standing};
 
 use crate::climb::{ancestors_of, is_reached};
-use crate::places::{collection_among, has_children_among, is_named, remove_all_of};
-use ps_table::Rows;
+use crate::named::{collection_among, has_child, is_named, remove_all_of};
+use ps_rows::Rows;
 use ps_types::{LinkRow, Memory, NodeKey};
 use std::alloc::Global;
 use std::marker::Model;
@@ -39,6 +40,15 @@ impl Links {
         })
     }
 
+    /// The empty table, whose digests go by a seed that no stranger knows. No answer depends on it.
+    pub fn seeded(alloc: Global, seed: u64) -> Result<Links, Memory>
+        ensures empty { IfOk result (λ t. t.rows ≡ []) }
+    {
+        Ok(Links {
+            rows: Rows::seeded(alloc, seed),
+        })
+    }
+
     /// How many rows there are.
     pub fn len(&self) -> u64
         ensures len { result ≡ length self.now.rows }
@@ -46,7 +56,14 @@ impl Links {
         self.rows.len()
     }
 
-    /// The row at a place, counted from 0.
+    /// The places of the rows, in order, of which some are empty. To go over the table, go over them.
+    pub fn places(&self) -> &[Option<LinkRow>]
+        ensures rows { standing result.now ≡ self.now.rows }
+    {
+        self.rows.places()
+    }
+
+    /// The row at a place, counted from 0. It goes through the table once rows have gone: [`Links::places`] serves a walk.
     pub fn row(&self, at: u64) -> Option<&LinkRow>
         ensures row { option_copied result ≡ slice_get self.now.rows at }
     {
@@ -75,35 +92,35 @@ impl Links {
     pub fn collection_of(&self, node: &NodeKey) -> Option<&NodeKey>
         ensures collection { option_copied result ≡ collection_of node.now self.now.rows }
     {
-        collection_among(self.rows.as_slice(), node)
+        collection_among(&self.rows, node)
     }
 
     /// Whether a collection holds some node.
     pub fn has_children(&self, collection: &NodeKey) -> bool
         ensures children { result ≡ has_children collection.now self.now.rows }
     {
-        has_children_among(self.rows.as_slice(), collection)
+        has_child(&self.rows, collection)
     }
 
     /// Whether some row names a node, as its child or as its collection.
     pub fn names(&self, node: &NodeKey) -> bool
         ensures named { result ≡ list_any (is_link_at node.now) self.now.rows }
     {
-        is_named(self.rows.as_slice(), node)
+        is_named(&self.rows, node)
     }
 
     /// Whether a node is under a collection, in one step or, where deep, in any number from one up.
     pub fn is_under(&self, node: &NodeKey, collection: &NodeKey, deep: bool) -> bool
         ensures under { result ≡ is_under node.now collection.now deep self.now.rows }
     {
-        is_reached(self.rows.as_slice(), node, collection, deep)
+        is_reached(&self.rows, node, collection, deep)
     }
 
     /// The collections above a node, the nearest first.
     pub fn ancestors(&self, alloc: Global, node: &NodeKey) -> Result<Vec<NodeKey>, Memory>
         ensures above { IfOk result (λ nodes. nodes.items ≡ above node.now self.now.rows) }
     {
-        ancestors_of(alloc, self.rows.as_slice(), node)
+        ancestors_of(alloc, &self.rows, node)
     }
 
     /// Puts a node into a collection, where it is one: the flag says so. It takes no memory.
@@ -117,7 +134,7 @@ impl Links {
         if !is_collection {
             return Err(NotCollection);
         }
-        self.rows.put_at(None, row);
+        self.rows.add(row);
         Ok(())
     }
 

@@ -13,8 +13,6 @@ mod lines;
 mod plans;
 mod service;
 mod taking;
-#[cfg(test)]
-mod tests;
 
 pub use answers::Answer;
 pub use half::Half;

@@ -47,12 +47,23 @@ pub enum Stage {
 }
 
 /// A State, kept twice: the second copy is edited, and then takes the place of the first.
-#[derive(Drop)]
 pub struct Service {
     front: Half,
     back: Half,
     stage: Stage,
     alloc: Global,
+}
+
+// By hand, so that a service is let go by one call wherever a function ends.
+impl Drop for Service {
+    fn drop(self) {
+        let Service {
+            front: _,
+            back: _,
+            stage: _,
+            alloc: _,
+        } = self;
+    }
 }
 
 impl Model for Service {

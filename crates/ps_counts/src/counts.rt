@@ -1,9 +1,10 @@
 // The table.
 ghost use Rattle.std.specs.Prelude.{◌≡◌, ◌+◌, ◌<◌, ◌≤◌, [], ◌∷◌, ◌++◌, IfOk, OnOk, length, slice_get, option_copied, find};
 ghost use Rattle.ps_types.specs.Counts.{is_count_of, made_at, counts_with, counts_without};
+ghost use Rattle.ps_rows.specs.Standing.{standing};
 
-use crate::places::{made_among, put, remove_all_of, row_among};
-use ps_table::Rows;
+use crate::asks::{AtNode, CountOf};
+use ps_rows::{Index, Rows};
 use ps_types::{CountRow, Jid, Memory, NodeKey};
 use std::alloc::Global;
 use std::marker::Model;
@@ -33,6 +34,15 @@ impl Counts {
         })
     }
 
+    /// The empty table, whose digests go by a seed that no stranger knows. No answer depends on it.
+    pub fn seeded(alloc: Global, seed: u64) -> Result<Counts, Memory>
+        ensures empty { IfOk result (λ t. t.rows ≡ []) }
+    {
+        Ok(Counts {
+            rows: Rows::seeded(alloc, seed),
+        })
+    }
+
     /// How many rows there are.
     pub fn len(&self) -> u64
         ensures len { result ≡ length self.now.rows }
@@ -40,7 +50,14 @@ impl Counts {
         self.rows.len()
     }
 
-    /// The row at a place, counted from 0.
+    /// The places of the rows, in order, of which some are empty. To go over the table, go over them.
+    pub fn places(&self) -> &[Option<CountRow>]
+        ensures rows { standing result.now ≡ self.now.rows }
+    {
+        self.rows.places()
+    }
+
+    /// The row at a place, counted from 0. It goes through the table once rows have gone: [`Counts::places`] serves a walk.
     pub fn row(&self, at: u64) -> Option<&CountRow>
         ensures row { option_copied result ≡ slice_get self.now.rows at }
     {
@@ -69,14 +86,18 @@ impl Counts {
     pub fn get(&self, node: &NodeKey, who: &Jid) -> u64
         ensures made { result ≡ made_at node.now who.now self.now.rows }
     {
-        made_among(self.rows.as_slice(), node, who)
+        match self.row_of(node, who) {
+            Some(row) => row.made,
+            None => 0,
+        }
     }
 
     /// The row of a bare address at a node.
     pub fn row_of(&self, node: &NodeKey, who: &Jid) -> Option<&CountRow>
         ensures row { option_copied result ≡ find (is_count_of node.now who.now) self.now.rows }
     {
-        row_among(self.rows.as_slice(), node, who)
+        let ask = CountOf { node, who };
+        self.rows.find(Index::Key, &ask)
     }
 
     /// Adds a row as the last one, as a list of rows is read back. It takes no memory.
@@ -85,7 +106,7 @@ impl Counts {
         ensures rows { self.new.rows ≡ self.old.rows ++ row ∷ [] }
         ensures room { self.old.spare ≤ self.new.spare + 1 }
     {
-        self.rows.put_at(None, row);
+        self.rows.add(row);
     }
 
     /// Sets how many ids were made for a bare address at a node. It takes no memory.
@@ -94,7 +115,7 @@ impl Counts {
         ensures rows { self.new.rows ≡ counts_with row self.old.rows }
         ensures room { self.old.spare ≤ self.new.spare + 1 }
     {
-        put(&mut self.rows, row);
+        self.rows.put(row);
     }
 
     /// Takes away the rows of a node. It takes no memory.
@@ -102,6 +123,7 @@ impl Counts {
         ensures rows { self.new.rows ≡ counts_without node.now self.old.rows }
         ensures room { self.old.spare ≤ self.new.spare }
     {
-        remove_all_of(&mut self.rows, node);
+        let ask = AtNode { node };
+        self.rows.take_away(Index::Node, &ask);
     }
 }

@@ -19,11 +19,7 @@ mod presence;
 mod roster;
 mod subs;
 mod subscribe;
-#[cfg(test)]
-mod tests;
 mod unsubscribe;
-#[cfg(test)]
-mod world;
 
 pub use plans::plan;
 pub use roster::max_contacts;

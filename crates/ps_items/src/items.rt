@@ -1,9 +1,10 @@
 // The table.
 ghost use Rattle.std.specs.Prelude.{◌≡◌, ◌+◌, ◌<◌, ◌≤◌, [], ◌∷◌, ◌++◌, IfOk, OnOk, length, slice_get, option_copied, is_some};
 ghost use Rattle.ps_types.specs.Items.{item_at, items_of, item_count, items_with, items_except, items_without, items_kept, last_item};
+ghost use Rattle.ps_rows.specs.Standing.{standing};
 
-use crate::places::{count, item_of, last_of, put, remove_all_of, remove_of, trim};
-use ps_table::Rows;
+use crate::asks::{AtNode, ItemOf};
+use ps_rows::{Index, Rows};
 use ps_types::{ItemRow, Memory, NodeKey, Text};
 use std::alloc::Global;
 use std::marker::Model;
@@ -37,6 +38,15 @@ impl Items {
         })
     }
 
+    /// The empty table, whose digests go by a seed that no stranger knows. No answer depends on it.
+    pub fn seeded(alloc: Global, seed: u64) -> Result<Items, Memory>
+        ensures empty { IfOk result (λ t. t.rows ≡ []) }
+    {
+        Ok(Items {
+            rows: Rows::seeded(alloc, seed),
+        })
+    }
+
     /// How many rows there are.
     pub fn len(&self) -> u64
         ensures len { result ≡ length self.now.rows }
@@ -44,7 +54,14 @@ impl Items {
         self.rows.len()
     }
 
-    /// The row at a place, counted from 0.
+    /// The places of the rows, in order, of which some are empty. To go over the table, go over them.
+    pub fn places(&self) -> &[Option<ItemRow>]
+        ensures rows { standing result.now ≡ self.now.rows }
+    {
+        self.rows.places()
+    }
+
+    /// The row at a place, counted from 0. It goes through the table once rows have gone: [`Items::places`] serves a walk.
     pub fn row(&self, at: u64) -> Option<&ItemRow>
         ensures row { option_copied result ≡ slice_get self.now.rows at }
     {
@@ -73,41 +90,39 @@ impl Items {
     pub fn get(&self, node: &NodeKey, id: &Text) -> Option<&ItemRow>
         ensures item { option_copied result ≡ item_at node.now id.now self.now.rows }
     {
-        item_of(self.rows.as_slice(), node, id)
+        let ask = ItemOf { node, id };
+        self.rows.find(Index::Key, &ask)
     }
 
     /// Whether the node has an item of this id.
     pub fn has(&self, node: &NodeKey, id: &Text) -> bool
         ensures there { result ≡ is_some (item_at node.now id.now self.now.rows) }
     {
-        item_of(self.rows.as_slice(), node, id).is_some()
+        self.get(node, id).is_some()
     }
 
     /// The newest item of a node.
     pub fn last(&self, node: &NodeKey) -> Option<&ItemRow>
         ensures last { option_copied result ≡ last_item node.now self.now.rows }
     {
-        last_of(self.rows.as_slice(), node)
+        let ask = AtNode { node };
+        self.rows.last(Index::Node, &ask)
     }
 
     /// How many items a node holds.
     pub fn count(&self, node: &NodeKey) -> u64
         ensures count { result ≡ item_count node.now self.now.rows }
     {
-        count(self.rows.as_slice(), node) as u64
+        let ask = AtNode { node };
+        self.rows.count_node(&ask)
     }
 
     /// The items of a node, the oldest first.
     pub fn list(&self, alloc: Global, node: &NodeKey) -> Result<Vec<ItemRow>, Memory>
         ensures rows { IfOk result (λ rows. rows.items ≡ items_of node.now self.now.rows) }
     {
-        let mut rows = Vec::new(alloc);
-        for row in self.rows.as_slice() {
-            if node.is_same(&row.node) {
-                rows.push(row.clone()?)?;
-            }
-        }
-        Ok(rows)
+        let ask = AtNode { node };
+        self.rows.list(Index::Node, &ask, alloc)
     }
 
     /// Adds a row as the last one, as a list of rows is read back. It takes no memory.
@@ -116,7 +131,7 @@ impl Items {
         ensures rows { self.new.rows ≡ self.old.rows ++ row ∷ [] }
         ensures room { self.old.spare ≤ self.new.spare + 1 }
     {
-        self.rows.put_at(None, row);
+        self.rows.add(row);
     }
 
     /// Publishes an item. Of the node's items the newest stay, at most as many as given. It takes no memory.
@@ -126,7 +141,9 @@ impl Items {
         ensures rows { self.new.rows ≡ items_with row max self.old.rows }
         ensures room { self.old.spare ≤ self.new.spare + 1 }
     {
-        put(&mut self.rows, row, max as usize);
+        take_item(&mut self.rows, &row.node, &row.id);
+        keep(&mut self.rows, &row.node, max - 1);
+        self.rows.add(row);
     }
 
     /// Takes an item away, and answers whether it was there. It takes no memory.
@@ -136,7 +153,7 @@ impl Items {
         ensures room { self.old.spare ≤ self.new.spare }
     {
         let there = self.has(node, id);
-        remove_of(&mut self.rows, node, id);
+        take_item(&mut self.rows, node, id);
         there
     }
 
@@ -145,7 +162,7 @@ impl Items {
         ensures rows { self.new.rows ≡ items_kept node.now max self.old.rows }
         ensures room { self.old.spare ≤ self.new.spare }
     {
-        trim(&mut self.rows, node, max as usize);
+        keep(&mut self.rows, node, max);
     }
 
     /// Takes away all items of a node. It takes no memory.
@@ -153,7 +170,7 @@ impl Items {
         ensures rows { self.new.rows ≡ items_without node.now self.old.rows }
         ensures room { self.old.spare ≤ self.new.spare }
     {
-        remove_all_of(&mut self.rows, node);
+        take_all(&mut self.rows, node);
     }
 
     /// Takes away the rows of a node, as every table does. It takes no memory.
@@ -161,6 +178,30 @@ impl Items {
         ensures rows { self.new.rows ≡ items_without node.now self.old.rows }
         ensures room { self.old.spare ≤ self.new.spare }
     {
-        remove_all_of(&mut self.rows, node);
+        take_all(&mut self.rows, node);
     }
+}
+
+fn take_item(rows: &mut Rows<ItemRow>, node: &NodeKey, id: &Text)
+    ensures rows { rows.new.rows ≡ items_except node.now id.now rows.old.rows }
+    ensures room { rows.old.spare ≤ rows.new.spare }
+{
+    let ask = ItemOf { node, id };
+    rows.take_away(Index::Key, &ask);
+}
+
+fn take_all(rows: &mut Rows<ItemRow>, node: &NodeKey)
+    ensures rows { rows.new.rows ≡ items_without node.now rows.old.rows }
+    ensures room { rows.old.spare ≤ rows.new.spare }
+{
+    let ask = AtNode { node };
+    rows.take_away(Index::Node, &ask);
+}
+
+fn keep(rows: &mut Rows<ItemRow>, node: &NodeKey, most: u64)
+    ensures rows { rows.new.rows ≡ items_kept node.now most rows.old.rows }
+    ensures room { rows.old.spare ≤ rows.new.spare }
+{
+    let ask = AtNode { node };
+    rows.keep(&ask, most);
 }

@@ -1,9 +1,8 @@
--- What setting affiliations of one node does to its rows, and when the table is as it was.
-use Rattle.std.proofs.Common.{◌≡◌, ◌≢◌, ℕ, ◌+◌, Bool, true, false, cond, ◌&&◌, ◌||◌, List, [], ◌∷◌, ◌++◌, take, Some, refl, sym, ap, subst, ◌∙◌}
-use Rattle.std.specs.List.{list_any, slice_get}
-use Rattle.std.proofs.lemmas.List.{take_more}
-use Rattle.std.proofs.lemmas.Option.{slice_get_within, get_or_from_slice_get}
-use Rattle.ps_base.specs.Rows.{put_row, without}
+-- What setting affiliations of one node does to the rows that are asked for, and when the table is as it was.
+use Rattle.std.proofs.Common.{◌≡◌, Bool, true, false, cond, ◌&&◌, ◌||◌, List, [], ◌∷◌, refl, sym, ap, subst, ◌∙◌}
+use Rattle.std.specs.Prelude.{bytes_eq, filter, find, is_some, map}
+use Rattle.std.specs.List.{list_any}
+use Rattle.std.proofs.lemmas.Slice.Eq.{bytes_eq-Decides}
 use Rattle.ps_types.specs.declared.jid.Jid.{Jid}
 use Rattle.ps_types.specs.declared.node.NodeKey.{NodeKey}
 use Rattle.ps_types.specs.declared.request.AskRow.{AskRow}
@@ -13,129 +12,112 @@ use Rattle.ps_types.specs.declared.rows.AffilRow.{AffilRow}
 use Rattle.ps_types.specs.contracts.rows.AffilPartialEq.TheImpl as affil
 use Rattle.ps_types.specs.contracts.rows.AffilRowPartialEq.TheImpl as row_eq
 use Rattle.ps_types.specs.contracts.rows.AffilRowEq.TheImpl.Laws.{laws-law}
+use Rattle.ps_types.specs.Address.{bare}
 use Rattle.ps_types.specs.Affils.{is_affil_at, is_affil_of, affils_by, affils_with}
 use Rattle.ps_types.specs.Same.{same_node, same_jid, same_bare}
-use Rattle.ps_types.proofs.Same.{same_node-Decides, same_node-itself}
+use Rattle.ps_types.proofs.Same.{same_jid-Decides, same_node-Decides, same_node-itself}
 use Rattle.ps_model.specs.Access.{is_account}
 use Rattle.ps_model.specs.Book.{Book}
 use Rattle.ps_model.specs.ChangeOwner.{asked_affil, affils_asked}
 use Rattle.ps_model.specs.CheckOwner.{is_owner_row, keeps_owner}
 use Rattle.ps_model.specs.SameRows.{same_affils}
-use Rattle.ps_access.proofs.OneMore.{affils-push}
-use Rattle.ps_owner.specs.Own.{AreAffils}
-use Rattle.ps_owner.specs.Parted.{before_other, after_other}
-use Rattle.ps_owner.specs.declared.affil_rows.OwnAffils.{OwnAffils}
-use Rattle.ps_owner.proofs.Parting.{filter-parts, before-put, after-put, before-gone, after-gone}
-use Rattle.ps_owner.proofs.Taking.{before-push, after-push, any-either}
-use Rattle.ps_owner.proofs.Growing.{Grown, grown-itself, grown-put, grown-without, same-parts}
+use Rattle.ps_affil.specs.Among.{is_among, is_other_owner, owns_at}
+use Rattle.ps_rows.specs.Around.{own_and_last}
+use Rattle.ps_owner.specs.Edits.{IsAffilEdit}
+use Rattle.ps_owner.specs.declared.affil_edits.AffilEdit.{AffilEdit}
+use Rattle.ps_owner.proofs.Asked.{Covers, covers-among, and-left, and-right, and-both}
+use Rattle.ps_owner.proofs.Settings.{Sets, sets-none, sets-more, sets-put, sets-gone, edited, same-edited, any-edited}
 
-pub and-left : (a b : Bool) → (a && b) ≡ true → a ≡ true
-and-left true b h = refl
-and-left false b h = absurd (cc)
+bare-itself : (a : Jid) → same_bare a a ≡ true
+unfolding same_bare
+bare-itself a = and-both (bytes_eq a.local a.local) (bytes_eq a.host a.host) ((bytes_eq-Decides a.local a.local).1 refl) ((bytes_eq-Decides a.host a.host).1 refl)
 
-inside : (node : NodeKey) (who : Jid) (x : AffilRow) → is_affil_of node who x ≡ true → is_affil_at node x ≡ true
-inside node who x h = and-left (same_node node x.node) (same_bare who x.who) h
+bare-back : (a b : Jid) → same_bare a b ≡ true → same_bare b a ≡ true
+unfolding same_bare
+bare-back a b h =
+    let l = (bytes_eq-Decides a.local b.local).0 (and-left (bytes_eq a.local b.local) (bytes_eq a.host b.host) h) in
+    let k = (bytes_eq-Decides a.host b.host).0 (and-right (bytes_eq a.local b.local) (bytes_eq a.host b.host) h) in
+    and-both (bytes_eq b.local a.local) (bytes_eq b.host a.host) ((bytes_eq-Decides b.local a.local).1 (sym l)) ((bytes_eq-Decides b.host a.host).1 (sym k))
 
--- ---- one row is set
+-- ---- the rows that are asked for
 
-pub gone-parts : (old new : OwnAffils) (row : AffilRow) (rows : List AffilRow) → row.affil ≡ Nothing
-    → new.before.items ≡ without (is_affil_of row.node row.who) old.before.items → new.after.items ≡ without (is_affil_of row.node row.who) old.after.items
-    → AreAffils old row.node rows → AreAffils new row.node (affils_with row rows)
-gone-parts old new row rows is b a are =
-    let own = is_affil_at row.node in let test = is_affil_of row.node row.who in
-    let e : affils_with row rows ≡ without test rows = ap (λ (kind : Affil). affils_by kind row rows) is in
-    record {
-      before = b ∙ ap (λ (l : List AffilRow). without test l) are.before ∙ sym (before-gone own test (inside row.node row.who) rows) ∙ ap (λ (l : List AffilRow). before_other own l) (sym e);
-      after = a ∙ ap (λ (l : List AffilRow). without test l) are.after ∙ sym (after-gone own test (inside row.node row.who) rows) ∙ ap (λ (l : List AffilRow). after_other own l) (sym e);
-    }
+abbrev asks : NodeKey → AskRow → AffilRow → Bool
+asks node row x = is_affil_of node (bare row.jid) x
 
-puts : (kind : Affil) (row : AffilRow) (rows : List AffilRow) → kind ≢ Nothing → affils_by kind row rows ≡ put_row (is_affil_of row.node row.who) row rows
-puts Owner row rows h = refl
-puts Publisher row rows h = refl
-puts PublishOnly row rows h = refl
-puts Member row rows h = refl
-puts Outcast row rows h = refl
-puts Nothing row rows h = absurd (h refl)
+marks : (node : NodeKey) (row : AskRow) (x : AffilRow) → asks node row x ≡ true → (is_affil_at node x ≡ true) × (is_affil_of node x.who (asked_affil node row) ≡ true)
+marks node row x h = (
+  and-left (same_node node x.node) (same_bare (bare row.jid) x.who) h,
+  and-both (same_node node node) (same_bare x.who (bare row.jid)) (same_node-itself node) (bare-back (bare row.jid) x.who (and-right (same_node node x.node) (same_bare (bare row.jid) x.who) h)),
+)
 
-pub put-parts : (old new : OwnAffils) (row : AffilRow) (rows : List AffilRow) → row.affil ≢ Nothing
-    → new.before.items ≡ cond (list_any (is_affil_of row.node row.who) old.before.items) (put_row (is_affil_of row.node row.who) row old.before.items) old.before.items
-    → new.after.items ≡ cond (list_any (is_affil_of row.node row.who) old.before.items) old.after.items (put_row (is_affil_of row.node row.who) row old.after.items)
-    → AreAffils old row.node rows → AreAffils new row.node (affils_with row rows)
-put-parts old new row rows is b a are =
-    let own = is_affil_at row.node in let test = is_affil_of row.node row.who in
-    let self = same_node-itself row.node in
-    let e : affils_with row rows ≡ put_row test row rows = puts row.affil row rows is in
-    let b2 : new.before.items ≡ before_other own (put_row test row rows) = b ∙ ap (λ (l : List AffilRow). cond (list_any test l) (put_row test row l) l) are.before ∙ sym (before-put own test (inside row.node row.who) row self rows) in
-    let a2 : new.after.items ≡ after_other own (put_row test row rows) =
-    a ∙ ap (λ (l : List AffilRow). cond (list_any test l) old.after.items (put_row test row old.after.items)) are.before
-    ∙ ap (λ (l : List AffilRow). cond (list_any test (before_other own rows)) l (put_row test row l)) are.after ∙ sym (after-put own test (inside row.node row.who) row self rows) in
-    record {
-      before = b2 ∙ ap (λ (l : List AffilRow). before_other own l) (sym e);
-      after = a2 ∙ ap (λ (l : List AffilRow). after_other own l) (sym e);
-    }
+covered : (node : NodeKey) (rows : List AskRow) (asked : List AffilRow) → asked ≡ map (asked_affil node) rows → Covers (asks node) (is_among node asked) rows
+covered node rows asked is =
+    subst (λ (l : List AffilRow). Covers (asks node) (is_among node l) rows) (sym is) (covers-among (asks node) (is_affil_at node) (λ x. is_affil_of node x.who) (asked_affil node) (marks node) rows)
 
--- ---- the asked rows are set in order
+sets-by : (own : AffilRow → Bool) (row : AffilRow) → ((x : AffilRow) → is_affil_of row.node row.who x ≡ true → own x ≡ true) → (kind : Affil) → Sets own (λ xs. affils_by kind row xs)
+sets-by own row inside kind =
+    by kind
+  where
+    mine : own row ≡ true
+    mine = inside row (and-both (same_node row.node row.node) (same_bare row.who row.who) (same_node-itself row.node) (bare-itself row.who))
 
-grown-by : (kind : Affil) (row : AffilRow) (xs ys : List AffilRow) → Grown (is_affil_at row.node) xs ys → Grown (is_affil_at row.node) xs (affils_by kind row ys)
-grown-by Owner row xs ys g = grown-put (is_affil_at row.node) (is_affil_of row.node row.who) (inside row.node row.who) row (same_node-itself row.node) xs ys g
-grown-by Publisher row xs ys g = grown-put (is_affil_at row.node) (is_affil_of row.node row.who) (inside row.node row.who) row (same_node-itself row.node) xs ys g
-grown-by PublishOnly row xs ys g = grown-put (is_affil_at row.node) (is_affil_of row.node row.who) (inside row.node row.who) row (same_node-itself row.node) xs ys g
-grown-by Member row xs ys g = grown-put (is_affil_at row.node) (is_affil_of row.node row.who) (inside row.node row.who) row (same_node-itself row.node) xs ys g
-grown-by Outcast row xs ys g = grown-put (is_affil_at row.node) (is_affil_of row.node row.who) (inside row.node row.who) row (same_node-itself row.node) xs ys g
-grown-by Nothing row xs ys g = grown-without (is_affil_at row.node) (is_affil_of row.node row.who) (inside row.node row.who) xs ys g
+    put : Sets own (λ xs. affils_by Owner row xs)
+    put = sets-put own (is_affil_of row.node row.who) inside row mine
 
-grown-asked : (node : NodeKey) (rows : List AskRow) (xs ys : List AffilRow) → Grown (is_affil_at node) xs ys → Grown (is_affil_at node) xs (affils_asked node rows ys)
-grown-asked node [] xs ys g = g
-grown-asked node (row ∷ rows) xs ys g = grown-asked node rows xs (affils_with (asked_affil node row) ys) (grown-by (asked_affil node row).affil (asked_affil node row) xs ys g)
+    by : (k : Affil) → Sets own (λ xs. affils_by k row xs)
+    by Owner = put
+    by Publisher = put
+    by PublishOnly = put
+    by Member = put
+    by Outcast = put
+    by Nothing = sets-gone own (is_affil_of row.node row.who) inside
 
--- ---- whether the table is as it was
+sets-asked : (own : AffilRow → Bool) (node : NodeKey) (rows : List AskRow) → Covers (asks node) own rows → Sets own (λ xs. affils_asked node rows xs)
+sets-asked own node [] c = sets-none own
+sets-asked own node (row ∷ rows) c =
+    sets-more own (λ xs. affils_with (asked_affil node row) xs) (λ xs. affils_asked node rows xs) (sets-by own (asked_affil node row) c.0 (asked_affil node row).affil) (sets-asked own node rows c.1)
 
-respects : (node : NodeKey) (x y : AffilRow) → row_eq.eq-value.it x y ≡ true → is_affil_at node x ≡ is_affil_at node y
+-- ---- what becomes of them
+
+-- of the few rows alone
+pub edited-affils : (node : NodeKey) (rows : List AskRow) (asked table : List AffilRow) → asked ≡ map (asked_affil node) rows
+    → own_and_last (is_among node asked) (affils_asked node rows (own_and_last (is_among node asked) table)) ≡ own_and_last (is_among node asked) (affils_asked node rows table)
+edited-affils node rows asked table is =
+    edited (is_among node asked) (λ xs. affils_asked node rows xs) (sets-asked (is_among node asked) node rows (covered node rows asked is)) table
+
+respects : (node : NodeKey) (others : List AffilRow) (x y : AffilRow) → row_eq.eq-value.it x y ≡ true → is_among node others x ≡ is_among node others y
 unfolding same_node same_jid
-respects node x y h =
-    let n : same_node x.node y.node ≡ true = and-left (same_node x.node y.node) (same_jid x.who y.who && affil.eq-value.it x.affil y.affil) h in
-    ap (λ (k : NodeKey). same_node node k) ((same_node-Decides x.node y.node).0 n)
+respects node others x y h =
+    let rest = and-right (same_node x.node y.node) (same_jid x.who y.who && affil.eq-value.it x.affil y.affil) h in
+    let n = (same_node-Decides x.node y.node).0 (and-left (same_node x.node y.node) (same_jid x.who y.who && affil.eq-value.it x.affil y.affil) h) in
+    let w = (same_jid-Decides x.who y.who).0 (and-left (same_jid x.who y.who) (affil.eq-value.it x.affil y.affil) rest) in
+    ap (λ (k : NodeKey). same_node node k && is_some (find (is_affil_of node x.who) others)) n ∙ ap (λ (j : Jid). same_node node y.node && is_some (find (is_affil_of node j) others)) w
 
-pub same-asked : (old new : OwnAffils) (node : NodeKey) (rows : List AskRow) (affils : List AffilRow) → AreAffils old node affils → AreAffils new node (affils_asked node rows affils)
-    → same_affils (affils_asked node rows affils) affils ≡ (same_affils new.before.items old.before.items && same_affils new.after.items old.after.items)
-same-asked old new node rows affils was is =
-    let own = is_affil_at node in
-    let grown = grown-asked node rows affils affils (grown-itself own affils) in
-    let e = same-parts own row_eq.eq-value.it (λ x. laws-law.refl x) (respects node) affils (affils_asked node rows affils) grown in
-    let b = was.before in let a = was.after in let b2 = is.before in let a2 = is.after in
-    rw (b, a, b2, a2) e
-
--- ---- the table is read
-
-pub take-next : {R : Type 0} (rows : List R) (at : ℕ) (row : R) → slice_get rows at ≡ Some row → take (at + 1) rows ≡ take at rows ++ row ∷ []
-take-next rows at row is = take_more rows at row (slice_get_within rows at row is) ∙ ap (λ x. take at rows ++ x ∷ []) (get_or_from_slice_get rows at row row is)
-
-pub taken : (old new : OwnAffils) (node : NodeKey) (rows : List AffilRow) (at : ℕ) (row : AffilRow) → slice_get rows at ≡ Some row → AreAffils old node (take at rows)
-    → new.before.items ≡ cond (is_affil_at node row) old.before.items (old.before.items ++ old.after.items) → new.after.items ≡ cond (is_affil_at node row) (old.after.items ++ row ∷ []) []
-    → AreAffils new node (take (at + 1) rows)
-taken old new node rows at row is are b a =
-    let own = is_affil_at node in let e = take-next rows at row is in let p = are.before in let q = are.after in
-    record {
-      before = b ∙ rw (p, q) (sym (before-push own (take at rows) row)) ∙ ap (λ (l : List AffilRow). before_other own l) (sym e);
-      after = a ∙ rw q (sym (after-push own (take at rows) row)) ∙ ap (λ (l : List AffilRow). after_other own l) (sym e);
-    }
+-- the table is as it was where they are
+pub same-affil_edit : (edit : AffilEdit) (node : NodeKey) (rows : List AskRow) (table : List AffilRow) → IsAffilEdit edit node rows table
+    → same_affils edit.after.items edit.before.items ≡ same_affils (affils_asked node rows table) table
+same-affil_edit edit node rows table is =
+    let own = is_among node edit.asked.rows in
+    let sets = sets-asked own node rows (covered node rows edit.asked.rows is.asked) in
+    let e = same-edited own (λ xs. affils_asked node rows xs) sets row_eq.eq-value.it (λ x. laws-law.refl x) (respects node edit.asked.rows) table in
+    let b = is.before in let a = is.after in
+    rw (b, a) (sym e)
 
 -- ---- an owner is left
 
-pub keeps-parts : (book : Book) (node : NodeKey) (rows : List AskRow) (own : OwnAffils) → is_account node.service ≡ false → AreAffils own node (affils_asked node rows book.affils)
-    → (list_any is_owner_row own.before.items || list_any is_owner_row own.after.items) ≡ keeps_owner book node rows
-keeps-parts book node rows own other are =
-    let ys = affils_asked node rows book.affils in let mine = is_affil_at node in
-    let b = are.before in let a = are.after in
-    rw (other, b, a) (sym (ap (λ (l : List AffilRow). list_any is_owner_row l) (filter-parts mine ys) ∙ any-either is_owner_row (before_other mine ys) (after_other mine ys)))
+any-step : (a b : Bool) (x : AffilRow) (xs : List AffilRow) (c : Bool) → is_owner_row x ≡ b → list_any is_owner_row xs ≡ c → list_any is_owner_row (cond a (x ∷ xs) xs) ≡ ((a && b) || c)
+any-step true b x xs c h k = rw (h, k) refl
+any-step false b x xs c h k = k
 
--- one more of the asked rows is set
-pub set-next : (old new : OwnAffils) (node : NodeKey) (row : AffilRow) (first : AskRow) (rows : List AskRow) (i : ℕ) (affils : List AffilRow) → row ≡ asked_affil node first
-    → ((ys : List AffilRow) → AreAffils old row.node ys → AreAffils new row.node (affils_with row ys)) → AreAffils old node (affils_asked node (take i rows) affils)
-    → take (i + 1) rows ≡ take i rows ++ first ∷ [] → AreAffils new node (affils_asked node (take (i + 1) rows) affils)
-set-next old new node row first rows i affils is set are more =
-    let ys = affils_asked node (take i rows) affils in
-    let step : AreAffils new node (affils_with (asked_affil node first) ys) =
-    subst (λ (r : AffilRow). (zs : List AffilRow) → AreAffils old r.node zs → AreAffils new r.node (affils_with r zs)) is set ys are in
-    let e = ap (λ (l : List AskRow). affils_asked node l affils) more ∙ affils-push node (take i rows) first affils in
-    subst (λ (l : List AffilRow). AreAffils new node l) (sym e) step
+any-owner : (node : NodeKey) (xs : List AffilRow) → list_any is_owner_row (filter (is_affil_at node) xs) ≡ list_any (owns_at node) xs
+any-owner node [] = refl
+any-owner node (x ∷ xs) = any-step (is_affil_at node x) (is_owner_row x) x (filter (is_affil_at node) xs) (list_any (owns_at node) xs) refl (any-owner node xs)
+
+pub keeps-edit : (book : Book) (table : List AffilRow) (node : NodeKey) (rows : List AskRow) (edit : AffilEdit) → is_account node.service ≡ false → book.affils ≡ table → IsAffilEdit edit node rows table
+    → (list_any (owns_at node) edit.after.items || list_any (is_other_owner node edit.asked.rows) table) ≡ keeps_owner book node rows
+keeps-edit book table node rows edit other same is =
+    let own = is_among node edit.asked.rows in
+    let sets = sets-asked own node rows (covered node rows edit.asked.rows is.asked) in
+    let e = any-owner node (affils_asked node rows table) ∙ any-edited own (λ xs. affils_asked node rows xs) sets (owns_at node) table in
+    let a = is.after in
+    rw (other, same, a) (sym e)

@@ -1,10 +1,10 @@
 -- A list whose own rows are set in order: when it is as it was.
-use Rattle.std.proofs.Common.{◌≡◌, ℕ, suc, ◌<◌, ◌≤◌, Bool, true, false, cond, not, ◌&&◌, List, [], ◌∷◌, length, refl, sym, ap, ◌∙◌, arith}
+use Rattle.std.proofs.Common.{◌≡◌, ℕ, suc, ◌<◌, ◌≤◌, Bool, true, false, cond, not, ◌&&◌, ◌||◌, List, [], ◌∷◌, length, refl, sym, ap, ◌∙◌, arith}
 use Rattle.std.specs.List.{list_all}
 use Rattle.std.specs.Cmp.Lexicographic.{pointwise}
 use Rattle.ps_base.specs.Rows.{put_row, without}
-use Rattle.ps_owner.specs.Parted.{before_other, after_other}
-use Rattle.ps_owner.proofs.Parting.{all-before, all-after, put-all, gone-all}
+use Rattle.ps_rows.specs.Around.{own_and_last}
+use Rattle.ps_owner.proofs.Around.{around-all, all-around, put-all, gone-all}
 
 -- the second list came of the first by changing own rows, taking them away, and putting more behind all others
 pub data Grown {R : Type 0} (own : R → Bool) : List R → List R → Type 0 where
@@ -79,11 +79,18 @@ module _ {R : Type 0} (own : R → Bool) where
   grown-reach _ _ (kept x xs ys p g) = let less = grown-reach xs ys g in rw p (omega (arith, less))
   grown-reach _ ys (gone x xs _ p n g) = let less = grown-reach xs ys g in rw (p, n) (omega (arith, less))
 
-  grown-before : (xs ys : List R) → Grown own xs ys → length (before_other own ys) ≤ length (before_other own xs)
-  grown-before xs ys (ended _ _ p q) = let none = all-before own ys q in rw none (omega arith)
-  grown-before _ _ (changed x y xs ys p q n g) = let same = grown-all xs ys g in let less = grown-before xs ys g in rw (q, p, same, n) (omega (arith, less))
-  grown-before _ _ (kept x xs ys p g) = let less = grown-before xs ys g in rw p less
-  grown-before _ ys (gone x xs _ p n g) = let less = grown-before xs ys g in rw (p, n) (omega (arith, less))
+  -- ---- the own rows with the last other one
+
+  kept-around : (a all : Bool) (x : R) (xs ys : List R) → own x ≡ false → Grown own xs ys → Grown own (cond (a || all) (x ∷ xs) xs) (cond (a || all) (x ∷ ys) ys)
+  kept-around true all x xs ys p g = kept x xs ys p g
+  kept-around false true x xs ys p g = kept x xs ys p g
+  kept-around false false x xs ys p g = g
+
+  grown-around : (xs ys : List R) → Grown own xs ys → Grown own (own_and_last own xs) (own_and_last own ys)
+  grown-around xs ys (ended _ _ p q) = ended (own_and_last own xs) (own_and_last own ys) (all-around own xs ∙ p) (all-around own ys ∙ q)
+  grown-around _ _ (changed x y xs ys p q n g) = rw (p, q) (changed x y (own_and_last own xs) (own_and_last own ys) p q (all-around own xs ∙ n) (grown-around xs ys g))
+  grown-around _ _ (kept x xs ys p g) = let same = grown-all xs ys g in rw same (kept-around (own x) (list_all own xs) x (own_and_last own xs) (own_and_last own ys) p (grown-around xs ys g))
+  grown-around _ ys (gone x xs _ p n g) = rw p (gone x (own_and_last own xs) (own_and_last own ys) p (all-around own xs ∙ n) (grown-around xs ys g))
 
   -- ---- when it is as it was
 
@@ -120,33 +127,28 @@ module _ {R : Type 0} (own : R → Bool) where
     by-reach true ys zs h less = let e = same-reach ys zs h in absurd (omega (arith, e, less))
     by-reach false ys zs h less = refl
 
-    shorter : (xs ys : List R) → length xs < length ys → pointwise same xs ys ≡ false
-    shorter [] [] h = absurd (omega (arith, h))
-    shorter [] (y ∷ ys) h = refl
-    shorter (x ∷ xs) [] h = absurd (omega (arith, h))
-    shorter (x ∷ xs) (y ∷ ys) h = let more = shorter xs ys (omega (arith, h)) in rw more (none (same x y))
-      where
-        none : (b : Bool) → (b && false) ≡ false
-        none true = refl
-        none false = refl
-
-    three : (a b c : Bool) → (a && (b && c)) ≡ ((a && b) && c)
-    three true b c = refl
-    three false b c = refl
-
-    pub same-parts : (xs ys : List R) → Grown own xs ys → pointwise same ys xs ≡ (pointwise same (before_other own ys) (before_other own xs) && pointwise same (after_other own ys) (after_other own xs))
-    same-parts xs ys (ended _ _ p q) =
-        let b = all-before own xs p in let c = all-before own ys q in
-        let d = all-after own xs p in let e = all-after own ys q in
-        rw (b, c, d, e) refl
-    same-parts _ _ (changed x y xs ys p q n g) =
-        let e = grown-all xs ys g in
-        rw (p, q, e, n) (ap (λ (b : Bool). same y x && b) (same-parts xs ys g) ∙ three (same y x) (pointwise same (before_other own ys) (before_other own xs)) (pointwise same (after_other own ys) (after_other own xs)))
-    same-parts _ _ (kept x xs ys p g) = let i = itself x in rw (p, i) (same-parts xs ys g)
-    same-parts _ ys (gone x xs _ p n g) =
+    gone-other : (x : R) (xs ys : List R) → own x ≡ true → list_all own xs ≡ false → Grown own xs ys → pointwise same ys (x ∷ xs) ≡ false
+    gone-other x xs ys p n g =
         let less = grown-reach xs ys g in
         let far : reach (x ∷ xs) ≡ suc (reach xs) = rw (p, n) refl in
-        let no = by-reach (pointwise same ys (x ∷ xs)) ys (x ∷ xs) refl (omega (arith, less, far)) in
-        let few = grown-before xs ys g in
-        let short = shorter (before_other own ys) (x ∷ before_other own xs) (omega (arith, few)) in
-        rw (no, p, n, short) refl
+        by-reach (pointwise same ys (x ∷ xs)) ys (x ∷ xs) refl (omega (arith, less, far))
+
+    kept-same : (a all : Bool) (x : R) (xs ys us vs : List R) → same x x ≡ true → pointwise same ys xs ≡ pointwise same vs us
+        → pointwise same (x ∷ ys) (x ∷ xs) ≡ pointwise same (cond (a || all) (x ∷ vs) vs) (cond (a || all) (x ∷ us) us)
+    kept-same true all x xs ys us vs i ih = ap (λ (b : Bool). same x x && b) ih
+    kept-same false true x xs ys us vs i ih = ap (λ (b : Bool). same x x && b) ih
+    kept-same false false x xs ys us vs i ih = rw i ih
+
+    -- it is as it was where its own rows with the last other one are
+    pub same-around : (xs ys : List R) → Grown own xs ys → pointwise same ys xs ≡ pointwise same (own_and_last own ys) (own_and_last own xs)
+    same-around xs ys (ended _ _ p q) =
+        let b = around-all own xs p in let c = around-all own ys q in
+        rw (b, c) refl
+    same-around _ _ (changed x y xs ys p q n g) = rw (p, q) (ap (λ (b : Bool). same y x && b) (same-around xs ys g))
+    same-around _ _ (kept x xs ys p g) =
+        let e = grown-all xs ys g in
+        rw e (kept-same (own x) (list_all own xs) x xs ys (own_and_last own xs) (own_and_last own ys) (itself x) (same-around xs ys g))
+    same-around _ ys (gone x xs _ p n g) =
+        let one = gone-other x xs ys p n g in
+        let two = gone-other x (own_and_last own xs) (own_and_last own ys) p (all-around own xs ∙ n) (grown-around xs ys g) in
+        rw (one, p, two) refl

@@ -1,6 +1,8 @@
-pub mod Parting
+pub mod Around
 pub mod Growing
-pub mod Taking
+pub mod Counting
+pub mod Settings
+pub mod Asked
 pub mod Keeping
 pub mod AffilSets
 pub mod SubSets

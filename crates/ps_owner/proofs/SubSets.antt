@@ -1,131 +1,120 @@
--- What setting subscriptions of one node does to its rows, and when the table is as it was.
-use Rattle.std.proofs.Common.{◌≡◌, ◌≢◌, ℕ, ◌+◌, true, cond, ◌&&◌, List, [], ◌∷◌, ◌++◌, length, take, Some, refl, sym, ap, subst, ◌∙◌, length-append}
-use Rattle.std.specs.Prelude.{unwrap_or, find}
-use Rattle.std.specs.List.{list_any, slice_get}
-use Rattle.ps_base.specs.Rows.{put_row, without}
+-- What setting subscriptions of one node does to the rows that are asked for, and when the table is as it was.
+use Rattle.std.proofs.Common.{◌≡◌, ℕ, ◌+◌, ◌≤◌, ◌<◌, Bool, true, false, ◌&&◌, List, [], ◌∷◌, refl, sym, ap, subst, ◌∙◌, arith}
+use Rattle.std.specs.Prelude.{find, is_some, map, nat_le, unwrap_or}
+use Rattle.std.proofs.lemmas.Bool.Decides.{nat_tests}
+use Rattle.ps_base.specs.Rows.{put_row}
 use Rattle.ps_types.specs.declared.jid.Jid.{Jid}
 use Rattle.ps_types.specs.declared.node.NodeKey.{NodeKey}
 use Rattle.ps_types.specs.declared.request.AskRow.{AskRow}
+use Rattle.ps_types.specs.declared.rows.SubRow.{SubRow}
 use Rattle.ps_types.specs.declared.rows.SubState.{SubState}
 use Rattle.ps_types.specs.declared.rows.SubState.TheVariants.{Nothing, Pending, Subscribed}
-use Rattle.ps_types.specs.declared.rows.SubRow.{SubRow}
 use Rattle.ps_types.specs.contracts.config.SubOptionsPartialEq.TheImpl as options
 use Rattle.ps_types.specs.contracts.rows.SubStatePartialEq.TheImpl as state
 use Rattle.ps_types.specs.contracts.rows.SubRowPartialEq.TheImpl as row_eq
 use Rattle.ps_types.specs.contracts.rows.SubRowEq.TheImpl.Laws.{laws-law}
 use Rattle.ps_types.specs.Subs.{is_sub_at, is_sub_of, sub_count, sub_row, subs_by, subs_with}
 use Rattle.ps_types.specs.Same.{same_node, same_jid}
-use Rattle.ps_types.proofs.Same.{same_node-Decides, same_node-itself}
-use Rattle.ps_model.specs.ChangeOwner.{sub_with, subs_asked}
+use Rattle.ps_types.proofs.Same.{same_jid-Decides, same_node-Decides, same_node-itself}
+use Rattle.ps_model.specs.ChangeOwner.{options_in, sub_with, subs_asked}
 use Rattle.ps_model.specs.SameRows.{same_subs}
 use Rattle.ps_model.specs.Words.{sub_of}
-use Rattle.ps_access.proofs.OneMore.{asked_sub, subs-push}
-use Rattle.ps_owner.specs.Own.{AreSubs}
-use Rattle.ps_owner.specs.Parted.{before_other, after_other}
-use Rattle.ps_owner.specs.declared.sub_rows.OwnSubs.{OwnSubs}
-use Rattle.ps_owner.proofs.AffilSets.{and-left, take-next}
-use Rattle.ps_owner.proofs.Parting.{filter-parts, before-put, after-put, before-gone, after-gone}
-use Rattle.ps_owner.proofs.Taking.{before-push, after-push, count-filter, find-filter, find-either, or-found}
-use Rattle.ps_owner.proofs.Growing.{Grown, grown-itself, grown-put, grown-without, same-parts}
+use Rattle.ps_rows.specs.Around.{own_and_last}
+use Rattle.ps_subs.specs.Among.{is_among}
+use Rattle.ps_owner.specs.Edits.{IsSubEdit, asked_sub}
+use Rattle.ps_owner.specs.declared.sub_edits.SubEdit.{SubEdit}
+use Rattle.ps_owner.proofs.Around.{around-put}
+use Rattle.ps_owner.proofs.Asked.{Covers, covers-among, and-left, and-right, and-both}
+use Rattle.ps_owner.proofs.Counting.{any-put, count-put}
+use Rattle.ps_owner.proofs.Growing.{grown-put}
+use Rattle.ps_owner.proofs.Settings.{Sets, sets-none, sets-more, sets-gone, find-around, edited, same-edited, count-edited}
 
-pub inside : (node : NodeKey) (who : Jid) (x : SubRow) → is_sub_of node who x ≡ true → is_sub_at node x ≡ true
-inside node who x h = and-left (same_node node x.node) (same_jid who x.who) h
+-- ---- the rows that are asked for
 
--- ---- one row is set
+abbrev asks : NodeKey → AskRow → SubRow → Bool
+asks node row x = is_sub_of node row.jid x
 
-pub gone-parts : (old new : OwnSubs) (row : SubRow) (rows : List SubRow) → row.state ≡ Nothing
-    → new.before.items ≡ without (is_sub_of row.node row.who) old.before.items → new.after.items ≡ without (is_sub_of row.node row.who) old.after.items
-    → AreSubs old row.node rows → AreSubs new row.node (subs_with row rows)
-gone-parts old new row rows is b a are =
-    let own = is_sub_at row.node in let test = is_sub_of row.node row.who in
-    let e : subs_with row rows ≡ without test rows = ap (λ (kind : SubState). subs_by kind row rows) is in
-    record {
-      before = b ∙ ap (λ (l : List SubRow). without test l) are.before ∙ sym (before-gone own test (inside row.node row.who) rows) ∙ ap (λ (l : List SubRow). before_other own l) (sym e);
-      after = a ∙ ap (λ (l : List SubRow). without test l) are.after ∙ sym (after-gone own test (inside row.node row.who) rows) ∙ ap (λ (l : List SubRow). after_other own l) (sym e);
-    }
+marks : (node : NodeKey) (row : AskRow) (x : SubRow) → asks node row x ≡ true → (is_sub_at node x ≡ true) × (is_sub_of node x.who (asked_sub node row) ≡ true)
+marks node row x h =
+    let w = (same_jid-Decides row.jid x.who).0 (and-right (same_node node x.node) (same_jid row.jid x.who) h) in (
+      and-left (same_node node x.node) (same_jid row.jid x.who) h,
+      and-both (same_node node node) (same_jid x.who row.jid) (same_node-itself node) ((same_jid-Decides x.who row.jid).1 (sym w)),
+    )
 
-puts : (kind : SubState) (row : SubRow) (rows : List SubRow) → kind ≢ Nothing → subs_by kind row rows ≡ put_row (is_sub_of row.node row.who) row rows
-puts Pending row rows h = refl
-puts Subscribed row rows h = refl
-puts Nothing row rows h = absurd (h refl)
+covered : (node : NodeKey) (rows : List AskRow) (asked : List SubRow) → asked ≡ map (asked_sub node) rows → Covers (asks node) (is_among node asked) rows
+covered node rows asked is =
+    subst (λ (l : List SubRow). Covers (asks node) (is_among node l) rows) (sym is) (covers-among (asks node) (is_sub_at node) (λ x. is_sub_of node x.who) (asked_sub node) (marks node) rows)
 
-pub put-parts : (old new : OwnSubs) (row : SubRow) (rows : List SubRow) → row.state ≢ Nothing
-    → new.before.items ≡ cond (list_any (is_sub_of row.node row.who) old.before.items) (put_row (is_sub_of row.node row.who) row old.before.items) old.before.items
-    → new.after.items ≡ cond (list_any (is_sub_of row.node row.who) old.before.items) old.after.items (put_row (is_sub_of row.node row.who) row old.after.items)
-    → AreSubs old row.node rows → AreSubs new row.node (subs_with row rows)
-put-parts old new row rows is b a are =
-    let own = is_sub_at row.node in let test = is_sub_of row.node row.who in
-    let self = same_node-itself row.node in
-    let e : subs_with row rows ≡ put_row test row rows = puts row.state row rows is in
-    let b2 : new.before.items ≡ before_other own (put_row test row rows) = b ∙ ap (λ (l : List SubRow). cond (list_any test l) (put_row test row l) l) are.before ∙ sym (before-put own test (inside row.node row.who) row self rows) in
-    let a2 : new.after.items ≡ after_other own (put_row test row rows) =
-    a ∙ ap (λ (l : List SubRow). cond (list_any test l) old.after.items (put_row test row old.after.items)) are.before
-    ∙ ap (λ (l : List SubRow). cond (list_any test (before_other own rows)) l (put_row test row l)) are.after ∙ sym (after-put own test (inside row.node row.who) row self rows) in
-    record {
-      before = b2 ∙ ap (λ (l : List SubRow). before_other own l) (sym e);
-      after = a2 ∙ ap (λ (l : List SubRow). after_other own l) (sym e);
-    }
+module _ (own : SubRow → Bool) (node : NodeKey) (who : Jid) (inside : (x : SubRow) → is_sub_of node who x ≡ true → own x ≡ true) where
+  abbrev test : SubRow → Bool
+  test x = is_sub_of node who x
 
--- ---- the asked rows are set in order
+  mine : (s : SubState) (xs : List SubRow) → own (sub_with node who s xs) ≡ true
+  mine s xs = inside (sub_with node who s xs) (and-both (same_node node node) (same_jid who who) (same_node-itself node) ((same_jid-Decides who who).1 refl))
 
-grown-by : (kind : SubState) (row : SubRow) (xs ys : List SubRow) → Grown (is_sub_at row.node) xs ys → Grown (is_sub_at row.node) xs (subs_by kind row ys)
-grown-by Pending row xs ys g = grown-put (is_sub_at row.node) (is_sub_of row.node row.who) (inside row.node row.who) row (same_node-itself row.node) xs ys g
-grown-by Subscribed row xs ys g = grown-put (is_sub_at row.node) (is_sub_of row.node row.who) (inside row.node row.who) row (same_node-itself row.node) xs ys g
-grown-by Nothing row xs ys g = grown-without (is_sub_at row.node) (is_sub_of row.node row.who) (inside row.node row.who) xs ys g
+  -- a row keeps its options, and those are among the few rows too
+  sets-kept : (s : SubState) → Sets own (λ xs. put_row test (sub_with node who s xs) xs)
+  sets-kept s = record {
+    around = λ xs. around-put own test inside (sub_with node who s xs) (mine s xs) xs
+        ∙ ap (λ o. put_row test (record { node = node; who = who; state = s; options = options_in o }) (own_and_last own xs)) (sym (find-around own test inside xs));
+    grown = λ xs ys g. grown-put own test inside (sub_with node who s ys) (mine s ys) xs ys g;
+    any = λ q h xs. any-put test q (λ x t. h x (inside x t)) (sub_with node who s xs) xs (h (sub_with node who s xs) (mine s xs));
+    count = λ q h xs. count-put test q (λ x t. h x (inside x t)) (sub_with node who s xs) xs (h (sub_with node who s xs) (mine s xs));
+  }
 
-grown-asked : (node : NodeKey) (rows : List AskRow) (xs ys : List SubRow) → Grown (is_sub_at node) xs ys → Grown (is_sub_at node) xs (subs_asked node rows ys)
-grown-asked node [] xs ys g = g
-grown-asked node (row ∷ rows) xs ys g = grown-asked node rows xs (subs_with (asked_sub node row ys) ys) (grown-by (asked_sub node row ys).state (asked_sub node row ys) xs ys g)
+  sets-by : (s : SubState) → Sets own (λ xs. subs_with (sub_with node who s xs) xs)
+  sets-by Pending = sets-kept Pending
+  sets-by Subscribed = sets-kept Subscribed
+  sets-by Nothing = sets-gone own test inside
 
--- ---- whether the table is as it was
+abbrev state_of : AskRow → SubState
+state_of row = unwrap_or (sub_of row.value) Nothing
 
-respects : (node : NodeKey) (x y : SubRow) → row_eq.eq-value.it x y ≡ true → is_sub_at node x ≡ is_sub_at node y
+sets-asked : (own : SubRow → Bool) (node : NodeKey) (rows : List AskRow) → Covers (asks node) own rows → Sets own (λ xs. subs_asked node rows xs)
+sets-asked own node [] c = sets-none own
+sets-asked own node (row ∷ rows) c =
+    sets-more own (λ xs. subs_with (sub_with node row.jid (state_of row) xs) xs) (λ xs. subs_asked node rows xs) (sets-by own node row.jid c.0 (state_of row)) (sets-asked own node rows c.1)
+
+-- ---- what becomes of them
+
+-- of the few rows alone
+pub edited-subs : (node : NodeKey) (rows : List AskRow) (asked table : List SubRow) → asked ≡ map (asked_sub node) rows
+    → own_and_last (is_among node asked) (subs_asked node rows (own_and_last (is_among node asked) table)) ≡ own_and_last (is_among node asked) (subs_asked node rows table)
+edited-subs node rows asked table is =
+    edited (is_among node asked) (λ xs. subs_asked node rows xs) (sets-asked (is_among node asked) node rows (covered node rows asked is)) table
+
+respects : (node : NodeKey) (others : List SubRow) (x y : SubRow) → row_eq.eq-value.it x y ≡ true → is_among node others x ≡ is_among node others y
 unfolding same_node same_jid
-respects node x y h =
-    let n : same_node x.node y.node ≡ true = and-left (same_node x.node y.node) (same_jid x.who y.who && (state.eq-value.it x.state y.state && options.eq-value.it x.options y.options)) h in
-    ap (λ (k : NodeKey). same_node node k) ((same_node-Decides x.node y.node).0 n)
+respects node others x y h =
+    let more = state.eq-value.it x.state y.state && options.eq-value.it x.options y.options in
+    let rest = and-right (same_node x.node y.node) (same_jid x.who y.who && more) h in
+    let n = (same_node-Decides x.node y.node).0 (and-left (same_node x.node y.node) (same_jid x.who y.who && more) h) in
+    let w = (same_jid-Decides x.who y.who).0 (and-left (same_jid x.who y.who) more rest) in
+    ap (λ (k : NodeKey). same_node node k && is_some (find (is_sub_of node x.who) others)) n ∙ ap (λ (j : Jid). same_node node y.node && is_some (find (is_sub_of node j) others)) w
 
-pub same-asked : (old new : OwnSubs) (node : NodeKey) (rows : List AskRow) (subs : List SubRow) → AreSubs old node subs → AreSubs new node (subs_asked node rows subs)
-    → same_subs (subs_asked node rows subs) subs ≡ (same_subs new.before.items old.before.items && same_subs new.after.items old.after.items)
-same-asked old new node rows subs was is =
-    let own = is_sub_at node in
-    let grown = grown-asked node rows subs subs (grown-itself own subs) in
-    let e = same-parts own row_eq.eq-value.it (λ x. laws-law.refl x) (respects node) subs (subs_asked node rows subs) grown in
-    let b = was.before in let a = was.after in let b2 = is.before in let a2 = is.after in
-    rw (b, a, b2, a2) e
+-- the table is as it was where they are
+pub same-sub_edit : (edit : SubEdit) (node : NodeKey) (rows : List AskRow) (table : List SubRow) → IsSubEdit edit node rows table
+    → same_subs edit.after.items edit.before.items ≡ same_subs (subs_asked node rows table) table
+same-sub_edit edit node rows table is =
+    let own = is_among node edit.asked.rows in
+    let sets = sets-asked own node rows (covered node rows edit.asked.rows is.asked) in
+    let e = same-edited own (λ xs. subs_asked node rows xs) sets row_eq.eq-value.it (λ x. laws-law.refl x) (respects node edit.asked.rows) table in
+    let b = is.before in let a = is.after in
+    rw (b, a) (sym e)
 
--- ---- the table is read
+-- ---- how many there are
 
-pub taken : (old new : OwnSubs) (node : NodeKey) (rows : List SubRow) (at : ℕ) (row : SubRow) → slice_get rows at ≡ Some row → AreSubs old node (take at rows)
-    → new.before.items ≡ cond (is_sub_at node row) old.before.items (old.before.items ++ old.after.items) → new.after.items ≡ cond (is_sub_at node row) (old.after.items ++ row ∷ []) []
-    → AreSubs new node (take (at + 1) rows)
-taken old new node rows at row is are b a =
-    let own = is_sub_at node in let e = take-next rows at row is in let p = are.before in let q = are.after in
-    record {
-      before = b ∙ rw (p, q) (sym (before-push own (take at rows) row)) ∙ ap (λ (l : List SubRow). before_other own l) (sym e);
-      after = a ∙ rw q (sym (after-push own (take at rows) row)) ∙ ap (λ (l : List SubRow). after_other own l) (sym e);
-    }
+few-by : (a b : Bool) (n o gone come most : ℕ) → n + gone ≡ o + come → nat_le (o + come) (most + gone) ≡ a → nat_le n most ≡ b → a ≡ b
+few-by true true n o gone come most e h k = refl
+few-by true false n o gone come most e h k = let le : o + come ≤ most + gone = grind (arith, nat_tests) in let lt : most < n = grind (arith, nat_tests) in absurd (omega (arith, le, lt, e))
+few-by false true n o gone come most e h k = let lt : most + gone < o + come = grind (arith, nat_tests) in let le : n ≤ most = grind (arith, nat_tests) in absurd (omega (arith, le, lt, e))
+few-by false false n o gone come most e h k = refl
 
--- ---- what is found and counted
-
-pub found-parts : (own : OwnSubs) (node : NodeKey) (who : Jid) (rows : List SubRow) → AreSubs own node rows → sub_row node who rows ≡ or-found (is_sub_of node who) (find (is_sub_of node who) own.before.items) (find (is_sub_of node who) own.after.items)
-found-parts own node who rows are =
-    let test = is_sub_of node who in let mine = is_sub_at node in let b = are.before in let a = are.after in
-    rw (b, a) (find-filter mine test (inside node who) rows ∙ ap (λ (l : List SubRow). find test l) (filter-parts mine rows) ∙ find-either test (before_other mine rows) (after_other mine rows))
-
-pub count-parts : (own : OwnSubs) (node : NodeKey) (rows : List SubRow) → AreSubs own node rows → length own.before.items + length own.after.items ≡ sub_count node rows
-count-parts own node rows are =
-    let mine = is_sub_at node in let b = are.before in let a = are.after in
-    rw (b, a) (sym (count-filter mine rows ∙ ap (λ (l : List SubRow). length l) (filter-parts mine rows) ∙ length-append (before_other mine rows) (after_other mine rows)))
-
--- one more of the asked rows is set
-pub set-next : (old new : OwnSubs) (node : NodeKey) (row : SubRow) (first : AskRow) (rows : List AskRow) (i : ℕ) (subs : List SubRow)
-    → ((ys : List SubRow) → AreSubs old node ys → row ≡ asked_sub node first ys)
-    → ((ys : List SubRow) → AreSubs old row.node ys → AreSubs new row.node (subs_with row ys)) → AreSubs old node (subs_asked node (take i rows) subs)
-    → take (i + 1) rows ≡ take i rows ++ first ∷ [] → AreSubs new node (subs_asked node (take (i + 1) rows) subs)
-set-next old new node row first rows i subs is set are more =
-    let ys = subs_asked node (take i rows) subs in
-    let step : AreSubs new node (subs_with (asked_sub node first ys) ys) =
-    subst (λ (r : SubRow). (zs : List SubRow) → AreSubs old r.node zs → AreSubs new r.node (subs_with r zs)) (is ys are) set ys are in
-    let e = ap (λ (l : List AskRow). subs_asked node l subs) more ∙ subs-push node (take i rows) first subs in
-    subst (λ (l : List SubRow). AreSubs new node l) (sym e) step
+pub few-edit : (edit : SubEdit) (node : NodeKey) (rows : List AskRow) (table : List SubRow) (most : ℕ) → IsSubEdit edit node rows table
+    → nat_le (sub_count node table + sub_count node edit.after.items) (most + sub_count node edit.before.items) ≡ nat_le (sub_count node (subs_asked node rows table)) most
+few-edit edit node rows table most is =
+    let own = is_among node edit.asked.rows in
+    let sets = sets-asked own node rows (covered node rows edit.asked.rows is.asked) in
+    let e = count-edited own (λ xs. subs_asked node rows xs) sets (is_sub_at node) table in
+    let b = is.before in let a = is.after in
+    rw (b, a) (few-by _ _ (sub_count node (subs_asked node rows table)) (sub_count node table) (sub_count node (own_and_last own table)) (sub_count node (own_and_last own (subs_asked node rows table))) most e refl refl)

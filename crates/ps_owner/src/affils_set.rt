@@ -1,8 +1,7 @@
 // An owner sets affiliations (XEP-0060 §8.9.2).
-ghost use Rattle.std.specs.Prelude.{◌≡◌, ◌&&◌, ◌||◌, List, not, None, OnOk, find, reverse, option_copied};
+ghost use Rattle.std.specs.Prelude.{◌≡◌, ◌||◌, not, None, find, reverse, option_copied};
 ghost use Rattle.std.specs.List.{list_all, list_any};
 ghost use Rattle.ps_types.specs.declared.denial.Condition.TheVariants.{C14};
-ghost use Rattle.ps_types.specs.declared.rows.AffilRow.{AffilRow};
 ghost use Rattle.ps_types.specs.Affils.{is_owner as is_owner_affil};
 ghost use Rattle.ps_model.specs.Book.{Book};
 ghost use Rattle.ps_model.specs.ChangeOwner.{affils_asked};
@@ -14,16 +13,17 @@ ghost use Rattle.ps_model.specs.SameRows.{same_affils};
 ghost use Rattle.ps_model.specs.Steps.{first_denial, unless};
 ghost use Rattle.ps_access.specs.Plans.{Agrees};
 ghost use Rattle.ps_access.specs.Tables.{book_of};
-ghost use Rattle.ps_owner.specs.Own.{AreAffils};
+ghost use Rattle.ps_affil.specs.Among.{is_other_owner, owns_at};
+ghost use Rattle.ps_owner.specs.Edits.{IsAffilEdit};
 ghost use Rattle.ps_owner.specs.Plans.{Settles};
 
-use crate::affil_rows::{OwnAffils, own_affils, set_own};
+use crate::affil_edits::{AffilEdit, edit_affils};
 use crate::plans::{decided, entry_plan};
 use ps_access::{
-    Tables, affil_of, allow, asked_affil, asked_affil_row, is_account_address, key_of, must_stand,
-    pass_if, verdict_own,
+    Tables, affil_of, allow, asked_affil, is_account_address, key_of, must_stand, pass_if,
+    verdict_own,
 };
-use ps_base::Memory;
+use ps_affil::Affils;
 use ps_types::{
     Affil, AffilRow, AskRow, Condition, Jid, NodeKey, Plan, PlanRefusal, Request, Text,
 };
@@ -36,32 +36,18 @@ fn are_words(rows: &[AskRow]) -> bool
         .all(|row| affil_of(row.value.as_str()).is_some())
 }
 
-// The node's rows after the asked ones are set in order.
-fn set_all(
-    alloc: Global,
-    own: &mut OwnAffils,
-    node: &NodeKey,
-    rows: &[AskRow],
-) -> Result<(), Memory>
-    ensures { OnOk result ((affils : List AffilRow) → AreAffils own.old node.now affils → AreAffils own.new node.now (affils_asked node.now rows.now affils)) }
-{
-    for row in rows {
-        let row = asked_affil_row(alloc, node, row)?;
-        set_own(own, row)?;
-    }
-    Ok(())
-}
-
 fn is_owner(affil: Affil) -> bool
     ensures { result ≡ is_owner_affil affil }
 {
     matches!(affil, Affil::Owner)
 }
 
-fn any_owner(rows: &[AffilRow]) -> bool
-    ensures { result ≡ list_any model.is_owner_row rows.now }
+// One of these rows of the node is an owner's.
+fn any_owner(rows: &[AffilRow], node: &NodeKey) -> bool
+    ensures { result ≡ list_any (owns_at node.now) rows.now }
 {
-    rows.iter().any(|row| is_owner(row.affil))
+    rows.iter()
+        .any(|row| node.is_same(&row.node) && is_owner(row.affil))
 }
 
 fn last_of<'a>(rows: &'a [AskRow], who: &Jid) -> Option<&'a AskRow>
@@ -80,20 +66,21 @@ fn keeps_account(node: &NodeKey, rows: &[AskRow]) -> bool
     }
 }
 
-fn has_owner(own: &OwnAffils) -> bool
-    ensures { result ≡ (list_any model.is_owner_row own.now.before.items || list_any model.is_owner_row own.now.after.items) }
+// An owner is left: one of the rows as they are set, or another one.
+fn has_owner(affils: &Affils, node: &NodeKey, edit: &AffilEdit) -> bool
+    ensures { result ≡ (list_any (owns_at node.now) edit.now.after.items || list_any (is_other_owner node.now edit.now.asked.rows) affils.now.rows) }
 {
-    any_owner(own.before.as_slice()) || any_owner(own.after.as_slice())
+    any_owner(edit.after.as_slice(), node) || affils.has_other_owner(node, &edit.asked)
 }
 
-// Another node keeps an owner, by its rows as they are set.
-fn keeps_owner(node: &NodeKey, rows: &[AskRow], own: &OwnAffils) -> bool
-    ensures { (book : Book) → AreAffils own.now node.now (affils_asked node.now rows.now book.affils) → result ≡ model.keeps_owner book node.now rows.now }
+// A node that is no account's keeps an owner.
+fn keeps_owner(affils: &Affils, node: &NodeKey, rows: &[AskRow], edit: &AffilEdit) -> bool
+    ensures { (book : Book) → book.affils ≡ affils.now.rows → IsAffilEdit edit.now node.now rows.now affils.now.rows → result ≡ model.keeps_owner book node.now rows.now }
 {
     if is_account_address(&node.service) {
         keeps_account(node, rows)
     } else {
-        has_owner(own)
+        has_owner(affils, node, edit)
     }
 }
 
@@ -103,11 +90,10 @@ fn are_same(new: &[AffilRow], old: &[AffilRow]) -> bool
     new == old
 }
 
-fn is_as_before(new: &OwnAffils, old: &OwnAffils) -> bool
-    ensures { result ≡ (same_affils new.now.before.items old.now.before.items && same_affils new.now.after.items old.now.after.items) }
+fn is_as_before(edit: &AffilEdit) -> bool
+    ensures { result ≡ same_affils edit.now.after.items edit.now.before.items }
 {
-    are_same(new.before.as_slice(), old.before.as_slice())
-        && are_same(new.after.as_slice(), old.after.as_slice())
+    are_same(edit.after.as_slice(), edit.before.as_slice())
 }
 
 // An owner is left, and whether the rows are set to other ones.
@@ -119,11 +105,9 @@ fn settle(
 ) -> Result<bool, PlanRefusal>
     ensures { Settles result (unless (model.keeps_owner (book_of tables.now) node.now rows.now) C14) (not (same_affils (affils_asked node.now rows.now tables.now.affils.rows) tables.now.affils.rows)) }
 {
-    let old = own_affils(alloc, &tables.affils, node)?;
-    let mut new = own_affils(alloc, &tables.affils, node)?;
-    set_all(alloc, &mut new, node, rows)?;
-    let stays = is_as_before(&new, &old);
-    decided(keeps_owner(node, rows, &new), stays, Condition::C14)
+    let edit = edit_affils(alloc, &tables.affils, node, rows)?;
+    let keeps = keeps_owner(&tables.affils, node, rows, &edit);
+    decided(keeps, is_as_before(&edit), Condition::C14)
 }
 
 fn check_affils(

@@ -4,11 +4,11 @@
 //! first step that fails denies, by its condition, and else the plan has the child of the result and says whether an entry is made.
 //!
 //! Where affiliations and subscriptions are set, an entry is made where the table differs afterwards, also in the order of its rows.
-//! That is decided by the rows of the one node, in two parts (`specs/Parted.antt`): those before the last row of another node, and those
-//! after it. A row that goes and comes back is the last one of the table, so the table is as it was exactly where both parts are.
+//! That is decided by the rows of the addresses that are asked for, with the last other row of the table (`specs/Edits.antt`): a row that
+//! goes and comes back is the last one of the table, so the table is as it was exactly where these rows are.
 #![tactic(auto)]
 
-mod affil_rows;
+mod affil_edits;
 mod affils_set;
 mod approve;
 mod config_set;
@@ -17,8 +17,7 @@ mod create;
 mod going;
 mod listing;
 mod plans;
-mod rows;
-mod sub_rows;
+mod sub_edits;
 mod subs_set;
 
 pub use plans::plan;

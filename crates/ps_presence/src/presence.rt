@@ -1,9 +1,11 @@
 // The table of resources.
 ghost use Rattle.std.specs.Prelude.{◌≡◌, ◌+◌, ◌<◌, ◌≤◌, [], IfOk, OnOk, length, slice_get, option_copied, is_some};
 ghost use Rattle.ps_types.specs.Resources.{resource_at, is_present, resources_of, resources_with, resources_without, resources_off};
+ghost use Rattle.ps_rows.specs.Standing.{standing};
 
-use crate::resources::{is_present_among, put, remove_of, remove_on, resource_among};
-use ps_table::Rows;
+use crate::asks::{OnHost, ResourceOf};
+use crate::resources::{is_present_among, listed};
+use ps_rows::{Index, Rows};
 use ps_types::{Jid, Memory, ResourceRow, Text};
 use std::alloc::Global;
 use std::marker::Model;
@@ -33,6 +35,15 @@ impl Presence {
         })
     }
 
+    /// The empty table, whose digests go by a seed that no stranger knows. No answer depends on it.
+    pub fn seeded(alloc: Global, seed: u64) -> Result<Presence, Memory>
+        ensures empty { IfOk result (λ t. t.rows ≡ []) }
+    {
+        Ok(Presence {
+            rows: Rows::seeded(alloc, seed),
+        })
+    }
+
     /// How many rows there are.
     pub fn len(&self) -> u64
         ensures len { result ≡ length self.now.rows }
@@ -40,7 +51,14 @@ impl Presence {
         self.rows.len()
     }
 
-    /// The row at a place, counted from 0.
+    /// The places of the rows, in order, of which some are empty. To go over the table, go over them.
+    pub fn places(&self) -> &[Option<ResourceRow>]
+        ensures rows { standing result.now ≡ self.now.rows }
+    {
+        self.rows.places()
+    }
+
+    /// The row at a place, counted from 0. It goes through the table once rows have gone: [`Presence::places`] serves a walk.
     pub fn row(&self, at: u64) -> Option<&ResourceRow>
         ensures row { option_copied result ≡ slice_get self.now.rows at }
     {
@@ -69,27 +87,22 @@ impl Presence {
     pub fn resource(&self, who: &Jid) -> Option<&ResourceRow>
         ensures row { option_copied result ≡ resource_at who.now self.now.rows }
     {
-        resource_among(self.rows.as_slice(), who)
+        let ask = ResourceOf { who };
+        self.rows.find(Index::Key, &ask)
     }
 
     /// Whether an address is present: a bare one where some resource of it is.
     pub fn is_present(&self, who: &Jid) -> bool
         ensures present { result ≡ is_present who.now self.now.rows }
     {
-        is_present_among(self.rows.as_slice(), who)
+        is_present_among(&self.rows, who)
     }
 
     /// The resources of a bare address that are present.
     pub fn resources_of(&self, alloc: Global, bare: &Jid) -> Result<Vec<Jid>, Memory>
         ensures resources { IfOk result (λ jids. jids.items ≡ resources_of bare.now self.now.rows) }
     {
-        let mut jids = Vec::new(alloc);
-        for row in self.rows.as_slice() {
-            if bare.same_bare(&row.who) {
-                jids.push(row.who.clone()?)?;
-            }
-        }
-        Ok(jids)
+        listed(alloc, &self.rows, bare)
     }
 
     /// Sets the row of exactly this address. It takes no memory.
@@ -98,7 +111,7 @@ impl Presence {
         ensures rows { self.new.rows ≡ resources_with row self.old.rows }
         ensures room { self.old.spare ≤ self.new.spare + 1 }
     {
-        put(&mut self.rows, row);
+        self.rows.put(row);
     }
 
     /// Takes away the row of exactly this address, and answers whether it was there. It takes no memory.
@@ -108,7 +121,8 @@ impl Presence {
         ensures room { self.old.spare ≤ self.new.spare }
     {
         let there = self.resource(who).is_some();
-        remove_of(&mut self.rows, who);
+        let ask = ResourceOf { who };
+        self.rows.take_away(Index::Key, &ask);
         there
     }
 
@@ -117,6 +131,7 @@ impl Presence {
         ensures rows { self.new.rows ≡ resources_off host.now self.old.rows }
         ensures room { self.old.spare ≤ self.new.spare }
     {
-        remove_on(&mut self.rows, host);
+        let ask = OnHost { host };
+        self.rows.take_away(Index::Bare, &ask);
     }
 }

@@ -1,37 +1,29 @@
-// Where the rows of an address are.
-ghost use Rattle.std.specs.Prelude.{◌≡◌, ◌+◌, ◌<◌, ◌≤◌, position, option_copied};
+// The resources of an address.
+ghost use Rattle.std.specs.Prelude.{◌≡◌, IfOk, map, filter};
 ghost use Rattle.std.specs.List.{list_any};
-ghost use Rattle.ps_types.specs.Resources.{is_resource_of, resource_at, is_bare_present, is_present, resources_with, resources_without, resources_off};
+ghost use Rattle.ps_types.specs.Resources.{is_resource_of, is_resource_at, is_bare_present, is_present, resources_of};
 
-use ps_table::Rows;
-use ps_types::{Jid, ResourceRow, Text};
+use crate::asks::{OfBare, ResourceOf};
+use ps_rows::{Index, Rows};
+use ps_types::{Jid, Memory, ResourceRow};
+use std::alloc::Global;
 
-pub fn resource_among<'a>(rows: &'a [ResourceRow], who: &Jid) -> Option<&'a ResourceRow>
-    ensures { option_copied result ≡ resource_at who.now rows.now }
+fn has_resource(rows: &Rows<ResourceRow>, who: &Jid) -> bool
+    ensures { result ≡ list_any (is_resource_of who.now) rows.now.rows }
 {
-    rows.iter().find(|row| who.is_same(&row.who))
+    let ask = ResourceOf { who };
+    rows.any(Index::Key, &ask)
 }
 
-fn place_of(rows: &[ResourceRow], who: &Jid) -> Option<usize>
-    ensures { result ≡ position (is_resource_of who.now) rows.now }
+fn has_bare(rows: &Rows<ResourceRow>, who: &Jid) -> bool
+    ensures { result ≡ is_bare_present who.now rows.now.rows }
 {
-    rows.iter().position(|row| who.is_same(&row.who))
+    let ask = OfBare { who };
+    rows.any(Index::Node, &ask)
 }
 
-fn has_resource(rows: &[ResourceRow], who: &Jid) -> bool
-    ensures { result ≡ list_any (is_resource_of who.now) rows.now }
-{
-    rows.iter().any(|row| who.is_same(&row.who))
-}
-
-fn has_bare(rows: &[ResourceRow], who: &Jid) -> bool
-    ensures { result ≡ is_bare_present who.now rows.now }
-{
-    rows.iter().any(|row| who.same_bare(&row.who))
-}
-
-pub fn is_present_among(rows: &[ResourceRow], who: &Jid) -> bool
-    ensures { result ≡ is_present who.now rows.now }
+pub fn is_present_among(rows: &Rows<ResourceRow>, who: &Jid) -> bool
+    ensures { result ≡ is_present who.now rows.now.rows }
 {
     if who.resource.is_empty() {
         has_bare(rows, who)
@@ -40,25 +32,21 @@ pub fn is_present_among(rows: &[ResourceRow], who: &Jid) -> bool
     }
 }
 
-pub fn put(rows: &mut Rows<ResourceRow>, row: ResourceRow)
-    requires room { 0 < rows.old.spare }
-    ensures rows { rows.new.rows ≡ resources_with row rows.old.rows }
-    ensures room { rows.old.spare ≤ rows.new.spare + 1 }
+fn rows_of(alloc: Global, rows: &Rows<ResourceRow>, bare: &Jid) -> Result<Vec<ResourceRow>, Memory>
+    ensures { IfOk result (λ found. found.items ≡ filter (is_resource_at bare.now) rows.now.rows) }
 {
-    let at = place_of(rows.as_slice(), &row.who);
-    rows.put_at(at, row);
+    let ask = OfBare { who: bare };
+    rows.list(Index::Node, &ask, alloc)
 }
 
-pub fn remove_of(rows: &mut Rows<ResourceRow>, who: &Jid)
-    ensures rows { rows.new.rows ≡ resources_without who.now rows.old.rows }
-    ensures room { rows.old.spare ≤ rows.new.spare }
+/// The resources of a bare address, in order.
+pub fn listed(alloc: Global, rows: &Rows<ResourceRow>, bare: &Jid) -> Result<Vec<Jid>, Memory>
+    ensures { IfOk result (λ jids. jids.items ≡ resources_of bare.now rows.now.rows) }
 {
-    rows.retain(|row| !who.is_same(&row.who));
-}
-
-pub fn remove_on(rows: &mut Rows<ResourceRow>, host: &Text)
-    ensures rows { rows.new.rows ≡ resources_off host.now rows.old.rows }
-    ensures room { rows.old.spare ≤ rows.new.spare }
-{
-    rows.retain(|row| *host != row.who.host);
+    let found = rows_of(alloc, rows, bare)?;
+    let mut jids = Vec::new(alloc);
+    for row in &found {
+        jids.push(row.who.clone()?)?;
+    }
+    Ok(jids)
 }

@@ -1,9 +1,10 @@
 // The table.
 ghost use Rattle.std.specs.Prelude.{◌≡◌, ◌+◌, ◌<◌, ◌≤◌, [], ◌∷◌, ◌++◌, IfOk, OnOk, length, slice_get, option_copied, is_some};
 ghost use Rattle.ps_types.specs.Rosters.{contact_at, contact_count, roster_with, roster_without};
+ghost use Rattle.ps_rows.specs.Standing.{standing};
 
-use crate::places::{contact_among, count, put, remove_of};
-use ps_table::Rows;
+use crate::asks::{ContactOf, OfAccount};
+use ps_rows::{Index, Rows};
 use ps_types::{Jid, Memory, RosterRow};
 use std::alloc::Global;
 use std::marker::Model;
@@ -33,6 +34,15 @@ impl Roster {
         })
     }
 
+    /// The empty table, whose digests go by a seed that no stranger knows. No answer depends on it.
+    pub fn seeded(alloc: Global, seed: u64) -> Result<Roster, Memory>
+        ensures empty { IfOk result (λ t. t.rows ≡ []) }
+    {
+        Ok(Roster {
+            rows: Rows::seeded(alloc, seed),
+        })
+    }
+
     /// How many rows there are.
     pub fn len(&self) -> u64
         ensures len { result ≡ length self.now.rows }
@@ -40,7 +50,14 @@ impl Roster {
         self.rows.len()
     }
 
-    /// The row at a place, counted from 0.
+    /// The places of the rows, in order, of which some are empty. To go over the table, go over them.
+    pub fn places(&self) -> &[Option<RosterRow>]
+        ensures rows { standing result.now ≡ self.now.rows }
+    {
+        self.rows.places()
+    }
+
+    /// The row at a place, counted from 0. It goes through the table once rows have gone: [`Roster::places`] serves a walk.
     pub fn row(&self, at: u64) -> Option<&RosterRow>
         ensures row { option_copied result ≡ slice_get self.now.rows at }
     {
@@ -69,14 +86,16 @@ impl Roster {
     pub fn contact(&self, account: &Jid, contact: &Jid) -> Option<&RosterRow>
         ensures contact { option_copied result ≡ contact_at account.now contact.now self.now.rows }
     {
-        contact_among(self.rows.as_slice(), account, contact)
+        let ask = ContactOf { account, contact };
+        self.rows.find(Index::Key, &ask)
     }
 
     /// How many contacts an account has.
     pub fn count(&self, account: &Jid) -> u64
         ensures count { result ≡ contact_count account.now self.now.rows }
     {
-        count(self.rows.as_slice(), account) as u64
+        let ask = OfAccount { account };
+        self.rows.count_node(&ask)
     }
 
     /// Adds a row as the last one, as a list of rows is read back. It takes no memory.
@@ -85,7 +104,7 @@ impl Roster {
         ensures rows { self.new.rows ≡ self.old.rows ++ row ∷ [] }
         ensures room { self.old.spare ≤ self.new.spare + 1 }
     {
-        self.rows.put_at(None, row);
+        self.rows.add(row);
     }
 
     /// Sets a contact of an account. It takes no memory.
@@ -94,7 +113,7 @@ impl Roster {
         ensures rows { self.new.rows ≡ roster_with row self.old.rows }
         ensures room { self.old.spare ≤ self.new.spare + 1 }
     {
-        put(&mut self.rows, row);
+        self.rows.put(row);
     }
 
     /// Removes a contact of an account, and answers whether it was there. It takes no memory.
@@ -104,7 +123,8 @@ impl Roster {
         ensures room { self.old.spare ≤ self.new.spare }
     {
         let there = self.contact(account, contact).is_some();
-        remove_of(&mut self.rows, account, contact);
+        let ask = ContactOf { account, contact };
+        self.rows.take_away(Index::Key, &ask);
         there
     }
 }

@@ -12,7 +12,7 @@ step (suc n) nodes key rows h = let e : suc n - 1 ≡ n = omega arith in rw e (a
 
 pub loop-left-preserved : goal.loop-left-preserved
 loop-left-preserved c =
-    let rows = c.args.rows.now in
+    let rows = c.args.rows.now.rows in
     let key = c.in-Some.key.now in
     let same : c.in_ok-clone-in-Some.field-0 ≡ key = search rules in
     let before : c.loop-left.nodes.items ++ climb c.loop-left.left (Some key) rows ≡ above c.args.node.now rows = rw c.in-Some.is at c.loop-left.invariant in

@@ -1,6 +1,0 @@
-use Rattle.std.proofs.Common.{◌≡◌, take}
-use Rattle.ps_types.specs.Affils.{affils_held}
-use Rattle.ps_affil.proofs.affils.Affils.of_address.Given as goal
-
-abbrev pub invariant-loop-row : goal.invariant-loop-row
-invariant-loop-row l = l.rows.items ≡ affils_held l.who (take l.row-index l.row-items)

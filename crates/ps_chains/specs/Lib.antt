@@ -1,0 +1,4 @@
+pub mod Marks
+pub mod AtEnds
+pub mod Chained
+pub mod Small

@@ -1,6 +1,0 @@
-use Rattle.std.proofs.Common.{◌≡◌, take}
-use Rattle.ps_model.specs.ChangeOwner.{affils_asked}
-use Rattle.ps_change.proofs.affils.set_rows.Given as goal
-
-abbrev pub invariant-loop-row : goal.invariant-loop-row
-invariant-loop-row l = l.affils.rows ≡ affils_asked l.node (take l.row-index l.rows) l.fn.affils.rows

@@ -1,0 +1,54 @@
+// The rows that name a node.
+ghost use Rattle.std.specs.Prelude.{◌≡◌, ◌≤◌, find, option_copied};
+ghost use Rattle.std.specs.List.{list_any};
+ghost use Rattle.ps_types.specs.Links.{is_link_of, is_link_at, collection_of, has_children, links_without};
+
+use crate::asks::{ChildOf, Under};
+use ps_rows::{Index, Rows};
+use ps_types::{LinkRow, NodeKey};
+
+pub fn collection_among<'a>(rows: &'a Rows<LinkRow>, child: &NodeKey) -> Option<&'a NodeKey>
+    ensures { option_copied result ≡ collection_of child.now rows.now.rows }
+{
+    match link_among(rows, child) {
+        Some(row) => Some(&row.collection),
+        None => None,
+    }
+}
+
+fn link_among<'a>(rows: &'a Rows<LinkRow>, child: &NodeKey) -> Option<&'a LinkRow>
+    ensures { option_copied result ≡ find (is_link_of child.now) rows.now.rows }
+{
+    let ask = ChildOf { child };
+    rows.find(Index::Key, &ask)
+}
+
+fn is_child(rows: &Rows<LinkRow>, child: &NodeKey) -> bool
+    ensures { result ≡ list_any (is_link_of child.now) rows.now.rows }
+{
+    let ask = ChildOf { child };
+    rows.any(Index::Key, &ask)
+}
+
+pub fn has_child(rows: &Rows<LinkRow>, collection: &NodeKey) -> bool
+    ensures { result ≡ has_children collection.now rows.now.rows }
+{
+    let ask = Under { collection };
+    rows.any(Index::Node, &ask)
+}
+
+pub fn is_named(rows: &Rows<LinkRow>, node: &NodeKey) -> bool
+    ensures { result ≡ list_any (is_link_at node.now) rows.now.rows }
+{
+    is_child(rows, node) || has_child(rows, node)
+}
+
+pub fn remove_all_of(rows: &mut Rows<LinkRow>, node: &NodeKey)
+    ensures rows { rows.new.rows ≡ links_without node.now rows.old.rows }
+    ensures room { rows.old.spare ≤ rows.new.spare }
+{
+    let child = ChildOf { child: node };
+    rows.take_away(Index::Key, &child);
+    let under = Under { collection: node };
+    rows.take_away(Index::Node, &under);
+}

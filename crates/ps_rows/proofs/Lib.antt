@@ -1,0 +1,11 @@
+pub mod Marked
+pub mod Walk
+pub mod Turns
+pub mod Packed
+pub mod Back
+pub mod Kept
+pub mod Nth
+pub mod Sought
+pub mod Alike
+pub mod Any
+pub mod Endings

@@ -1,0 +1,12 @@
+use Rattle.std.proofs.Common.{◌++◌, [], ◌∷◌, ◌∙◌, ap, sym, arith}
+use Rattle.ps_rows.specs.Standing.{marks_of}
+use Rattle.ps_rows.proofs.Packed.{marks-more}
+use Rattle.ps_rows.proofs.slots.mark.Goals as goal
+
+pub loop-slot-preserved : goal.loop-slot-preserved
+loop-slot-preserved g c =
+    let more = marks-more (g.R.Row.by c.args.seed c.args.index) c.args.slots.now c.loop-slot.slot-index c.slot-item.result (omega arith) c.slot-item.is in
+    record {
+      marks = c.note.ensures.marks ∙ (ap (λ x. x ++ marks_of (g.R.Row.by c.args.seed c.args.index) (c.slot-item.result ∷ [])) c.loop-slot.invariant.marks ∙ sym more);
+      room = (let a = c.loop-slot.invariant.room in let b = c.note.ensures.room in omega (arith, a, b));
+    }

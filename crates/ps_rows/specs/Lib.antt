@@ -1,0 +1,6 @@
+pub mod Standing
+pub mod Placed
+pub mod Digests
+pub mod Kin
+pub mod RowKeys
+pub mod Around
