@@ -232,12 +232,16 @@ notices-on service F a =
   where
     here : List Notice
     here = notices_from every (left_by it.whole) (Boot service ∷ F) a
+
     there : List Notice
     there = notices_from every (left_by it.rows) (Boot service ∷ F) a
+
     rows-split : handed_by (it.rows ++ Boot service ∷ F) a ≡ to_address a it.told_again ++ there
     rows-split = notices-append every it.rows (Boot service ∷ F) empty_state a ∙ ap (λ (l : List Notice). l ++ there) (rows-told a)
+
     whole-split : handed_by (it.whole ++ Boot service ∷ F) a ≡ to_address a it.told ++ here
     whole-split = notices-append every it.whole (Boot service ∷ F) empty_state a ∙ ap (λ (l : List Notice). l ++ here) (whole-told a)
+
     tails : map placeless there ≡ map placeless here
     tails =
         ap (λ (l : List Notice). map placeless l) (boot-tells (left_by it.rows) service F a)

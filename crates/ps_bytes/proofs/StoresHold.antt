@@ -87,21 +87,39 @@ bad-header = inl (record { no_header = refl; begun = refl; at_first = refl })
 
 pub cut-off : IsDamagedAt it.cut 8
 cut-off = inr (inl (record {
-  bodies = []; rest = drop 8 it.cut; header = refl; each = tt; split = refl; stands = refl; followed = λ some. absurd (some refl);
+  bodies = [];
+  rest = drop 8 it.cut;
+  header = refl;
+  each = tt;
+  split = refl;
+  stands = refl;
+  followed = λ some. absurd (some refl);
   not_shut = λ h. h refl;
   not_whole = λ b after is some same. not-whole (it.boot_bytes 0) [] (omega arith) b after is some same;
 }))
 
 pub too-long : IsDamagedAt (it.with_length 18) 8
 too-long = inr (inl (record {
-  bodies = []; rest = drop 8 (it.with_length 18); header = refl; each = tt; split = refl; stands = refl; followed = λ some. absurd (some refl);
+  bodies = [];
+  rest = drop 8 (it.with_length 18);
+  header = refl;
+  each = tt;
+  split = refl;
+  stands = refl;
+  followed = λ some. absurd (some refl);
   not_shut = λ h. h refl;
   not_whole = λ b after is some same. not-whole (it.boot_bytes 0 ++ codes "7") [] (omega arith) b after is some same;
 }))
 
 pub empty-frame : IsDamagedAt (it.with_length 0) 8
 empty-frame = inr (inl (record {
-  bodies = []; rest = drop 8 (it.with_length 0); header = refl; each = tt; split = refl; stands = refl; followed = λ some. absurd (some refl);
+  bodies = [];
+  rest = drop 8 (it.with_length 0);
+  header = refl;
+  each = tt;
+  split = refl;
+  stands = refl;
+  followed = λ some. absurd (some refl);
   not_shut = λ h. h refl;
   not_whole = λ b after is some same. not-empty (it.boot_bytes 0 ++ codes "7") b after is same;
 }))
@@ -114,7 +132,13 @@ gone-first = inr (inr (record {
   before = [];
   behind = spelling it.end_of_stream;
   reads = record {
-    parts = []; entries = []; others = []; each = tt; each_entry = tt; are = refl; stands = refl;
+    parts = [];
+    entries = [];
+    others = [];
+    each = tt;
+    each_entry = tt;
+    are = refl;
+    stands = refl;
     begun = record { header = refl; each = (record { some = omega arith; fits = omega arith }, tt); split = refl; shut = λ e. absurd (cc e) };
   };
   each = tt;
@@ -130,7 +154,13 @@ handed-none = inr (inr (record {
   before = it.one_boot;
   behind = spelling (Handed it.nobody);
   reads = record {
-    parts = it.one_boot ∷ []; entries = []; others = []; each = ((boot-entry _, tt), tt); each_entry = tt; are = refl; stands = refl;
+    parts = it.one_boot ∷ [];
+    entries = [];
+    others = [];
+    each = ((boot-entry _, tt), tt);
+    each_entry = tt;
+    are = refl;
+    stands = refl;
     begun = record { header = refl; each = (boot-fits 0, (record { some = omega arith; fits = omega arith }, tt)); split = refl; shut = λ e. absurd (cc e) };
   };
   each = (refl, tt);
@@ -143,14 +173,19 @@ has-form : HasForm first_tree
 unfolding str.is_utf8 str.chars utf8.encode
 has-form = (
   record {
-    name_is_text = is-text _ refl; named = λ e. absurd (cc e); ns_is_text = is-text _ refl;
+    name_is_text = is-text _ refl;
+    named = λ e. absurd (cc e);
+    ns_is_text = is-text _ refl;
     texts = (is-text _ refl, is-text _ refl, (is-text _ refl, is-text _ refl, (is-text _ refl, is-text _ refl, (is-text _ refl, is-text _ refl, tt))));
     sorted = ((refl, (refl, (refl, tt))), ((refl, (refl, tt)), ((refl, tt), (tt, tt))));
   },
-  ((
-    record { name_is_text = is-text _ refl; named = λ e. absurd (cc e); ns_is_text = is-text _ refl; texts = tt; sorted = tt },
-    ((record { name_is_text = is-text _ refl; named = λ e. absurd (cc e); ns_is_text = is-text _ refl; texts = (is-text _ refl, is-text _ refl, tt); sorted = (tt, tt) }, tt), tt)
-  ), tt)
+  (
+    (
+      record { name_is_text = is-text _ refl; named = λ e. absurd (cc e); ns_is_text = is-text _ refl; texts = tt; sorted = tt },
+      ((record { name_is_text = is-text _ refl; named = λ e. absurd (cc e); ns_is_text = is-text _ refl; texts = (is-text _ refl, is-text _ refl, tt); sorted = (tt, tt) }, tt), tt),
+    ),
+    tt,
+  ),
 )
 
 written : IsWritten first_tree
@@ -188,7 +223,13 @@ not-in-one = inr (inr (record {
   before = it.one_boot;
   behind = it.change_bytes;
   reads = record {
-    parts = it.one_boot ∷ []; entries = []; others = []; each = ((boot-entry _, tt), tt); each_entry = tt; are = refl; stands = refl;
+    parts = it.one_boot ∷ [];
+    entries = [];
+    others = [];
+    each = ((boot-entry _, tt), tt);
+    each_entry = tt;
+    are = refl;
+    stands = refl;
     begun = moment-begun it.one;
   };
   each = (refl, tt);

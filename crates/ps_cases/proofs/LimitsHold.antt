@@ -75,7 +75,6 @@ contact-gone : (rosters : List RosterRow) → it.HasContacts rosters None 4096 �
 unfolding same.same_jid same.same_bare same.same_node fmt.digits
 contact-gone rosters is = refl
 
-
 subs-room : (subs : List SubRow) → it.HasSubs subs 65535 → judged no_limits (record it.with_news { subs = subs }) subscription_request ≡ accepted (Some (pubsub (subscription bare_bob news (codes "subscribed") ∷ [])))
 unfolding same.same_jid same.same_bare same.same_node fmt.digits
 subs-room subs is = rw is.none (rw is.count refl)

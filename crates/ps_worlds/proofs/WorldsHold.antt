@@ -149,14 +149,35 @@ items_right_7 = goes items_right_6 (denied (sets alf 4 (it.retract (codes "x")))
 
 items-differ-alike : AreAlike it.secret it.to_alf booted booted it.items_differ
 unfolding same.same_jid same.same_bare same.same_node text.escape_byte fmt.digits
-items-differ-alike = (alike C12 booted booted refl refl refl, inl refl,
-    (alike C17 items_left_1 items_right_1 refl refl refl, item-or-none,
-    (alike C17 items_left_2 items_right_2 refl refl refl, inl refl,
-    (alike C17 items_left_3 items_right_3 refl refl refl, inl refl,
-    (alike C17 items_left_4 items_right_4 refl refl refl, inl refl,
-    (alike C17 items_left_5 items_right_5 refl refl refl, inl refl,
-    (alike C17 items_left_6 items_right_6 refl refl refl, inl refl,
-    alike C17 items_left_7 items_right_7 refl refl refl)))))))
+items-differ-alike = (
+  alike C12 booted booted refl refl refl,
+  inl refl,
+  (
+    alike C17 items_left_1 items_right_1 refl refl refl,
+    item-or-none,
+    (
+      alike C17 items_left_2 items_right_2 refl refl refl,
+      inl refl,
+      (
+        alike C17 items_left_3 items_right_3 refl refl refl,
+        inl refl,
+        (
+          alike C17 items_left_4 items_right_4 refl refl refl,
+          inl refl,
+          (
+            alike C17 items_left_5 items_right_5 refl refl refl,
+            inl refl,
+            (
+              alike C17 items_left_6 items_right_6 refl refl refl,
+              inl refl,
+              alike C17 items_left_7 items_right_7 refl refl refl,
+            ),
+          ),
+        ),
+      ),
+    ),
+  ),
+)
 
 items-differ-left : Holds (lefts it.items_differ) []
 unfolding same.same_jid same.same_bare same.same_node text.escape_byte fmt.digits str.is_utf8 str.chars utf8.encode json.value lex.punctuate lex.lex content.content
@@ -208,13 +229,31 @@ evictions_right_6 = goes evictions_right_5 (denied (sets alf 4 (it.retract (code
 
 evictions-differ-alike : AreAlike it.secret it.to_alf booted booted it.evictions_differ
 unfolding same.same_jid same.same_bare same.same_node text.escape_byte fmt.digits
-evictions-differ-alike = (alike C12 booted booted refl refl refl, inl refl,
-    (alike C17 evictions_left_1 evictions_right_1 refl refl refl, item-or-item,
-    (alike C17 evictions_left_2 evictions_right_2 refl refl refl, inl refl,
-    (alike C17 evictions_left_3 evictions_right_3 refl refl refl, inl refl,
-    (alike C17 evictions_left_4 evictions_right_4 refl refl refl, inl refl,
-    (alike C17 evictions_left_5 evictions_right_5 refl refl refl, inl refl,
-    alike C17 evictions_left_6 evictions_right_6 refl refl refl))))))
+evictions-differ-alike = (
+  alike C12 booted booted refl refl refl,
+  inl refl,
+  (
+    alike C17 evictions_left_1 evictions_right_1 refl refl refl,
+    item-or-item,
+    (
+      alike C17 evictions_left_2 evictions_right_2 refl refl refl,
+      inl refl,
+      (
+        alike C17 evictions_left_3 evictions_right_3 refl refl refl,
+        inl refl,
+        (
+          alike C17 evictions_left_4 evictions_right_4 refl refl refl,
+          inl refl,
+          (
+            alike C17 evictions_left_5 evictions_right_5 refl refl refl,
+            inl refl,
+            alike C17 evictions_left_6 evictions_right_6 refl refl refl,
+          ),
+        ),
+      ),
+    ),
+  ),
+)
 
 evictions-differ-left : Holds (lefts it.evictions_differ) []
 unfolding same.same_jid same.same_bare same.same_node text.escape_byte fmt.digits str.is_utf8 str.chars utf8.encode json.value lex.punctuate lex.lex content.content
@@ -272,14 +311,35 @@ commits_right_7 = goes commits_right_6 (done (sets alf 3 (unnamed it.own_node)) 
 
 commits-differ-alike : AreAlike it.secret it.to_alf booted booted it.commits_differ
 unfolding same.same_jid same.same_bare same.same_node text.escape_byte fmt.digits
-commits-differ-alike = (alike C12 booted booted refl refl refl, inl refl,
-    (alike C17 commits_left_1 commits_right_1 refl refl refl, item-or-none,
-    (alike C17 commits_left_2 commits_right_2 refl refl refl, inl refl,
-    (alike C17 commits_left_3 commits_right_3 refl refl refl, inl refl,
-    (alike C17 commits_left_4 commits_right_4 refl refl refl, inl refl,
-    (alike C17 commits_left_5 commits_right_5 refl refl refl, inl refl,
-    (alike C17 commits_left_6 commits_right_6 refl refl refl, inl refl,
-    alike C17 commits_left_7 commits_right_7 refl refl refl)))))))
+commits-differ-alike = (
+  alike C12 booted booted refl refl refl,
+  inl refl,
+  (
+    alike C17 commits_left_1 commits_right_1 refl refl refl,
+    item-or-none,
+    (
+      alike C17 commits_left_2 commits_right_2 refl refl refl,
+      inl refl,
+      (
+        alike C17 commits_left_3 commits_right_3 refl refl refl,
+        inl refl,
+        (
+          alike C17 commits_left_4 commits_right_4 refl refl refl,
+          inl refl,
+          (
+            alike C17 commits_left_5 commits_right_5 refl refl refl,
+            inl refl,
+            (
+              alike C17 commits_left_6 commits_right_6 refl refl refl,
+              inl refl,
+              alike C17 commits_left_7 commits_right_7 refl refl refl,
+            ),
+          ),
+        ),
+      ),
+    ),
+  ),
+)
 
 commits-differ-left : Holds (lefts it.commits_differ) it.left_told
 unfolding same.same_jid same.same_bare same.same_node text.escape_byte fmt.digits str.is_utf8 str.chars utf8.encode json.value lex.punctuate lex.lex content.content
