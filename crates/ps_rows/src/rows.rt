@@ -17,9 +17,15 @@ use std::alloc::Global;
 use std::marker::Model;
 
 /// The rows of a table in the order of their making, and how many more are taken without memory.
-#[derive(Drop)]
 pub struct Rows<R: Row> {
     slots: Slots<R>,
+}
+
+// By hand, so that a table is let go by one call wherever a function ends.
+impl<R: Row> Drop for Rows<R> {
+    fn drop(self) {
+        let Rows { slots: _ } = self;
+    }
 }
 
 impl<R: Row> Model for Rows<R> {
