@@ -1,0 +1,10 @@
+-- The laws of what is read, as they are read.
+use Rattle.std.specs.Prelude.{◌≡◌, ℕ, List, Ok}
+use Rattle.ps_types.specs.LineTree.{line_tree}
+use Rattle.ps_types.specs.Reading.{Reads}
+use Rattle.ps_types.specs.Tree.{Tree}
+use Rattle.ps_model.specs.CoreLaws.{AreSame}
+
+-- a line has a tree exactly where its text reads as that tree
+abbrev pub EachLineIsExact : Type 0
+EachLineIsExact = (text : List ℕ) (t : Tree) → AreSame (line_tree text ≡ Ok t) (Reads text t)
