@@ -4,3 +4,8 @@ pub mod Lexemes
 pub mod Parsing
 pub mod Values
 pub mod Trees
+pub mod Decided
+pub mod Formed
+pub mod Fields
+pub mod Entries
+pub mod Stores
