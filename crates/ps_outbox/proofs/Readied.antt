@@ -152,7 +152,7 @@ pub none_durable : (host : List ℕ) (durable : ℕ) (waiting : List Notice) (ad
     → find (is_at host) waiting ≡ Some n → durable ≤ n.place → NoneReady host durable waiting
 none_durable host durable waiting addresses last in_order n e k f l = record {
   all = λ who here. none_shown durable (find (is_to who) waiting)
-            (λ m g. after durable 0 (is_at host) (is_to who) (at_host host who here) waiting last n m (in_order_rises in_order waiting last e k.order) l f g);
+      (λ m g. after durable 0 (is_at host) (is_to who) (at_host host who here) waiting last n m (in_order_rises in_order waiting last e k.order) l f g);
 }
 
 -- the host has no notice
@@ -215,12 +215,12 @@ walk_by host durable waiting addresses last in_order k t who here (Some n) f =
     let to : same_bare who n.to ≡ true = found_passes (is_to who) waiting n f in
     let known : is_known n.to addresses ≡ true = found_all (is_to who) (has_box addresses) waiting n k.known f in
     member (is_ready host durable waiting) (same_bare n.to) (shown durable (Some n) ≡ None)
-        (λ a bare same not_ready.
-          (let own : same_bare who a ≡ true = bare-on who n.to a to same in
-          let at : bytes_eq a.host host ≡ true = (bytes_eq-Decides a.host host).1 (sym (host_of who a own) ∙ here) in
-          let first : find (is_to a) waiting ≡ Some n = found_narrow (is_to who) (is_to a) (λ x h. bare-on who a x.to own h) waiting n (bare-back n.to a same) f in
-          none_is (shown durable (Some n)) (ap (λ o. is_some (shown durable o)) (sym first) ∙ last_false (bytes_eq a.resource []) (bytes_eq a.host host) (is_some (peeked a durable waiting)) not_ready bare at)))
-        addresses k.bare t known
+    (λ a bare same not_ready.
+    (let own : same_bare who a ≡ true = bare-on who n.to a to same in
+    let at : bytes_eq a.host host ≡ true = (bytes_eq-Decides a.host host).1 (sym (host_of who a own) ∙ here) in
+    let first : find (is_to a) waiting ≡ Some n = found_narrow (is_to who) (is_to a) (λ x h. bare-on who a x.to own h) waiting n (bare-back n.to a same) f in
+    none_is (shown durable (Some n)) (ap (λ o. is_some (shown durable o)) (sym first) ∙ last_false (bytes_eq a.resource []) (bytes_eq a.host host) (is_some (peeked a durable waiting)) not_ready bare at)))
+    addresses k.bare t known
 
 pub none_walked : (host : List ℕ) (durable : ℕ) (waiting : List Notice) (addresses : List Jid) (last : ℕ) (in_order : Bool) → IsKept waiting addresses last in_order → list_any (is_ready host durable waiting) addresses ≡ false
     → NoneReady host durable waiting

@@ -1,6 +1,7 @@
 -- The notices that wait, by bare address.
-use Rattle.std.specs.Prelude.{ℕ, Bool, ◌≡◌, ◌&&◌, cond, List, [], ◌∷◌, Option, Some, None, filter, find, nat_lt, bytes_eq, is_some, IsSome}
+use Rattle.std.specs.Prelude.{ℕ, Bool, ◌≡◌, ◌&&◌, cond, false, List, [], ◌∷◌, ◌++◌, drop, Option, Some, None, filter, find, nat_lt, bytes_eq, is_some, IsSome}
 use Rattle.std.specs.List.{list_any}
+use Rattle.ps_base.specs.Rows.{without_first}
 use Rattle.ps_types.specs.declared.entry.Notice.{Notice}
 use Rattle.ps_types.specs.declared.jid.Jid.{Jid}
 use Rattle.ps_types.specs.Same.{same_bare}
@@ -49,3 +50,17 @@ pub record NoneReady (host : List ℕ) (durable : ℕ) (waiting : List Notice) :
 -- the same as a test
 abbrev pub is_ready : List ℕ → ℕ → List Notice → Jid → Bool
 is_ready host durable waiting who = bytes_eq who.resource [] && (bytes_eq who.host host && is_some (peeked who durable waiting))
+
+-- ---- first in, first out
+
+-- what is pushed goes last in its own queue, and into no other
+abbrev pub PushGoesLast : Type 0
+PushGoesLast = (who : Jid) (waiting : List Notice) (n : Notice) → queue who (waiting ++ n ∷ []) ≡ queue who waiting ++ cond (is_to who n) (n ∷ []) []
+
+-- what is dropped is the first of its own queue
+abbrev pub DropTakesFirst : Type 0
+DropTakesFirst = (who : Jid) (waiting : List Notice) → queue who (without_first (is_to who) waiting) ≡ drop 1 (queue who waiting)
+
+-- and is in no other queue
+abbrev pub OthersStay : Type 0
+OthersStay = (who other : Jid) (waiting : List Notice) → same_bare who other ≡ false → queue other (without_first (is_to who) waiting) ≡ queue other waiting

@@ -10,7 +10,6 @@ use Rattle.ps_rows.specs.Kin.{IsKin}
 use Rattle.ps_rows.specs.RowKeys.{resource_kin_is}
 use Rattle.ps_types.specs.declared.rows.ResourceRow.{ResourceRow}
 
-
 -- a notice by its bare address, and by its host
 abbrev pub notice_by : ℕ → Index → Notice → ℕ
 notice_by seed Key notice = 0

@@ -48,7 +48,8 @@ impl Outboxes {
         Outboxes::seeded(alloc, 0)
     }
 
-    /// No notices. Addresses are found by digests that go by the seed, which no stranger should know. No answer depends on it.
+    /// No notices. Addresses are found by digests that go by the seed, which no stranger should know.
+    /// No answer depends on it.
     pub fn seeded(alloc: Global, seed: u64) -> Result<Outboxes, Memory>
         ensures empty { IfOk result (λ b. b.waiting ≡ []) }
     {
@@ -125,14 +126,8 @@ impl Outboxes {
         ensures { option_copied result ≡ peeked bare.now durable self.now.waiting }
     {
         match self.first(bare) {
-            Some(notice) => {
-                if notice.place < durable {
-                    Some(notice)
-                } else {
-                    None
-                }
-            }
-            None => None,
+            Some(notice) if notice.place < durable => Some(notice),
+            _ => None,
         }
     }
 

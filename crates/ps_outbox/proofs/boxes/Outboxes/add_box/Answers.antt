@@ -13,7 +13,7 @@ any-requires c = record { asks = address_of c.args.to.now }
 pub invariant_of-self-2 : goal.invariant_of-self-2
 invariant_of-self-2 c =
     subst (λ (l : List Jid). IsKept c.self.inside.waiting.rows l c.self.inside.last c.self.inside.in_order) (sym (c.add.ensures.rows ∙ ap (λ (l : List Jid). l ++ c.in_ok-bare.bare ∷ []) c.reserve.ensures.rows))
-        (address_more c.self.inside.waiting.rows c.self.inside.addresses.rows c.self.inside.last c.self.inside.in_order c.in_ok-bare.bare (ap is_bare c.in_ok-bare.ensures) c.self.invariant)
+    (address_more c.self.inside.waiting.rows c.self.inside.addresses.rows c.self.inside.last c.self.inside.in_order c.in_ok-bare.bare (ap is_bare c.in_ok-bare.ensures) c.self.invariant)
 
 pub returns-clause-known : goal.returns-clause-known
 returns-clause-known c =
