@@ -22,7 +22,9 @@ fn ask(
     let line = format!(in alloc;
         "{{\"a\":{{\"from\":\"ann@a.example/1\",\"id\":\"1\",\"to\":\"pubsub.example\",\"type\":\"set\"}},\"c\":[{{\"c\":[{part}],\"n\":\"pubsub\",\"ns\":\"{ns}\"}}],\"n\":\"iq\"}}"
     )?;
-    answered(rt, alloc, service, 1, line.as_str())?;
+    // Each entry needs a later line than the one before.
+    let number = service.count();
+    answered(rt, alloc, service, number, line.as_str())?;
     Ok(())
 }
 
@@ -48,7 +50,8 @@ fn item(alloc: Global, id: &str) -> Result<String, Fail> {
 fn holds(rt: &impl Abort, alloc: Global, service: &mut Service, items: &str) -> Result<(), Fail> {
     let line =
         r#"{"a":{"from":"ann@a.example/1","id":"1","to":"pubsub.example","type":"get"},"c":[{"c":[{"a":{"node":"news"},"n":"items"}],"n":"pubsub","ns":"http://jabber.org/protocol/pubsub"}],"n":"iq"}"#;
-    let reply = answered(rt, alloc, service, 1, line)?;
+    let number = service.count();
+    let reply = answered(rt, alloc, service, number, line)?;
     let wanted = format!(in alloc;
         "{{\"a\":{{\"from\":\"pubsub.example\",\"id\":\"1\",\"to\":\"ann@a.example/1\",\"type\":\"result\"}},\"c\":[{{\"c\":[{{\"a\":{{\"node\":\"news\"}},\"c\":[{items}],\"n\":\"items\"}}],\"n\":\"pubsub\",\"ns\":\"{PUBSUB}\"}}],\"n\":\"iq\"}}"
     )?;
