@@ -1,7 +1,19 @@
-use Rattle.std.proofs.Common.{sym, subst}
-use Rattle.ps_journal.specs.Journal.{length_of}
+use Rattle.std.proofs.Common.{sym, subst, ◌∙◌}
+use Rattle.ps_model.specs.Store.{Begun}
+use Rattle.ps_journal.specs.Journal.{broken_of, length_of}
 use Rattle.ps_journal.specs.Left.{LeavesAtLeast}
+use Rattle.ps_hall.specs.Left.{DiskStands}
 use Rattle.ps_hall.proofs.hall.Hall.close.Goals as goal
+
+pub returns-clause-kept : goal.returns-clause-kept
+returns-clause-kept g c tells w stands =
+    let D = g.D.Disk in
+    subst (λ d. DiskStands (D.seen d) (D.synced d) (D.written d) (broken_of c.args.self.journal) w) (sym c.close.ensures) (stands.for.journal.disk tells)
+
+pub returns-clause-long : goal.returns-clause-long
+returns-clause-long g c tells whole bs begun =
+    let D = g.D.Disk in
+    sym c.length-length.ensures.value ∙ c.length-length.ensures.bytes tells whole bs (subst (λ d. Begun (D.seen d) bs) c.close.ensures begun)
 
 pub returns-clause-floor : goal.returns-clause-floor
 returns-clause-floor g c tells =
