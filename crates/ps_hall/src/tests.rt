@@ -4,9 +4,9 @@ ghost use Rattle.ps_model.specs.declared.steps.Role.{Role};
 ghost use Rattle.ps_hall.specs.Passes.{steps_of, IsPassOf};
 ghost use Rattle.ps_hall.specs.Stand.{IsStanding};
 
+use crate::{Hall, HallRefusal, HallWhy, HostPasses, Limits, Next, Outcome};
 use ps_base::Bytes;
 use ps_disk::MemDisk;
-use ps_hall::{Hall, HallRefusal, HallWhy, HostPasses, Limits, Next, Outcome};
 use ps_types::{Arrival, Text};
 use std::alloc::Global;
 use std::process::Abort;
