@@ -98,3 +98,9 @@ returns-clause-store g c = λ e.
     let rose = c.serve_host-end.ensures.store (c.status_of.ensures.store e) (began only c.args.disk c.args.service.now c.args.host some _ c.in-Ok.hall c.in-Ok.passes.items is) some (sym same) (serves-first only c.args.disk c.args.service.now c.args.host some _ c.in-Ok.hall c.in-Ok.passes.items is) in
     subst (λ d. Rose (g.D.Disk.faults c.args.disk) (g.D.Disk.faults d)) (sym c.close.ensures.disk)
     (rose-since (g.D.Disk.faults c.args.disk) (g.D.Disk.faults (disk_under c.in-Ok.hall)) (g.D.Disk.faults (disk_of c.serve_host-end.new.hall.journal)) c.in-Ok.ensures.later rose)
+
+pub returns-clause-long : goal.returns-clause-long
+returns-clause-long g c = λ e. c.serve_host-end.ensures.long (c.status_of.ensures.long e)
+
+pub returns-clause-stream : goal.returns-clause-stream
+returns-clause-stream g c = λ e. elim (c.status_of.ensures.stream e) [ inl x ↦ inl (c.serve_host-end.ensures.read x) | inr x ↦ inr (c.serve_host-end.ensures.write x) ]
