@@ -71,7 +71,8 @@ def watch(root, is_running, every):
                 seen[int(pid)] = found
         is_ours = below(root, {pid: parent for pid, (parent, _) in seen.items()})
         for pid, (_, seconds) in seen.items():
-            if pid not in kinds:
+            # A process has its parent's command until it runs its own.
+            if not kinds.get(pid):
                 kinds[pid] = kind_of(command_of(pid)) if is_ours(pid) else None
             if kinds[pid]:
                 spent[pid] = (kinds[pid], seconds)
