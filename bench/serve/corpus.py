@@ -91,8 +91,8 @@ def members(k, last):
 
 def nobody(count):
     """A line that takes the affiliations of so many addresses away, which have none."""
-    row = '{"a":{"affiliation":"none","jid":"x%d@a"},"n":"affiliation"}'
-    return affiliations([row % n for n in range(count)])
+    row = '{"a":{"affiliation":"none","jid":"%x"},"n":"affiliation"}'
+    return affiliations([row % (n + 0x1000) for n in range(count)])
 
 
 def phase(name, count, make):

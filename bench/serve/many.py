@@ -2,11 +2,12 @@
 
 Usage: many.py PROGRAM FOLDER. One program serves with few rows and one with many, by turns, ROUNDS times (3): 10 nodes of 10 items each, or NODES (10000) nodes of
 10 items each, with a member each and SUBSCRIPTIONS (60000) of one node. Then each gets REQUESTS (1000) of each kind, one after the other. Medians
-of microseconds a request are printed, and their ratio; and how long one line of 4,300 rows `none` takes, over 10 and over AFFILIATIONS (100000) affiliations of a node.
+of microseconds of the processor a request are printed (/proc/PID/schedstat, so other work on the machine counts little), and their ratio; and how long one line of 4,300 rows `none` takes, over 10 and over AFFILIATIONS (100000) affiliations of a node.
 """
 import os
 import pathlib
 import statistics
+import subprocess
 import sys
 
 import corpus
@@ -19,7 +20,7 @@ AFFILIATIONS = measure.numbers("AFFILIATIONS", "100000")[0]
 LINE = 4300
 
 
-def before(nodes, subscriptions):
+def rows_before(nodes, subscriptions):
     """Makes the rows that are there before."""
     subs = -(-subscriptions // corpus.ROWS)
     return [
@@ -47,10 +48,32 @@ def asked(nodes):
     ]
 
 
+def spent(child):
+    """The nanoseconds that the program was on a processor."""
+    return int(pathlib.Path(f"/proc/{child.pid}/schedstat").read_text().split()[0])
+
+
+def ran(words, folder, phases):
+    """The processor's seconds of each phase, all replies, and the peak memory in MB."""
+    child = subprocess.Popen([str(word) for word in words])
+    seconds, replies = [], b""
+    with open(folder / "in", "wb") as source, open(folder / "out", "rb") as sink:
+        for _, lines in phases:
+            before = spent(child)
+            _, got = measure.answered(source, sink, lines)
+            seconds.append((spent(child) - before) / 1e9)
+            replies += got
+    _, status, usage = os.wait4(child.pid, 0)
+    child.returncode = os.waitstatus_to_exitcode(status)
+    if child.returncode != 0:
+        raise SystemExit(f"{words[0]} ended with {child.returncode}")
+    return seconds, replies, usage.ru_maxrss / 1024
+
+
 def served(program, folder, phases):
     words = [program, "serve", "--service", "pubsub.example", "--store", folder / "store", "a.example", folder / "in", folder / "out"]
     (folder / "store").unlink(missing_ok=True)
-    seconds, replies, peak = measure.ran(words, folder, phases)
+    seconds, replies, peak = ran(words, folder, phases)
     bad = [line for line in replies.splitlines() if b'"type":"result"' not in line]
     if bad:
         raise SystemExit(f"{len(bad)} denied, the first: {bad[0].decode()}")
@@ -63,7 +86,7 @@ def kinds(program, folder):
     sizes = [("few", 10, 10), ("many", NODES, SUBSCRIPTIONS)]
     for _ in range(measure.ROUNDS):
         for size, nodes, subscriptions in sizes:
-            first = before(nodes, subscriptions)
+            first = rows_before(nodes, subscriptions)
             phases = first + asked(nodes)
             seconds, peak = served(program, folder, phases)
             for (name, lines), took in list(zip(phases, seconds))[len(first):]:
