@@ -34,10 +34,39 @@ def subscribe(k, nodes):
     return line(who, k, "set", '{"a":{"jid":"%s","node":"node-%d"},"n":"subscribe"}' % (who, k % nodes))
 
 
-def affiliate(k, nodes):
+def subscriptions(k):
+    """What a reader is subscribed to."""
+    return line("reader%d@a.example" % k, k, "get", '{"n":"subscriptions"}')
+
+
+def unsubscribe(k, nodes):
+    who = "reader%d@a.example" % k
+    return line(who, k, "set", '{"a":{"jid":"%s","node":"node-%d"},"n":"unsubscribe"}' % (who, k % nodes))
+
+
+def publish_to(node, k):
+    item = '{"a":{"id":"more-%d"},"c":[{"c":["%d"],"n":"entry","ns":"urn:t"}],"n":"item"}' % (k, k)
+    return line(ADDRESS % (node // 5000), k, "set", '{"a":{"node":"node-%d"},"c":[%s],"n":"publish"}' % (node, item))
+
+
+def retract(node, k):
+    """The item of `publish_to`."""
+    part = '{"a":{"node":"node-%d"},"c":[{"a":{"id":"more-%d"},"n":"item"}],"n":"retract"}' % (node, k)
+    return line(ADDRESS % (node // 5000), k, "set", part)
+
+
+def create_by(who, k):
+    return line("%s%d@a.example" % (who, k % 10), k, "set", '{"a":{"node":"%s-%d"},"n":"create"}' % (who, k))
+
+
+def delete_by(who, k):
+    return line("%s%d@a.example" % (who, k % 10), k, "set", '{"a":{"node":"%s-%d"},"n":"delete"}' % (who, k), "#owner")
+
+
+def affiliate(k, nodes, affiliation="member"):
     """Each makes another address a member."""
     node = k % nodes
-    row = '{"a":{"affiliation":"member","jid":"reader%d@a.example"},"n":"affiliation"}' % k
+    row = '{"a":{"affiliation":"%s","jid":"reader%d@a.example"},"n":"affiliation"}' % (affiliation, k)
     part = '{"a":{"node":"node-%d"},"c":[%s],"n":"affiliations"}' % (node, row)
     return line(ADDRESS % (node // 5000), k, "set", part, "#owner")
 
@@ -47,6 +76,23 @@ def subscribers(k, last):
     row = '{"a":{"jid":"sub%d@a.example","subscription":"subscribed"},"n":"subscription"}'
     rows = ",".join(row % n for n in range(k * ROWS, min((k + 1) * ROWS, last)))
     return line(OWNER, k, "set", '{"a":{"node":"node-0"},"c":[%s],"n":"subscriptions"}' % rows, "#owner")
+
+
+def affiliations(rows):
+    part = '{"a":{"node":"node-0"},"c":[%s],"n":"affiliations"}' % ",".join(rows)
+    return line(OWNER, 0, "set", part, "#owner")
+
+
+def members(k, last):
+    """Of the members of the first node up to the last, a line's rows."""
+    row = '{"a":{"affiliation":"member","jid":"m%d@a.example"},"n":"affiliation"}'
+    return affiliations([row % n for n in range(k * ROWS, min((k + 1) * ROWS, last))])
+
+
+def nobody(count):
+    """A line that takes the affiliations of so many addresses away, which have none."""
+    row = '{"a":{"affiliation":"none","jid":"%x"},"n":"affiliation"}'
+    return affiliations([row % (n + 0x1000) for n in range(count)])
 
 
 def phase(name, count, make):

@@ -100,4 +100,5 @@ def main():
         measure(program, folder, what, phases)
 
 
-main()
+if __name__ == "__main__":
+    main()

@@ -30,8 +30,24 @@ def publish(number):
     return line(number, "ann", {"n": "publish", "a": {"node": "news"}, "c": [item]})
 
 
+def publish_to(number, nodes):
+    """An item at the nodes in turn."""
+    item = {"n": "item", "a": {"id": f"i{number}"}, "c": [{"n": "entry", "ns": "urn:t", "c": ["hi"]}]}
+    node = number % nodes
+    return line(number, f"maker{node % 100}", {"n": "publish", "a": {"node": f"node-{node}"}, "c": [item]})
+
+
+def subscribe(number, nodes):
+    who = f"reader{number}"
+    return line(number, who, {"n": "subscribe", "a": {"jid": f"{who}@a.example", "node": f"node-{number % nodes}"}})
+
+
+def made(number):
+    return create(number, f"maker{number % 100}", f"node-{number}")
+
+
 def run(room, lines):
-    """Serves the lines over the store in the room; returns seconds and peak megabytes."""
+    """Serves the lines over the store in the room; returns seconds, peak megabytes and seconds of the processor."""
     with open(f"{room}/in", "w") as it:
         it.writelines(lines)
     words = [program, "serve", "--service", "pubsub.example", "--store", f"{room}/store", "a.example", f"{room}/in", f"{room}/out"]
@@ -40,7 +56,7 @@ def run(room, lines):
     _, status, used = os.wait4(started.pid, 0)
     if status:
         sys.exit(f"the program ended with status {os.waitstatus_to_exitcode(status)}")
-    return time.monotonic() - start, used.ru_maxrss / 1024
+    return time.monotonic() - start, used.ru_maxrss / 1024, used.ru_utime + used.ru_stime
 
 
 def clean(room):
@@ -53,9 +69,9 @@ def publishing():
     for _ in range(rounds):
         clean(store)
         run(store, [create(0, "ann", "news")])
-        idle, _ = run(store, [])
+        idle, _, _ = run(store, [])
         before = os.path.getsize(f"{store}/store")
-        took, _ = run(store, [publish(number) for number in range(publishes)])
+        took, _, _ = run(store, [publish(number) for number in range(publishes)])
         frame = (os.path.getsize(f"{store}/store") - before) // publishes
         ours.append(publishes / (took - idle))
         told = subprocess.run([limit, f"{store}/limit", str(frame), str(publishes)], stdout=subprocess.PIPE, text=True, check=True).stdout.split()
@@ -64,18 +80,29 @@ def publishing():
     print(f"publishes a second: {ours:.0f}, limit of the disk {limits:.0f}, ratio {ours / limits:.3f}")
 
 
+def stores(count):
+    """Stores of so many changes: of nodes, of items, of subscriptions."""
+    nodes = [made(number) for number in range(100)]
+    yield "nodes", [made(number) for number in range(count)]
+    yield "publishes", nodes + [publish_to(number, 100) for number in range(count)]
+    yield "subscriptions", nodes + [subscribe(number, 100) for number in range(count)]
+
+
 def opening():
-    seconds = []
+    seconds = {}
     for count in changes:
-        clean(fast)
-        made, _ = run(fast, [create(number, f"maker{number % 100}", f"node-{number}") for number in range(count)])
-        opened = [run(fast, []) for _ in range(rounds)]
-        seconds.append(statistics.median(it[0] for it in opened))
-        peak = max(it[1] for it in opened)
-        size = os.path.getsize(f"{fast}/store") / 1e6
-        print(f"{count} changes ({size:.1f} MB): made in {made:.1f} s, opened in {seconds[-1]:.2f} s, peak memory {peak:.0f} MB")
-    for k in range(1, len(changes)):
-        print(f"opening {changes[k]} beside {changes[k - 1]}: {seconds[k] / seconds[k - 1]:.1f} times")
+        for kind, lines in stores(count):
+            clean(fast)
+            making, _, _ = run(fast, lines)
+            opened = [run(fast, []) for _ in range(rounds)]
+            took, spent = (statistics.median(it[at] for it in opened) for at in (0, 2))
+            seconds.setdefault(kind, []).append(spent)
+            peak = max(it[1] for it in opened)
+            size = os.path.getsize(f"{fast}/store") / 1e6
+            print(f"{count} {kind} ({size:.1f} MB): made in {making:.1f} s, opened in {took:.2f} s, {spent:.2f} s of the processor, peak memory {peak:.0f} MB", flush=True)
+    for kind, took in seconds.items():
+        for k in range(1, len(changes)):
+            print(f"opening {changes[k]} {kind} beside {changes[k - 1]}: {took[k] / took[k - 1]:.1f} times the processor's seconds")
 
 
 publishing()

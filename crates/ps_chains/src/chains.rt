@@ -149,7 +149,7 @@ impl Chains {
         self.marks.try_reserve(places)?;
         self.nexts.try_reserve(places)?;
         self.priors.try_reserve(places)?;
-        self.ends.reserve(self.marks.capacity())?;
+        self.ends.reserve(self.marks.capacity() - self.ends.len())?;
         Ok(())
     }
 

@@ -6,16 +6,19 @@
 //! with the list, and a place is marked or taken away in such a time too. It takes no memory but in [`Chains::reserve`].
 //!
 //! A contract sees a [`Chains`] as a `Table` (`ps_base`, `specs/Rows.antt`) of its marks, and its spare, which is how many more places
-//! are marked without memory. `specs/Chained.antt` says what is kept beside the marks.
+//! are marked without memory. `specs/Chained.antt` says what is kept beside the marks. [`Seeded`] hashes the keys of a map by a seed, as rows are
+//! hashed (`specs/Seeding.antt`).
 #![tactic(auto)]
 
 mod chains;
 mod ends;
 mod links;
+mod seeded;
 mod small;
 #[cfg(test)]
 mod tests;
 
 pub use chains::Chains;
 pub use ends::Ends;
+pub use seeded::Seeded;
 pub use small::{Link, Mark};

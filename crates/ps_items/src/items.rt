@@ -1,9 +1,11 @@
 // The table.
 ghost use Rattle.std.specs.Prelude.{◌≡◌, ◌+◌, ◌<◌, ◌≤◌, [], ◌∷◌, ◌++◌, IfOk, OnOk, length, slice_get, option_copied, is_some};
 ghost use Rattle.ps_types.specs.Items.{item_at, items_of, item_count, items_with, items_except, items_without, items_kept, last_item};
+ghost use Rattle.ps_items.specs.Chosen.{items_named};
+ghost use Rattle.ps_rows.specs.Newest.{newest_of};
 ghost use Rattle.ps_rows.specs.Standing.{standing};
 
-use crate::asks::{AtNode, ItemOf};
+use crate::asks::{AtNode, ItemOf, NamedAt};
 use ps_rows::{Index, Rows};
 use ps_types::{ItemRow, Memory, NodeKey, Text};
 use std::alloc::Global;
@@ -123,6 +125,29 @@ impl Items {
     {
         let ask = AtNode { node };
         self.rows.list(Index::Node, &ask, alloc)
+    }
+
+    /// The newest items of a node, at most as many as given, the oldest of these first. It goes through no other item.
+    pub fn newest(&self, alloc: Global, node: &NodeKey, most: u64) -> Result<Vec<ItemRow>, Memory>
+        ensures rows { IfOk result (λ rows. rows.items ≡ newest_of most (items_of node.now self.now.rows)) }
+    {
+        let ask = AtNode { node };
+        self.rows.newest(Index::Node, &ask, most, alloc)
+    }
+
+    /// The newest of the items of a node that have one of these ids, at most as many as given, the oldest of these first. It goes through
+    /// the node's items alone, and copies none but these.
+    pub fn named(
+        &self,
+        alloc: Global,
+        node: &NodeKey,
+        ids: &[Text],
+        most: u64,
+    ) -> Result<Vec<ItemRow>, Memory>
+        ensures rows { IfOk result (λ rows. rows.items ≡ newest_of most (items_named node.now ids.now self.now.rows)) }
+    {
+        let ask = NamedAt { node, ids };
+        self.rows.newest(Index::Node, &ask, most, alloc)
     }
 
     /// Adds a row as the last one, as a list of rows is read back. It takes no memory.

@@ -9,3 +9,4 @@ pub mod Sought
 pub mod Alike
 pub mod Any
 pub mod Endings
+pub mod Lasts

@@ -7,7 +7,8 @@ use Rattle.ps_types.specs.declared.jid.Jid.{Jid}
 use Rattle.ps_types.specs.declared.node.NodeKey.{NodeKey}
 use Rattle.ps_types.specs.Same.{same_bare, same_jid, same_node}
 use Rattle.ps_types.proofs.Same.{same_jid-Decides, same_node-Decides}
-use Rattle.ps_rows.specs.Digests.{begun, with_text, with_bare, with_node, ended, node_digest, item_digest, bare_at_digest, jid_at_digest, bare_digest, jid_digest, pair_digest, text_digest}
+use Rattle.ps_chains.specs.Seeding.{begun}
+use Rattle.ps_rows.specs.Digests.{with_text, with_bare, with_node, ended, node_digest, item_digest, bare_at_digest, jid_at_digest, bare_digest, jid_digest, pair_digest, text_digest}
 
 pub both : (a b : Bool) → a && b ≡ true → (a ≡ true) × (b ≡ true)
 both true true h = (refl, refl)

@@ -1,14 +1,11 @@
 -- By what rows are found: digests by SipHash-1-3, which begins with a seed. After each text stands the byte 255, which no text in UTF-8 has,
 -- so that texts are not told apart by their sum alone.
-use Rattle.std.specs.Prelude.{ℕ, ◌/◌, List, [], ◌∷◌, fold}
-use Rattle.std.specs.Hash as fed
+use Rattle.std.specs.Prelude.{ℕ, ◌/◌, List, [], ◌∷◌}
 use Rattle.std.specs.Hash.DefaultHasher as sip
 use Rattle.std.specs.declared.hash.DefaultHasher.{DefaultHasher}
+use Rattle.ps_chains.specs.Seeding.{begun}
 use Rattle.ps_types.specs.declared.node.NodeKey.{NodeKey}
 use Rattle.ps_types.specs.declared.jid.Jid.{Jid}
-
-unfoldable pub begun : ℕ → DefaultHasher
-begun seed = fold sip.write sip.initial (fed.u64 seed)
 
 unfoldable pub with_text : DefaultHasher → List ℕ → DefaultHasher
 with_text hasher text = sip.write (sip.write hasher text) (255 ∷ [])

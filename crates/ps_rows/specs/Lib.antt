@@ -4,3 +4,4 @@ pub mod Digests
 pub mod Kin
 pub mod RowKeys
 pub mod Around
+pub mod Newest

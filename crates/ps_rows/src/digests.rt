@@ -1,17 +1,17 @@
 // By what rows are found.
 ghost use Rattle.std.specs.Prelude.{◌≡◌, ◌<◌, ◌^◌};
-ghost use Rattle.ps_rows.specs.Digests.{begun, with_text, with_bare, with_jid, with_node, ended, node_digest, item_digest, bare_at_digest, jid_at_digest, bare_digest, jid_digest, pair_digest, text_digest};
+ghost use Rattle.ps_chains.specs.Seeding.{begun};
+ghost use Rattle.ps_rows.specs.Digests.{with_text, with_bare, with_jid, with_node, ended, node_digest, item_digest, bare_at_digest, jid_at_digest, bare_digest, jid_digest, pair_digest, text_digest};
 
+use ps_chains::Seeded;
 use ps_types::{Jid, NodeKey, Text};
-use std::hash::{DefaultHasher, Hasher};
+use std::hash::{BuildHasher, DefaultHasher, Hasher};
 
-#[tactic(auto, unfolding(crate::specs::Digests::begun))]
 fn begin(seed: u64) -> DefaultHasher
     ensures { result ≡ begun seed }
 {
-    let mut hasher = DefaultHasher::new();
-    hasher.write_u64(seed);
-    hasher
+    let seeded = Seeded { seed };
+    seeded.build_hasher()
 }
 
 #[tactic(auto, unfolding(crate::specs::Digests::with_text))]

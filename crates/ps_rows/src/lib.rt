@@ -9,6 +9,7 @@ mod address_rows;
 mod around;
 mod digests;
 mod index;
+mod newest;
 mod node_rows;
 mod row;
 mod rows;

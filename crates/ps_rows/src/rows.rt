@@ -5,10 +5,12 @@ ghost use Rattle.std.specs.List.{AllZip, list_any};
 ghost use Rattle.ps_rows.specs.declared.index.Index.TheVariants.{Key, Node};
 ghost use Rattle.ps_rows.specs.Kin.{AsksKin};
 ghost use Rattle.ps_rows.specs.Around.{own_and_last};
+ghost use Rattle.ps_rows.specs.Newest.{newest_of};
 ghost use Rattle.ps_rows.specs.Standing.{AsksBy, standing};
 
 use crate::around::gather_around;
 use crate::index::Index;
+use crate::newest::gather_newest;
 use crate::row::{Ask, Row};
 use crate::slots::Slots;
 use crate::walks::{count_node, gather, seek, seek_last, take_away, take_first, tally};
@@ -211,6 +213,20 @@ impl<R: Row + Clone> Rows<R> {
         ensures rows { IfOk result (λ rows. AllZip R.is_clone (filter (A.passes ask.now) self.now.rows) rows.items) }
     {
         gather(&self.slots, index, ask, alloc)
+    }
+
+    /// Copies of the last rows that pass, at most as many as given, in their order. It goes through no row before them.
+    pub fn newest<A: Ask<R>>(
+        &self,
+        index: Index,
+        ask: &A,
+        most: u64,
+        alloc: Global,
+    ) -> Result<Vec<R>, Memory>
+        requires asks { AsksBy (A.passes ask.now) (λ seed. R.by seed index) (λ seed. A.seeks seed ask.now) }
+        ensures rows { IfOk result (λ rows. AllZip R.is_clone (newest_of most (filter (A.passes ask.now) self.now.rows)) rows.items) }
+    {
+        gather_newest(&self.slots, index, ask, most as usize, alloc)
     }
 
     /// Copies of the rows that pass, and of the last row that does not, in their order. Beside the rows that pass it goes through the empty places

@@ -23,7 +23,7 @@ fn passes<R: Row, A: Ask<R>>(slots: &Slots<R>, place: usize, ask: &A) -> bool
 }
 
 /// The digest of the rows that pass.
-fn sought<R: Row, A: Ask<R>>(slots: &Slots<R>, ask: &A) -> u64
+pub fn sought<R: Row, A: Ask<R>>(slots: &Slots<R>, ask: &A) -> u64
     ensures { result ≡ A.seeks slots.now.seed ask.now }
 {
     ask.digest(slots.seed())
@@ -62,7 +62,7 @@ pub fn take_away<R: Row, A: Ask<R>>(slots: &mut Slots<R>, index: Index, ask: &A)
 }
 
 /// Adds a copy of the row at a place, if it passes.
-fn copy_passing<R: Row + Clone, A: Ask<R>>(
+pub fn copy_passing<R: Row + Clone, A: Ask<R>>(
     rows: &mut Vec<R>,
     slots: &Slots<R>,
     place: usize,
