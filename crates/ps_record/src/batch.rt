@@ -49,7 +49,7 @@ fn frame_with(alloc: Global, frame: &[u8], entry: &[u8]) -> Result<Vec<u8>, Memo
     ensures { IfOk result (λ v. v.items ≡ to_be_bytes w32 (length frame.now + length entry.now - 5) ++ slice_range frame.now 4 (length frame.now - 1) ++ entry.now ++ 0 ∷ []) }
 {
     let len = frame.len() + entry.len() - 5;
-    let mut next = Vec::new(alloc);
+    let mut next = Vec::with_capacity(alloc, frame.len() + entry.len())?;
     next.extend_from_slice(&(len as u32).to_be_bytes())?;
     next.extend_from_slice(&frame[4..frame.len() - 1])?;
     next.extend_from_slice(entry)?;

@@ -116,7 +116,7 @@ pub(crate) fn put_printed(alloc: Global, entry: &Entry, print: &[u8]) -> Result<
     requires printed { print.now ≡ print_in entry.now }
     ensures { IfOk result (λ b. b ≡ spelling entry.now) }
 {
-    let mut out = Vec::new(alloc);
+    let mut out = Vec::with_capacity(alloc, print.len() + 64)?;
     put(alloc, &mut out, entry, print)?;
     Ok(Bytes::from_vec(out))
 }
