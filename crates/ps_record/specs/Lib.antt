@@ -1,3 +1,4 @@
 pub mod Raw
 pub mod Reading
 pub mod Batch
+pub mod Texts

@@ -3,8 +3,9 @@ ghost use Rattle.std.specs.Prelude.{◌≡◌, ◌++◌, ◌∷◌, ◌+◌, ◌
 ghost use Rattle.std.specs.Int.{w32, to_be_bytes};
 ghost use Rattle.ps_model.specs.Entries.{body, spelling, IsEntry, AreEntries};
 ghost use Rattle.ps_record.specs.Batch.{piece};
+ghost use Rattle.ps_record.specs.Texts.{print_in};
 
-use crate::put_entry;
+use crate::writing::{print_of, put_printed};
 use ps_base::Memory;
 use ps_types::Entry;
 use std::alloc::Global;
@@ -48,7 +49,7 @@ fn frame_with(alloc: Global, frame: &[u8], entry: &[u8]) -> Result<Vec<u8>, Memo
     ensures { IfOk result (λ v. v.items ≡ to_be_bytes w32 (length frame.now + length entry.now - 5) ++ slice_range frame.now 4 (length frame.now - 1) ++ entry.now ++ 0 ∷ []) }
 {
     let len = frame.len() + entry.len() - 5;
-    let mut next = Vec::new(alloc);
+    let mut next = Vec::with_capacity(alloc, frame.len() + entry.len())?;
     next.extend_from_slice(&(len as u32).to_be_bytes())?;
     next.extend_from_slice(&frame[4..frame.len() - 1])?;
     next.extend_from_slice(entry)?;
@@ -76,7 +77,19 @@ impl Batch {
         ensures ok { OnOk result (self.new ≡ self.old ++ entry.now ∷ []) }
         ensures err { OnErr result (self.new ≡ self.old) }
     {
-        let bytes = put_entry(self.alloc, entry)?;
+        let print = print_of(self.alloc, entry)?;
+        self.push_printed(entry, print.as_slice())
+    }
+
+    /// Adds an entry whose tree was printed. Where memory runs out, the batch is as before.
+    pub fn push_printed(&mut self, entry: &Entry, print: &[u8]) -> Result<(), Memory>
+        requires spelled { IsEntry entry.now }
+        requires printed { print.now ≡ print_in entry.now }
+        requires fits { length (body self.old) + length (spelling entry.now) ≤ 2 ^ 30 }
+        ensures ok { OnOk result (self.new ≡ self.old ++ entry.now ∷ []) }
+        ensures err { OnErr result (self.new ≡ self.old) }
+    {
+        let bytes = put_printed(self.alloc, entry, print)?;
         let frame = frame_with(self.alloc, &self.frame, bytes.as_slice())?;
         let entry = copy_of(entry)?;
         self.entries.push(entry)?;

@@ -2,7 +2,8 @@
 //!
 //! `specs/Entries.antt` of ps_model says which entries have a spelling and which bytes it is. [`put_entry`] writes it, and [`read_entry`]
 //! reads an entry exactly where one is spelled: the host, address or tree that it reads is one whose printed form stands there, and what
-//! is printed otherwise is refused. [`one_entry`] is the law that bytes begin with one entry at most.
+//! is printed otherwise is refused. [`print_of`] is the one text in an entry that takes work (`specs/Texts.antt`), for those who measure it
+//! first. [`one_entry`] is the law that bytes begin with one entry at most.
 //!
 //! A [`Batch`] is a list of entries with the bytes of their frame: the length, the entries, and a closed gate (`specs/Batch.antt`).
 #![tactic(auto)]
@@ -18,4 +19,4 @@ pub use batch::Batch;
 pub use laws::one_entry;
 pub use raw::u32_at;
 pub use reading::{EntryRefusal, read_entry};
-pub use writing::put_entry;
+pub use writing::{print_of, put_entry};

@@ -3,6 +3,7 @@ ghost use Rattle.std.specs.Prelude.{◌≡◌, ◌++◌, ◌<◌, ◌^◌, lengt
 ghost use Rattle.std.specs.Int.{w64, to_be_bytes};
 ghost use Rattle.ps_model.specs.Entries.{short, long, spelling, IsEntry};
 ghost use Rattle.ps_record.specs.Raw.{change_bytes};
+ghost use Rattle.ps_record.specs.Texts.{print_in};
 
 use ps_base::{Bytes, Memory};
 use ps_types::Entry;
@@ -64,8 +65,9 @@ fn put_change(
     }
 }
 
-fn put(alloc: Global, out: &mut Vec<u8>, entry: &Entry) -> Result<(), Memory>
-    requires { IsEntry entry.now }
+fn put(alloc: Global, out: &mut Vec<u8>, entry: &Entry, print: &[u8]) -> Result<(), Memory>
+    requires spelled { IsEntry entry.now }
+    requires printed { print.now ≡ print_in entry.now }
     ensures { OnOk result (out.new.items ≡ out.old.items ++ spelling entry.now) }
 {
     match entry {
@@ -77,17 +79,8 @@ fn put(alloc: Global, out: &mut Vec<u8>, entry: &Entry) -> Result<(), Memory>
             host,
             line,
             moment,
-            tree,
-        } => {
-            let tree = print_tree(alloc, tree)?;
-            put_change(
-                out,
-                host.as_str().as_bytes(),
-                *line,
-                *moment,
-                tree.as_slice(),
-            )
-        }
+            ..
+        } => put_change(out, host.as_str().as_bytes(), *line, *moment, print),
         Entry::Handed { to } => {
             let to = to.text(alloc)?;
             out.push(2)?;
@@ -97,12 +90,35 @@ fn put(alloc: Global, out: &mut Vec<u8>, entry: &Entry) -> Result<(), Memory>
             out.push(3)?;
             put_short(out, host.as_str().as_bytes())
         }
-        Entry::Base { row } => {
-            let row = print_tree(alloc, row)?;
+        Entry::Base { .. } => {
             out.push(5)?;
-            put_long(out, row.as_slice())
+            put_long(out, print)
         }
     }
+}
+
+/// The print of the tree that an entry holds, which is empty where it holds none.
+pub fn print_of(alloc: Global, entry: &Entry) -> Result<Bytes, Memory>
+    ensures { IfOk result (λ b. b ≡ print_in entry.now) }
+{
+    match entry {
+        Entry::Change { tree, .. } => print_tree(alloc, tree),
+        Entry::Base { row } => print_tree(alloc, row),
+        Entry::Boot { .. } | Entry::Handed { .. } | Entry::Gone { .. } => {
+            Ok(Bytes::from_vec(Vec::new(alloc)))
+        }
+    }
+}
+
+/// The bytes of an entry whose tree was printed.
+pub(crate) fn put_printed(alloc: Global, entry: &Entry, print: &[u8]) -> Result<Bytes, Memory>
+    requires spelled { IsEntry entry.now }
+    requires printed { print.now ≡ print_in entry.now }
+    ensures { IfOk result (λ b. b ≡ spelling entry.now) }
+{
+    let mut out = Vec::with_capacity(alloc, print.len() + 64)?;
+    put(alloc, &mut out, entry, print)?;
+    Ok(Bytes::from_vec(out))
 }
 
 /// The bytes of an entry.
@@ -110,7 +126,6 @@ pub fn put_entry(alloc: Global, entry: &Entry) -> Result<Bytes, Memory>
     requires { IsEntry entry.now }
     ensures { IfOk result (λ b. b ≡ spelling entry.now) }
 {
-    let mut out = Vec::new(alloc);
-    put(alloc, &mut out, entry)?;
-    Ok(Bytes::from_vec(out))
+    let print = print_of(alloc, entry)?;
+    put_printed(alloc, entry, print.as_slice())
 }

@@ -10,4 +10,4 @@ returns c =
     (c.in_ok-extend_from_slice-3.ensures.items
     ∙ ap (λ (l : List ℕ). l ++ c.args.entry.now)
     (c.in_ok-extend_from_slice-2.ensures.items
-    ∙ ap (λ (l : List ℕ). l ++ slice_range frame 4 (length frame - 1)) (c.in_ok-extend_from_slice.ensures.items ∙ (λ i. c.new-next.ensures.items i ++ c.to_be_bytes.ensures i))))
+    ∙ ap (λ (l : List ℕ). l ++ slice_range frame 4 (length frame - 1)) (c.in_ok-extend_from_slice.ensures.items ∙ (λ i. c.in_ok-next.ensures.items i ++ c.to_be_bytes.ensures i))))

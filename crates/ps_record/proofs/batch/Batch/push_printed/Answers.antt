@@ -3,7 +3,7 @@ use Rattle.ps_types.specs.declared.entry.Entry.{Entry}
 use Rattle.ps_model.specs.Entries.{spelling, body, IsEntry, AreEntries}
 use Rattle.ps_record.specs.Batch.{piece}
 use Rattle.ps_record.proofs.Batches.{body_push, piece_push, are_entries_push}
-use Rattle.ps_record.proofs.batch.Batch.push.Goals as goal
+use Rattle.ps_record.proofs.batch.Batch.push_printed.Goals as goal
 
 pub invariant_of-self-2 : goal.invariant_of-self-2
 invariant_of-self-2 c =

@@ -1,0 +1,96 @@
+"""What a line costs, by its kind: instructions, allocations and bytes allocated.
+
+Usage: cost.py PROGRAM FOLDER. It runs the program under callgrind, which counts instructions and not time, and under memcheck, which counts
+allocations, over the lines that make ready what a kind needs, and once more with LINES (1000) lines of the kind behind them. A row is the
+difference of the two, a line.
+"""
+import os
+import pathlib
+import re
+import subprocess
+import sys
+
+import corpus
+
+READER = "reader@a.example"
+OTHER = "other@a.example"
+FORM = '{"c":[%s],"n":"x","ns":"jabber:x:data","a":{"type":"submit"}}'
+FIELD = '{"a":{"var":"%s"},"c":[{"c":["%s"],"n":"value"}],"n":"field"}'
+
+
+def create(k):
+    return corpus.line(corpus.OWNER, k, "set", '{"a":{"node":"made-%d"},"n":"create"}' % k)
+
+
+def item(k, ids, size):
+    """To the first node, by its owner; the item has so many bytes of text."""
+    made = '{"a":{"id":"item-%d"},"c":[{"c":["%s"],"n":"entry","ns":"urn:t"}],"n":"item"}' % (k % ids, "x" * size)
+    return corpus.line(corpus.OWNER, k, "set", '{"a":{"node":"node-0"},"c":[%s],"n":"publish"}' % made)
+
+
+def retrieve(k, one):
+    asked = '"c":[{"a":{"id":"item-1"},"n":"item"}],' if one else ""
+    return corpus.line(READER, k, "get", '{"a":{"node":"node-0"},%s"n":"items"}' % asked)
+
+
+def denied(k):
+    """The reader doesn't own the node."""
+    return corpus.line(READER, k, "set", '{"a":{"node":"node-0"},"n":"delete"}', "#owner")
+
+
+def malformed(k):
+    return '{"a":{"from":"%s/1","id":"%d"},"n":"iq"\n' % (READER, k)
+
+
+def kept_items(most):
+    """The first node, which keeps so many items."""
+    form = FORM % (FIELD % ("FORM_TYPE", "http://jabber.org/protocol/pubsub#node_config") + "," + FIELD % ("pubsub#max_items", most))
+    configure = corpus.line(corpus.OWNER, 1, "set", '{"a":{"node":"node-0"},"c":[%s],"n":"configure"}' % form, "#owner")
+    return [corpus.create(0), configure]
+
+
+def kinds(lines):
+    ten = kept_items(10) + [item(k, 10, 200) for k in range(10)]
+    hundred = kept_items(100) + [item(k, 100, 200) for k in range(100)]
+    return [
+        ("create", [], create, lines),
+        ("publish, 200 bytes", ten, lambda k: item(k, 10, 200), lines),
+        ("publish, 16 KB", ten, lambda k: item(k, 10, 16384), lines // 10),
+        ("retrieve one item", ten, lambda k: retrieve(k, True), lines),
+        ("retrieve 100 items", hundred, lambda k: retrieve(k, False), lines // 10),
+        ("subscribe", ten, lambda k: corpus.subscribe(k, 1), lines),
+        ("denied", ten, denied, lines),
+        ("malformed", ten, malformed, lines),
+    ]
+
+
+class Run:
+    """A run of the program over some lines: what it took, and the last reply."""
+
+    def __init__(self, program, folder, lines):
+        source, sink, store = (folder / name for name in ("in", "out", "store"))
+        source.write_text("".join(lines))
+        words = [program, "serve", "--service", "pubsub.example", "--store", store, "a.example", source, sink]
+        told = []
+        for tool in (["--tool=callgrind", f"--callgrind-out-file={folder / 'callgrind'}"], ["--tool=memcheck", "--undef-value-errors=no"]):
+            sink.write_bytes(b"")
+            store.unlink(missing_ok=True)
+            told.append(subprocess.run(["valgrind", *tool, *words], check=True, capture_output=True, text=True).stderr)
+        number = lambda text: int(text.replace(",", ""))
+        self.instructions = number(re.search(r"Collected : (\d+)", told[0])[1])
+        heap = re.search(r"total heap usage: ([\d,]+) allocs, [\d,]+ frees, ([\d,]+) bytes", told[1])
+        self.allocations, self.bytes = number(heap[1]), number(heap[2])
+        replies = sink.read_text().splitlines()
+        self.last = replies[-1] if replies else ""
+
+
+def main():
+    program, folder = sys.argv[1], pathlib.Path(sys.argv[2])
+    for name, before, make, count in kinds(int(os.environ.get("LINES", "1000"))):
+        first = Run(program, folder, before)
+        whole = Run(program, folder, before + [make(k) for k in range(count)])
+        row = [(getattr(whole, what) - getattr(first, what)) / count for what in ("instructions", "allocations", "bytes")]
+        print("%-20s %9.0f instructions %6.1f allocations %8.0f bytes   %s" % (name, *row, whole.last[:120] if os.environ.get("SHOW") else ""), flush=True)
+
+
+main()
