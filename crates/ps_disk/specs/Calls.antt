@@ -1,6 +1,7 @@
 -- A disk in memory: its calls, and what it is after each of them.
-use Rattle.std.specs.Prelude.{ℕ, ◌+◌, ◌≤◌, nat_le, List, [], ◌∷◌, ◌++◌, length, take, drop, filter, replicate}
-use Rattle.ps_disk.specs.Disk.{MayLeave}
+use Rattle.std.specs.Prelude.{ℕ, ◌≡◌, ◌+◌, ◌≤◌, nat_le, List, [], ◌∷◌, ◌++◌, length, take, drop, filter, replicate}
+use Rattle.ps_base.specs.Causes.{next_count}
+use Rattle.ps_disk.specs.Disk.{MayLeave, GoesOn, StaysPending}
 use Rattle.ps_disk.specs.declared.replay.Call.{Call}
 use Rattle.ps_disk.specs.declared.replay.Call.TheVariants.{Wrote, Failed, Synced}
 use Rattle.ps_disk.specs.declared.replay.Kept.{Kept}
@@ -72,6 +73,34 @@ abbrev pub LeftSince : Recorded → ℕ → List ℕ → Type 0
 LeftSince d t c =
     (k : ℕ) × (t ≤ k) × (k ≤ length d.kept)
     × MayLeave (after_calls (start_of d.start) (take k d.kept)).synced (after_calls (start_of d.start) (take k d.kept)).written c
+
+-- a crash in that state may leave these bytes
+abbrev pub MayBeLeft : State → List ℕ → Type 0
+MayBeLeft s c = MayLeave s.synced s.written c
+
+-- time goes on from one state of the disk to another
+abbrev pub TimeGoesOn : Recorded → Recorded → Type 0
+TimeGoesOn old new = GoesOn (λ d. length d.kept) LeftSince (λ d. (state_of d).synced) (λ d. (state_of d).written) old new
+
+-- what is seen stands at the last sync, and nothing is written since
+abbrev pub IsSynced : State → State → Type 0
+IsSynced old new = (new.synced ≡ old.seen) × (new.written ≡ [])
+
+-- what stood at the last sync stays, and so do the ranges written since
+abbrev pub IsPending : State → State → Type 0
+IsPending old new = StaysPending (λ s. s.synced) (λ s. s.written) old new
+
+-- the calls that are kept, with one more
+abbrev pub kept_with : List Kept → ℕ → Call → List Kept
+kept_with kept number call = kept ++ record { number = number; call = call } ∷ []
+
+-- a call that failed is counted
+abbrev pub with_failed_call : Recorded → Recorded
+with_failed_call d = record d { calls = next_count d.calls; faults = next_count d.faults }
+
+-- that a call gave up for want of memory is counted
+abbrev pub with_refusal : Recorded → Recorded
+with_refusal d = record d { faults = next_count d.faults; refused = next_count d.refused }
 
 -- the bytes, with this one in each of the ranges, the newest last
 abbrev pub filled : ℕ → List (ℕ × ℕ) → List ℕ → List ℕ

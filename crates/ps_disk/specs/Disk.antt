@@ -34,6 +34,19 @@ pub record Elapses (before now : ℕ) (past since : ℕ → List ℕ → Type 0)
   pub nothing_else : (t : ℕ) (c : List ℕ) → t ≤ before → since t c → past t c ⊎ may_leave c
   pub keeps : (t : ℕ) (c : List ℕ) → t ≤ before → past t c → since t c
 
+-- Time goes on from one state of a disk to another.
+abbrev pub GoesOn : {D : Type 0} → (D → ℕ) → (D → ℕ → List ℕ → Type 0) → (D → List ℕ) → (D → List (ℕ × ℕ)) → D → D → Type 0
+GoesOn moment left_since synced written old new =
+    Elapses (moment old) (moment new) (left_since old) (left_since new) (MayLeave (synced new) (written new))
+
+-- the written ranges are as before, or one more
+abbrev pub MayHaveOneMore : ℕ × ℕ → List (ℕ × ℕ) → List (ℕ × ℕ) → Type 0
+MayHaveOneMore range old new = (new ≡ old) ⊎ (new ≡ range ∷ old)
+
+-- what stood at the last sync stays, and so do the ranges written since
+abbrev pub StaysPending : {D : Type 0} → (D → List ℕ) → (D → List (ℕ × ℕ)) → D → D → Type 0
+StaysPending synced written old new = (synced new ≡ synced old) × (written new ≡ written old)
+
 -- A crash at any moment since old leaves bytes that have P.
 pub record LeavesOnly {D : Type 0} (moment : D → ℕ) (left_since : D → ℕ → List ℕ → Type 0) (old new : D) (P : List ℕ → Type 0) : Type 0 where
   pub later : moment old ≤ moment new

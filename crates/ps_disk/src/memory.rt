@@ -1,8 +1,8 @@
 // A disk in memory. It keeps its calls, so that it can tell what a crash after any of them may leave.
 ghost use Rattle.std.specs.Prelude.{◌≡◌, ◌⊎◌, ◌++◌, ◌∷◌, ◌+◌, ◌≤◌, ◌↔◌, [], length, take, drop, Contains, IsErr, IfOk, OnOk, OnErr};
 ghost use Rattle.ps_base.specs.Causes.{next_count, HasCause};
-ghost use Rattle.ps_disk.specs.Disk.{Holds, TornAt, MayLeave, Elapses};
-ghost use Rattle.ps_disk.specs.Calls.{new_disk, state_of, state_after, syncs_in, LeftSince, outcome, step};
+ghost use Rattle.ps_disk.specs.Disk.{Holds, TornAt, MayHaveOneMore};
+ghost use Rattle.ps_disk.specs.Calls.{new_disk, state_of, state_after, syncs_in, LeftSince, MayBeLeft, TimeGoesOn, IsSynced, IsPending, kept_with, with_failed_call, with_refusal, outcome, step};
 ghost use Rattle.ps_disk.specs.Counts.{IsCall, IsReading};
 ghost use Rattle.ps_disk.specs.Filled.{IsTornBy, BeginsWithin};
 
@@ -96,7 +96,7 @@ impl MemDisk {
     pub fn crashed(&self, alloc: Global, calls: u64, torn: Torn) -> Result<MemDisk, Memory>
         requires { calls ≤ self.now.calls }
         ensures which { IfOk result (λ d. d ≡ new_disk (outcome torn (state_after calls self.now)) []) }
-        ensures one { IfOk result (λ d. MayLeave (state_after calls self.now).synced (state_after calls self.now).written d.start) }
+        ensures one { IfOk result (λ d. MayBeLeft (state_after calls self.now) d.start) }
         ensures bytes { IfOk result (λ d. IsTornBy torn (state_after calls self.now) d.start) }
     {
         let bytes = self.left_by_crash(alloc, calls, torn)?;
@@ -122,7 +122,7 @@ impl MemDisk {
     // Counts a call, which fails where its number is one of those that fail.
     fn begin(&mut self) -> Result<(), Failed>
         ensures ok { OnOk result (self.new ≡ record self.old { calls = next_count self.old.calls }) }
-        ensures err { OnErr result (self.new ≡ record self.old { calls = next_count self.old.calls; faults = next_count self.old.faults }) }
+        ensures err { OnErr result (self.new ≡ with_failed_call self.old) }
         ensures fails { IsErr result ↔ Contains self.old.failing (next_count self.old.calls) }
         ensures later { self.old.faults ≤ self.new.faults }
     {
@@ -136,7 +136,7 @@ impl MemDisk {
 
     // Counts that a call gave up for want of memory.
     fn give_up(&mut self)
-        ensures counts { self.new ≡ record self.old { faults = next_count self.old.faults; refused = next_count self.old.refused } }
+        ensures counts { self.new ≡ with_refusal self.old }
         ensures later { self.old.faults ≤ self.new.faults }
     {
         self.faults = self.faults.saturating_add(1);
@@ -147,8 +147,8 @@ impl MemDisk {
     fn keep(&mut self, call: Call) -> Result<(), Failed>
         requires same { (step (state_of self.old) call).seen ≡ (state_of self.old).seen }
         requires within { BeginsWithin (state_of self.old) call }
-        ensures ok { OnOk result (self.new ≡ record self.old { kept = self.old.kept ++ record { number = self.old.calls; call = call } ∷ [] }) }
-        ensures err { OnErr result (self.new ≡ record self.old { faults = next_count self.old.faults; refused = next_count self.old.refused }) }
+        ensures ok { OnOk result (self.new ≡ record self.old { kept = kept_with self.old.kept self.old.calls call }) }
+        ensures err { OnErr result (self.new ≡ with_refusal self.old) }
         ensures later { self.old.faults ≤ self.new.faults }
     {
         let number = self.calls;
@@ -164,7 +164,7 @@ impl MemDisk {
     // Writes a piece, and keeps the call.
     fn keep_write(&mut self, at: u64, piece: &[u8]) -> Result<(), Memory>
         requires { at ≤ length (state_of self.old).seen }
-        ensures ok { OnOk result (self.new ≡ record self.old { kept = self.old.kept ++ record { number = self.old.calls; call = Call.Wrote at piece.now } ∷ [] }) }
+        ensures ok { OnOk result (self.new ≡ record self.old { kept = kept_with self.old.kept self.old.calls (Call.Wrote at piece.now) }) }
         ensures err { OnErr result (self.new ≡ self.old) }
     {
         let number = self.calls;
@@ -208,7 +208,7 @@ impl Disk for MemDisk {
         ensures synced { (state_of self.new).synced ≡ (state_of self.old).synced }
         ensures written { (state_of self.new).written ≡ (state_of self.old).written }
         ensures syncs { syncs_in self.new.kept ≡ syncs_in self.old.kept }
-        ensures time { Elapses (length self.old.kept) (length self.new.kept) (LeftSince self.old) (LeftSince self.new) (MayLeave (state_of self.new).synced (state_of self.new).written) }
+        ensures time { TimeGoesOn self.old self.new }
         ensures cause { HasCause self.old.faults self.new.faults result }
         ensures reads { IsReading self.old self.new result }
     {
@@ -223,7 +223,7 @@ impl Disk for MemDisk {
         ensures synced { (state_of self.new).synced ≡ (state_of self.old).synced }
         ensures written { (state_of self.new).written ≡ (state_of self.old).written }
         ensures syncs { syncs_in self.new.kept ≡ syncs_in self.old.kept }
-        ensures time { Elapses (length self.old.kept) (length self.new.kept) (LeftSince self.old) (LeftSince self.new) (MayLeave (state_of self.new).synced (state_of self.new).written) }
+        ensures time { TimeGoesOn self.old self.new }
         ensures cause { HasCause self.old.faults self.new.faults result }
         ensures reads { IsReading self.old self.new result }
     {
@@ -237,11 +237,11 @@ impl Disk for MemDisk {
         ensures failed { OnErr result (TornAt at (length piece.now) (state_of self.old).seen (state_of self.new).seen) }
         ensures synced { (state_of self.new).synced ≡ (state_of self.old).synced }
         ensures counted { OnOk result ((state_of self.new).written ≡ (at, length piece.now) ∷ (state_of self.old).written) }
-        ensures maybe { ((state_of self.new).written ≡ (state_of self.old).written) ⊎ ((state_of self.new).written ≡ (at, length piece.now) ∷ (state_of self.old).written) }
+        ensures maybe { MayHaveOneMore (at, length piece.now) (state_of self.old).written (state_of self.new).written }
         ensures syncs { syncs_in self.new.kept ≡ syncs_in self.old.kept }
-        ensures time { Elapses (length self.old.kept) (length self.new.kept) (LeftSince self.old) (LeftSince self.new) (MayLeave (state_of self.new).synced (state_of self.new).written) }
+        ensures time { TimeGoesOn self.old self.new }
         ensures cause { HasCause self.old.faults self.new.faults result }
-        ensures kept { OnOk result (self.new.kept ≡ self.old.kept ++ record { number = self.new.calls; call = Call.Wrote at piece.now } ∷ []) }
+        ensures kept { OnOk result (self.new.kept ≡ kept_with self.old.kept self.new.calls (Call.Wrote at piece.now)) }
         ensures call { IsCall self.old self.new result }
     {
         match self.begin() {
@@ -261,12 +261,12 @@ impl Disk for MemDisk {
 
     fn sync(&mut self) -> Result<(), Failed>
         ensures seen { (state_of self.new).seen ≡ (state_of self.old).seen }
-        ensures ok { OnOk result (((state_of self.new).synced ≡ (state_of self.old).seen) × ((state_of self.new).written ≡ [])) }
-        ensures failed { OnErr result (((state_of self.new).synced ≡ (state_of self.old).synced) × ((state_of self.new).written ≡ (state_of self.old).written)) }
+        ensures ok { OnOk result (IsSynced (state_of self.old) (state_of self.new)) }
+        ensures failed { OnErr result (IsPending (state_of self.old) (state_of self.new)) }
         ensures counted { OnOk result (syncs_in self.new.kept ≡ syncs_in self.old.kept + 1) }
-        ensures time { Elapses (length self.old.kept) (length self.new.kept) (LeftSince self.old) (LeftSince self.new) (MayLeave (state_of self.new).synced (state_of self.new).written) }
+        ensures time { TimeGoesOn self.old self.new }
         ensures cause { HasCause self.old.faults self.new.faults result }
-        ensures kept { OnOk result (self.new.kept ≡ self.old.kept ++ record { number = self.new.calls; call = Call.Synced } ∷ []) }
+        ensures kept { OnOk result (self.new.kept ≡ kept_with self.old.kept self.new.calls Call.Synced) }
         ensures call { IsCall self.old self.new result }
     {
         match self.begin() {

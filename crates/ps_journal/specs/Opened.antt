@@ -1,7 +1,7 @@
 -- What came of opening a store.
-use Rattle.std.specs.Prelude.{◌≡◌, ◌⊎◌, ◌+◌, ◌<◌, ◌^◌, ℕ, false, true, List, [], length, take}
+use Rattle.std.specs.Prelude.{◌≡◌, ◌⊎◌, ◌+◌, ◌<◌, ◌≤◌, ◌^◌, ℕ, false, true, List, [], ◌∷◌, length, take}
 use Rattle.std.specs.List.{AllByRecursion}
-use Rattle.ps_disk.specs.Disk.{Holds}
+use Rattle.ps_disk.specs.Disk.{Holds, MayLeave}
 use Rattle.ps_types.specs.declared.entry.Entry.{Entry}
 use Rattle.ps_model.specs.Entries.{IsEntry, spelling}
 use Rattle.ps_model.specs.Store.{is_header, is_unbegun, gate_at, Begun, spelled}
@@ -55,3 +55,31 @@ IsOpened bytes placed = ((gate : ℕ) × IsFound bytes placed gate) ⊎ ((is_hea
 -- the entries of bytes that spell a list; of others those before the first that isn't spelled, and none where the header or a frame is damaged
 abbrev pub BeforeDamage : List ℕ → List Entry → Type 0
 BeforeDamage bytes es = spelled bytes es ⊎ ((at : ℕ) × (before : List Placed) × IsDamaged bytes at before × (es ≡ entries_in before))
+
+-- ---- the parts of what opening promises
+
+abbrev pub HasHeader : List ℕ → Type 0
+HasHeader bytes = is_header (take 8 bytes) ≡ true
+
+abbrev pub HasNoHeader : List ℕ → Type 0
+HasNoHeader bytes = is_header (take 8 bytes) ≡ false
+
+-- the eighth byte is the digit 2, and all others are as before
+abbrev pub Upgrades : List ℕ → List ℕ → Type 0
+Upgrades old new = Holds old 7 (50 ∷ []) new
+
+-- where the store is damaged, it is so at that place, behind these entries
+abbrev pub IsWhyDamaged : List ℕ → JournalWhy → Type 0
+IsWhyDamaged bytes w = IfWhyDamaged w (λ at before. IsDamaged bytes at before)
+
+-- where the store is damaged, its bytes stay
+abbrev pub StaysIfDamaged : JournalWhy → List ℕ → List ℕ → Type 0
+StaysIfDamaged w old new = IfWhyDamaged w (λ at before. new ≡ old)
+
+-- an unbegun store has no more bytes than a begun one is begun with
+abbrev pub IsShortIfUnbegun : List ℕ → Type 0
+IsShortIfUnbegun bytes = is_unbegun bytes ≡ true → length bytes ≤ 9
+
+-- what a crash might have left before, or bytes of these entries
+abbrev pub LeftOrHas : List ℕ → List (ℕ × ℕ) → List Entry → List ℕ → Type 0
+LeftOrHas synced written entries c = MayLeave synced written c ⊎ spelled c entries
