@@ -1,0 +1,4 @@
+pub mod Following
+pub mod Fronts
+pub mod Keeping
+pub mod Storing

@@ -1,0 +1,4 @@
+pub mod Calm
+pub mod Left
+pub mod Stand
+pub mod Frames
