@@ -1,0 +1,35 @@
+// The names that features ask for (XEP-0163 §4.2).
+ghost use Rattle.std.specs.Prelude.{◌≡◌, ◌&&◌, ℕ, List, IfOk};
+ghost use Rattle.ps_types.specs.Same.{same_jid};
+ghost use Rattle.ps_types.specs.declared.jid.Jid.{Jid};
+ghost use Rattle.ps_filter.specs.Names.{IsNameOf};
+ghost use Rattle.ps_filter.specs.Wants.{asks_for, is_wanted};
+
+use crate::want::Want;
+use ps_base::Memory;
+use ps_types::{Jid, Text};
+use std::alloc::Global;
+
+// The name of the nodes that a feature asks for.
+fn name_in(feature: &Text) -> Option<&str>
+    ensures { IsNameOf feature.now result }
+{
+    feature.as_str().strip_suffix("+notify")
+}
+
+/// What a resource of these features wants.
+pub(crate) fn asked(alloc: Global, who: &Jid, features: &[Text]) -> Result<Vec<Want>, Memory>
+    ensures { IfOk result (λ rows. (other : Jid) (name : List ℕ) → is_wanted other name rows.items ≡ (same_jid who.now other && asks_for name features.now)) }
+{
+    let mut rows = Vec::new(alloc);
+    for feature in features {
+        let Some(name) = name_in(feature) else {
+            continue;
+        };
+        rows.push(Want {
+            who: who.clone()?,
+            name: Text::of(alloc, name)?,
+        })?;
+    }
+    Ok(rows)
+}
