@@ -1,5 +1,5 @@
 -- The marks of the nodes by their services, and a walk over those of one service.
-use Rattle.std.proofs.Common.{◌≡◌, ◌+◌, ℕ, zero, suc, Bool, true, false, cond, List, [], ◌∷◌, ◌++◌, Option, Some, None, refl, ap, sym, subst, ◌∙◌, map, filter, take, length, arith}
+use Rattle.std.proofs.Common.{◌≡◌, ◌+◌, ◌<◌, ℕ, zero, suc, Bool, true, false, cond, List, [], ◌∷◌, ◌++◌, Option, Some, None, refl, ap, sym, subst, ◌∙◌, map, filter, take, length, arith}
 use Rattle.std.specs.Prelude.{slice_get, ◌/◌}
 use Rattle.std.proofs.lemmas.List.{map-append}
 use Rattle.ps_base.specs.Rows.{change_row}
@@ -14,7 +14,9 @@ use Rattle.ps_types.specs.declared.rows.NodeRow.{NodeRow}
 use Rattle.ps_types.specs.Nodes.{is_node_of, with_config}
 use Rattle.ps_types.proofs.Same.{same_jid-Decides}
 use Rattle.ps_nodes.specs.Served.{key_in, service_digest, service_marks}
+use Rattle.ps_nodes.specs.NodeRows.{row_of}
 use Rattle.ps_nodes.specs.Tallies.{digest_of}
+use Rattle.ps_nodes.specs.declared.nodes.NodeRest.{NodeRest}
 
 -- one more row is marked
 pub marks-push : (rows : List NodeRow) (row : NodeRow) → service_marks (rows ++ row ∷ []) ≡ service_marks rows ++ Some (service_digest row) ∷ []
@@ -29,6 +31,12 @@ more_at (x ∷ rows) (suc at) row h = ap (λ r. Some (service_digest x) ∷ r) (
 -- the mark of the next place
 pub marks-more : (rows : List NodeRow) (at : ℕ) (row : NodeRow) → Some row ≡ slice_get rows at → service_marks (take (at + 1) rows) ≡ service_marks (take at rows) ++ Some (service_digest row) ∷ []
 marks-more rows at row h = let e : suc at ≡ at + 1 = omega arith in subst (λ n. service_marks (take n rows) ≡ service_marks (take at rows) ++ Some (service_digest row) ∷ []) e (more_at rows at row h)
+
+-- a place within has a row
+pub has_row : (es : List (NodeKey × NodeRest)) (at : ℕ) → at < length es → None ≡ slice_get (map row_of es) at → ⊥
+has_row [] at l h = absurd (omega (arith, l))
+has_row (e ∷ es) zero l h = cc
+has_row (e ∷ es) (suc at) l h = has_row es at (omega (arith, l)) h
 
 -- a row's configuration changes no mark
 pub marks-change : (test : NodeRow → Bool) (config : NodeConfig) (rows : List NodeRow) → service_marks (change_row test (with_config config) rows) ≡ service_marks rows

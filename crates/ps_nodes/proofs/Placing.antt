@@ -1,7 +1,8 @@
 -- The place of a node in a map, whose keys are all different.
-use Rattle.std.proofs.Common.{◌≡◌, subst, ℕ, zero, suc, Bool, true, false, cond, List, [], ◌∷◌, Option, Some, None, refl, ap, sym, ◌∙◌, map}
-use Rattle.std.specs.Prelude.{position, slice_get, nat_lt, option_map}
-use Rattle.std.specs.List.{IsDistinct, AllByRecursion}
+use Rattle.std.proofs.Common.{◌≡◌, ◌+◌, ◌<◌, ◌≤◌, subst, ℕ, zero, suc, Bool, true, false, cond, List, [], ◌∷◌, Option, Some, None, refl, ap, sym, ◌∙◌, map, length, arith}
+use Rattle.std.specs.Prelude.{not, position, slice_get, nat_lt, option_map}
+use Rattle.std.proofs.lemmas.Bool.Decides.{nat_tests}
+use Rattle.std.specs.List.{IsDistinct, AllByRecursion, prefix_len}
 use Rattle.std.specs.Map.{keys_of}
 use Rattle.std.proofs.lemmas.Map.Keys.{IsDistinct-head, IsDistinct-tail}
 use Rattle.ps_types.specs.declared.node.NodeKey.{NodeKey}
@@ -12,21 +13,38 @@ use Rattle.ps_nodes.specs.declared.nodes.NodeRest.{NodeRest}
 use Rattle.ps_nodes.specs.NodeRows.{row_of, is_there}
 use Rattle.ps_nodes.proofs.MapRows.{derived_is}
 
-module _ {K : Type 0} (test : K → Bool) where
-  later : (n : ℕ) (m : ℕ) → cond (nat_lt (suc n) (suc m)) (Some (suc n)) None ≡ option_map suc (cond (nat_lt n m) (Some n) None)
-  later n m = by (nat_lt n m)
-    where
-      by : (b : Bool) → cond b (Some (suc n)) None ≡ option_map suc (cond b (Some n) None)
-      by true = refl
-      by false = refl
+lt_true : (a b : ℕ) → a < b → nat_lt a b ≡ true
+lt_true a b h = grind (arith, nat_tests, h)
 
+lt_order : (a b : ℕ) → nat_lt a b ≡ true → a < b
+lt_order a b h = grind (arith, nat_tests, h)
+
+lt_not : (a b : ℕ) → nat_lt a b ≡ false → b ≤ a
+lt_not a b h = grind (arith, nat_tests, h)
+
+first_place : (n m : ℕ) → n < m → cond (nat_lt n m) (Some n) None ≡ Some n
+first_place n m h = by (nat_lt n m) (lt_true n m h)
+  where
+    by : (b : Bool) → b ≡ true → cond b (Some n) None ≡ Some n
+    by true e = refl
+    by false e = absurd (cc)
+
+next_place : (p m : ℕ) (b c : Bool) → b ≡ nat_lt (1 + p) (suc m) → c ≡ nat_lt p m → cond b (Some (1 + p)) None ≡ option_map suc (cond c (Some p) None)
+next_place p m true true e f = ap Some (omega arith)
+next_place p m false false e f = refl
+next_place p m true false e f = let k = lt_order (1 + p) (suc m) (sym e) in let l = lt_not p m (sym f) in absurd (omega (arith, k, l))
+next_place p m false true e f = let k = lt_not (1 + p) (suc m) (sym e) in let l = lt_order p m (sym f) in absurd (omega (arith, k, l))
+
+module _ {K : Type 0} (test : K → Bool) where
   -- the first key passes
   pub position-here : (k : K) (ks : List K) → test k ≡ true → position test (k ∷ ks) ≡ Some 0
-  position-here k ks h = rw h refl
+  position-here k ks h = rw h (first_place 0 (suc (length ks)) (omega arith))
 
   -- the first key doesn't
   pub position-later : (k : K) (ks : List K) → test k ≡ false → position test (k ∷ ks) ≡ option_map suc (position test ks)
-  position-later k ks h = rw h (later _ _)
+  position-later k ks h =
+      let p : ℕ = prefix_len (λ x. not (test x)) ks in
+      rw h (next_place p (length ks) (nat_lt (1 + p) (suc (length ks))) (nat_lt p (length ks)) refl refl)
 
 module _ (node : NodeKey) where
   is_key : (k : NodeKey) → eq-value.it node k ≡ true → node ≡ k
