@@ -1,5 +1,5 @@
 -- What features ask for, one feature after the other.
-use Rattle.std.proofs.Common.{◌≡◌, ◌≢◌, ℕ, zero, suc, Bool, true, false, ◌&&◌, ◌||◌, List, [], ◌∷◌, ◌++◌, Option, Some, None, refl, ap, sym, ◌∙◌, take}
+use Rattle.std.proofs.Common.{◌≡◌, ◌≢◌, ◌+◌, ◌<◌, ℕ, zero, suc, Bool, true, false, ◌&&◌, ◌||◌, List, [], ◌∷◌, ◌++◌, Option, Some, None, refl, ap, sym, subst, ◌∙◌, take, length, get_or, arith}
 use Rattle.std.specs.Prelude.{bytes_eq, codes, slice_get}
 use Rattle.std.specs.List.{list_any}
 use Rattle.std.proofs.lemmas.List.{append_cancel_right}
@@ -58,6 +58,17 @@ asks_more name feature (x ∷ xs) (suc at) h = ap (λ b. bytes_eq (notify_featur
     by true = refl
     by false = refl
 
+asks_next : (name feature : List ℕ) (features : List (List ℕ)) (at : ℕ) → slice_get features at ≡ Some feature → asks_for name (take (at + 1) features) ≡ (asks_for name (take at features) || bytes_eq (notify_feature name) feature)
+asks_next name feature features at h =
+    let e : suc at ≡ at + 1 = omega arith in
+    subst (λ n. asks_for name (take n features) ≡ (asks_for name (take at features) || bytes_eq (notify_feature name) feature)) e (asks_more name feature features at h)
+
+-- the item at a place
+pub at_place : {X : Type 0} (xs : List X) (at : ℕ) (x : X) → at < length xs → x ≡ get_or xs at x → slice_get xs at ≡ Some x
+at_place [] at x l h = absurd (omega (arith, l))
+at_place (y ∷ ys) zero x l h = ap Some (sym h)
+at_place (y ∷ ys) (suc at) x l h = at_place ys at x (omega (arith, l)) h
+
 shared : (s a b : Bool) → ((s && a) || (s && b)) ≡ (s && (a || b))
 shared true a b = refl
 shared false a b = refl
@@ -65,14 +76,14 @@ shared false a b = refl
 -- it asks for the nodes of a name
 pub wanted_more : (who other : Jid) (name got : List ℕ) (feature : List ℕ) (features : List (List ℕ)) (rows : List Want) (at : ℕ) → slice_get features at ≡ Some feature → feature ≡ notify_feature got
     → is_wanted other name rows ≡ (same_jid who other && asks_for name (take at features))
-    → is_wanted other name (rows ++ record { who = who; name = got } ∷ []) ≡ (same_jid who other && asks_for name (take (suc at) features))
+    → is_wanted other name (rows ++ record { who = who; name = got } ∷ []) ≡ (same_jid who other && asks_for name (take (at + 1) features))
 wanted_more who other name got feature features rows at h e before =
     let one : is_want other name (record { who = who; name = got }) ≡ (same_jid who other && bytes_eq (notify_feature name) feature) =
       ap (λ b. b && bytes_eq name got) (same_back other who) ∙ ap (λ b. same_jid who other && b) (sym (same_name name got) ∙ ap (bytes_eq (notify_feature name)) (sym e)) in
     any-push (is_want other name) rows (record { who = who; name = got })
     ∙ (ap (λ b. b || is_want other name (record { who = who; name = got })) before
     ∙ (ap (λ b. (same_jid who other && asks_for name (take at features)) || b) one
-    ∙ (shared (same_jid who other) (asks_for name (take at features)) (bytes_eq (notify_feature name) feature) ∙ ap (λ b. same_jid who other && b) (sym (asks_more name feature features at h)))))
+    ∙ (shared (same_jid who other) (asks_for name (take at features)) (bytes_eq (notify_feature name) feature) ∙ ap (λ b. same_jid who other && b) (sym (asks_next name feature features at h)))))
 
 not_it : (name feature : List ℕ) → ((got : List ℕ) → feature ≢ notify_feature got) → (b : Bool) → bytes_eq (notify_feature name) feature ≡ b → b ≡ false
 not_it name feature none true h = absurd (none name (sym ((bytes_eq-Decides (notify_feature name) feature).0 h)))
@@ -84,6 +95,6 @@ or_false false b h = h
 
 -- it asks for none
 pub wanted_same : (who other : Jid) (name feature : List ℕ) (features : List (List ℕ)) (rows : List Want) (at : ℕ) → slice_get features at ≡ Some feature → ((got : List ℕ) → feature ≢ notify_feature got)
-    → is_wanted other name rows ≡ (same_jid who other && asks_for name (take at features)) → is_wanted other name rows ≡ (same_jid who other && asks_for name (take (suc at) features))
+    → is_wanted other name rows ≡ (same_jid who other && asks_for name (take at features)) → is_wanted other name rows ≡ (same_jid who other && asks_for name (take (at + 1) features))
 wanted_same who other name feature features rows at h none before =
-    before ∙ ap (λ b. same_jid who other && b) (sym (asks_more name feature features at h ∙ or_false (asks_for name (take at features)) (bytes_eq (notify_feature name) feature) (not_it name feature none (bytes_eq (notify_feature name) feature) refl)))
+    before ∙ ap (λ b. same_jid who other && b) (sym (asks_next name feature features at h ∙ or_false (asks_for name (take at features)) (bytes_eq (notify_feature name) feature) (not_it name feature none (bytes_eq (notify_feature name) feature) refl)))

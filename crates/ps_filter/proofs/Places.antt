@@ -15,7 +15,7 @@ use Rattle.ps_types.specs.Address.{jid_text}
 use Rattle.ps_types.specs.declared.jid.Jid.{Jid}
 use Rattle.ps_filter.specs.Printed.{printed}
 
-abbrev by_text : List ℕ → List ℕ → Ordering
+abbrev pub by_text : List ℕ → List ℕ → Ordering
 by_text a b = slice_cmp nat_cmp a b
 
 pub values-printed : (whos : List Jid) → values_of (printed whos) ≡ whos
