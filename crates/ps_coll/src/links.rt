@@ -1,8 +1,9 @@
 // The table.
-ghost use Rattle.std.specs.Prelude.{◌≡◌, ◌+◌, ◌<◌, ◌≤◌, [], not, IfOk, OnOk, OnErr, length, slice_get, option_copied, map, filter, is_err};
+ghost use Rattle.std.specs.Prelude.{◌≡◌, ◌+◌, ◌<◌, ◌≤◌, [], not, IfOk, OnOk, OnErr, length, slice_get, option_copied, is_err};
 ghost use Rattle.std.specs.List.{list_any};
-ghost use Rattle.ps_types.specs.Links.{collection_of, has_children, above, is_under, is_link_at, is_link_to, links_with, links_without};
+ghost use Rattle.ps_types.specs.Links.{collection_of, has_children, above, is_under, is_link_at, links_with, links_without};
 ghost use Rattle.ps_rows.specs.Standing.{standing};
+ghost use Rattle.ps_coll.specs.Children.{children_in};
 
 use crate::climb::{ancestors_of, is_reached};
 use crate::named::{children_among, collection_among, has_child, is_named, remove_all_of};
@@ -104,7 +105,7 @@ impl Links {
 
     /// The nodes that the links to a collection name as children, in the order of these links.
     pub fn children(&self, alloc: Global, collection: &NodeKey) -> Result<Vec<NodeKey>, Memory>
-        ensures children { IfOk result (λ nodes. nodes.items ≡ map (λ row. row.child) (filter (is_link_to collection.now) self.now.rows)) }
+        ensures children { IfOk result (λ nodes. nodes.items ≡ children_in collection.now self.now.rows) }
     {
         children_among(alloc, &self.rows, collection)
     }

@@ -1,7 +1,8 @@
 // The rows that name a node.
-ghost use Rattle.std.specs.Prelude.{◌≡◌, ◌≤◌, IfOk, filter, find, map, option_copied};
+ghost use Rattle.std.specs.Prelude.{◌≡◌, ◌≤◌, IfOk, filter, find, option_copied};
 ghost use Rattle.std.specs.List.{list_any};
 ghost use Rattle.ps_types.specs.Links.{is_link_of, is_link_to, is_link_at, collection_of, has_children, links_without};
+ghost use Rattle.ps_coll.specs.Children.{children_in};
 
 use crate::asks::{ChildOf, Under};
 use ps_rows::{Index, Rows};
@@ -55,7 +56,7 @@ pub fn children_among(
     rows: &Rows<LinkRow>,
     collection: &NodeKey,
 ) -> Result<Vec<NodeKey>, Memory>
-    ensures { IfOk result (λ nodes. nodes.items ≡ map (λ row. row.child) (filter (is_link_to collection.now) rows.now.rows)) }
+    ensures { IfOk result (λ nodes. nodes.items ≡ children_in collection.now rows.now.rows) }
 {
     let found = links_to(alloc, rows, collection)?;
     let mut nodes = Vec::new(alloc);

@@ -14,6 +14,7 @@ use Rattle.ps_types.specs.Links.{climb, collection_of, is_link_of, is_link_to, i
 use Rattle.ps_types.specs.Same.{same_node}
 use Rattle.ps_types.proofs.Same.{same_node-Decides}
 use Rattle.ps_rows.specs.Standing.{passes_at}
+use Rattle.ps_coll.specs.Children.{children_in}
 use Rattle.ps_nodes.specs.NodeRows.{is_there}
 use Rattle.ps_disco.specs.Held.{is_place}
 
@@ -55,9 +56,6 @@ first_or : (b : Bool) → (b || false) ≡ true → b ≡ true
 first_or true h = refl
 first_or false h = h
 
-abbrev children : NodeKey → List LinkRow → List NodeKey
-children collection links = map (λ row. row.child) (filter (is_link_to collection) links)
-
 module _ (node collection : NodeKey) where
   -- what is under a collection is named by a link to it
   abbrev under : Option NodeKey → Bool
@@ -68,17 +66,17 @@ module _ (node collection : NodeKey) where
   under_climb None links h = h
   under_climb (Some at) links h = first_or (same_node collection at) h
 
-  kept : (x : LinkRow) (links : List LinkRow) (b : Bool) → is_link_to collection x ≡ b → list_any (λ child. same_node child node) (children collection links) ≡ true → list_any (λ child. same_node child node) (children collection (x ∷ links)) ≡ true
+  kept : (x : LinkRow) (links : List LinkRow) (b : Bool) → is_link_to collection x ≡ b → list_any (λ child. same_node child node) (children_in collection links) ≡ true → list_any (λ child. same_node child node) (children_in collection (x ∷ links)) ≡ true
   kept x links true e h = rw e (or_later (same_node x.child node) h)
   kept x links false e h = rw e h
 
-  named_step : (x : LinkRow) (links : List LinkRow) (b : Bool) → is_link_of node x ≡ b → (under (collection_of node links) ≡ true → list_any (λ child. same_node child node) (children collection links) ≡ true)
-      → under (option_map (λ (row : LinkRow). row.collection) (cond b (Some x) (find (is_link_of node) links))) ≡ true → list_any (λ child. same_node child node) (children collection (x ∷ links)) ≡ true
+  named_step : (x : LinkRow) (links : List LinkRow) (b : Bool) → is_link_of node x ≡ b → (under (collection_of node links) ≡ true → list_any (λ child. same_node child node) (children_in collection links) ≡ true)
+      → under (option_map (λ (row : LinkRow). row.collection) (cond b (Some x) (find (is_link_of node) links))) ≡ true → list_any (λ child. same_node child node) (children_in collection (x ∷ links)) ≡ true
   named_step x links true e more h = let s : same_node x.child node ≡ true = same_back node x.child e in rw (h, s) refl
   named_step x links false e more h = kept x links (is_link_to collection x) refl (more h)
 
   -- what is under a collection is named by a link to it
-  named : (links : List LinkRow) → under (collection_of node links) ≡ true → list_any (λ child. same_node child node) (children collection links) ≡ true
+  named : (links : List LinkRow) → under (collection_of node links) ≡ true → list_any (λ child. same_node child node) (children_in collection links) ≡ true
   named [] h = absurd (cc)
   named (x ∷ links) h = named_step x links (is_link_of node x) refl (named links) h
 
@@ -102,13 +100,13 @@ module _ (collection : NodeKey) (links : List LinkRow) where
       by true e = let s : x ≡ node = (same_node-Decides x node).0 e in let t : holds x ≡ true = ap holds s ∙ h in rw (e, t) refl
       by false e = rw e (some_held node h nodes (rw e at k))
 
-  held_by : (node : NodeKey) (b : Bool) → holds node ≡ b → list_any (λ child. same_node child node && holds child) (children collection links) ≡ b
-  held_by node true e = some_held node e (children collection links) (named node collection links (under_climb node collection (collection_of node links) links e))
-  held_by node false e = none_held node e (children collection links)
+  held_by : (node : NodeKey) (b : Bool) → holds node ≡ b → list_any (λ child. same_node child node && holds child) (children_in collection links) ≡ b
+  held_by node true e = some_held node e (children_in collection links) (named node collection links (under_climb node collection (collection_of node links) links e))
+  held_by node false e = none_held node e (children_in collection links)
 
   -- of the children those are at a place that the collection holds
-  pub held-there : (o : Option NodeRow) → list_any (λ child. is_there child o && holds child) (children collection links) ≡ passes_at (λ row. is_under row.key collection false links) o
-  held-there None = none (children collection links)
+  pub held-there : (o : Option NodeRow) → list_any (λ child. is_there child o && holds child) (children_in collection links) ≡ passes_at (λ row. is_under row.key collection false links) o
+  held-there None = none (children_in collection links)
     where
       none : (nodes : List NodeKey) → list_any (λ child. is_there child None && holds child) nodes ≡ false
       none [] = refl

@@ -1,9 +1,7 @@
 // The entries of a list (XEP-0030 §4).
-ghost use Rattle.std.specs.Prelude.{◌≡◌, ◌++◌, ◌∷◌, [], IfOk, OnOk, codes, map};
-ghost use Rattle.ps_types.specs.Elem.{nodes};
-ghost use Rattle.ps_types.specs.Shape.{holding};
+ghost use Rattle.std.specs.Prelude.{◌≡◌, ◌++◌, ◌∷◌, [], IfOk, OnOk, map};
 ghost use Rattle.ps_types.specs.declared.tree.Child.TheVariants as child;
-ghost use Rattle.ps_disco.specs.Entries.{entry_at, named_at, published_at};
+ghost use Rattle.ps_disco.specs.Entries.{Hold, entry_at, named_at, published_at};
 
 use ps_base::Memory;
 use ps_names::{element, put_pair};
@@ -37,7 +35,7 @@ pub(crate) fn add_node(
 
 /// The entries of nodes.
 pub(crate) fn node_entries(alloc: Global, jid: &Text, keys: &[NodeKey]) -> Result<Kids, Memory>
-    ensures { IfOk result (λ k. nodes k ≡ holding (map (named_at jid.now) keys.now)) }
+    ensures { IfOk result (λ kids. Hold kids (map (named_at jid.now) keys.now)) }
 {
     let mut kids = Kids::new(alloc);
     for key in keys {
@@ -48,7 +46,7 @@ pub(crate) fn node_entries(alloc: Global, jid: &Text, keys: &[NodeKey]) -> Resul
 
 /// The entries of items.
 pub(crate) fn item_entries(alloc: Global, jid: &Text, rows: &[ItemRow]) -> Result<Kids, Memory>
-    ensures { IfOk result (λ k. nodes k ≡ holding (map (published_at jid.now) rows.now)) }
+    ensures { IfOk result (λ kids. Hold kids (map (published_at jid.now) rows.now)) }
 {
     let mut kids = Kids::new(alloc);
     for row in rows {

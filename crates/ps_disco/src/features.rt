@@ -1,10 +1,8 @@
 // What an entity is, and which features it has (XEP-0030 §3.1, XEP-0060 §5.1, XEP-0163 §6).
-ghost use Rattle.std.specs.Prelude.{◌≡◌, ◌++◌, ◌∷◌, [], not, ◌||◌, IfOk, OnOk, codes, map, filter};
-ghost use Rattle.ps_types.specs.Elem.{nodes};
-ghost use Rattle.ps_types.specs.Shape.{holding};
-ghost use Rattle.ps_types.specs.declared.tree.Child.TheVariants as child;
+ghost use Rattle.std.specs.Prelude.{◌≡◌, ◌++◌, ◌∷◌, [], IfOk, OnOk, map};
 ghost use Rattle.ps_model.specs.Discovery as model;
-ghost use Rattle.ps_disco.specs.Features.{children_of, is_offered};
+ghost use Rattle.ps_disco.specs.Entries.{Hold};
+ghost use Rattle.ps_disco.specs.Features.{entity_trees, is_offered, node_trees, offered_children};
 
 use ps_base::Memory;
 use ps_names::{element, put_pair};
@@ -104,7 +102,7 @@ fn add_feature(
     at_account: bool,
     var: &str,
 ) -> Result<(), Memory>
-    ensures { OnOk result (kids.new ≡ kids.old ++ children_of (filter (is_offered at_account) (var.now ∷ []))) }
+    ensures { OnOk result (kids.new ≡ kids.old ++ offered_children at_account (var.now ∷ [])) }
 {
     if is_offered(at_account, var) {
         kids.push(Child::Tree(feature_tree(alloc, var)?))?;
@@ -118,7 +116,7 @@ fn add_features(
     at_account: bool,
     vars: &[&str],
 ) -> Result<(), Memory>
-    ensures { OnOk result (kids.new ≡ kids.old ++ children_of (filter (is_offered at_account) (map (λ var. var.now) vars.now))) }
+    ensures { OnOk result (kids.new ≡ kids.old ++ offered_children at_account (map (λ var. var.now) vars.now)) }
 {
     for var in vars {
         add_feature(alloc, kids, at_account, var)?;
@@ -128,7 +126,7 @@ fn add_features(
 
 /// What the service or an account is, and its features.
 pub(crate) fn entity_kids(alloc: Global, at_account: bool) -> Result<Kids, Memory>
-    ensures { IfOk result (λ k. nodes k ≡ holding (model.identity_tree (model.entity_type at_account) ∷ map model.feature_tree (model.all_features at_account))) }
+    ensures { IfOk result (λ kids. Hold kids (entity_trees at_account)) }
 {
     let mut kids = Kids::new(alloc);
     kids.push(Child::Tree(identity_tree(alloc, entity_type(at_account))?))?;
@@ -139,7 +137,7 @@ pub(crate) fn entity_kids(alloc: Global, at_account: bool) -> Result<Kids, Memor
 
 /// What a node is: a leaf or a collection.
 pub(crate) fn node_kids(alloc: Global, kind: NodeKind) -> Result<Kids, Memory>
-    ensures { IfOk result (λ k. nodes k ≡ holding (model.identity_tree (model.kind_type kind) ∷ model.feature_tree (codes "http://jabber.org/protocol/pubsub") ∷ [])) }
+    ensures { IfOk result (λ kids. Hold kids (node_trees kind)) }
 {
     let mut kids = Kids::new(alloc);
     kids.push(Child::Tree(identity_tree(alloc, kind_type(kind))?))?;

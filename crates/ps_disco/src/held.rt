@@ -1,13 +1,8 @@
 // The nodes that a collection holds (XEP-0248), by the links to it, in the order of their making.
-ghost use Rattle.std.specs.Prelude.{◌≡◌, ◌&&◌, ◌++◌, ℕ, false, IfOk, OnOk, filter, map, slice_get};
-ghost use Rattle.ps_types.specs.Elem.{nodes};
-ghost use Rattle.ps_types.specs.Links.{is_under};
-ghost use Rattle.ps_types.specs.Shape.{holding};
-ghost use Rattle.ps_model.specs.Discovery.{is_held_by};
-ghost use Rattle.ps_nodes.specs.NodeRows.{is_there};
+ghost use Rattle.std.specs.Prelude.{◌≡◌, ◌++◌, IfOk, OnOk, map};
 ghost use Rattle.ps_access.specs.Tables.{book_of};
-ghost use Rattle.ps_disco.specs.Entries.{row_children, row_at};
-ghost use Rattle.ps_disco.specs.Held.{ArePlaces, is_at_place, option_list, rows_at};
+ghost use Rattle.ps_disco.specs.Entries.{Hold, held_rows, row_children, row_at};
+ghost use Rattle.ps_disco.specs.Held.{AreHeld, IsPlaceIn, children_at, rows_at};
 
 use crate::entries::add_node;
 use ps_access::Tables;
@@ -18,7 +13,7 @@ use std::collections::BTreeSet;
 
 // The place of a node, where the collection holds it.
 fn place_of(tables: &Tables, child: &NodeKey, collection: &NodeKey) -> Option<u64>
-    ensures { (at : ℕ) → is_at_place at result ≡ (is_there child.now (slice_get (book_of tables.now).nodes at) && is_under child.now collection.now false (book_of tables.now).links) }
+    ensures { IsPlaceIn (book_of tables.now) collection.now child.now result }
 {
     if tables.links.is_under(child, collection, false) {
         tables.nodes.place(child)
@@ -33,7 +28,7 @@ fn places_of(
     tables: &Tables,
     collection: &NodeKey,
 ) -> Result<BTreeSet<u64>, Memory>
-    ensures { IfOk result (λ places. ArePlaces (is_held_by (book_of tables.now) collection.now) (book_of tables.now).nodes places.keys) }
+    ensures { IfOk result (λ places. AreHeld (book_of tables.now) collection.now places.keys) }
 {
     let children = tables.links.children(alloc, collection)?;
     let mut places = BTreeSet::new(alloc);
@@ -54,7 +49,7 @@ fn add_place(
     at: u64,
     jid: &Text,
 ) -> Result<(), Memory>
-    ensures { OnOk result (kids.new ≡ kids.old ++ row_children jid.now (option_list (slice_get (book_of tables.now).nodes at))) }
+    ensures { OnOk result (kids.new ≡ kids.old ++ children_at jid.now at tables.now.nodes.rows) }
 {
     match tables.nodes.row(at) {
         Some(row) => add_node(alloc, kids, jid, row.key),
@@ -68,7 +63,7 @@ fn entries_at(
     places: &[u64],
     jid: &Text,
 ) -> Result<Kids, Memory>
-    ensures { IfOk result (λ k. k ≡ row_children jid.now (rows_at places.now (book_of tables.now).nodes)) }
+    ensures { IfOk result (λ kids. kids ≡ row_children jid.now (rows_at places.now tables.now.nodes.rows)) }
 {
     let mut kids = Kids::new(alloc);
     for place in places {
@@ -84,7 +79,7 @@ pub(crate) fn held_entries(
     collection: &NodeKey,
     jid: &Text,
 ) -> Result<Kids, Memory>
-    ensures { IfOk result (λ k. nodes k ≡ holding (map (row_at jid.now) (filter (is_held_by (book_of tables.now) collection.now) (book_of tables.now).nodes))) }
+    ensures { IfOk result (λ kids. Hold kids (map (row_at jid.now) (held_rows (book_of tables.now) collection.now))) }
 {
     let places = places_of(alloc, tables, collection)?;
     let _len = places.len();

@@ -1,15 +1,13 @@
 // What an entity is (XEP-0030 §3, XEP-0060 §5.3).
-ghost use Rattle.std.specs.Prelude.{◌≡◌, [], ◌∷◌, false, Some, IfOk, codes};
-ghost use Rattle.ps_types.specs.Elem.{nodes};
+ghost use Rattle.std.specs.Prelude.{◌≡◌, false, IfOk};
 ghost use Rattle.ps_types.specs.Nodes.{node_at};
-ghost use Rattle.ps_types.specs.Shape.{attrs_with, holding};
-ghost use Rattle.ps_types.specs.Tree.{tree};
 ghost use Rattle.ps_model.specs.CheckEntity.{mine_steps};
 ghost use Rattle.ps_model.specs.Discovery as model;
-ghost use Rattle.ps_model.specs.Outcome.{outcome};
 ghost use Rattle.ps_model.specs.Steps.{first_denial};
 ghost use Rattle.ps_access.specs.Plans.{Agrees, Passes};
 ghost use Rattle.ps_access.specs.Tables.{book_of};
+ghost use Rattle.ps_disco.specs.Entries.{Hold};
+ghost use Rattle.ps_disco.specs.Plans.{info_outcome, query_tree};
 
 use crate::features::{INFO, entity_kids, node_kids};
 use ps_access::{Tables, is_account_address, key_of, must_stand};
@@ -20,7 +18,7 @@ use std::alloc::Global;
 
 /// `query` of a namespace, about a node where one is named, with these children.
 pub(crate) fn query(alloc: Global, ns: &str, node: &Text, kids: Kids) -> Result<Elem, Memory>
-    ensures { IfOk result (λ t. t ≡ tree (codes "query") ns.now (attrs_with ((codes "node", node.now) ∷ [])) (nodes kids)) }
+    ensures { IfOk result (λ t. t ≡ query_tree ns.now node.now kids) }
 {
     let mut attrs = Attrs::new(alloc);
     put_pair(alloc, &mut attrs, "node", node.as_str())?;
@@ -39,7 +37,7 @@ fn check(tables: &Tables, request: &Request, node: &Text) -> Result<(), PlanRefu
 }
 
 fn kids_of(alloc: Global, tables: &Tables, key: &NodeKey) -> Result<Kids, Memory>
-    ensures { IfOk result (λ k. nodes k ≡ holding (model.node_info (node_at key.now (book_of tables.now).nodes))) }
+    ensures { IfOk result (λ kids. Hold kids (model.node_info (node_at key.now tables.now.nodes.rows))) }
 {
     match tables.nodes.get(key) {
         Some(row) => node_kids(alloc, row.config.node_type),
@@ -53,7 +51,7 @@ fn info_kids(
     request: &Request,
     node: &Text,
 ) -> Result<Kids, Memory>
-    ensures { IfOk result (λ k. nodes k ≡ holding (model.info_kids (book_of tables.now) request.now node.now)) }
+    ensures { IfOk result (λ kids. Hold kids (model.info_kids (book_of tables.now) request.now node.now)) }
 {
     if node.is_empty() {
         return entity_kids(alloc, is_account_address(&request.target));
@@ -81,7 +79,7 @@ pub(crate) fn plan_info(
     request: &Request,
     node: &Text,
 ) -> Result<Plan, PlanRefusal>
-    ensures { Agrees result (outcome (first_denial (mine_steps (book_of tables.now) request.now node.now)) (Some (model.info_child (book_of tables.now) request.now node.now))) false }
+    ensures { Agrees result (info_outcome (book_of tables.now) request.now node.now) false }
 {
     check(tables, request, node)?;
     let reply = child(alloc, tables, request, node)?;

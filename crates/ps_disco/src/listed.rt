@@ -1,18 +1,14 @@
 // Which nodes and items there are (XEP-0030 §4, XEP-0060 §5.2, §5.5).
-ghost use Rattle.std.specs.Prelude.{◌≡◌, false, filter, map, Some, IfOk};
+ghost use Rattle.std.specs.Prelude.{◌≡◌, false, filter, IfOk};
 ghost use Rattle.ps_types.specs.Address.{jid_text};
-ghost use Rattle.ps_types.specs.Elem.{nodes};
-ghost use Rattle.ps_types.specs.Items.{items_of};
-ghost use Rattle.ps_types.specs.Nodes.{node_at};
-ghost use Rattle.ps_types.specs.Shape.{holding};
 ghost use Rattle.ps_model.specs.Access.{read};
 ghost use Rattle.ps_model.specs.CheckEntity.{nodes_get_steps};
 ghost use Rattle.ps_model.specs.Discovery as model;
-ghost use Rattle.ps_model.specs.Outcome.{outcome};
 ghost use Rattle.ps_model.specs.Steps.{first_denial};
 ghost use Rattle.ps_access.specs.Plans.{Agrees, Passes};
 ghost use Rattle.ps_access.specs.Tables.{book_of};
-ghost use Rattle.ps_disco.specs.Entries.{is_shown};
+ghost use Rattle.ps_disco.specs.Entries.{Hold, entries_in, is_shown, items_in, shown_entries};
+ghost use Rattle.ps_disco.specs.Plans.{nodes_outcome};
 
 use crate::entries::{ITEMS, item_entries, node_entries};
 use crate::held::held_entries;
@@ -66,7 +62,7 @@ fn keep_shown(keys: &mut Vec<NodeKey>, tables: &Tables, request: &Request)
 // The nodes of the target, or of these what the sender may read.
 fn nodes_at(alloc: Global, tables: &Tables, request: &Request, jid: &Text) -> Result<Kids, Memory>
     requires jid { jid.now ≡ jid_text request.now.target }
-    ensures { IfOk result (λ k. nodes k ≡ holding (map (model.node_entry request.now.target) (filter (model.is_listed (book_of tables.now) request.now) (book_of tables.now).nodes))) }
+    ensures { IfOk result (λ kids. Hold kids (shown_entries (book_of tables.now) request.now)) }
 {
     let mut keys = tables.nodes.keys_of(alloc, &request.target)?;
     keep_shown(&mut keys, tables, request);
@@ -81,7 +77,7 @@ fn items_at(
     jid: &Text,
 ) -> Result<Kids, Memory>
     requires jid { jid.now ≡ jid_text request.now.target }
-    ensures { IfOk result (λ k. nodes k ≡ holding (map (model.item_entry request.now.target) (items_of key.now (book_of tables.now).items))) }
+    ensures { IfOk result (λ kids. Hold kids (items_in (book_of tables.now) request.now key.now)) }
 {
     let rows = tables.items.list(alloc, key)?;
     item_entries(alloc, jid, &rows)
@@ -96,7 +92,7 @@ fn entries_in(
     jid: &Text,
 ) -> Result<Kids, Memory>
     requires jid { jid.now ≡ jid_text request.now.target }
-    ensures { IfOk result (λ k. nodes k ≡ holding (model.node_entries (book_of tables.now) request.now (node_at key.now (book_of tables.now).nodes))) }
+    ensures { IfOk result (λ kids. Hold kids (entries_in (book_of tables.now) request.now key.now)) }
 {
     let Some(row) = tables.nodes.get(key) else {
         return Ok(Kids::new(alloc));
@@ -113,7 +109,7 @@ fn listed_kids(
     request: &Request,
     node: &Text,
 ) -> Result<Kids, Memory>
-    ensures { IfOk result (λ k. nodes k ≡ holding (model.listed_kids (book_of tables.now) request.now node.now)) }
+    ensures { IfOk result (λ kids. Hold kids (model.listed_kids (book_of tables.now) request.now node.now)) }
 {
     let jid = request.target.text(alloc)?;
     if node.is_empty() {
@@ -142,7 +138,7 @@ pub(crate) fn plan_nodes(
     request: &Request,
     node: &Text,
 ) -> Result<Plan, PlanRefusal>
-    ensures { Agrees result (outcome (first_denial (nodes_get_steps (book_of tables.now) request.now node.now)) (Some (model.nodes_child (book_of tables.now) request.now node.now))) false }
+    ensures { Agrees result (nodes_outcome (book_of tables.now) request.now node.now) false }
 {
     check(tables, request, node)?;
     let reply = child(alloc, tables, request, node)?;

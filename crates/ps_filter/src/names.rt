@@ -1,9 +1,7 @@
 // The names that features ask for (XEP-0163 §4.2).
-ghost use Rattle.std.specs.Prelude.{◌≡◌, ◌&&◌, ℕ, List, IfOk};
-ghost use Rattle.ps_types.specs.Same.{same_jid};
-ghost use Rattle.ps_types.specs.declared.jid.Jid.{Jid};
+ghost use Rattle.std.specs.Prelude.{IfOk};
 ghost use Rattle.ps_filter.specs.Names.{IsNameOf};
-ghost use Rattle.ps_filter.specs.Wants.{asks_for, is_wanted};
+ghost use Rattle.ps_filter.specs.Wants.{AreAsked};
 
 use crate::want::Want;
 use ps_base::Memory;
@@ -19,7 +17,7 @@ fn name_in(feature: &Text) -> Option<&str>
 
 /// What a resource of these features wants.
 pub(crate) fn asked(alloc: Global, who: &Jid, features: &[Text]) -> Result<Vec<Want>, Memory>
-    ensures { IfOk result (λ rows. (other : Jid) (name : List ℕ) → is_wanted other name rows.items ≡ (same_jid who.now other && asks_for name features.now)) }
+    ensures { IfOk result (λ rows. AreAsked who.now features.now rows.items) }
 {
     let mut rows = Vec::new(alloc);
     for feature in features {

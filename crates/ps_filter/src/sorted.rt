@@ -1,8 +1,7 @@
 // Addresses in the order of their printed form.
-ghost use Rattle.std.specs.Prelude.{◌≡◌, IfOk, OnOk, List, map};
-ghost use Rattle.ps_model.specs.Sorted.{put_sorted, sorted};
-ghost use Rattle.ps_types.specs.declared.jid.Jid.{Jid};
-ghost use Rattle.ps_filter.specs.Printed.{printed};
+ghost use Rattle.std.specs.Prelude.{◌≡◌, IfOk, OnOk, map};
+ghost use Rattle.ps_model.specs.Sorted.{sorted};
+ghost use Rattle.ps_filter.specs.Printed.{Puts, printed};
 
 use crate::want::Want;
 use ps_base::Memory;
@@ -12,7 +11,7 @@ use std::collections::BTreeMap;
 
 // Puts an address where it belongs, unless it is there.
 fn put(alloc: Global, found: &mut BTreeMap<Text, Jid>, who: &Jid) -> Result<(), Memory>
-    ensures { (whos : List Jid) → found.old.entries ≡ printed whos → OnOk result (found.new.entries ≡ printed (put_sorted who.now whos)) }
+    ensures { OnOk result (Puts who.now found.old.entries found.new.entries) }
 {
     let text = who.text(alloc)?;
     let _len = found.len();

@@ -1,11 +1,9 @@
 // The table of wants.
-ghost use Rattle.std.specs.Prelude.{◌≡◌, ◌≤◌, ◌||◌, ℕ, [], List, IfOk, OnOk, OnErr, filter, length, map};
+ghost use Rattle.std.specs.Prelude.{◌≡◌, ◌≤◌, [], IfOk, OnOk, OnErr, filter, length};
 ghost use Rattle.ps_base.specs.Rows.{without};
 ghost use Rattle.ps_model.specs.Sorted.{sorted};
-ghost use Rattle.ps_types.specs.Resources.{resources_off, resources_with, resources_without, wants};
-ghost use Rattle.ps_types.specs.declared.jid.Jid.{Jid};
-ghost use Rattle.ps_types.specs.declared.rows.ResourceRow.{ResourceRow};
-ghost use Rattle.ps_filter.specs.Wants.{AreWants, SetsWants, is_wanted, is_want_for, is_want_of, is_want_on};
+ghost use Rattle.ps_types.specs.Resources.{resources_off, resources_without};
+ghost use Rattle.ps_filter.specs.Wants.{AreBoth, AreWants, FollowsGone, FollowsSet, IsByFeatures, SetsWants, is_wanted, is_want_for, is_want_of, is_want_on, who_want};
 
 use crate::asks::{WantOf, WantsFor, WantsOf, WantsOn};
 use crate::names::asked;
@@ -44,7 +42,7 @@ fn forget(rows: &mut Rows<Want>, who: &Jid)
 // Adds rows, from the last one on.
 fn add_all(rows: &mut Rows<Want>, mut more: Vec<Want>)
     requires room { length more.items ≤ rows.old.spare }
-    ensures { (who : Jid) (name : List ℕ) → is_wanted who name rows.new.rows ≡ (is_wanted who name rows.old.rows || is_wanted who name more.items) }
+    ensures { AreBoth rows.old.rows more.items rows.new.rows }
 {
     while let Some(row) = more.pop() {
         rows.add(row);
@@ -91,7 +89,7 @@ impl Wants {
     /// Whether a resource wants the events of nodes of a name (XEP-0163 §4.2). It takes no memory.
     pub fn wants(&self, resource: &Jid, node: &Text) -> bool
         ensures wanted { result ≡ is_wanted resource.now node.now self.now.rows }
-        ensures by_features { (resources : List ResourceRow) → AreWants self.now.rows resources → result ≡ wants resource.now node.now resources }
+        ensures by_features { IsByFeatures resource.now node.now self.now.rows result }
     {
         let ask = WantOf {
             who: resource,
@@ -102,7 +100,7 @@ impl Wants {
 
     /// The resources that want the events of nodes of a name, sorted by the octets of their printed form, each once.
     pub fn resources(&self, alloc: Global, node: &Text) -> Result<Vec<Jid>, Memory>
-        ensures sorted { IfOk result (λ whos. whos.items ≡ sorted (map (λ want. want.who) (filter (is_want_for node.now) self.now.rows))) }
+        ensures sorted { IfOk result (λ whos. whos.items ≡ sorted (who_want node.now self.now.rows)) }
     {
         let found = wants_for(alloc, &self.rows, node)?;
         sorted(alloc, &found)
@@ -119,7 +117,7 @@ impl Wants {
     ) -> Result<(), Memory>
         ensures ok { OnOk result (SetsWants resource.now features.now self.old.rows self.new.rows) }
         ensures err { OnErr result (self.new.rows ≡ self.old.rows) }
-        ensures follows { (resources : List ResourceRow) (row : ResourceRow) → AreWants self.old.rows resources → row.who ≡ resource.now → row.features ≡ features.now → OnOk result (AreWants self.new.rows (resources_with row resources)) }
+        ensures follows { OnOk result (FollowsSet resource.now features.now self.old.rows self.new.rows) }
     {
         let more = asked(alloc, resource, features)?;
         self.rows.reserve(more.len() as u64)?;
@@ -131,7 +129,7 @@ impl Wants {
     /// A resource went: it wants nothing any more. It takes no memory.
     pub fn clear(&mut self, resource: &Jid)
         ensures rows { self.new.rows ≡ without (is_want_of resource.now) self.old.rows }
-        ensures follows { (resources : List ResourceRow) → AreWants self.old.rows resources → AreWants self.new.rows (resources_without resource.now resources) }
+        ensures follows { FollowsGone (resources_without resource.now) self.old.rows self.new.rows }
     {
         forget(&mut self.rows, resource);
     }
@@ -139,7 +137,7 @@ impl Wants {
     /// All resources of a host went. It takes no memory.
     pub fn clear_host(&mut self, host: &Text)
         ensures rows { self.new.rows ≡ without (is_want_on host.now) self.old.rows }
-        ensures follows { (resources : List ResourceRow) → AreWants self.old.rows resources → AreWants self.new.rows (resources_off host.now resources) }
+        ensures follows { FollowsGone (resources_off host.now) self.old.rows self.new.rows }
     {
         let ask = WantsOn { host };
         self.rows.take_away(Index::Bare, &ask);

@@ -1,5 +1,5 @@
 -- A node's key and what stands at it, as a row.
-use Rattle.std.specs.Prelude.{Bool, false, Option, Some, None}
+use Rattle.std.specs.Prelude.{◌≡◌, ℕ, Bool, true, false, List, Option, Some, None, slice_get}
 use Rattle.ps_types.specs.declared.node.NodeKey.{NodeKey}
 use Rattle.ps_types.specs.declared.rows.NodeRow.{NodeRow}
 use Rattle.ps_types.specs.Nodes.{is_node}
@@ -18,3 +18,7 @@ row_seen r = record { key = r.key.now; creator = r.creator.now; config = r.confi
 abbrev pub is_there : NodeKey → Option NodeRow → Bool
 is_there node None = false
 is_there node (Some row) = is_node node row
+
+-- no row but the one at the place is of the node
+abbrev pub IsAlone : NodeKey → List NodeRow → Option ℕ → Type 0
+IsAlone node rows place = (at : ℕ) → is_there node (slice_get rows at) ≡ true → place ≡ Some at

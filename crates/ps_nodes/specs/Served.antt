@@ -1,9 +1,11 @@
 -- The nodes of each service host and account, kept beside the rows: each node is marked with a digest of the address that it belongs to.
-use Rattle.std.specs.Prelude.{◌≡◌, ℕ, ◌/◌, min, List, Option, Some, map}
+use Rattle.std.specs.Prelude.{◌≡◌, ℕ, ◌/◌, min, List, Option, Some, filter, map, slice_get}
 use Rattle.indexmap.specs.IndexMap.{IndexMap}
 use Rattle.ps_base.specs.Rows.{Table}
-use Rattle.ps_rows.specs.Standing.{marked_by}
+use Rattle.ps_rows.specs.Standing.{marked_by, passing}
+use Rattle.ps_types.specs.declared.jid.Jid.{Jid}
 use Rattle.ps_types.specs.declared.node.NodeKey.{NodeKey}
+use Rattle.ps_types.specs.Nodes.{is_node_of}
 use Rattle.ps_types.specs.declared.rows.NodeRow.{NodeRow}
 use Rattle.ps_nodes.specs.NodeRows.{row_of}
 use Rattle.ps_nodes.specs.Tallies.{digest_of, IsKept, room_of}
@@ -12,6 +14,14 @@ use Rattle.ps_nodes.specs.declared.makers.Tally.{Tally}
 
 abbrev pub key_in : NodeRow → NodeKey
 key_in row = row.key
+
+-- the keys of the nodes of the service host or the account
+abbrev pub keys_at : Jid → List NodeRow → List NodeKey
+keys_at service rows = map key_in (filter (is_node_of service) rows)
+
+-- the key of the node at the place, if it is one of these
+abbrev pub key_at : Jid → ℕ → List NodeRow → List NodeKey
+key_at service place rows = map key_in (passing (is_node_of service) (slice_get rows place))
 
 -- the digest of the address that the node belongs to
 abbrev pub service_digest : NodeRow → ℕ

@@ -1,8 +1,8 @@
 // The table.
-ghost use Rattle.std.specs.Prelude.{◌≡◌, ℕ, ◌+◌, ◌<◌, ◌≤◌, [], ◌∷◌, ◌++◌, Some, true, IfOk, IfSome, OnOk, OnErr, length, slice_get, option_copied, option_map, map, filter, is_err};
-ghost use Rattle.ps_types.specs.Nodes.{node_at, config_at, stands, made_by, is_node_of, nodes_with, nodes_without};
-ghost use Rattle.ps_nodes.specs.NodeRows.{is_there, row_seen};
-ghost use Rattle.ps_nodes.specs.Served.{key_in};
+ghost use Rattle.std.specs.Prelude.{◌≡◌, ◌+◌, ◌<◌, ◌≤◌, [], ◌∷◌, ◌++◌, true, IfOk, IfSome, OnOk, OnErr, length, slice_get, option_copied, option_map, is_err};
+ghost use Rattle.ps_types.specs.Nodes.{node_at, config_at, stands, made_by, nodes_with, nodes_without};
+ghost use Rattle.ps_nodes.specs.NodeRows.{IsAlone, is_there, row_seen};
+ghost use Rattle.ps_nodes.specs.Served.{keys_at};
 
 use crate::entries::{config_in, copy_of, holds, place_in, row_at, row_in, set_config_in};
 use crate::makers::{Tally, made_in, tallies_of};
@@ -132,7 +132,7 @@ impl Nodes {
     /// The place of a node, counted from 0. No other row is of that node.
     pub fn place(&self, node: &NodeKey) -> Option<u64>
         ensures here { IfSome result (λ at. is_there node.now (slice_get self.now.rows at) ≡ true) }
-        ensures alone { (at : ℕ) → is_there node.now (slice_get self.now.rows at) ≡ true → result ≡ Some at }
+        ensures alone { IsAlone node.now self.now.rows result }
     {
         match place_in(&self.nodes, node) {
             Some(at) => Some(at as u64),
@@ -156,7 +156,7 @@ impl Nodes {
 
     /// The keys of the nodes of a service host or an account, in the order of their making.
     pub fn keys_of(&self, alloc: Global, service: &Jid) -> Result<Vec<NodeKey>, Memory>
-        ensures keys { IfOk result (λ keys. keys.items ≡ map key_in (filter (is_node_of service.now) self.now.rows)) }
+        ensures keys { IfOk result (λ keys. keys.items ≡ keys_at service.now self.now.rows) }
     {
         keys_among(alloc, &self.nodes, &self.served, service)
     }

@@ -1,10 +1,8 @@
 // The nodes of a service host or an account, found by a digest of its address.
 ghost use Rattle.std.specs.Prelude.{◌≡◌, ◌+◌, ◌/◌, ◌^◌, ◌<◌, ◌≤◌, Some, ◌∷◌, [], ◌++◌, IfOk, OnOk, length, map, filter, option_map, slice_get, take};
 ghost use Rattle.indexmap.specs.IndexMap.{index_map_len};
-ghost use Rattle.ps_types.specs.Nodes.{is_node_of};
-ghost use Rattle.ps_rows.specs.Standing.{passing};
 ghost use Rattle.ps_nodes.specs.NodeRows.{row_of};
-ghost use Rattle.ps_nodes.specs.Served.{key_in, service_digest, service_marks};
+ghost use Rattle.ps_nodes.specs.Served.{key_at, keys_at, service_marks};
 ghost use Rattle.ps_nodes.specs.Tallies.{digest_of};
 
 use crate::entries::{NodeMap, row_at};
@@ -64,7 +62,7 @@ fn add_key(
     place: usize,
     service: &Jid,
 ) -> Result<(), Memory>
-    ensures { OnOk result (keys.new.items ≡ keys.old.items ++ map key_in (passing (is_node_of service.now) (slice_get (map row_of nodes.now.entries) place))) }
+    ensures { OnOk result (keys.new.items ≡ keys.old.items ++ key_at service.now place (map row_of nodes.now.entries)) }
 {
     if let Some(row) = row_at(nodes, place) {
         if service.is_same(&row.key.service) {
@@ -82,7 +80,7 @@ pub fn keys_among(
     service: &Jid,
 ) -> Result<Vec<NodeKey>, Memory>
     requires marked { served.now.rows ≡ service_marks (map row_of nodes.now.entries) }
-    ensures { IfOk result (λ keys. keys.items ≡ map key_in (filter (is_node_of service.now) (map row_of nodes.now.entries))) }
+    ensures { IfOk result (λ keys. keys.items ≡ keys_at service.now (map row_of nodes.now.entries)) }
 {
     let mut keys = Vec::new(alloc);
     let mut at = served.first(digest_at(service));
