@@ -3,9 +3,10 @@ ghost use Rattle.std.specs.Prelude.{◌≡◌, ◌+◌, ◌<◌, ◌≤◌, [], 
 ghost use Rattle.std.specs.List.{list_any};
 ghost use Rattle.ps_types.specs.Links.{collection_of, has_children, above, is_under, is_link_at, links_with, links_without};
 ghost use Rattle.ps_rows.specs.Standing.{standing};
+ghost use Rattle.ps_coll.specs.Children.{children_in};
 
 use crate::climb::{ancestors_of, is_reached};
-use crate::named::{collection_among, has_child, is_named, remove_all_of};
+use crate::named::{children_among, collection_among, has_child, is_named, remove_all_of};
 use ps_rows::Rows;
 use ps_types::{LinkRow, Memory, NodeKey};
 use std::alloc::Global;
@@ -100,6 +101,13 @@ impl Links {
         ensures children { result ≡ has_children collection.now self.now.rows }
     {
         has_child(&self.rows, collection)
+    }
+
+    /// The nodes that the links to a collection name as children, in the order of these links.
+    pub fn children(&self, alloc: Global, collection: &NodeKey) -> Result<Vec<NodeKey>, Memory>
+        ensures children { IfOk result (λ nodes. nodes.items ≡ children_in collection.now self.now.rows) }
+    {
+        children_among(alloc, &self.rows, collection)
     }
 
     /// Whether some row names a node, as its child or as its collection.

@@ -1,11 +1,13 @@
 // The rows that name a node.
-ghost use Rattle.std.specs.Prelude.{◌≡◌, ◌≤◌, find, option_copied};
+ghost use Rattle.std.specs.Prelude.{◌≡◌, ◌≤◌, IfOk, filter, find, option_copied};
 ghost use Rattle.std.specs.List.{list_any};
-ghost use Rattle.ps_types.specs.Links.{is_link_of, is_link_at, collection_of, has_children, links_without};
+ghost use Rattle.ps_types.specs.Links.{is_link_of, is_link_to, is_link_at, collection_of, has_children, links_without};
+ghost use Rattle.ps_coll.specs.Children.{children_in};
 
 use crate::asks::{ChildOf, Under};
 use ps_rows::{Index, Rows};
-use ps_types::{LinkRow, NodeKey};
+use ps_types::{LinkRow, Memory, NodeKey};
+use std::alloc::Global;
 
 pub fn collection_among<'a>(rows: &'a Rows<LinkRow>, child: &NodeKey) -> Option<&'a NodeKey>
     ensures { option_copied result ≡ collection_of child.now rows.now.rows }
@@ -35,6 +37,33 @@ pub fn has_child(rows: &Rows<LinkRow>, collection: &NodeKey) -> bool
 {
     let ask = Under { collection };
     rows.any(Index::Node, &ask)
+}
+
+fn links_to(
+    alloc: Global,
+    rows: &Rows<LinkRow>,
+    collection: &NodeKey,
+) -> Result<Vec<LinkRow>, Memory>
+    ensures { IfOk result (λ found. found.items ≡ filter (is_link_to collection.now) rows.now.rows) }
+{
+    let ask = Under { collection };
+    rows.list(Index::Node, &ask, alloc)
+}
+
+/// The children that the links to a collection name, in their order.
+pub fn children_among(
+    alloc: Global,
+    rows: &Rows<LinkRow>,
+    collection: &NodeKey,
+) -> Result<Vec<NodeKey>, Memory>
+    ensures { IfOk result (λ nodes. nodes.items ≡ children_in collection.now rows.now.rows) }
+{
+    let found = links_to(alloc, rows, collection)?;
+    let mut nodes = Vec::new(alloc);
+    for row in &found {
+        nodes.push(row.child.clone()?)?;
+    }
+    Ok(nodes)
 }
 
 pub fn is_named(rows: &Rows<LinkRow>, node: &NodeKey) -> bool

@@ -59,6 +59,10 @@ fn a_leaf_is_under_the_collections_above_it(rt: HostRuntime) -> Result<(), Fail>
     assert_eq!(rt; above.len(), 2);
     assert!(rt; above[0].name.is("mid"));
     assert!(rt; above[1].name.is("top"));
+    let top = node(alloc, "top")?;
+    let below = links.children(alloc, &top)?;
+    assert_eq!(rt; below.len(), 1);
+    assert!(rt; below[0].name.is("mid"));
     Ok(())
 }
 

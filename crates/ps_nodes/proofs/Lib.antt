@@ -1,2 +1,4 @@
 pub mod MapRows
 pub mod Tallies
+pub mod Placing
+pub mod Marks

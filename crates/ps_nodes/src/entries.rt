@@ -1,9 +1,9 @@
 // The map of the nodes, seen as rows.
-ghost use Rattle.std.specs.Prelude.{◌≡◌, false, ◌+◌, ◌<◌, ◌≤◌, [], ◌∷◌, ◌++◌, IfOk, slice_get, option_copied, option_map, map, count_by};
+ghost use Rattle.std.specs.Prelude.{◌≡◌, false, ◌+◌, ◌<◌, ◌≤◌, [], ◌∷◌, ◌++◌, true, IfOk, IfSome, slice_get, option_copied, option_map, map, count_by};
 ghost use Rattle.indexmap.specs.IndexMap.{spare, values, index_map_len};
 ghost use Rattle.ps_types.specs.Nodes.{node_at, config_at, stands, made_by, nodes_with, nodes_without};
 ghost use Rattle.ps_types.specs.Same.{same_bare};
-ghost use Rattle.ps_nodes.specs.NodeRows.{row_of, row_seen};
+ghost use Rattle.ps_nodes.specs.NodeRows.{IsAlone, is_there, row_of, row_seen};
 
 use crate::nodes::{NodeRef, NodeRest};
 use indexmap::IndexMap;
@@ -34,6 +34,14 @@ pub fn row_in<'a>(nodes: &'a NodeMap, node: &NodeKey) -> Option<NodeRef<'a>>
         Some((key, rest)) => Some(seen(key, rest)),
         None => None,
     }
+}
+
+/// The place of a node, which no other row is of.
+pub fn place_in(nodes: &NodeMap, node: &NodeKey) -> Option<usize>
+    ensures here { IfSome result (λ at. is_there node.now (slice_get (map row_of nodes.now.entries) at) ≡ true) }
+    ensures alone { IsAlone node.now (map row_of nodes.now.entries) result }
+{
+    nodes.get_index_of(node)
 }
 
 fn seen<'a>(key: &'a NodeKey, rest: &'a NodeRest) -> NodeRef<'a>

@@ -20,8 +20,9 @@ pub struct Tally {
 
 pub type Makers = IndexMap<u64, Tally>;
 
+/// A digest of a bare address.
 #[tactic(auto, unfolding(crate::specs::Tallies::digest_of))]
-fn digest(who: &Jid) -> u64
+pub fn digest(who: &Jid) -> u64
     ensures { result ≡ digest_of who.now }
 {
     let mut hasher = FoldHasher::default();

@@ -1,12 +1,15 @@
 // The table.
-ghost use Rattle.std.specs.Prelude.{◌≡◌, ◌+◌, ◌<◌, ◌≤◌, [], ◌∷◌, ◌++◌, IfOk, OnOk, OnErr, length, slice_get, option_copied, option_map, is_err};
+ghost use Rattle.std.specs.Prelude.{◌≡◌, ◌+◌, ◌<◌, ◌≤◌, [], ◌∷◌, ◌++◌, true, IfOk, IfSome, OnOk, OnErr, length, slice_get, option_copied, option_map, is_err};
 ghost use Rattle.ps_types.specs.Nodes.{node_at, config_at, stands, made_by, nodes_with, nodes_without};
-ghost use Rattle.ps_nodes.specs.NodeRows.{row_seen};
+ghost use Rattle.ps_nodes.specs.NodeRows.{IsAlone, is_there, row_seen};
+ghost use Rattle.ps_nodes.specs.Served.{keys_at};
 
-use crate::entries::{config_in, copy_of, holds, row_at, row_in, set_config_in};
+use crate::entries::{config_in, copy_of, holds, place_in, row_at, row_in, set_config_in};
 use crate::makers::{Tally, made_in, tallies_of};
+use crate::served::{digest_at, keys_among, mark_all, marks_of};
 use crate::tallied::{add_tallied, remove_tallied, reserve};
 use indexmap::IndexMap;
+use ps_chains::Chains;
 use ps_types::{Jid, Memory, NodeConfig, NodeKey, NodeRow};
 use std::alloc::Global;
 use std::marker::Model;
@@ -34,12 +37,17 @@ pub struct NodeRef<'a> {
 pub struct Nodes {
     nodes: IndexMap<NodeKey, NodeRest>,
     made: IndexMap<u64, Tally>,
+    served: Chains,
 }
 
 // By hand, so that a table is let go by one call wherever a function ends.
 impl Drop for Nodes {
     fn drop(self) {
-        let Nodes { nodes: _, made: _ } = self;
+        let Nodes {
+            nodes: _,
+            made: _,
+            served: _,
+        } = self;
     }
 }
 
@@ -48,13 +56,13 @@ impl Model for Nodes {
     ghost use Rattle.ps_base.specs.Rows.{Table};
     ghost use Rattle.ps_types.specs.declared.rows.NodeRow.{NodeRow};
     ghost use Rattle.ps_nodes.specs.NodeRows.{row_of};
-    ghost use Rattle.ps_nodes.specs.Tallies.{IsKept, room_of};
+    ghost use Rattle.ps_nodes.specs.Served.{IsIndexed, room_with};
 
     ghost Value = { Table NodeRow };
 
-    ghost view = { λ t. record { rows = map row_of t.nodes.entries; spare = room_of t.nodes t.made } };
+    ghost view = { λ t. record { rows = map row_of t.nodes.entries; spare = room_with t.nodes t.made t.served } };
 
-    ghost invariant = { λ t. IsKept t.nodes t.made };
+    ghost invariant = { λ t. IsIndexed t.nodes t.made t.served };
 }
 
 impl Nodes {
@@ -65,6 +73,7 @@ impl Nodes {
         Ok(Nodes {
             nodes: IndexMap::new(alloc),
             made: IndexMap::new(alloc),
+            served: Chains::new(alloc),
         })
     }
 
@@ -89,7 +98,7 @@ impl Nodes {
         ensures kept { self.old.spare ≤ self.new.spare }
     {
         reserve(&mut self.nodes, &mut self.made, rows as usize)?;
-        Ok(())
+        self.served.reserve(rows as usize)
     }
 
     /// A table with the same rows.
@@ -98,7 +107,12 @@ impl Nodes {
     {
         let nodes = copy_of(&self.nodes)?;
         let made = tallies_of(&nodes)?;
-        Ok(Nodes { nodes, made })
+        let served = marks_of(*nodes.allocator(), &nodes)?;
+        Ok(Nodes {
+            nodes,
+            made,
+            served,
+        })
     }
 
     /// Whether a node stands.
@@ -115,6 +129,17 @@ impl Nodes {
         row_in(&self.nodes, node)
     }
 
+    /// The place of a node, counted from 0. No other row is of that node.
+    pub fn place(&self, node: &NodeKey) -> Option<u64>
+        ensures here { IfSome result (λ at. is_there node.now (slice_get self.now.rows at) ≡ true) }
+        ensures alone { IsAlone node.now self.now.rows result }
+    {
+        match place_in(&self.nodes, node) {
+            Some(at) => Some(at as u64),
+            None => None,
+        }
+    }
+
     /// The configuration of a node.
     pub fn config(&self, node: &NodeKey) -> Option<&NodeConfig>
         ensures config { option_copied result ≡ config_at node.now self.now.rows }
@@ -129,6 +154,13 @@ impl Nodes {
         made_in(&self.nodes, &self.made, who) as u64
     }
 
+    /// The keys of the nodes of a service host or an account, in the order of their making.
+    pub fn keys_of(&self, alloc: Global, service: &Jid) -> Result<Vec<NodeKey>, Memory>
+        ensures keys { IfOk result (λ keys. keys.items ≡ keys_at service.now self.now.rows) }
+    {
+        keys_among(alloc, &self.nodes, &self.served, service)
+    }
+
     /// Adds a node as the last one, where its key is new. It takes no memory.
     pub fn create(&mut self, row: NodeRow) -> Result<(), Exists>
         requires room { 0 < self.old.spare }
@@ -140,7 +172,9 @@ impl Nodes {
         if holds(&self.nodes, &row.key) {
             return Err(Exists);
         }
+        let digest = digest_at(&row.key.service);
         add_tallied(&mut self.nodes, &mut self.made, row);
+        self.served.push(digest);
         Ok(())
     }
 
@@ -159,7 +193,9 @@ impl Nodes {
         ensures rows { self.new.rows ≡ nodes_without node.now self.old.rows }
         ensures room { self.old.spare ≤ self.new.spare }
     {
-        remove_tallied(&mut self.nodes, &mut self.made, node)
+        let stood = remove_tallied(&mut self.nodes, &mut self.made, node);
+        mark_all(&mut self.served, &self.nodes);
+        stood
     }
 
     /// Takes away the row of a node, as every table does. It takes no memory.

@@ -1,6 +1,6 @@
 // The nodes and their tallies, changed together.
 ghost use Rattle.std.specs.Prelude.{◌≡◌, ◌+◌, ◌<◌, ◌≤◌, false, [], ◌∷◌, ◌++◌, OnOk, map};
-ghost use Rattle.indexmap.specs.IndexMap.{spare, IsUnchanged};
+ghost use Rattle.indexmap.specs.IndexMap.{spare, index_map_len, IsUnchanged};
 ghost use Rattle.ps_types.specs.Nodes.{stands, nodes_with, nodes_without};
 ghost use Rattle.ps_nodes.specs.NodeRows.{row_of};
 ghost use Rattle.ps_nodes.specs.Tallies.{IsKept, room_of};
@@ -40,6 +40,7 @@ pub fn remove_tallied(nodes: &mut NodeMap, made: &mut Makers, node: &NodeKey) ->
     ensures there { result ≡ stands node.now (map row_of nodes.old.entries) }
     ensures rows { map row_of nodes.new.entries ≡ nodes_without node.now (map row_of nodes.old.entries) }
     ensures room { room_of nodes.old made.old ≤ room_of nodes.new made.new }
+    ensures fewer { index_map_len nodes.new ≤ index_map_len nodes.old }
 {
     let stood = remove_from(nodes, node);
     tally_all(made, nodes);

@@ -123,3 +123,29 @@ fn a_node_is_given_a_configuration(rt: HostRuntime) -> Result<(), Fail> {
     assert!(rt; new && told == [true, true, true, false, false]);
     Ok(())
 }
+
+// How many nodes the service host and an account have, and the first of the host's.
+fn listed(alloc: Global, nodes: &Nodes) -> Result<(usize, usize, bool), Fail> {
+    let service = Jid::read(alloc, b"pubsub.example")?;
+    let account = Jid::read(alloc, b"ann@a.example")?;
+    let keys = nodes.keys_of(alloc, &service)?;
+    let own = nodes.keys_of(alloc, &account)?;
+    let first = match keys.first() {
+        Some(key) => key.name.is("one"),
+        None => false,
+    };
+    Ok((keys.len(), own.len(), first))
+}
+
+#[test]
+fn the_nodes_of_a_service_are_listed(rt: HostRuntime) -> Result<(), Fail> {
+    let alloc = rt.alloc();
+    let mut nodes = Nodes::new(alloc)?;
+    let new = made(alloc, &mut nodes)?;
+    let gone = deletes(alloc, &mut nodes, "news")?;
+    assert!(rt; new == [true, true, true, false] && gone);
+    assert!(rt; listed(alloc, &nodes)? == (2, 0, true));
+    let w = key(alloc, "w")?;
+    assert!(rt; nodes.place(&w) == Some(1));
+    Ok(())
+}

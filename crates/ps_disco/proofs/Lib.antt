@@ -1,0 +1,4 @@
+pub mod Trees
+pub mod Keyed
+pub mod Places
+pub mod Under

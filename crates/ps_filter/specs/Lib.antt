@@ -1,0 +1,4 @@
+pub mod Keys
+pub mod Wants
+pub mod Names
+pub mod Printed
