@@ -45,5 +45,5 @@ pub record IsKept {S T : Type 0} (nodes : IndexMap NodeKey NodeRest S) (made : I
   pub held : index_map_len nodes ≤ capacity made
 
 -- how many more rows are taken without memory, each with a tally of its own
-abbrev pub room_of : {K V T S : Type 0} → IndexMap K V S → IndexMap ℕ T S → ℕ
+abbrev pub room_of : {K V T S H : Type 0} → IndexMap K V S → IndexMap ℕ T H → ℕ
 room_of nodes made = min (spare nodes) (capacity made - index_map_len nodes)

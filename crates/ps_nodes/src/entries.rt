@@ -7,10 +7,12 @@ ghost use Rattle.ps_nodes.specs.NodeRows.{IsAlone, is_there, row_of, row_seen};
 
 use crate::nodes::{NodeRef, NodeRest};
 use indexmap::IndexMap;
+use ps_chains::Seeded;
 use ps_types::{Jid, NodeConfig, NodeKey, NodeRow};
 use std::alloc::AllocError;
 
-pub type NodeMap = IndexMap<NodeKey, NodeRest>;
+/// Nodes by their keys, which are hashed by a seed.
+pub type NodeMap = IndexMap<NodeKey, NodeRest, Seeded>;
 
 pub fn holds(nodes: &NodeMap, node: &NodeKey) -> bool
     ensures { result ≡ stands node.now (map row_of nodes.now.entries) }

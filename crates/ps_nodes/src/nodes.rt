@@ -4,12 +4,12 @@ ghost use Rattle.ps_types.specs.Nodes.{node_at, config_at, stands, made_by, node
 ghost use Rattle.ps_nodes.specs.NodeRows.{IsAlone, is_there, row_seen};
 ghost use Rattle.ps_nodes.specs.Served.{keys_at};
 
-use crate::entries::{config_in, copy_of, holds, place_in, row_at, row_in, set_config_in};
+use crate::entries::{NodeMap, config_in, copy_of, holds, place_in, row_at, row_in, set_config_in};
 use crate::makers::{Tally, made_in, tallies_of};
 use crate::served::{digest_at, keys_among, mark_all, marks_of};
 use crate::tallied::{add_tallied, remove_tallied, reserve};
 use indexmap::IndexMap;
-use ps_chains::Chains;
+use ps_chains::{Chains, Seeded};
 use ps_types::{Jid, Memory, NodeConfig, NodeKey, NodeRow};
 use std::alloc::Global;
 use std::marker::Model;
@@ -35,7 +35,7 @@ pub struct NodeRef<'a> {
 
 /// The nodes in the order of their making, and how many more are taken without memory.
 pub struct Nodes {
-    nodes: IndexMap<NodeKey, NodeRest>,
+    nodes: NodeMap,
     made: IndexMap<u64, Tally>,
     served: Chains,
 }
@@ -70,8 +70,15 @@ impl Nodes {
     pub fn new(alloc: Global) -> Result<Nodes, Memory>
         ensures empty { IfOk result (λ t. t.rows ≡ []) }
     {
+        Nodes::seeded(alloc, 0)
+    }
+
+    /// The empty table, whose keys are hashed by a seed that no stranger knows. No answer depends on it.
+    pub fn seeded(alloc: Global, seed: u64) -> Result<Nodes, Memory>
+        ensures empty { IfOk result (λ t. t.rows ≡ []) }
+    {
         Ok(Nodes {
-            nodes: IndexMap::new(alloc),
+            nodes: IndexMap::with_hasher(alloc, Seeded { seed }),
             made: IndexMap::new(alloc),
             served: Chains::new(alloc),
         })
