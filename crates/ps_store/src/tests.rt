@@ -112,6 +112,7 @@ fn a_frame_that_fails_is_noted_and_leaves_both_or_neither(rt: HostRuntime) -> Re
     let alloc = rt.alloc();
     let store = opened(alloc, MemDisk::new(alloc, BOOTED, &[])?).ok_or("not opened")?;
     let opening = store.close().calls();
+    assert!(rt; opening < 100);
     for call in 1..=4 {
         let failing = opening + call;
         let batch = Some(both(alloc)?);
