@@ -15,8 +15,6 @@ mod ill_formed;
 mod info;
 mod pieces;
 mod sorted;
-#[cfg(test)]
-mod tests;
 mod ver;
 
 pub use info::read_info;

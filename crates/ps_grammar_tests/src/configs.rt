@@ -39,8 +39,8 @@ fn read(
     var: &str,
     values: &[&str],
 ) -> Result<Result<NodeConfig, ConfigRefusal>, Fail> {
-    let base = default_config(alloc, false)?;
     let form = form(alloc, var, values)?;
+    let base = default_config(alloc, false)?;
     Ok(read_config(alloc, &form, &base))
 }
 
@@ -160,16 +160,20 @@ fn the_configuration_of_a_new_node_is_printed(rt: HostRuntime) -> Result<(), Fai
     Ok(())
 }
 
+fn reads_as_itself(alloc: Global, config: &NodeConfig) -> Result<bool, Fail> {
+    let form = config_form(alloc, config)?;
+    let base = default_config(alloc, false)?;
+    let again = read_config(alloc, &form, &base)?;
+    Ok(again == *config)
+}
+
 #[test]
 fn a_printed_configuration_reads_as_itself(rt: HostRuntime) -> Result<(), Fail> {
     let config = default_config(rt.alloc(), true)?;
     assert_eq!(rt; config.max_items.get(), 1);
     assert!(rt; config.access_model == Access::Presence);
     assert!(rt; config.send_last_published_item == SendLast::OnSubAndPresence);
-    let form = config_form(rt.alloc(), &config)?;
-    let base = default_config(rt.alloc(), false)?;
-    let again = read_config(rt.alloc(), &form, &base)?;
-    assert!(rt; again == config);
+    assert!(rt; reads_as_itself(rt.alloc(), &config)?);
     Ok(())
 }
 
@@ -178,20 +182,26 @@ const ALL: SubOptions = SubOptions {
     deep: true,
 };
 
+fn options(
+    alloc: Global,
+    var: &str,
+    value: &str,
+) -> Result<Result<SubOptions, OptionsRefusal>, Fail> {
+    let form = form(alloc, var, &[value])?;
+    Ok(read_options(&form, ALL))
+}
+
+const NODES: SubOptions = SubOptions {
+    items: false,
+    deep: true,
+};
+
 #[test]
 fn options_are_read_against_a_base(rt: HostRuntime) -> Result<(), Fail> {
-    let nodes = form(rt.alloc(), "pubsub#subscription_type", &["nodes"])?;
-    assert!(rt;
-        read_options(&nodes, ALL)
-            == Ok(SubOptions {
-                items: false,
-                deep: true
-            })
-    );
-    let bad = form(rt.alloc(), "pubsub#subscription_type", &["item"])?;
-    assert!(rt; read_options(&bad, ALL) == Err(OptionsRefusal::BadValue(1)));
-    let bad = form(rt.alloc(), "pubsub#subscription_depth", &["2"])?;
-    assert!(rt; read_options(&bad, ALL) == Err(OptionsRefusal::BadValue(2)));
+    let (kind, depth) = ("pubsub#subscription_type", "pubsub#subscription_depth");
+    assert!(rt; options(rt.alloc(), kind, "nodes")? == Ok(NODES));
+    assert!(rt; options(rt.alloc(), kind, "item")? == Err(OptionsRefusal::BadValue(1)));
+    assert!(rt; options(rt.alloc(), depth, "2")? == Err(OptionsRefusal::BadValue(2)));
     Ok(())
 }
 

@@ -1,9 +1,11 @@
 //! What trees and forms mean to the service, seen from outside: requests of `ps_request`, forms of `ps_forms`, configurations and options of
-//! `ps_config`, replies of `ps_names`.
+//! `ps_config`, verification strings of `ps_caps`, replies of `ps_names`.
 //!
 //! The tests stand apart since each crate is proved once more with its own. Nothing stands on this crate, and it has no public function.
 #![tactic(auto)]
 
+#[cfg(test)]
+mod capabilities;
 #[cfg(test)]
 mod configs;
 #[cfg(test)]

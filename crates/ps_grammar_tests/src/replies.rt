@@ -1,4 +1,6 @@
 // Replies, messages and refusals, and the words of each condition.
+ghost use Rattle.std.specs.Prelude.{◌≢◌, [], IfOk};
+
 use ps_names::{Head, condition, error_reply, message, refused, result_reply};
 use ps_types::{Condition, Elem, Jid, Kids, LineRefusal, Text};
 use std::alloc::Global;
@@ -16,19 +18,31 @@ fn has(rt: &impl Abort, elem: &Elem, name: &str, value: &str) {
     }
 }
 
-fn head_of(alloc: Global) -> Result<Head, Fail> {
+fn head_between(alloc: Global, from: Jid, to: Jid) -> Result<Head, Fail>
+    ensures { IfOk result (λ head. head.name ≢ []) }
+{
+    let name = Text::of(alloc, "iq")?;
+    let id = Text::of(alloc, "2")?;
+    let feature = Text::of(alloc, "publish")?;
     Ok(Head {
-        name: Text::of(alloc, "iq")?,
-        from: Jid::read(alloc, b"pubsub.example")?,
-        to: Jid::read(alloc, b"ann@a.example/1")?,
-        id: Text::of(alloc, "2")?,
-        feature: Text::of(alloc, "publish")?,
+        name,
+        from,
+        to,
+        id,
+        feature,
     })
 }
 
+fn head_of(alloc: Global) -> Result<Head, Fail>
+    ensures { IfOk result (λ head. head.name ≢ []) }
+{
+    let from = Jid::read(alloc, b"pubsub.example")?;
+    let to = Jid::read(alloc, b"ann@a.example/1")?;
+    head_between(alloc, from, to)
+}
+
 fn error_of(alloc: Global, why: Condition) -> Result<Elem, Fail> {
-    let mut head = head_of(alloc)?;
-    head.name = Text::of(alloc, "iq")?;
+    let head = head_of(alloc)?;
     Ok(error_reply(alloc, &head, why)?)
 }
 
@@ -73,8 +87,7 @@ fn the_feature_that_is_missing_is_named(rt: HostRuntime) -> Result<(), Fail> {
 }
 
 fn result_of(alloc: Global) -> Result<Elem, Fail> {
-    let mut head = head_of(alloc)?;
-    head.name = Text::of(alloc, "iq")?;
+    let head = head_of(alloc)?;
     Ok(result_reply(alloc, &head, None)?)
 }
 

@@ -43,15 +43,20 @@ fn tree_of(alloc: Global, line: &str) -> Result<Elem, Fail> {
     }
 }
 
-// What a line of the stream of `a.example` asks of `pubsub.example`.
-fn request_of(alloc: Global, line: &str) -> Result<Request, Fail> {
-    let tree = tree_of(alloc, line)?;
+// What a tree in the stream of `a.example` asks of `pubsub.example`.
+fn asked(alloc: Global, tree: &Elem) -> Result<Request, Fail> {
     let host = Text::of(alloc, "a.example")?;
     let service = Text::of(alloc, "pubsub.example")?;
-    match read_request(alloc, &tree, &host, &service) {
+    match read_request(alloc, tree, &host, &service) {
         Ok(request) => Ok(request),
         Err(_) => Err(Fail::from("the line is no request")),
     }
+}
+
+// What a line of that stream asks.
+fn request_of(alloc: Global, line: &str) -> Result<Request, Fail> {
+    let tree = tree_of(alloc, line)?;
+    asked(alloc, &tree)
 }
 
 fn name_of(ask: &Ask) -> &'static str {
@@ -88,14 +93,21 @@ fn name_of(ask: &Ask) -> &'static str {
 // Whether the request is written as that line.
 fn is_written(alloc: Global, request: &Request, line: &str) -> Result<bool, Fail> {
     let tree = request_tree(alloc, request)?;
-    let text = print_tree(alloc, &tree)?;
+    is_printed(alloc, &tree, line)
+}
+
+fn is_printed(alloc: Global, tree: &Elem, line: &str) -> Result<bool, Fail> {
+    let text = print_tree(alloc, tree)?;
     Ok(text.as_slice() == line.as_bytes())
 }
 
 // Whether the line asks that, and is written again as it stands.
 fn is_kind(alloc: Global, want: &str, line: &str) -> Result<bool, Fail> {
     let request = request_of(alloc, line)?;
-    Ok(name_of(&request.ask) == want && is_written(alloc, &request, line)?)
+    if name_of(&request.ask) != want {
+        return Ok(false);
+    }
+    is_written(alloc, &request, line)
 }
 
 // Whether each of the rows is of its kind.
@@ -119,11 +131,15 @@ fn each_kind_is_read_and_written(rt: HostRuntime) -> Result<(), Fail> {
     Ok(())
 }
 
-fn taken(alloc: Global, line: &str) -> Result<TakenTree, Fail> {
-    let tree = tree_of(alloc, line)?;
+fn taken_from(alloc: Global, tree: &Elem) -> Result<TakenTree, Fail> {
     let host = Text::of(alloc, "a.example")?;
     let service = Text::of(alloc, "pubsub.example")?;
-    Ok(take_tree(alloc, &tree, &host, &service)?)
+    Ok(take_tree(alloc, tree, &host, &service)?)
+}
+
+fn taken(alloc: Global, line: &str) -> Result<TakenTree, Fail> {
+    let tree = tree_of(alloc, line)?;
+    taken_from(alloc, &tree)
 }
 
 // Whether it is a denied message with the id 7, whose reply goes from the service host to Ann.

@@ -1,7 +1,7 @@
 // Collections that stand: what they don't do, when they go, and what may be put into them.
 use crate::asking::{create, delete, form, publish, purge, read_items, retract};
 use crate::filling::{add_affil, add_node, empty, link};
-use crate::plans::{Outcome, by_entity, by_owner, by_publisher, request};
+use crate::plans::{Ends, Outcome, by_entity, by_owner, by_publisher};
 use ps_access::{Tables, must_be_collection};
 use ps_affil::Affils;
 use ps_nodes::Nodes;
@@ -35,6 +35,27 @@ fn fill(alloc: Global, tables: &mut Tables) -> Result<(), Fail> {
     link(alloc, &mut tables.links, "n", "top")
 }
 
+fn publishes(alloc: Global, tables: &Tables, from: &str, node: &str) -> Result<Outcome, Fail> {
+    let ends = Ends::between(alloc, from, "p")?;
+    let request = publish(alloc, ends, node, 1, None)?;
+    by_publisher(alloc, tables, &request)
+}
+
+fn retracts(alloc: Global, tables: &Tables, from: &str, node: &str) -> Result<Outcome, Fail> {
+    let request = retract(alloc, from, node)?;
+    by_publisher(alloc, tables, &request)
+}
+
+fn reads(alloc: Global, tables: &Tables, from: &str, node: &str) -> Result<Outcome, Fail> {
+    let request = read_items(alloc, from, node)?;
+    by_entity(alloc, tables, &request)
+}
+
+fn purges(alloc: Global, tables: &Tables, from: &str, node: &str) -> Result<Outcome, Fail> {
+    let request = purge(alloc, from, node)?;
+    by_owner(alloc, tables, &request)
+}
+
 // To publish, to retract, to read and to purge are denied alike.
 fn are_denied(
     rt: &impl Abort,
@@ -45,24 +66,14 @@ fn are_denied(
     why: Condition,
 ) -> Result<(), Fail> {
     let want = Outcome::Denied(why);
-    let ask = publish(alloc, node, 1, None)?;
-    let got = by_publisher(alloc, tables, from, "p", ask)?;
-    assert_eq!(rt; got, want, "{from} publishes to {node}");
-    let ask = retract(alloc, node)?;
-    let got = by_publisher(alloc, tables, from, "p", ask)?;
-    assert_eq!(rt; got, want, "{from} retracts from {node}");
-    let ask = read_items(alloc, node)?;
     assert_eq!(rt;
-        by_entity(alloc, tables, from, ask)?,
+        publishes(alloc, tables, from, node)?,
         want,
-        "{from} reads {node}"
+        "{from} {node}"
     );
-    let ask = purge(alloc, node)?;
-    assert_eq!(rt;
-        by_owner(alloc, tables, from, ask)?,
-        want,
-        "{from} purges {node}"
-    );
+    assert_eq!(rt; retracts(alloc, tables, from, node)?, want, "{from} {node}");
+    assert_eq!(rt; reads(alloc, tables, from, node)?, want, "{from} {node}");
+    assert_eq!(rt; purges(alloc, tables, from, node)?, want, "{from} {node}");
     Ok(())
 }
 
@@ -86,6 +97,11 @@ fn a_collection_holds_no_items(rt: HostRuntime) -> Result<(), Fail> {
     holds_no_items(&rt, rt.alloc(), &mut tables)
 }
 
+fn deletes(alloc: Global, tables: &Tables, from: &str, node: &str) -> Result<Outcome, Fail> {
+    let request = delete(alloc, from, node)?;
+    by_owner(alloc, tables, &request)
+}
+
 fn goes(rt: &impl Abort, alloc: Global, tables: &mut Tables) -> Result<(), Fail> {
     fill(alloc, tables)?;
     for (from, node, want) in [
@@ -95,8 +111,7 @@ fn goes(rt: &impl Abort, alloc: Global, tables: &mut Tables) -> Result<(), Fail>
         (ANN, "bare", Outcome::Changes),
         (ANN, "n", Outcome::Changes),
     ] {
-        let ask = delete(alloc, node)?;
-        assert_eq!(rt; by_owner(alloc, tables, from, ask)?, want, "{from} {node}");
+        assert_eq!(rt; deletes(alloc, tables, from, node)?, want, "{from} {node}");
     }
     Ok(())
 }
@@ -109,8 +124,7 @@ fn a_collection_goes_once_it_holds_nothing(rt: HostRuntime) -> Result<(), Fail> 
 
 // The step that decides, once collections are built, into which of them a new node may be put.
 fn put_into(alloc: Global, tables: &Tables, from: &str, collection: &str) -> Result<Outcome, Fail> {
-    let ask = create(alloc, "new", None)?;
-    let request = request(alloc, from, "p", ask)?;
+    let request = create(alloc, from, "new", None)?;
     let collection = Text::of(alloc, collection)?;
     match must_be_collection(tables, &request, &collection) {
         Ok(()) => Ok(Outcome::Changes),
@@ -128,8 +142,8 @@ fn creates_in(
 ) -> Result<Outcome, Fail> {
     let about = "http://jabber.org/protocol/pubsub#node_config";
     let form = form(alloc, about, "pubsub#collection", collection)?;
-    let ask = create(alloc, "new", form)?;
-    by_owner(alloc, tables, from, ask)
+    let request = create(alloc, from, "new", form)?;
+    by_owner(alloc, tables, &request)
 }
 
 fn takes(rt: &impl Abort, alloc: Global, tables: &mut Tables) -> Result<(), Fail> {

@@ -1,7 +1,7 @@
 // The limit of nodes: an address makes ten thousand.
 use crate::asking::{create, form, publish};
 use crate::filling::{add_node, add_nodes, empty};
-use crate::plans::{Outcome, by_owner, by_publisher};
+use crate::plans::{Ends, Outcome, by_owner, by_publisher};
 use ps_access::Tables;
 use ps_types::{Condition, Elem, NodeKind};
 use std::alloc::Global;
@@ -24,8 +24,9 @@ fn creates(
     node: &str,
     want: Outcome,
 ) -> Result<(), Fail> {
-    let ask = create(alloc, node, None)?;
-    assert_eq!(rt; by_owner(alloc, tables, from, ask)?, want, "{from} {node}");
+    let request = create(alloc, from, node, None)?;
+    let got = by_owner(alloc, tables, &request)?;
+    assert_eq!(rt; got, want, "{from} {node}");
     Ok(())
 }
 
@@ -37,8 +38,9 @@ fn creates_with(
     form: Option<Elem>,
     why: Condition,
 ) -> Result<(), Fail> {
-    let ask = create(alloc, "new", form)?;
-    assert_eq!(rt; by_owner(alloc, tables, ANN, ask)?, Outcome::Denied(why));
+    let request = create(alloc, ANN, "new", form)?;
+    let got = by_owner(alloc, tables, &request)?;
+    assert_eq!(rt; got, Outcome::Denied(why));
     Ok(())
 }
 
@@ -50,9 +52,10 @@ fn publishes_at_home(
     items: u64,
     want: Outcome,
 ) -> Result<(), Fail> {
+    let ends = Ends::between(alloc, ANN, "ann@a")?;
     let options = form(alloc, OPTIONS, "pubsub#access_model", "open")?;
-    let ask = publish(alloc, "home", items, options)?;
-    let got = by_publisher(alloc, tables, ANN, "ann@a", ask)?;
+    let request = publish(alloc, ends, "home", items, options)?;
+    let got = by_publisher(alloc, tables, &request)?;
     assert_eq!(rt; got, want);
     Ok(())
 }

@@ -1,5 +1,5 @@
 // Requests, and what the three plans come to.
-ghost use Rattle.std.specs.Prelude.{◌≡◌, true, IfOk};
+ghost use Rattle.std.specs.Prelude.{◌≡◌, true};
 ghost use Rattle.ps_entity.specs.Plans as entity;
 ghost use Rattle.ps_owner.specs.Plans as owner;
 ghost use Rattle.ps_publish.specs.Plans as publish;
@@ -34,60 +34,63 @@ fn what_comes(plan: Result<Plan, PlanRefusal>) -> Result<Outcome, Fail> {
     }
 }
 
-// Who asks, whom, and under which id.
-#[derive(Drop)]
-struct Ends {
+/// Who asks, whom, and under which id.
+pub struct Ends {
     from: Jid,
     target: Jid,
     id: Text,
 }
 
-fn between(alloc: Global, from: &str, target: &str) -> Result<Ends, Fail> {
-    let from = jid(alloc, from)?;
-    let target = jid(alloc, target)?;
-    let id = Text::of(alloc, "1")?;
-    Ok(Ends { from, target, id })
+// By hand, so that the ends are let go by one call wherever a function ends.
+impl Drop for Ends {
+    fn drop(self) {
+        let Ends {
+            from: _,
+            target: _,
+            id: _,
+        } = self;
+    }
 }
 
-/// The request of an address to a target.
-pub fn request(alloc: Global, from: &str, target: &str, ask: Ask) -> Result<Request, Fail>
-    ensures { IfOk result (λ r. r.ask ≡ ask) }
-{
-    let Ends { from, target, id } = between(alloc, from, target)?;
-    Ok(Request {
-        from,
-        target,
-        id,
-        ask,
-    })
+impl Ends {
+    pub fn between(alloc: Global, from: &str, target: &str) -> Result<Ends, Fail> {
+        let from = jid(alloc, from)?;
+        let target = jid(alloc, target)?;
+        let id = Text::of(alloc, "1")?;
+        Ok(Ends { from, target, id })
+    }
+
+    /// The request of that. Once it is known what is asked, nothing fails, so that its many cases aren't let go at a way out.
+    pub fn ask(self, ask: Ask) -> Request
+        ensures { result.ask ≡ ask }
+    {
+        let Ends { from, target, id } = self;
+        Request {
+            from,
+            target,
+            id,
+            ask,
+        }
+    }
 }
 
-/// What an owner's request to the service host comes to.
-pub fn by_owner(alloc: Global, tables: &Tables, from: &str, ask: Ask) -> Result<Outcome, Fail>
-    requires { owner.is_planned ask ≡ true }
+/// What an owner's request comes to.
+pub fn by_owner(alloc: Global, tables: &Tables, request: &Request) -> Result<Outcome, Fail>
+    requires { owner.is_planned request.now.ask ≡ true }
 {
-    let request = request(alloc, from, "p", ask)?;
-    what_comes(ps_owner::plan(alloc, tables, &request))
+    what_comes(ps_owner::plan(alloc, tables, request))
 }
 
 /// What the request of one who subscribes or reads comes to.
-pub fn by_entity(alloc: Global, tables: &Tables, from: &str, ask: Ask) -> Result<Outcome, Fail>
-    requires { entity.is_planned ask ≡ true }
+pub fn by_entity(alloc: Global, tables: &Tables, request: &Request) -> Result<Outcome, Fail>
+    requires { entity.is_planned request.now.ask ≡ true }
 {
-    let request = request(alloc, from, "p", ask)?;
-    what_comes(ps_entity::plan(alloc, tables, &request))
+    what_comes(ps_entity::plan(alloc, tables, request))
 }
 
-/// What a publisher's request to a target comes to.
-pub fn by_publisher(
-    alloc: Global,
-    tables: &Tables,
-    from: &str,
-    target: &str,
-    ask: Ask,
-) -> Result<Outcome, Fail>
-    requires { publish.is_planned ask ≡ true }
+/// What a publisher's request comes to.
+pub fn by_publisher(alloc: Global, tables: &Tables, request: &Request) -> Result<Outcome, Fail>
+    requires { publish.is_planned request.now.ask ≡ true }
 {
-    let request = request(alloc, from, target, ask)?;
-    what_comes(ps_publish::plan(alloc, tables, &request))
+    what_comes(ps_publish::plan(alloc, tables, request))
 }

@@ -17,16 +17,17 @@ fn subscribes(
     who: &str,
     want: Outcome,
 ) -> Result<(), Fail> {
-    let ask = subscribe(alloc, who, None)?;
-    assert_eq!(rt; by_entity(alloc, tables, who, ask)?, want, "{who}");
+    let request = subscribe(alloc, who, None)?;
+    let got = by_entity(alloc, tables, &request)?;
+    assert_eq!(rt; got, want, "{who}");
     Ok(())
 }
 
 // Options that aren't readable decide before the limit does.
 fn subscribes_unreadably(rt: &impl Abort, alloc: Global, tables: &Tables) -> Result<(), Fail> {
     let options = form(alloc, OPTIONS, "pubsub#subscription_depth", "2")?;
-    let ask = subscribe(alloc, "new@b", options)?;
-    let got = by_entity(alloc, tables, "new@b", ask)?;
+    let request = subscribe(alloc, "new@b", options)?;
+    let got = by_entity(alloc, tables, &request)?;
     assert_eq!(rt; got, Outcome::Denied(Condition::C28));
     Ok(())
 }
@@ -39,8 +40,9 @@ fn sets(
     rows: &[(&str, &str)],
     want: Outcome,
 ) -> Result<(), Fail> {
-    let ask = set_subs(alloc, rows)?;
-    assert_eq!(rt; by_owner(alloc, tables, "ann@a/1", ask)?, want);
+    let request = set_subs(alloc, rows)?;
+    let got = by_owner(alloc, tables, &request)?;
+    assert_eq!(rt; got, want);
     Ok(())
 }
 

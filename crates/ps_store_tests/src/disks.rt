@@ -1,7 +1,9 @@
 // A disk in memory beside the model's words, and a real file.
 use ps_disk::{Disk, FileDisk, MemDisk, Torn, write_kept};
 use std::alloc::Global;
-use std::fs::OpenOptions;
+use std::fs::{OpenFile, OpenOptions};
+use std::io::{Read, Seek, Write};
+use std::path::PathBuf;
 use std::process::Abort;
 use std::test::Fail;
 use std::{env, fs, process};
@@ -72,21 +74,14 @@ fn fails_at_its_numbers_and_counts(rt: HostRuntime) -> Result<(), Fail> {
     Ok(())
 }
 
-#[test]
-fn a_file_keeps_what_is_written(rt: HostRuntime) -> Result<(), Fail> {
-    let name = format!(in rt.alloc(); "ps_disk-{}", process::id(rt.process()))?;
-    let path = env::temp_dir(&rt)?.join(rt.alloc(), name.as_str())?;
-    let file = OpenOptions::new()
-        .read(true)
-        .write(true)
-        .create(true)
-        .truncate(true)
-        .open(&rt, path.as_path())?;
-    let mut disk = FileDisk::new(file, 2);
+fn writes_file<F: Read + Write + Seek + OpenFile>(rt: &impl Abort, disk: &mut FileDisk<F>) {
     assert_eq!(rt; disk.len().ok(), Some(0));
     assert!(rt; disk.write_at(0, b"PUB").is_ok());
-    assert!(rt; write_kept(&mut disk, 3, b"SUB").is_ok());
-    assert!(rt; write_kept(&mut disk, 1, b"-").is_ok());
+    assert!(rt; write_kept(disk, 3, b"SUB").is_ok());
+    assert!(rt; write_kept(disk, 1, b"-").is_ok());
+}
+
+fn reads_file<F: Read + Write + Seek + OpenFile>(rt: &impl Abort, disk: &mut FileDisk<F>) {
     let mut room = [0; 8];
     assert_eq!(rt; disk.read_at(0, &mut room).ok(), Some(6));
     assert_eq!(rt; room, *b"P-BSUB\0\0");
@@ -95,10 +90,27 @@ fn a_file_keeps_what_is_written(rt: HostRuntime) -> Result<(), Fail> {
         (room[0], disk.len().ok(), disk.fault_count()),
         (b'U', Some(6), 2)
     );
-    assert_eq!(rt;
-        fs::read(&rt, path.as_path())?.as_slice(),
-        b"P-BSUB".as_slice()
-    );
+}
+
+fn path_of(rt: &HostRuntime) -> Result<PathBuf, Fail> {
+    let name = format!(in rt.alloc(); "ps_disk-{}", process::id(rt.process()))?;
+    Ok(env::temp_dir(rt)?.join(rt.alloc(), name.as_str())?)
+}
+
+#[test]
+fn a_file_keeps_what_is_written(rt: HostRuntime) -> Result<(), Fail> {
+    let path = path_of(&rt)?;
+    let file = OpenOptions::new()
+        .read(true)
+        .write(true)
+        .create(true)
+        .truncate(true)
+        .open(&rt, path.as_path())?;
+    let mut disk = FileDisk::new(file, 2);
+    writes_file(&rt, &mut disk);
+    reads_file(&rt, &mut disk);
+    let bytes = fs::read(&rt, path.as_path())?;
+    assert_eq!(rt; bytes.as_slice(), b"P-BSUB".as_slice());
     fs::remove_file(&rt, path.as_path())?;
     Ok(())
 }

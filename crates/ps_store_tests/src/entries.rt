@@ -1,4 +1,7 @@
 // Entries of the format's table as bytes, and what is none.
+ghost use Rattle.ps_model.specs.Entries.{IsEntry};
+
+use ps_base::Memory;
 use ps_record::{Batch, EntryRefusal, put_entry, read_entry};
 use ps_types::Entry;
 use std::alloc::Global;
@@ -23,26 +26,48 @@ const GONE: &[u8] = b"\x03\x00\x09a.example";
 
 const BASE: &[u8] = b"\x05\0\0\0\x1e{\"n\":\"ver\",\"ns\":\"urn:pubsubd\"}";
 
+// Whether an entry is written as these bytes.
+fn is_written(alloc: Global, entry: &Entry, bytes: &[u8]) -> Result<bool, Memory>
+    requires { IsEntry entry.now }
+{
+    let written = put_entry(alloc, entry)?;
+    Ok(written.as_slice() == bytes)
+}
+
+// Whether the bytes are one entry, which is written back as they stand.
+fn is_read_and_written(alloc: Global, bytes: &[u8]) -> Result<bool, Memory> {
+    match read_entry(alloc, bytes, 0) {
+        Ok((entry, next)) if next == bytes.len() as u64 => is_written(alloc, &entry, bytes),
+        _ => Ok(false),
+    }
+}
+
+// Whether it is a presence on the second line of `a.example`, a thousand million seconds after the beginning of 1970.
+fn is_presence_with_moment(entry: &Entry) -> bool {
+    match entry {
+        Entry::Change {
+            host,
+            line,
+            moment,
+            tree,
+        } => {
+            host.is("a.example")
+                && *line == 2
+                && *moment == Some(1_000_000_000)
+                && tree.name.is("presence")
+        }
+        _ => false,
+    }
+}
+
 #[test]
 fn each_kind_is_read_and_written_back(rt: HostRuntime) -> Result<(), Fail> {
     for bytes in [BOOT, CHANGE, CHANGE_AT, LAST, HANDED, GONE, BASE] {
-        let (entry, next) = read_entry(rt.alloc(), bytes, 0)?;
-        assert_eq!(rt; next, bytes.len() as u64);
-        assert_eq!(rt; put_entry(rt.alloc(), &entry)?.as_slice(), bytes);
+        assert!(rt; is_read_and_written(rt.alloc(), bytes)?);
     }
     let (entry, next) = read_entry(rt.alloc(), CHANGE_AT, 0)?;
     assert_eq!(rt; next, 48);
-    if let Entry::Change {
-        host,
-        line,
-        moment,
-        tree,
-    } = &entry
-    {
-        assert_eq!(rt; host.as_str(), "a.example");
-        assert_eq!(rt; (*line, *moment), (2, Some(1_000_000_000)));
-        assert_eq!(rt; tree.name.as_str(), "presence");
-    }
+    assert!(rt; is_presence_with_moment(&entry));
     Ok(())
 }
 
@@ -77,11 +102,14 @@ fn what_is_printed_otherwise_is_no_entry(rt: HostRuntime) {
 }
 
 // Adds the entry that the bytes spell.
-fn push(rt: &impl Abort, alloc: Global, batch: &mut Batch, bytes: &[u8]) -> Result<(), Fail> {
-    let (entry, next) = read_entry(alloc, bytes, 0)?;
-    assert!(rt; next <= 1000 && batch.len() <= 1000);
-    batch.push(&entry)?;
-    Ok(())
+fn push(rt: &impl Abort, alloc: Global, batch: &mut Batch, bytes: &[u8]) -> Result<(), Memory> {
+    match read_entry(alloc, bytes, 0) {
+        Ok((entry, next)) => {
+            assert!(rt; next <= 1000 && batch.len() <= 1000);
+            batch.push(&entry)
+        }
+        Err(_) => Err(Memory),
+    }
 }
 
 #[test]

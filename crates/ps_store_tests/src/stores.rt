@@ -1,12 +1,14 @@
 // Stores in memory: begun, appended to, damaged, upgraded, and crashed after each call of the disk.
-ghost use Rattle.std.specs.Prelude.{◌≢◌, [], IfOk};
+ghost use Rattle.std.specs.Prelude.{◌≢◌, ◌≤◌, [], length, IfOk};
+ghost use Rattle.ps_model.specs.Entries.{spelling, IsEntry};
 
 use ps_base::Memory;
 use ps_disk::{Disk, MemDisk, Torn};
 use ps_journal::{
     AppendRefusal, EntriesRefusal, Journal, JournalRefusal, JournalWhy, Verdict, judge,
 };
-use ps_record::{Batch, EntryRefusal, read_entry};
+use ps_record::{Batch, read_entry};
+use ps_types::Entry;
 use std::alloc::Global;
 use std::process::Abort;
 use std::test::Fail;
@@ -18,20 +20,24 @@ const GONE: &[u8] = b"\x03\x00\x09a.example";
 // A store of version 1 with one Boot, and its closed gate.
 const WHOLE: [u8; 31] = *b"PUBSUBJ1\x01\0\0\0\x11\0\0\x0epubsub.example7";
 
+// A batch of this one entry, whose bytes are few.
+fn only(alloc: Global, entry: &Entry) -> Result<Batch, Memory>
+    requires spelled { IsEntry entry.now }
+    requires short { length (spelling entry.now) ≤ 1000 }
+    ensures { IfOk result (λ b. b ≢ []) }
+{
+    let mut batch = Batch::new(alloc)?;
+    batch.push(entry)?;
+    Ok(batch)
+}
+
 // A batch of the one entry that the bytes spell.
 fn batch_of(alloc: Global, bytes: &[u8]) -> Result<Batch, Memory>
     ensures { IfOk result (λ b. b ≢ []) }
 {
     match read_entry(alloc, bytes, 0) {
-        Ok((entry, next)) => {
-            if next > 1000 {
-                return Err(Memory);
-            }
-            let mut batch = Batch::new(alloc)?;
-            batch.push(&entry)?;
-            Ok(batch)
-        }
-        Err(_) => Err(Memory),
+        Ok((entry, next)) if next <= 1000 => only(alloc, &entry),
+        _ => Err(Memory),
     }
 }
 
@@ -65,21 +71,20 @@ const TORN: [Torn; 5] = [
     Torn::Filled(80),
 ];
 
-// Opening begins the store by the calls 1 to 9, and each append makes four. Whatever a crash does to the calls since the last sync,
-// an entry is there once its append has answered Ok, and isn't before the last call but one.
-#[test]
-fn a_crash_after_each_call_leaves_a_front(rt: HostRuntime) -> Result<(), Fail> {
-    let boot = batch_of(rt.alloc(), BOOT)?;
-    let gone = batch_of(rt.alloc(), GONE)?;
-    let disk = MemDisk::new(rt.alloc(), b"", &[])?;
-    let (mut journal, count) = opened(rt.alloc(), disk).ok_or("not opened")?;
+// Appends two batches to a new store, each only where the limit has place for it.
+fn grow(rt: &impl Abort, alloc: Global, boot: &Batch, gone: &Batch) -> Result<MemDisk, Fail>
+    requires boot { boot.now ≢ [] }
+    requires gone { gone.now ≢ [] }
+{
+    let disk = MemDisk::new(alloc, b"", &[])?;
+    let (mut journal, count) = opened(alloc, disk).ok_or("not opened")?;
     let begun = journal.length();
-    let refused = journal.append(&boot, 30);
-    let first = journal.append(&boot, 31);
-    let full = journal.append(&gone, 47);
-    let second = journal.append(&gone, 48);
+    let refused = journal.append(boot, 30);
+    let first = journal.append(boot, 31);
+    let full = journal.append(gone, 47);
+    let second = journal.append(gone, 48);
     let length = journal.length();
-    let entries = journal.entries(rt.alloc());
+    let entries = journal.entries(alloc).ok().map(|list| list.len());
     let disk = journal.close();
     assert_eq!(rt; (count, begun, length, disk.calls()), (0, 9, 48, 19));
     assert_eq!(rt;
@@ -87,73 +92,124 @@ fn a_crash_after_each_call_leaves_a_front(rt: HostRuntime) -> Result<(), Fail> {
         (Err(AppendRefusal::Full), Err(AppendRefusal::Full))
     );
     assert!(rt; first.is_ok() && second.is_ok());
-    assert_eq!(rt; entries.ok().map(|list| list.len()), Some(2));
+    assert_eq!(rt; entries, Some(2));
+    Ok(disk)
+}
+
+fn grown(rt: &impl Abort, alloc: Global) -> Result<MemDisk, Fail> {
+    let boot = batch_of(alloc, BOOT)?;
+    let gone = batch_of(alloc, GONE)?;
+    grow(rt, alloc, &boot, &gone)
+}
+
+// Whatever a crash does to the calls since the last sync, an entry is there once its append has answered Ok, and isn't before the last
+// call but one.
+fn leaves_a_front(rt: &impl Abort, alloc: Global, disk: &MemDisk, calls: u64) -> Result<(), Fail> {
+    let (least, most) = match calls {
+        0..12 => (0, 0),
+        12 => (0, 1),
+        13..16 => (1, 1),
+        16 => (1, 2),
+        _ => (2, 2),
+    };
+    for torn in TORN {
+        let held = after_crash(alloc, disk, calls, torn).ok_or("not opened")?;
+        assert!(rt; least <= held && held <= most, "{calls}");
+    }
+    Ok(())
+}
+
+fn leaves_fronts(rt: &impl Abort, alloc: Global, disk: &MemDisk) -> Result<(), Fail> {
+    for calls in 0..=17 {
+        leaves_a_front(rt, alloc, disk, calls)?;
+    }
+    assert_eq!(rt; after_crash(alloc, disk, 12, Torn::Lost), Some(0));
+    assert_eq!(rt; after_crash(alloc, disk, 12, Torn::Whole), Some(1));
+    Ok(())
+}
+
+// Opening begins the store by the calls 1 to 9, and each append makes four.
+#[test]
+fn a_crash_after_each_call_leaves_a_front(rt: HostRuntime) -> Result<(), Fail> {
+    let disk = grown(&rt, rt.alloc())?;
     assert_eq!(rt;
         disk.bytes(),
         b"PUBSUBJ2\x01\0\0\0\x11\0\0\x0epubsub.example\x01\0\0\0\x0c\x03\0\x09a.example\0".as_slice()
     );
-    for calls in 0..=17 {
-        for torn in TORN {
-            let count = after_crash(rt.alloc(), &disk, calls, torn);
-            let (least, most) = match calls {
-                0..12 => (0, 0),
-                12 => (0, 1),
-                13..16 => (1, 1),
-                16 => (1, 2),
-                _ => (2, 2),
-            };
-            let held = count.ok_or("not opened")?;
-            assert!(rt; least <= held && held <= most, "{calls}");
-        }
+    leaves_fronts(&rt, rt.alloc(), &disk)
+}
+
+// Where this call of an append fails, the journal is broken for good, and opens again.
+fn breaks(rt: &impl Abort, alloc: Global, boot: &Batch, call: u64) -> Result<(), Fail>
+    requires { boot.now ≢ [] }
+{
+    let disk = MemDisk::new(alloc, b"", &[call])?;
+    let (mut journal, _) = opened(alloc, disk).ok_or("not opened")?;
+    let whole = journal.broken();
+    let first = journal.append(boot, 100);
+    let broken = journal.broken();
+    let again = journal.append(boot, 100);
+    let entries = journal.entries(alloc).err();
+    let disk = journal.close();
+    assert_eq!(rt; (whole, broken, disk.fault_count()), (None, Some(1), 1));
+    assert_eq!(rt;
+        (first, again),
+        (Err(AppendRefusal::Store), Err(AppendRefusal::Store))
+    );
+    assert_eq!(rt; entries, Some(EntriesRefusal::Store));
+    assert_eq!(rt; disk.calls(), call);
+    opens_again(rt, alloc, &disk, call)
+}
+
+// An entry may be there from call 12 on, which opens its gate.
+fn opens_again(rt: &impl Abort, alloc: Global, disk: &MemDisk, call: u64) -> Result<(), Fail> {
+    for torn in TORN {
+        let held = after_crash(alloc, disk, call, torn).ok_or("not opened")?;
+        assert!(rt; held == 0 || (call >= 12 && held == 1));
     }
-    assert_eq!(rt; after_crash(rt.alloc(), &disk, 12, Torn::Lost), Some(0));
-    assert_eq!(rt; after_crash(rt.alloc(), &disk, 12, Torn::Whole), Some(1));
     Ok(())
 }
 
-// Where call 10, the append's first, or one of the three behind it fails, the journal is broken for good, and opens again.
+// Where this call fails, the store isn't begun, and opens again.
+fn is_not_begun(rt: &impl Abort, alloc: Global, call: u64) -> Result<(), Fail> {
+    let disk = MemDisk::new(alloc, b"", &[call])?;
+    match Journal::open(alloc, disk) {
+        Ok((journal, _)) => {
+            let _ = journal.close();
+            Err(Fail::from("opened"))
+        }
+        Err(refusal) => {
+            let JournalRefusal { disk, why } = refusal;
+            assert!(rt; matches!(why, JournalWhy::Store));
+            assert_eq!(rt; after_crash(alloc, &disk, call, Torn::Filled(1)), Some(0));
+            Ok(())
+        }
+    }
+}
+
+// Beginning makes the calls 1 to 9, and the append the calls 10 to 13.
 #[test]
 fn a_fault_breaks_the_journal_for_good(rt: HostRuntime) -> Result<(), Fail> {
     let boot = batch_of(rt.alloc(), BOOT)?;
     for call in 10..=13 {
-        let disk = MemDisk::new(rt.alloc(), b"", &[call])?;
-        let (mut journal, _) = opened(rt.alloc(), disk).ok_or("not opened")?;
-        let whole = journal.broken();
-        let first = journal.append(&boot, 100);
-        let broken = journal.broken();
-        let again = journal.append(&boot, 100);
-        let entries = journal.entries(rt.alloc());
-        let disk = journal.close();
-        assert_eq!(rt; (whole, broken, disk.fault_count()), (None, Some(1), 1));
-        assert_eq!(rt;
-            (first, again),
-            (Err(AppendRefusal::Store), Err(AppendRefusal::Store))
-        );
-        assert_eq!(rt; entries.err(), Some(EntriesRefusal::Store));
-        assert_eq!(rt; disk.calls(), call);
-        for torn in TORN {
-            let held = after_crash(rt.alloc(), &disk, call, torn).ok_or("not opened")?;
-            assert!(rt; held == 0 || (call >= 12 && held == 1));
-        }
+        breaks(&rt, rt.alloc(), &boot, call)?;
     }
     for call in 1..=9 {
-        let disk = MemDisk::new(rt.alloc(), b"", &[call])?;
-        match Journal::open(rt.alloc(), disk) {
-            Ok((journal, _)) => {
-                let _ = journal.close();
-                return Err(Fail::from("opened"));
-            }
-            Err(refusal) => {
-                let JournalRefusal { disk, why } = refusal;
-                assert!(rt; matches!(why, JournalWhy::Store));
-                assert_eq!(rt;
-                    after_crash(rt.alloc(), &disk, call, Torn::Filled(1)),
-                    Some(0)
-                );
+        is_not_begun(&rt, rt.alloc(), call)?;
+    }
+    Ok(())
+}
+
+// Whether a crash after any of the disk's calls leaves one entry.
+fn always_leaves_one(alloc: Global, disk: &MemDisk) -> bool {
+    for calls in 0..=disk.calls() {
+        for torn in TORN {
+            if after_crash(alloc, disk, calls, torn) != Some(1) {
+                return false;
             }
         }
     }
-    Ok(())
+    true
 }
 
 // A store of version 1 opens with its entry and is one of version 2 then. A crash meanwhile leaves the entry.
@@ -167,11 +223,7 @@ fn a_store_of_version_1_is_upgraded(rt: HostRuntime) -> Result<(), Fail> {
         let disk = journal.close();
         bytes[7] = b'2';
         assert_eq!(rt; (count, disk.bytes()), (1, bytes.as_slice()));
-        for calls in 0..=disk.calls() {
-            for torn in TORN {
-                assert_eq!(rt; after_crash(rt.alloc(), &disk, calls, torn), Some(1));
-            }
-        }
+        assert!(rt; always_leaves_one(rt.alloc(), &disk));
     }
     Ok(())
 }

@@ -20,22 +20,38 @@ fn answers(rt: &HostRuntime, bytes: &[u8], failing: &[u64]) -> Result<String, Fa
     told
 }
 
+// What a reader answers; of a line its text, if it is short.
+fn word_of(next: &Result<NextLine, NextLineRefusal>) -> &str {
+    match next {
+        Ok(NextLine::Line(line)) => match std::str::from_utf8(line.as_slice()) {
+            Ok(text) if line.len() < 9 => text,
+            _ => "(many)",
+        },
+        Ok(NextLine::TooLong) => "(too long)",
+        Ok(NextLine::End) => "(end)",
+        Err(NextLineRefusal::ReadFault) => "(fault)",
+        Err(_) => "(other)",
+    }
+}
+
 fn five(rt: &HostRuntime, lines: &mut Lines<MemSource>) -> Result<String, Fail> {
     let mut told = String::new(rt.alloc());
     for _ in 0..5 {
-        match lines.next(rt.alloc()) {
-            Ok(NextLine::Line(line)) => match std::str::from_utf8(line.as_slice()) {
-                Ok(text) if line.len() < 9 => told.push_str(text)?,
-                _ => told.push_str("(many)")?,
-            },
-            Ok(NextLine::TooLong) => told.push_str("(too long)")?,
-            Ok(NextLine::End) => told.push_str("(end)")?,
-            Err(NextLineRefusal::ReadFault) => told.push_str("(fault)")?,
-            Err(_) => told.push_str("(other)")?,
-        }
+        let next = lines.next(rt.alloc());
+        told.push_str(word_of(&next))?;
         told.push_str(";")?;
     }
     Ok(told)
+}
+
+// A line of the greatest length, one that is longer, and a last one.
+fn put_long_lines(rt: &HostRuntime, text: &mut String) -> Result<(), Fail> {
+    let line = padded(rt, "", 262_144)?;
+    text.push_str(line.as_str())?;
+    text.push_str("\n ")?;
+    text.push_str(line.as_str())?;
+    text.push_str("\nlast\n")?;
+    Ok(())
 }
 
 #[test]
@@ -45,10 +61,8 @@ fn a_line_ends_at_its_newline_or_at_the_end(rt: HostRuntime) -> Result<(), Fail>
         "one;;two;(end);(end);"
     );
 
-    let mut text = padded(&rt, "", 262_144)?;
-    text.push_str("\n ")?;
-    text.push_str(padded(&rt, "", 262_144)?.as_str())?;
-    text.push_str("\nlast\n")?;
+    let mut text = String::new(rt.alloc());
+    put_long_lines(&rt, &mut text)?;
     let told = answers(&rt, text.as_bytes(), &[])?;
     assert_eq!(rt; told.as_str(), "(many);(too long);last;(end);(end);");
     Ok(())

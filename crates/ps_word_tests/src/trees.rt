@@ -29,33 +29,53 @@ fn texts_are_utf8(rt: HostRuntime) -> Result<(), Fail> {
     Ok(())
 }
 
+fn put(alloc: Global, attrs: &mut Attrs, name: &str, value: &str) -> Result<(), Fail> {
+    let name = Text::of(alloc, name)?;
+    let value = Text::of(alloc, value)?;
+    attrs.put(name, value)?;
+    Ok(())
+}
+
+// The creation of the node `news`.
+fn create(alloc: Global) -> Result<Elem, Fail> {
+    let name = Text::of(alloc, "create")?;
+    let ns = Text::of(alloc, "urn:p")?;
+    let mut attrs = Attrs::new(alloc);
+    put(alloc, &mut attrs, "node", "news")?;
+    Ok(Elem::new(name, ns, attrs, Kids::new(alloc)))
+}
+
+fn kids_of(alloc: Global, child: Elem) -> Result<Kids, Fail> {
+    let mut kids = Kids::new(alloc);
+    kids.push(Child::Tree(child))?;
+    Ok(kids)
+}
+
+fn pubsub(alloc: Global) -> Result<Elem, Fail> {
+    let name = Text::of(alloc, "pubsub")?;
+    let ns = Text::of(alloc, "urn:p")?;
+    let kids = kids_of(alloc, create(alloc)?)?;
+    Ok(Elem::new(name, ns, Attrs::new(alloc), kids))
+}
+
+// Whether it has that child of one namespace and not of another, and that child its attribute.
+fn creates_news(tree: &Elem) -> bool {
+    let node = match tree.child("create", "urn:p") {
+        Some(create) => create.attr("node"),
+        None => None,
+    };
+    let is_news = match node {
+        Some(node) => node.is("news"),
+        None => false,
+    };
+    is_news && tree.child("create", "urn:q").is_none()
+}
+
 #[test]
 fn an_element_gives_its_attributes_and_children(rt: HostRuntime) -> Result<(), Fail> {
-    let alloc = rt.alloc();
-    let mut attrs = Attrs::new(alloc);
-    attrs.put(Text::of(alloc, "node")?, Text::of(alloc, "news")?)?;
-    let create = Elem::new(
-        Text::of(alloc, "create")?,
-        Text::of(alloc, "urn:p")?,
-        attrs,
-        Kids::new(alloc),
-    );
-    let mut kids = Kids::new(alloc);
-    kids.push(Child::Tree(create))?;
-    let whole = Elem::new(
-        Text::of(alloc, "pubsub")?,
-        Text::of(alloc, "urn:p")?,
-        Attrs::new(alloc),
-        kids,
-    );
+    let whole = pubsub(rt.alloc())?;
     let copy = whole.clone()?;
-    let node = copy
-        .child("create", "urn:p")
-        .ok_or("no child")?
-        .attr("node")
-        .ok_or("no node")?;
-    assert!(rt; node.is("news"));
-    assert!(rt; copy.child("create", "urn:q").is_none());
+    assert!(rt; creates_news(&copy));
     Ok(())
 }
 
@@ -120,29 +140,32 @@ fn a_line_that_is_no_tree_is_refused(rt: HostRuntime) -> Result<(), Fail> {
     depths_are_refused(&rt, rt.alloc())
 }
 
+fn put_ends(alloc: Global, attrs: &mut Attrs) -> Result<(), Fail> {
+    put(alloc, attrs, "type", "result")?;
+    put(alloc, attrs, "to", "ann@a.example/1")?;
+    put(alloc, attrs, "id", "1")?;
+    put(alloc, attrs, "from", "pubsub.example")
+}
+
+fn result(alloc: Global) -> Result<Elem, Fail> {
+    let name = Text::of(alloc, "iq")?;
+    let ns = Text::of(alloc, "jabber:client")?;
+    let mut attrs = Attrs::new(alloc);
+    put_ends(alloc, &mut attrs)?;
+    Ok(Elem::new(name, ns, attrs, Kids::new(alloc)))
+}
+
+fn is_printed(alloc: Global, tree: &Elem, line: &str) -> Result<bool, Fail> {
+    let printed = print_tree(alloc, tree)?;
+    Ok(printed.as_slice() == line.as_bytes())
+}
+
 #[test]
 fn a_tree_is_printed_in_one_way(rt: HostRuntime) -> Result<(), Fail> {
-    let mut attrs = Attrs::new(rt.alloc());
-    for (name, value) in [
-        ("type", "result"),
-        ("to", "ann@a.example/1"),
-        ("id", "1"),
-        ("from", "pubsub.example"),
-    ] {
-        attrs.put(Text::of(rt.alloc(), name)?, Text::of(rt.alloc(), value)?)?;
-    }
-    let name = Text::of(rt.alloc(), "iq")?;
-    assert!(rt; !name.is_empty());
-    let ns = Text::of(rt.alloc(), "jabber:client")?;
-    let reply = Elem::new(name, ns, attrs, Kids::new(rt.alloc()));
-    assert_eq!(rt;
-        print_tree(rt.alloc(), &reply)?.as_slice(),
-        RESULT.as_bytes()
-    );
+    let result = result(rt.alloc())?;
+    assert!(rt; !result.name.is_empty());
+    assert!(rt; is_printed(rt.alloc(), &result, RESULT)?);
     let create = read_tree(rt.alloc(), padded(&rt, CREATE, 400)?.as_bytes())?;
-    assert_eq!(rt;
-        print_tree(rt.alloc(), &create)?.as_slice(),
-        CREATE.as_bytes()
-    );
+    assert!(rt; is_printed(rt.alloc(), &create, CREATE)?);
     Ok(())
 }
