@@ -1,5 +1,5 @@
 -- What contracts see of a journal.
-use Rattle.std.specs.Prelude.{◌≡◌, ◌≢◌, ◌⊎◌, ◌+◌, ◌<◌, ℕ, List, Option, None, Some, length}
+use Rattle.std.specs.Prelude.{◌≡◌, ◌≢◌, ◌⊎◌, ◌+◌, ◌<◌, ℕ, List, Option, None, Some, Result, Err, length}
 use Rattle.ps_base.specs.Causes.{Rose}
 use Rattle.ps_disk.specs.Disk.{MayLeave, LeavesOnly}
 use Rattle.ps_disk.specs.declared.device.Disk.{Ghosts}
@@ -48,9 +48,9 @@ IsWhole journal = journal.broken ≡ None
 abbrev pub Has : {D : Type 0} {g : Ghosts D} → Journal D g → List Entry → Type 0
 Has journal entries = spelled (seen_in journal) entries
 
--- the disk and what is known of a fault are as before
-abbrev pub IsUnmoved : {D : Type 0} {g : Ghosts D} → Journal D g → Journal D g → Type 0
-IsUnmoved old new = (new.disk ≡ old.disk) × (new.broken ≡ old.broken)
+-- a journal that has failed answers so again, and its disk and what is known of the fault are as before
+abbrev pub StaysBroken : {D T E : Type 0} {g : Ghosts D} → Result T E → E → Journal D g → Journal D g → Type 0
+StaysBroken result why old new = (result ≡ Err why) × (new.disk ≡ old.disk) × (new.broken ≡ old.broken)
 
 -- nothing was written, and nothing has failed
 abbrev pub IsUntouched : {D : Type 0} {g : Ghosts D} → Journal D g → Journal D g → Type 0

@@ -58,7 +58,7 @@ impl<D: Disk> Journal<D> {
     ghost use Rattle.ps_journal.specs.Opened.{IsOpened, ArePlaced, HasLength, HasHeader, HasNoHeader, Upgrades};
     ghost use Rattle.ps_journal.specs.Opened.{IsWhyDamaged, StaysIfDamaged, IsShortIfUnbegun, LeftOrHas};
     ghost use Rattle.ps_journal.specs.Journal.{disk_of, length_of, broken_of, seen_in, synced_in, written_in, faults_in};
-    ghost use Rattle.ps_journal.specs.Journal.{IsBroken, IsWhole, Has, IsUnmoved, IsUntouched, HasFault, KeepsFirstFault};
+    ghost use Rattle.ps_journal.specs.Journal.{IsBroken, IsWhole, Has, StaysBroken, IsUntouched, HasFault, KeepsFirstFault};
     ghost use Rattle.ps_journal.specs.Journal.{IsAsLongAs, IsLongerBy, IsBegunIn, WouldPass, CrashLeaves, Keeps, Leaves, IsFrontIn};
     ghost use Rattle.ps_journal.specs.Left.{IsWithOrWithout, LeavesAtLeast};
 
@@ -141,7 +141,7 @@ impl<D: Disk> Journal<D> {
         ensures full { IsErrOf result AppendRefusal.Full ↔ WouldPass limit self.old batch.now }
         ensures full_writes_nothing { IsErrOf result AppendRefusal.Full → IsUntouched self.old self.new }
         ensures store { IsErrOf result AppendRefusal.Store → HasFault self.old self.new }
-        ensures for_good { IsBroken self.old → (result ≡ Err AppendRefusal.Store) × IsUnmoved self.old self.new }
+        ensures for_good { IsBroken self.old → StaysBroken result AppendRefusal.Store self.old self.new }
         ensures first_fault { IsWhole self.old → IsErrOf result AppendRefusal.Store → KeepsFirstFault self.new }
         ensures length { OnOk result (IsLongerBy batch.now self.old self.new) }
         ensures grows { length_of self.old ≤ length_of self.new }
@@ -180,7 +180,7 @@ impl<D: Disk> Journal<D> {
     pub fn entries(&mut self, alloc: Global) -> Result<Vec<Entry>, EntriesRefusal>
         ensures entries { D.tells → (E : List Entry) → Has self.old E → IfOk result (λ v. v.items ≡ E) }
         ensures store { IsErrOf result EntriesRefusal.Store → HasFault self.old self.new }
-        ensures for_good { IsBroken self.old → (result ≡ Err EntriesRefusal.Store) × IsUnmoved self.old self.new }
+        ensures for_good { IsBroken self.old → StaysBroken result EntriesRefusal.Store self.old self.new }
         ensures first_fault { IsWhole self.old → IsErrOf result EntriesRefusal.Store → KeepsFirstFault self.new }
         ensures still_whole { IsWhole self.old → (result ≢ Err EntriesRefusal.Store) → IsWhole self.new }
         ensures length { length_of self.new ≡ length_of self.old }
