@@ -37,5 +37,5 @@ pub record IsIndexed {S T : Type 0} (nodes : IndexMap NodeKey NodeRest S) (made 
   pub marked : served.rows ≡ service_marks (map row_of nodes.entries)
 
 -- how many more rows are taken without memory, each with a tally and a mark of its own
-abbrev pub room_with : {K V T S : Type 0} → IndexMap K V S → IndexMap ℕ T S → Table (Option ℕ) → ℕ
+abbrev pub room_with : {K V T S H : Type 0} → IndexMap K V S → IndexMap ℕ T H → Table (Option ℕ) → ℕ
 room_with nodes made served = min (room_of nodes made) served.spare
