@@ -1,0 +1,7 @@
+pub mod Order
+pub mod Placed
+pub mod Narrowed
+pub mod Reached
+pub mod Heard
+pub mod Spread
+pub mod More
