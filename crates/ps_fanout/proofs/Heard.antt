@@ -42,9 +42,6 @@ parts_hear book node joins items up config is_on event who =
     option_map (parts_tree node joins config event who)
     (cond (may_hear book node config is_on who) (heard_by (may_pass book who (way_by book (not joins) items node up who)) (not joins && is_interested book node who) (way_by book (not joins) items node up who)) None)
 
-hears-parts : (book : Book) (n : News) (who : Jid) → hears book n who ≡ parts_hear book n.node.now n.joins n.items n.above.items n.config.now n.is_on n.event who
-hears-parts book n who = refl
-
 -- the parts of the news are these
 parts-are : (book : Book) (node : NodeKey) (joins items : Bool) (up : List NodeKey) (config : NodeConfig) (is_on : Bool) (inside : Tree) (n : News) → IsNews node joins items up config is_on inside n → (who : Jid)
     → hears book n who ≡ parts_hear book node joins items up config is_on (tree (codes "event") event_ns [] (branch inside none)) who
@@ -71,7 +68,7 @@ node-tells book items node switch inside config is_on n at on is who =
     parts-are book node false items (above node book.links) config is_on (inside config) n is who
     ∙ ap (λ (x : Bool). parts_hear book node false items (above node book.links) config x (tree (codes "event") event_ns [] (branch (inside config) none)) who) on
     ∙ one-of (may_hear book node config (config.deliver_notifications && switch config) who) (may_pass book who (way_to book items node who)) (is_interested book node who) (way_to book items node who)
-        (parts_tree node false config (tree (codes "event") event_ns [] (branch (inside config) none)) who)
+    (parts_tree node false config (tree (codes "event") event_ns [] (branch (inside config) none)) who)
     ∙ sym (ap (λ (o : Option NodeConfig). node_notice book (about_node book items node switch inside) who o) at)
 
 -- a node that was put into a collection
@@ -82,7 +79,7 @@ join-tells book node collection config is_on n at on is who =
     parts-are book node true false (collection ∷ above collection book.links) config is_on (associate_tree node collection) n is who
     ∙ ap (λ (x : Bool). parts_hear book node true false (collection ∷ above collection book.links) config x (tree (codes "event") event_ns [] (branch (associate_tree node collection) none)) who) on
     ∙ one-of (may_hear book node config (config.deliver_notifications && true) who) (may_pass book who (way_to_new book collection who)) false (way_to_new book collection who)
-        (parts_tree node true config (tree (codes "event") event_ns [] (branch (associate_tree node collection) none)) who)
+    (parts_tree node true config (tree (codes "event") event_ns [] (branch (associate_tree node collection) none)) who)
     ∙ sym (ap (λ (o : Option NodeConfig). node_notice book (about_new book node collection) who o) at)
 
 -- where nothing stands nothing is told

@@ -1,7 +1,8 @@
-pub mod Order
+pub mod Ordered
 pub mod Placed
 pub mod Narrowed
 pub mod Reached
 pub mod Heard
 pub mod Spread
 pub mod More
+pub mod Due

@@ -1,5 +1,5 @@
 -- What is given depends on those alone that are given something.
-use Rattle.std.proofs.Common.{◌≡◌, ◌⊎◌, inl, inr, Bool, true, false, cond, List, [], ◌∷◌, Option, Some, None, refl, sym, ap, ◌∙◌}
+use Rattle.std.proofs.Common.{◌≡◌, ◌⊎◌, inl, inr, Bool, true, false, cond, List, [], ◌∷◌, Option, Some, None, refl, sym, ap, ap₂, ◌∙◌}
 use Rattle.std.specs.Prelude.{filter, filter_map, is_some, option_map}
 use Rattle.std.specs.List.{AllByRecursion as Each, cons_option}
 use Rattle.std.specs.declared.cmp.Ordering.TheVariants.{Less}
@@ -8,7 +8,7 @@ use Rattle.ps_types.specs.Tree.{Tree}
 use Rattle.ps_types.specs.declared.jid.Jid.{Jid}
 use Rattle.ps_model.specs.Sorted.{sorted}
 use Rattle.ps_fanout.specs.Told.{given_to}
-use Rattle.ps_fanout.proofs.Order.{Ascend, In, ascend-sorted, in-sorted, one-order, text_cmp}
+use Rattle.ps_fanout.proofs.Ordered.{Ascend, In, ascend-sorted, in-sorted, one-order, text_cmp}
 
 module _ (p : Jid → Bool) where
   each-filter : (P : Jid → Type 0) (xs : List Jid) → Each P xs → Each P (filter p xs)
@@ -28,6 +28,7 @@ module _ (p : Jid → Bool) where
       at false more = more
 
   in-filter : (j : Jid) (xs : List Jid) → p j ≡ true → In j xs → In j (filter p xs)
+  in-filter j [] h i = absurd i
   in-filter j (x ∷ xs) h i = at (p x) refl i (in-filter j xs h)
     where
       at : (b : Bool) → p x ≡ b → (j ≡ x) ⊎ In j xs → (In j xs → In j (filter p xs)) → In j (cond b (x ∷ filter p xs) (filter p xs))
@@ -38,6 +39,7 @@ module _ (p : Jid → Bool) where
 
   -- what passes, passes and is there
   filter-passes : (j : Jid) (xs : List Jid) → In j (filter p xs) → p j ≡ true
+  filter-passes j [] i = absurd i
   filter-passes j (x ∷ xs) i = at (p x) refl i (filter-passes j xs)
     where
       at : (b : Bool) → p x ≡ b → In j (cond b (x ∷ filter p xs) (filter p xs)) → (In j (filter p xs) → p j ≡ true) → p j ≡ true
@@ -62,7 +64,9 @@ module _ (gives : Jid → Option Tree) where
       at : (o : Option Tree) → gives x ≡ o → given_to gives xs ≡ given_to gives (filter gives_some xs)
           → cons_option (option_map (λ t. (x, t)) o) (given_to gives xs) ≡ given_to gives (cond (is_some o) (x ∷ filter gives_some xs) (filter gives_some xs))
       at None e more = more
-      at (Some t) e more = rw e (ap (λ (l : List (Jid × Tree)). (x, t) ∷ l) more)
+      at (Some t) e more =
+          ap (λ (l : List (Jid × Tree)). (x, t) ∷ l) more
+          ∙ sym (ap (λ (o : Option Tree). cons_option (option_map (λ (u : Tree). (x, u)) o) (given_to gives (filter gives_some xs))) e)
 
   -- the same is given to these addresses as to those, where whoever is given something is among both
   pub same-given : (xs ys : List Jid) → Each IsAddress xs → Each IsAddress ys → ((j : Jid) → is_some (gives j) ≡ true → In j xs) → ((j : Jid) → is_some (gives j) ≡ true → In j ys)
@@ -72,8 +76,9 @@ module _ (gives : Jid → Option Tree) where
 -- equal gifts
 pub given-alike : (f g : Jid → Option Tree) → ((who : Jid) → f who ≡ g who) → (xs : List Jid) → given_to f xs ≡ given_to g xs
 given-alike f g same [] = refl
-given-alike f g same (x ∷ xs) = rw (same x, given-alike f g same xs) refl
+given-alike f g same (x ∷ xs) =
+    ap₂ (λ (o : Option Tree) (l : List (Jid × Tree)). cons_option (option_map (λ (t : Tree). (x, t)) o) l) (same x) (given-alike f g same xs)
 
 pub none-given : (f : Jid → Option Tree) → ((who : Jid) → f who ≡ None) → (xs : List Jid) → given_to f xs ≡ []
 none-given f none [] = refl
-none-given f none (x ∷ xs) = rw (none x) (none-given f none xs)
+none-given f none (x ∷ xs) = ap (λ (o : Option Tree). cons_option (option_map (λ (t : Tree). (x, t)) o) (given_to f xs)) (none x) ∙ none-given f none xs

@@ -21,11 +21,12 @@ use Rattle.ps_model.specs.Access.{is_account}
 use Rattle.ps_fanout.specs.Hearing.{heard, heard_by, heard_tree, hears, is_delivered, is_wanted, subscribers, way_by, way_in, wanting, wished}
 use Rattle.ps_fanout.specs.declared.news.News.{News}
 use Rattle.ps_rows.specs.Standing.{standing}
-use Rattle.ps_fanout.proofs.Order.{In}
+use Rattle.ps_fanout.proofs.Ordered.{In}
 
 -- ---- lists
 
 pub in-left : (j : Jid) (xs ys : List Jid) → In j xs → In j (xs ++ ys)
+in-left j [] ys i = absurd i
 in-left j (x ∷ xs) ys (inl e) = inl e
 in-left j (x ∷ xs) ys (inr i) = inr (in-left j xs ys i)
 
@@ -100,13 +101,17 @@ wish-in who feature (r ∷ rows) h = at (same_jid who r.who) refl h (wish-in who
         (here ((same_jid-Decides who r.who).0 e) (list_any (bytes_eq feature) r.features) h)
     at false e h more = in-right who (wished feature (Some r)) (flat_map (λ (row : ResourceRow). wished feature (Some row)) rows) (more h)
 
+open-in : (b : Bool) (j : Jid) (xs : List Jid) → b ≡ true → In j xs → In j (cond b xs [])
+open-in true j xs e i = i
+open-in false j xs e i = absurd (true≢false (sym e))
+
 -- whoever is interested is among those that want the node
 pub interest-in : (book : Book) (node : NodeKey) (who : Jid) → is_interested book node who ≡ true → In who (wanting book node)
 interest-in book node who h =
     let one = and_parts (is_account node.service && wants who node.name book.resources && is_entitled book node who) (not (is_subscriber book node who)) h in
     let two = and_parts (is_account node.service && wants who node.name book.resources) (is_entitled book node who) one.0 in
     let three = and_parts (is_account node.service) (wants who node.name book.resources) two.0 in
-    rw three.0 (wish-in who (notify_feature node.name) book.resources three.1)
+    open-in (is_account node.service) who (flat_map (λ (row : ResourceRow). wished (notify_feature node.name) (Some row)) book.resources) three.0 (wish-in who (notify_feature node.name) book.resources three.1)
 
 -- ---- who hears
 

@@ -16,13 +16,16 @@ use Rattle.ps_types.proofs.Same.{same_jid-Decides}
 use Rattle.ps_model.specs.Book.{Book}
 use Rattle.ps_model.specs.Given as model
 use Rattle.ps_model.specs.Given.{asked, given}
+use Rattle.ps_model.specs.NoticeTrees.{question}
 use Rattle.ps_model.specs.Sorted.{sorted}
+use Rattle.ps_model.specs.Stanza.{host_jid}
 use Rattle.ps_model.proofs.Asked.{is-among-asked}
 use Rattle.ps_fanout.specs.Hearing.{Tells, candidates, hears, spread, wanting}
 use Rattle.ps_fanout.specs.Told.{AreAddresses, given_to, is_of_node, to_one, told}
+use Rattle.ps_fanout.specs.Trees.{approval, last_for, sub_tree}
 use Rattle.ps_fanout.specs.declared.news.News.{News}
 use Rattle.ps_fanout.proofs.Narrowed.{given-alike, none-given, same-given}
-use Rattle.ps_fanout.proofs.Order.{In, in-any}
+use Rattle.ps_fanout.proofs.Ordered.{In, in-any}
 use Rattle.ps_fanout.proofs.Reached.{each-append, each-candidate, each-wanting, hears-in, interest-in}
 
 some-tree : (o : Option Tree) → is_some o ≡ true → (t : Tree) × (o ≡ Some t)
@@ -36,8 +39,8 @@ all_whos book = map (λ row. row.who) book.subs ++ map (λ row. row.who) book.re
 spread-some : (book : Book) (event : Event) (n : News) → AreAddresses book → asked book event ≡ all_whos book → Tells book (given book event) (Some n) → spread book (Some n) ≡ told book event
 spread-some book event n are all tells =
     let among : (who : Jid) → is_some (hears book n who) ≡ true → In who (all_whos book) = λ who h.
-    let given : is_some (given book event who) ≡ true = subst (λ (o : Option Tree). is_some o ≡ true) (tells who) h in
-    let t = some-tree (given book event who) given in
+    let has : is_some (given book event who) ≡ true = subst (λ (o : Option Tree). is_some o ≡ true) (tells who) h in
+    let t = some-tree (given book event who) has in
     subst (λ (xs : List Jid). In who xs) all (in-any who (asked book event) (is-among-asked book event who t.0 t.1)) in
     same-given (hears book n) (candidates book n) (all_whos book)
     (each-candidate IsAddress book n.node.now n.above.items (wanting book n.node.now) are.subs (each-wanting IsAddress book n.node.now are.resources))
@@ -79,14 +82,21 @@ single-told book event to o all gives =
 to-itself : (to : Jid) (o : Option Tree) → model.to_one to to o ≡ o
 to-itself to o = ap (λ (b : Bool). cond b o None) ((same_jid-Decides to to).1 refl)
 
-pub approval-told : (book : Book) (node : NodeKey) (owner who : Jid) (t : Tree) → model.to_one owner owner (Some t) ≡ given book (Approval node owner who) owner → told book (Approval node owner who) ≡ to_one owner (Some t)
-approval-told book node owner who t e = single-told book (Approval node owner who) owner (Some t) refl (sym e ∙ to-itself owner (Some t))
+one-told : (book : Book) (event e : Event) (to : Jid) (o : Option Tree) → event ≡ e → asked book e ≡ to ∷ [] → given book e to ≡ o → to_one to o ≡ told book event
+one-told book event e to o same all gives = sym (single-told book e to o all gives) ∙ ap (told book) (sym same)
 
-pub sub-told : (book : Book) (node : NodeKey) (who : Jid) (state : SubState) (t : Tree) → model.to_one who who (Some t) ≡ given book (Told node who state) who → told book (Told node who state) ≡ to_one who (Some t)
-sub-told book node who state t e = single-told book (Told node who state) who (Some t) refl (sym e ∙ to-itself who (Some t))
+pub approval-told : (book : Book) (event : Event) (node : NodeKey) (owner who : Jid) (t : Tree) → event ≡ Approval node owner who → t ≡ approval node owner who → to_one owner (Some t) ≡ told book event
+approval-told book event node owner who t same e =
+    one-told book event (Approval node owner who) owner (Some t) same refl (to-itself owner (Some (approval node owner who)) ∙ ap (λ (u : Tree). Some u) (sym e))
 
-pub last-told : (book : Book) (node : NodeKey) (to : Jid) (by : Bool) (moment : Option ℕ) (o : Option Tree) → model.to_one to to o ≡ given book (Last node to by moment) to → told book (Last node to by moment) ≡ to_one to o
-last-told book node to by moment o e = single-told book (Last node to by moment) to o refl (sym e ∙ to-itself to o)
+pub sub-told : (book : Book) (event : Event) (node : NodeKey) (who : Jid) (state : SubState) (t : Tree) → event ≡ Told node who state → t ≡ sub_tree node who state → to_one who (Some t) ≡ told book event
+sub-told book event node who state t same e =
+    one-told book event (Told node who state) who (Some t) same refl (to-itself who (Some (sub_tree node who state)) ∙ ap (λ (u : Tree). Some u) (sym e))
 
-pub question-told : (book : Book) (to : Jid) (caps : Caps) (t : Tree) → model.to_one to to (Some t) ≡ given book (Question to caps) to → told book (Question to caps) ≡ to_one to (Some t)
-question-told book to caps t e = single-told book (Question to caps) to (Some t) refl (sym e ∙ to-itself to (Some t))
+pub last-told : (book : Book) (event : Event) (node : NodeKey) (to : Jid) (by : Bool) (moment : Option ℕ) (o : Option Tree) → event ≡ Last node to by moment → o ≡ last_for book node to by moment
+    → to_one to o ≡ told book event
+last-told book event node to by moment o same e = one-told book event (Last node to by moment) to o same refl (to-itself to (last_for book node to by moment) ∙ sym e)
+
+pub question-told : (book : Book) (event : Event) (to : Jid) (caps : Caps) (t : Tree) → event ≡ Question to caps → t ≡ question (host_jid book.service) to caps → to_one to (Some t) ≡ told book event
+question-told book event to caps t same e =
+    one-told book event (Question to caps) to (Some t) same refl (to-itself to (Some (question (host_jid book.service) to caps)) ∙ ap (λ (u : Tree). Some u) (sym e))

@@ -46,11 +46,7 @@ fn add_above(
     Ok(())
 }
 
-fn add_wish(
-    whos: &mut Vec<Jid>,
-    slot: &Option<ResourceRow>,
-    feature: &Text,
-) -> Result<(), Memory>
+fn add_wish(whos: &mut Vec<Jid>, slot: &Option<ResourceRow>, feature: &Text) -> Result<(), Memory>
     ensures { OnOk result (whos.new.items ≡ whos.old.items ++ wished feature.now slot.now) }
 {
     let Some(row) = slot else {

@@ -22,9 +22,8 @@ fn is_of_node(event: &Event) -> bool
     ensures { result ≡ model.is_of_node event.now }
 {
     match event {
-        Event::Approval { .. } | Event::Told { .. } | Event::Last { .. } | Event::Question { .. } => {
-            false
-        }
+        Event::Approval { .. } | Event::Told { .. } | Event::Last { .. } | Event::Question { .. } =>
+            { false }
         _ => true,
     }
 }
@@ -78,7 +77,11 @@ fn single(alloc: Global, tables: &Tables, event: &Event) -> Result<Vec<(Jid, Ele
             to_one(alloc, owner, Some(approval(alloc, node, owner, who)?))
         }
         Event::Told { node, who, state } => {
-            to_one(alloc, who, Some(subscription_told(alloc, node, who, *state)?))
+            to_one(
+                alloc,
+                who,
+                Some(subscription_told(alloc, node, who, *state)?),
+            )
         }
         Event::Last {
             node,

@@ -21,8 +21,7 @@ use std::alloc::Global;
 fn is_delivered(tables: &Tables, news: &News<'_>, who: &Jid) -> bool
     ensures { result ≡ model.is_delivered (book_of tables.now) news.now who.now }
 {
-    news.is_on
-        && (!news.config.presence_based_delivery || tables.presence.is_present(who))
+    news.is_on && (!news.config.presence_based_delivery || tables.presence.is_present(who))
 }
 
 fn way_in<'a>(tables: &Tables, news: &'a News<'_>, who: &Jid) -> Way<'a>
@@ -32,12 +31,7 @@ fn way_in<'a>(tables: &Tables, news: &'a News<'_>, who: &Jid) -> Way<'a>
     way_by(tables, !news.joins, news.items, news.node, above, who)
 }
 
-fn is_wanted(
-    alloc: Global,
-    tables: &Tables,
-    news: &News<'_>,
-    who: &Jid,
-) -> Result<bool, Memory>
+fn is_wanted(alloc: Global, tables: &Tables, news: &News<'_>, who: &Jid) -> Result<bool, Memory>
     ensures { IfOk result (λ is. is ≡ model.is_wanted (book_of tables.now) news.now who.now) }
 {
     if news.joins {
@@ -91,12 +85,7 @@ fn heard_tree(alloc: Global, news: &News<'_>, who: &Jid, way: &Way<'_>) -> Resul
 }
 
 // The stanza by which the address hears of it, if it does.
-fn hears(
-    alloc: Global,
-    tables: &Tables,
-    news: &News<'_>,
-    who: &Jid,
-) -> Result<Option<Elem>, Memory>
+fn hears(alloc: Global, tables: &Tables, news: &News<'_>, who: &Jid) -> Result<Option<Elem>, Memory>
     ensures { IfOk result (λ t. t ≡ model.hears (book_of tables.now) news.now who.now) }
 {
     match heard(alloc, tables, news, who)? {

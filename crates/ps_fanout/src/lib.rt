@@ -13,6 +13,7 @@ mod asked;
 mod fanout;
 mod hearing;
 mod last;
+mod laws;
 mod moments;
 mod news;
 mod order;
@@ -23,4 +24,5 @@ mod wanting;
 mod ways;
 
 pub use fanout::notices;
+pub use laws::one_event_is_told;
 pub use moments::stamp;

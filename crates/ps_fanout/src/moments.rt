@@ -2,7 +2,8 @@
 ghost use Rattle.std.specs.Prelude.{◌≡◌, ◌<◌, IfOk};
 ghost use Rattle.ps_model.specs.Stamp as model;
 
-use jiff::{Offset, Timestamp};
+use jiff::Timestamp;
+use jiff::tz::Offset;
 use ps_base::Memory;
 use ps_types::Text;
 use std::alloc::Global;

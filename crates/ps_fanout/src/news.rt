@@ -44,7 +44,10 @@ pub(crate) struct News<'a> {
 fn is_of_items(change: &Change<'_>) -> bool
     ensures { result ≡ model.is_of_items change.now }
 {
-    matches!(change, Change::Items(_) | Change::Retract(_) | Change::Purge)
+    matches!(
+        change,
+        Change::Items(_) | Change::Retract(_) | Change::Purge
+    )
 }
 
 // Whether the configuration has it told, beside having notices delivered at all.

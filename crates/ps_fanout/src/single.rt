@@ -88,7 +88,13 @@ fn subscription(alloc: Global, node: &NodeKey, who: &Jid, state: SubState) -> Re
     put(alloc, &mut attrs, "node", node.name.as_str())?;
     put(alloc, &mut attrs, "jid", who.text(alloc)?.as_str())?;
     let row = element(alloc, "subscription", PUBSUB, attrs, Kids::new(alloc))?;
-    element(alloc, "pubsub", PUBSUB, Attrs::new(alloc), only(alloc, row)?)
+    element(
+        alloc,
+        "pubsub",
+        PUBSUB,
+        Attrs::new(alloc),
+        only(alloc, row)?,
+    )
 }
 
 /// The address is told what became of its subscription.
@@ -124,12 +130,7 @@ fn question_attrs(alloc: Global, from: &str, to: &str) -> Result<Attrs, Memory>
 }
 
 /// The resource is asked for its capabilities.
-pub(crate) fn question(
-    alloc: Global,
-    service: &Text,
-    to: &Jid,
-    caps: &Caps,
-) -> Result<Elem, Memory>
+pub(crate) fn question(alloc: Global, service: &Text, to: &Jid, caps: &Caps) -> Result<Elem, Memory>
     ensures { IfOk result (λ t. t ≡ model.question (host_jid service.now) to.now caps.now) }
 {
     let mut about = Attrs::new(alloc);

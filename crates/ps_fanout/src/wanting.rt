@@ -68,12 +68,7 @@ fn is_subscribed(state: SubState) -> bool
 }
 
 // Whether the address or its bare address is subscribed to the node.
-fn is_subscriber(
-    alloc: Global,
-    tables: &Tables,
-    node: &NodeKey,
-    who: &Jid,
-) -> Result<bool, Memory>
+fn is_subscriber(alloc: Global, tables: &Tables, node: &NodeKey, who: &Jid) -> Result<bool, Memory>
     ensures { IfOk result (λ is. is ≡ model.is_subscriber (book_of tables.now) node.now who.now) }
 {
     let bare = who.to_bare(alloc)?;

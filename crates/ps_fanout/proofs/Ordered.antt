@@ -28,6 +28,7 @@ Ascend [] = Unit {0}
 Ascend (x ∷ xs) = Each (λ y. text_cmp x y ≡ Less) xs × Ascend xs
 
 pub each-in : (P : Jid → Type 0) (j : Jid) (xs : List Jid) → Each P xs → In j xs → P j
+each-in P j [] ps i = absurd i
 each-in P j (x ∷ xs) ps (inl e) = subst P (sym e) ps.0
 each-in P j (x ∷ xs) ps (inr i) = each-in P j xs ps.1 i
 
@@ -73,6 +74,7 @@ put-itself who (x ∷ xs) is are = at (text_cmp who x) refl (put-itself who xs i
     at Greater e more = inr more
 
 put-other : (j who : Jid) (xs : List Jid) → In j xs → In j (put_sorted who xs)
+put-other j who [] i = absurd i
 put-other j who (x ∷ xs) i = at (text_cmp who x) i (put-other j who xs)
   where
     at : (o : Ordering) → (j ≡ x) ⊎ In j xs → (In j xs → In j (put_sorted who xs)) → In j (match_ordering o (who ∷ x ∷ xs) (x ∷ xs) (x ∷ put_sorted who xs))
@@ -82,6 +84,7 @@ put-other j who (x ∷ xs) i = at (text_cmp who x) i (put-other j who xs)
     at Greater (inr k) more = inr (more k)
 
 pub in-sorted : (j : Jid) (xs : List Jid) → Each IsAddress xs → In j xs → In j (sorted xs)
+in-sorted j [] are i = absurd i
 in-sorted j (x ∷ xs) are (inl e) = subst (λ (k : Jid). In k (put_sorted x (sorted xs))) (sym e) (put-itself x (sorted xs) are.0 (each-sorted IsAddress xs are.1))
 in-sorted j (x ∷ xs) are (inr i) = put-other j x (sorted xs) (in-sorted j xs are.1 i)
 
