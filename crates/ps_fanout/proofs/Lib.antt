@@ -1,8 +1,4 @@
 pub mod Ordered
 pub mod Placed
 pub mod Narrowed
-pub mod Reached
-pub mod Heard
-pub mod Spread
-pub mod More
 pub mod Due

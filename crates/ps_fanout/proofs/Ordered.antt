@@ -34,11 +34,11 @@ each-in P j (x ∷ xs) ps (inr i) = each-in P j xs ps.1 i
 
 pub in-any : (j : Jid) (xs : List Jid) → list_any (same_jid j) xs ≡ true → In j xs
 in-any j [] h = absurd (cc)
-in-any j (x ∷ xs) h = at (same_jid j x) refl h
+in-any j (x ∷ xs) h = at (same_jid j x) refl h (in-any j xs)
   where
-    at : (b : Bool) → same_jid j x ≡ b → (b || list_any (same_jid j) xs) ≡ true → In j (x ∷ xs)
-    at true e h = inl ((same_jid-Decides j x).0 e)
-    at false e h = inr (in-any j xs h)
+    at : (b : Bool) → same_jid j x ≡ b → (b || list_any (same_jid j) xs) ≡ true → (list_any (same_jid j) xs ≡ true → In j xs) → In j (x ∷ xs)
+    at true e h more = inl ((same_jid-Decides j x).0 e)
+    at false e h more = inr (more h)
 
 -- ---- what holds of each
 
@@ -115,21 +115,21 @@ not-both s t e f = let turned : slice_cmp nat_cmp s t ≡ Greater = nat_list_cmp
 
 -- ---- two ordered lists of the same addresses are one
 
-heads : (a b : Jid) (as bs : List Jid) → Each (λ y. text_cmp a y ≡ Less) as → Each (λ y. text_cmp b y ≡ Less) bs → (a ≡ b) ⊎ In a bs → (b ≡ a) ⊎ In b as → a ≡ b
-heads a b as bs far far' (inl e) q = e
-heads a b as bs far far' (inr i) (inl e) = sym e
-heads a b as bs far far' (inr i) (inr k) = absurd (not-both (jid_text a) (jid_text b) (each-in (λ y. text_cmp a y ≡ Less) b as far k) (each-in (λ y. text_cmp b y ≡ Less) a bs far' i))
+heads : (a b : Jid) (us vs : List Jid) → Each (λ y. text_cmp a y ≡ Less) us → Each (λ y. text_cmp b y ≡ Less) vs → (a ≡ b) ⊎ In a vs → (b ≡ a) ⊎ In b us → a ≡ b
+heads a b us vs far far' (inl e) q = e
+heads a b us vs far far' (inr i) (inl e) = sym e
+heads a b us vs far far' (inr i) (inr k) = absurd (not-both (jid_text a) (jid_text b) (each-in (λ y. text_cmp a y ≡ Less) b us far k) (each-in (λ y. text_cmp b y ≡ Less) a vs far' i))
 
-tails : (a b j : Jid) (as bs : List Jid) → a ≡ b → Each (λ y. text_cmp a y ≡ Less) as → In j as → (j ≡ b) ⊎ In j bs → In j bs
-tails a b j as bs same far i (inl e) =
-    absurd (never (jid_text a) (subst (λ (k : Jid). text_cmp a k ≡ Less) (e ∙ sym same) (each-in (λ y. text_cmp a y ≡ Less) j as far i)))
-tails a b j as bs same far i (inr k) = k
+tails : (a b j : Jid) (us vs : List Jid) → a ≡ b → Each (λ y. text_cmp a y ≡ Less) us → In j us → (j ≡ b) ⊎ In j vs → In j vs
+tails a b j us vs same far i (inl e) =
+    absurd (never (jid_text a) (subst (λ (k : Jid). text_cmp a k ≡ Less) (e ∙ sym same) (each-in (λ y. text_cmp a y ≡ Less) j us far i)))
+tails a b j us vs same far i (inr k) = k
 
-pub one-order : (as bs : List Jid) → Ascend as → Ascend bs → ((j : Jid) → In j as → In j bs) → ((j : Jid) → In j bs → In j as) → as ≡ bs
+pub one-order : (us vs : List Jid) → Ascend us → Ascend vs → ((j : Jid) → In j us → In j vs) → ((j : Jid) → In j vs → In j us) → us ≡ vs
 one-order [] [] u v f g = refl
-one-order [] (b ∷ bs) u v f g = absurd (g b (inl refl))
-one-order (a ∷ as) [] u v f g = absurd (f a (inl refl))
-one-order (a ∷ as) (b ∷ bs) u v f g =
-    let same : a ≡ b = heads a b as bs u.0 v.0 (f a (inl refl)) (g b (inl refl)) in
-    let rest : as ≡ bs = one-order as bs u.1 v.1 (λ j i. tails a b j as bs same u.0 i (f j (inr i))) (λ j i. tails b a j bs as (sym same) v.0 i (g j (inr i))) in
+one-order [] (b ∷ vs) u v f g = absurd (g b (inl refl))
+one-order (a ∷ us) [] u v f g = absurd (f a (inl refl))
+one-order (a ∷ us) (b ∷ vs) u v f g =
+    let same : a ≡ b = heads a b us vs u.0 v.0 (f a (inl refl)) (g b (inl refl)) in
+    let rest : us ≡ vs = one-order us vs u.1 v.1 (λ j i. tails a b j us vs same u.0 i (f j (inr i))) (λ j i. tails b a j vs us (sym same) v.0 i (g j (inr i))) in
     ap₂ (λ (x : Jid) (xs : List Jid). x ∷ xs) same rest

@@ -23,7 +23,7 @@ fn by_text(alloc: Global, mut whos: Vec<Jid>) -> Result<BTreeMap<Text, Jid>, Mem
     Ok(map)
 }
 
-fn in_order(alloc: Global, mut map: BTreeMap<Text, Jid>) -> Result<Vec<Jid>, Memory>
+fn values_of(alloc: Global, mut map: BTreeMap<Text, Jid>) -> Result<Vec<Jid>, Memory>
     ensures { IfOk result (λ v. v.items ≡ values map) }
 {
     let mut whos = Vec::new(alloc);
@@ -34,10 +34,10 @@ fn in_order(alloc: Global, mut map: BTreeMap<Text, Jid>) -> Result<Vec<Jid>, Mem
 }
 
 /// The addresses in the order of the octets of their printed form, each once.
-pub(crate) fn sorted(alloc: Global, whos: Vec<Jid>) -> Result<Vec<Jid>, Memory>
+pub fn in_order(alloc: Global, whos: Vec<Jid>) -> Result<Vec<Jid>, Memory>
     requires addresses { AllByRecursion IsAddress whos.items }
     ensures { IfOk result (λ v. v.items ≡ model.sorted whos.items) }
 {
     let map = by_text(alloc, whos)?;
-    in_order(alloc, map)
+    values_of(alloc, map)
 }
