@@ -3,8 +3,10 @@
 
 mod laws;
 mod moments;
+mod news;
 mod order;
+mod ways;
 
-pub use laws::one_event_is_told;
+pub use laws::{one_event_is_told, those_asked_suffice};
 pub use moments::stamp;
 pub use order::in_order;
