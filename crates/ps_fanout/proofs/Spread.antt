@@ -16,10 +16,13 @@ use Rattle.ps_types.proofs.Same.{same_jid-Decides}
 use Rattle.ps_model.specs.Book.{Book}
 use Rattle.ps_model.specs.Given as model
 use Rattle.ps_model.specs.Given.{asked, given}
+use Rattle.ps_model.specs.NoticeTrees.{question}
 use Rattle.ps_model.specs.Sorted.{sorted}
+use Rattle.ps_model.specs.Stanza.{host_jid}
 use Rattle.ps_model.proofs.Asked.{is-among-asked}
 use Rattle.ps_fanout.specs.Hearing.{Tells, candidates, hears, spread, wanting}
 use Rattle.ps_fanout.specs.Told.{AreAddresses, given_to, is_of_node, to_one, told}
+use Rattle.ps_fanout.specs.Trees.{approval, last_for, sub_tree}
 use Rattle.ps_fanout.specs.declared.news.News.{News}
 use Rattle.ps_fanout.proofs.Narrowed.{given-alike, none-given, same-given}
 use Rattle.ps_fanout.proofs.Ordered.{In, in-any}
@@ -81,3 +84,19 @@ to-itself to o = ap (λ (b : Bool). cond b o None) ((same_jid-Decides to to).1 r
 
 one-told : (book : Book) (event e : Event) (to : Jid) (o : Option Tree) → event ≡ e → asked book e ≡ to ∷ [] → given book e to ≡ o → to_one to o ≡ told book event
 one-told book event e to o same all gives = sym (single-told book e to o all gives) ∙ ap (told book) (sym same)
+
+pub approval-told : (book : Book) (event : Event) (node : NodeKey) (owner who : Jid) (t : Tree) → event ≡ Approval node owner who → t ≡ approval node owner who → to_one owner (Some t) ≡ told book event
+approval-told book event node owner who t same e =
+    one-told book event (Approval node owner who) owner (Some t) same refl (to-itself owner (Some (approval node owner who)) ∙ ap (λ (u : Tree). Some u) (sym e))
+
+pub sub-told : (book : Book) (event : Event) (node : NodeKey) (who : Jid) (state : SubState) (t : Tree) → event ≡ Told node who state → t ≡ sub_tree node who state → to_one who (Some t) ≡ told book event
+sub-told book event node who state t same e =
+    one-told book event (Told node who state) who (Some t) same refl (to-itself who (Some (sub_tree node who state)) ∙ ap (λ (u : Tree). Some u) (sym e))
+
+pub last-told : (book : Book) (event : Event) (node : NodeKey) (to : Jid) (by : Bool) (moment : Option ℕ) (o : Option Tree) → event ≡ Last node to by moment → o ≡ last_for book node to by moment
+    → to_one to o ≡ told book event
+last-told book event node to by moment o same e = one-told book event (Last node to by moment) to o same refl (to-itself to (last_for book node to by moment) ∙ sym e)
+
+pub question-told : (book : Book) (event : Event) (to : Jid) (caps : Caps) (t : Tree) → event ≡ Question to caps → t ≡ question (host_jid book.service) to caps → to_one to (Some t) ≡ told book event
+question-told book event to caps t same e =
+    one-told book event (Question to caps) to (Some t) same refl (to-itself to (Some (question (host_jid book.service) to caps)) ∙ ap (λ (u : Tree). Some u) (sym e))

@@ -5,6 +5,8 @@ mod laws;
 mod moments;
 mod news;
 mod order;
+mod single;
+mod trees;
 mod ways;
 
 pub use laws::{one_event_is_told, those_asked_suffice};
