@@ -1,0 +1,4 @@
+pub mod Asked
+pub mod Fifo
+pub mod Keeping
+pub mod Readied

@@ -1,0 +1,23 @@
+//! The notices that wait to be handed out, in one queue for each bare address, first in, first out.
+//!
+//! [`Outboxes`] is seen as a `Boxes` (`specs/Boxes.antt`): the list of the notices that wait, in the order in which they were pushed, the bare
+//! addresses for which room was made, and the room. The queue of an address is what that list has for its bare address.
+//!
+//! - Nothing is shown before it is durable: [`Outboxes::peek`] and [`Outboxes::ready`] are given the number of entries that are, and show the
+//!   first notice of an address only where the place of its entry is below that number.
+//! - [`Outboxes::reserve`] alone takes memory. With spare, a [`Outboxes::push`] can't be refused.
+//! - A push, a peek and a drop go to the queue of their address by its digest (`ps_rows`). The next ready notice of a host is the host's first one,
+//!   as long as notices are pushed in the order of their entries; where they aren't, the addresses are gone through.
+//! - [`first_in_first_out`] is the law on the queues: a push adds to the end of its own queue, a drop takes from the front of its own, and no
+//!   other queue changes.
+#![tactic(auto)]
+
+mod asks;
+mod boxes;
+mod kept;
+mod laws;
+#[cfg(test)]
+mod tests;
+
+pub use boxes::Outboxes;
+pub use laws::first_in_first_out;
