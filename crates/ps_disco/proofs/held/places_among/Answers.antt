@@ -1,4 +1,4 @@
-use Rattle.std.proofs.Common.{rules, ◌≡◌, false, ◌||◌, ap, ap₂, sym, subst, ◌∙◌}
+use Rattle.std.proofs.Common.{rules, ◌≡◌, ◌||◌, Some, None, ap, ap₂, sym, subst, ◌∙◌}
 use Rattle.std.specs.Prelude.{nat_eq}
 use Rattle.std.specs.BTreeSet.{insert_key}
 use Rattle.std.specs.Ordering.{nat_cmp}
@@ -13,8 +13,8 @@ loop-child-preserved-in_default c = λ at.
     let book = book_of c.args.tables.now in
     let collection = c.args.collection.now in
     let here = at_place c.args.children.now c.loop-child.child-index c.child-item.result c.loop-child-test.true c.child-item.is in
-    let none : false ≡ is_held_at book collection c.child-item.result at = subst (λ o. IsPlaceIn book collection c.child-item.result o) c.in_default.is c.place_of.ensures at in
-    c.loop-child.invariant at ∙ any_same (λ node. is_held_at book collection node at) c.args.children.now c.loop-child.child-index c.child-item.result here none
+    let none : IsPlaceIn book collection c.child-item.result None = subst (λ o. IsPlaceIn book collection c.child-item.result o) c.in_default.is c.place_of.ensures in
+    c.loop-child.invariant at ∙ any_same (λ node. is_held_at book collection node at) c.args.children.now c.loop-child.child-index c.child-item.result here (none at)
 
 pub loop-child-preserved : goal.loop-child-preserved
 loop-child-preserved c = λ at.
@@ -23,9 +23,9 @@ loop-child-preserved c = λ at.
     let place = c.in-Some.place in
     let keys = c.loop-child.places.keys in
     let here = at_place c.args.children.now c.loop-child.child-index c.child-item.result c.loop-child-test.true c.child-item.is in
-    let some : nat_eq at place ≡ is_held_at book collection c.child-item.result at = subst (λ o. IsPlaceIn book collection c.child-item.result o) c.in-Some.is c.place_of.ensures at in
+    let some : IsPlaceIn book collection c.child-item.result (Some place) = subst (λ o. IsPlaceIn book collection c.child-item.result o) c.in-Some.is c.place_of.ensures in
     let put : c.insert.new.self.keys ≡ insert_key nat_cmp keys place = search rules in
     ap (is_place at) put
     ∙ (is_place-inserted at place keys
     ∙ (or_back (nat_eq at place) (is_place at keys)
-    ∙ (ap₂ (λ a b. a || b) (c.loop-child.invariant at) some ∙ sym (any_next (λ node. is_held_at book collection node at) c.args.children.now c.loop-child.child-index c.child-item.result here))))
+    ∙ (ap₂ (λ a b. a || b) (c.loop-child.invariant at) (some at) ∙ sym (any_next (λ node. is_held_at book collection node at) c.args.children.now c.loop-child.child-index c.child-item.result here))))
