@@ -42,11 +42,7 @@ fn places_among(
 }
 
 // The places of the nodes that the collection holds.
-fn places_of(
-    alloc: Global,
-    tables: &Tables,
-    collection: &NodeKey,
-) -> Result<BTreeSet<u64>, Memory>
+fn places_of(alloc: Global, tables: &Tables, collection: &NodeKey) -> Result<BTreeSet<u64>, Memory>
     ensures { IfOk result (λ places. AreHeld (book_of tables.now) collection.now places.keys) }
 {
     let children = tables.links.children(alloc, collection)?;
@@ -70,12 +66,7 @@ fn add_place(
     }
 }
 
-fn entries_at(
-    alloc: Global,
-    tables: &Tables,
-    places: &[u64],
-    jid: &Text,
-) -> Result<Kids, Memory>
+fn entries_at(alloc: Global, tables: &Tables, places: &[u64], jid: &Text) -> Result<Kids, Memory>
     ensures { IfOk result (λ kids. kids ≡ row_children jid.now (rows_at places.now tables.now.nodes.rows)) }
 {
     let mut kids = Kids::new(alloc);

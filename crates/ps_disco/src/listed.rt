@@ -15,9 +15,7 @@ use crate::held::held_entries;
 use crate::info::query;
 use ps_access::{Tables, allow, is_account_address, key_of, must_stand, verdict_read};
 use ps_base::Memory;
-use ps_types::{
-    Elem, Jid, Kids, NodeKey, NodeKind, Plan, PlanRefusal, Request, Text, Verdict,
-};
+use ps_types::{Elem, Jid, Kids, NodeKey, NodeKind, Plan, PlanRefusal, Request, Text, Verdict};
 use std::alloc::Global;
 
 // A node that is named stands, and may be read.
@@ -135,12 +133,7 @@ fn listed_kids(
     entries_in(alloc, tables, request, &key, &jid)
 }
 
-fn child(
-    alloc: Global,
-    tables: &Tables,
-    request: &Request,
-    node: &Text,
-) -> Result<Elem, Memory>
+fn child(alloc: Global, tables: &Tables, request: &Request, node: &Text) -> Result<Elem, Memory>
     ensures { IfOk result (λ t. t ≡ model.nodes_child (book_of tables.now) request.now node.now) }
 {
     let kids = listed_kids(alloc, tables, request, node)?;
