@@ -2,3 +2,5 @@ pub mod Trees
 pub mod Keyed
 pub mod Places
 pub mod Under
+pub mod Steps
+pub mod Offered

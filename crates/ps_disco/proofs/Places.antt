@@ -36,45 +36,62 @@ less x y h = ranked x y Less (sym h)
 abbrev below : ℕ → List ℕ → List ℕ
 below n places = filter (λ p. nat_lt p n) places
 
+skipped : {X : Type 0} (x : X) (xs : List X) (b : Bool) → b ≡ false → xs ≡ [] → cond b (x ∷ xs) xs ≡ []
+skipped x xs true e h = absurd (cc)
+skipped x xs false e h = h
+
 none_below : (x m : ℕ) (places : List ℕ) → m ≤ suc x → AllByRecursion (λ y. nat_cmp x y ≡ Less) places → below m places ≡ []
 none_below x m [] h a = refl
 none_below x m (y ∷ places) h a =
     let l : x < y = less x y a.0 in
-    let f : nat_lt y m ≡ false = lt_false y m (omega (arith, l, h)) in
-    rw f (none_below x m places h a.1)
+    skipped y (below m places) (nat_lt y m) (lt_false y m (omega (arith, l, h))) (none_below x m places h a.1)
+
+more_by : (n x : ℕ) (places : List ℕ) (b c d : Bool) → b ≡ nat_lt x (suc n) → c ≡ nat_lt x n → d ≡ nat_eq n x → AllByRecursion (λ y. nat_cmp x y ≡ Less) places
+    → below (suc n) places ≡ below n places ++ cond (is_place n places) (n ∷ []) []
+    → cond b (x ∷ below (suc n) places) (below (suc n) places) ≡ cond c (x ∷ below n places) (below n places) ++ cond (d || is_place n places) (n ∷ []) []
+more_by n x places true true true p q r a more = let l = lt_order x n (sym q) in let e = eq_order n x (sym r) in absurd (omega (arith, l, e))
+more_by n x places true true false p q r a more = ap (λ ps. x ∷ ps) more
+more_by n x places true false true p q r a more =
+    let e = eq_order n x (sym r) in
+    let none : below (suc n) places ≡ [] = none_below x (suc n) places (omega (arith, e)) a in
+    let none' : below n places ≡ [] = none_below x n places (omega (arith, e)) a in
+    ap (λ ps. x ∷ ps) none ∙ (ap (λ y. y ∷ []) (sym e) ∙ ap (λ ps. ps ++ n ∷ []) (sym none'))
+more_by n x places true false false p q r a more =
+    let l = lt_order x (suc n) (sym p) in
+    let k = lt_not x n (sym q) in
+    let e : n ≡ x = omega (arith, l, k) in
+    let t : nat_eq n x ≡ true = ap (nat_eq n) (sym e) ∙ eq_itself n in
+    absurd (cc (r, t))
+more_by n x places false true d p q r a more = let l = lt_not x (suc n) (sym p) in let k = lt_order x n (sym q) in absurd (omega (arith, l, k))
+more_by n x places false false true p q r a more = let l = lt_not x (suc n) (sym p) in let e = eq_order n x (sym r) in absurd (omega (arith, l, e))
+more_by n x places false false false p q r a more = more
 
 below_more : (n : ℕ) (places : List ℕ) → IsStrictlySortedBy nat_cmp places → below (suc n) places ≡ below n places ++ cond (is_place n places) (n ∷ []) []
 unfolding IsStrictlySortedBy
 below_more n [] s = refl
-below_more n (x ∷ places) s = by (nat_lt x n) refl (nat_eq n x) refl (below_more n places s.1)
-  where
-    by : (b : Bool) → nat_lt x n ≡ b → (c : Bool) → nat_eq n x ≡ c → below (suc n) places ≡ below n places ++ cond (is_place n places) (n ∷ []) []
-        → below (suc n) (x ∷ places) ≡ below n (x ∷ places) ++ cond (is_place n (x ∷ places)) (n ∷ []) []
-    by true p true q more = let l = lt_order x n p in let e = eq_order n x q in absurd (omega (arith, l, e))
-    by true p false q more = let l = lt_order x n p in let t : nat_lt x (suc n) ≡ true = lt_true x (suc n) (omega (arith, l)) in rw (t, p, q) (ap (λ r. x ∷ r) more)
-    by false p true q more =
-        let e = eq_order n x q in
-        let t : nat_lt x (suc n) ≡ true = lt_true x (suc n) (omega (arith, e)) in
-        let none : below (suc n) places ≡ [] = none_below x (suc n) places (omega (arith, e)) s.0 in
-        let none' : below n places ≡ [] = none_below x n places (omega (arith, e)) s.0 in
-        rw (t, p, q, none, none') (ap (λ y. y ∷ []) (sym e))
-    by false p false q more =
-        let l = lt_not x n p in
-        let t : nat_lt x (suc n) ≡ false = lt_false x (suc n) (apart l) in
-        rw (t, p, q) more
-      where
-        apart : n ≤ x → suc n ≤ x
-        apart l = grind (arith, nat_tests, q, l)
+below_more n (x ∷ places) s = more_by n x places (nat_lt x (suc n)) (nat_lt x n) (nat_eq n x) refl refl refl s.0 (below_more n places s.1)
+
+first_true : (b c : Bool) → b ≡ true → (b || c) ≡ true
+first_true true c h = refl
+first_true false c h = absurd (cc)
+
+later_true : (b c : Bool) → c ≡ true → (b || c) ≡ true
+later_true true c h = refl
+later_true false c h = h
+
+taken : {X : Type 0} (x : X) (xs ys : List X) (b : Bool) → b ≡ true → xs ≡ ys → cond b (x ∷ xs) xs ≡ x ∷ ys
+taken x xs ys true e h = ap (λ r. x ∷ r) h
+taken x xs ys false e h = absurd (cc)
 
 all_below : (n : ℕ) (places : List ℕ) → ((p : ℕ) → is_place p places ≡ true → p < n) → below n places ≡ places
 all_below n [] h = refl
 all_below n (x ∷ places) h =
-    let t : nat_lt x n ≡ true = lt_true x n (h x (rw (eq_itself x) refl)) in
-    rw t (ap (λ r. x ∷ r) (all_below n places (λ p k. h p (later (nat_eq p x) k))))
-  where
-    later : (b : Bool) {c : Bool} → c ≡ true → (b || c) ≡ true
-    later true k = refl
-    later false k = k
+    let t : nat_lt x n ≡ true = lt_true x n (h x (first_true (nat_eq x x) (is_place x places) (eq_itself x))) in
+    taken x (below n places) places (nat_lt x n) t (all_below n places (λ p k. h p (later_true (nat_eq p x) (is_place p places) k)))
+
+zero_below : (places : List ℕ) → below zero places ≡ []
+zero_below [] = refl
+zero_below (p ∷ places) = skipped p (below zero places) (nat_lt p zero) (lt_false p zero (omega arith)) (zero_below places)
 
 module _ {R : Type 0} where
   rows_at-append : (xs ys : List ℕ) (rows : List R) → rows_at (xs ++ ys) rows ≡ rows_at xs rows ++ rows_at ys rows
@@ -97,15 +114,11 @@ module _ {R : Type 0} (test : R → Bool) where
   last_one : (o : Option R) (n : ℕ) (rows : List R) (b : Bool) → slice_get rows n ≡ o → b ≡ passes_at test o → rows_at (cond b (n ∷ []) []) rows ≡ passing test o
   last_one None n rows true s e = absurd (cc)
   last_one None n rows false s e = refl
-  last_one (Some row) n rows true s e = rw (s, sym e) refl
-  last_one (Some row) n rows false s e = rw (sym e) refl
+  last_one (Some row) n rows true s e = let t : true ≡ test row = e in ap (λ o. option_list o ++ []) s ∙ ap (λ b. cond b (row ∷ []) []) t
+  last_one (Some row) n rows false s e = let t : false ≡ test row = e in ap (λ b. cond b (row ∷ []) []) t
 
   listed : (rows : List R) (places : List ℕ) → IsStrictlySortedBy nat_cmp places → ArePlaces test rows places → (n : ℕ) → rows_at (below n places) rows ≡ filter test (take n rows)
   listed rows places s are zero = ap (λ p. rows_at p rows) (zero_below places)
-    where
-      zero_below : (ps : List ℕ) → below zero ps ≡ []
-      zero_below [] = refl
-      zero_below (p ∷ ps) = rw (lt_false p zero (omega arith)) (zero_below ps)
   listed rows places s are (suc n) =
       ap (λ p. rows_at p rows) (below_more n places s)
       ∙ (rows_at-append (below n places) (cond (is_place n places) (n ∷ []) []) rows

@@ -5,14 +5,14 @@ use Rattle.ps_types.specs.declared.tree.Child.{Child}
 use Rattle.ps_types.specs.declared.tree.Child.TheVariants as child
 use Rattle.ps_types.specs.Elem.{nodes}
 use Rattle.ps_types.specs.Shape.{holding}
-use Rattle.ps_types.specs.Tree.{Tree}
+use Rattle.ps_types.specs.Tree.{Tree, branch}
 use Rattle.ps_rows.specs.Standing.{passing}
 
 module _ {X : Type 0} (tree_of : X → Tree) where
   -- children made of a list hold its trees
   pub nodes-made : (xs : List X) → nodes (map (λ x. child.Tree (tree_of x)) xs) ≡ holding (map tree_of xs)
   nodes-made [] = refl
-  nodes-made (x ∷ xs) = rw (nodes-made xs) refl
+  nodes-made (x ∷ xs) = ap (branch (tree_of x)) (nodes-made xs)
 
 module _ {X : Type 0} (test : X → Bool) where
   -- one place more

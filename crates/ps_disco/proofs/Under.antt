@@ -1,5 +1,5 @@
 -- The nodes under a collection by the links to it.
-use Rattle.std.proofs.Common.{◌≡◌, ℕ, Bool, true, false, cond, ◌&&◌, ◌||◌, List, [], ◌∷◌, Option, Some, None, refl, ap, sym, ◌∙◌, map, filter}
+use Rattle.std.proofs.Common.{◌≡◌, ℕ, Bool, true, false, cond, ◌&&◌, ◌||◌, List, [], ◌∷◌, Option, Some, None, refl, ap, sym, subst, ◌∙◌, map, filter}
 use Rattle.std.specs.Prelude.{nat_eq, find, option_map}
 use Rattle.std.specs.List.{list_any}
 use Rattle.std.specs.BTreeSet.{insert_key}
@@ -32,7 +32,9 @@ same_number k x h = ranked k x Equal (sym h)
 inserted : (at k x : ℕ) (ks : List ℕ) (o : Ordering) → nat_cmp k x ≡ o → is_place at (insert_key nat_cmp ks k) ≡ (nat_eq at k || is_place at ks)
     → is_place at (match_ordering o (k ∷ x ∷ ks) (x ∷ ks) (x ∷ insert_key nat_cmp ks k)) ≡ (nat_eq at k || is_place at (x ∷ ks))
 inserted at k x ks Less e more = refl
-inserted at k x ks Equal e more = let s : k ≡ x = same_number k x e in rw s (twice (nat_eq at x) (is_place at ks))
+inserted at k x ks Equal e more =
+    let s : k ≡ x = same_number k x e in
+    subst (λ y. is_place at (x ∷ ks) ≡ (nat_eq at y || is_place at (x ∷ ks))) (sym s) (twice (nat_eq at x) (is_place at ks))
   where
     twice : (a b : Bool) → (a || b) ≡ (a || (a || b))
     twice true b = refl
@@ -48,15 +50,45 @@ is_place-inserted at k (x ∷ ks) = inserted at k x ks (nat_cmp k x) refl (is_pl
 same_back : (a b : NodeKey) → same_node a b ≡ true → same_node b a ≡ true
 same_back a b h = (same_node-Decides b a).1 (sym ((same_node-Decides a b).0 h))
 
-or_later : (b : Bool) {c : Bool} → c ≡ true → (b || c) ≡ true
-or_later true h = refl
-or_later false h = h
+or_later : (b c : Bool) → c ≡ true → (b || c) ≡ true
+or_later true c h = refl
+or_later false c h = h
+
+or_first : (b c : Bool) → b ≡ true → (b || c) ≡ true
+or_first true c h = refl
+or_first false c h = absurd (cc)
 
 first_or : (b : Bool) → (b || false) ≡ true → b ≡ true
 first_or true h = refl
 first_or false h = h
 
 module _ (node collection : NodeKey) where
+  -- what is under a collection is named by a link to it
+  abbrev under : Option NodeKey → Bool
+  under None = false
+  under (Some at) = same_node collection at
+
+  under_climb : (o : Option NodeKey) (links : List LinkRow) → list_any (same_node collection) (climb 1 o links) ≡ true → under o ≡ true
+  under_climb None links h = h
+  under_climb (Some at) links h = first_or (same_node collection at) h
+
+  kept : (x : LinkRow) (links : List LinkRow) (b : Bool) → list_any (λ child. same_node child node) (children_in collection links) ≡ true
+      → list_any (λ child. same_node child node) (map (λ row. row.child) (cond b (x ∷ filter (is_link_to collection) links) (filter (is_link_to collection) links))) ≡ true
+  kept x links true h = or_later (same_node x.child node) (list_any (λ child. same_node child node) (children_in collection links)) h
+  kept x links false h = h
+
+  here : (x : LinkRow) (links : List LinkRow) (b : Bool) → b ≡ true → same_node x.child node ≡ true
+      → list_any (λ child. same_node child node) (map (λ row. row.child) (cond b (x ∷ filter (is_link_to collection) links) (filter (is_link_to collection) links))) ≡ true
+  here x links true e h = or_first (same_node x.child node) (list_any (λ child. same_node child node) (children_in collection links)) h
+  here x links false e h = absurd (cc)
+
+  named_step : (x : LinkRow) (links : List LinkRow) (b : Bool) → is_link_of node x ≡ b → (under (collection_of node links) ≡ true → list_any (λ child. same_node child node) (children_in collection links) ≡ true)
+      → under (option_map (λ (row : LinkRow). row.collection) (cond b (Some x) (find (is_link_of node) links))) ≡ true → list_any (λ child. same_node child node) (children_in collection (x ∷ links)) ≡ true
+  named_step x links true e more h =
+      let k : same_node collection x.collection ≡ true = h in
+      here x links (is_link_to collection x) k (same_back node x.child e)
+  named_step x links false e more h = kept x links (is_link_to collection x) (more h)
+
   -- what is under a collection is named by a link to it
   abbrev under : Option NodeKey → Bool
   under None = false
@@ -86,19 +118,21 @@ module _ (collection : NodeKey) (links : List LinkRow) where
 
   none_held : (node : NodeKey) → holds node ≡ false → (nodes : List NodeKey) → list_any (λ child. same_node child node && holds child) nodes ≡ false
   none_held node h [] = refl
-  none_held node h (x ∷ nodes) = by (same_node x node) refl
+  none_held node h (x ∷ nodes) = by (same_node x node) (holds x) (λ e. ap holds ((same_node-Decides x node).0 e) ∙ h) (none_held node h nodes)
     where
-      by : (b : Bool) → same_node x node ≡ b → list_any (λ child. same_node child node && holds child) (x ∷ nodes) ≡ false
-      by true e = let s : x ≡ node = (same_node-Decides x node).0 e in let k : holds x ≡ false = ap holds s ∙ h in rw (e, k) (none_held node h nodes)
-      by false e = rw e (none_held node h nodes)
+      by : (a b : Bool) {rest : Bool} → (a ≡ true → b ≡ false) → rest ≡ false → ((a && b) || rest) ≡ false
+      by true true f k = let e : true ≡ false = f refl in absurd (cc)
+      by true false f k = k
+      by false b f k = k
 
   some_held : (node : NodeKey) → holds node ≡ true → (nodes : List NodeKey) → list_any (λ child. same_node child node) nodes ≡ true → list_any (λ child. same_node child node && holds child) nodes ≡ true
   some_held node h [] k = absurd (cc)
-  some_held node h (x ∷ nodes) k = by (same_node x node) refl
+  some_held node h (x ∷ nodes) k = by (same_node x node) (holds x) (λ e. ap holds ((same_node-Decides x node).0 e) ∙ h) k (λ m. some_held node h nodes m)
     where
-      by : (b : Bool) → same_node x node ≡ b → list_any (λ child. same_node child node && holds child) (x ∷ nodes) ≡ true
-      by true e = let s : x ≡ node = (same_node-Decides x node).0 e in let t : holds x ≡ true = ap holds s ∙ h in rw (e, t) refl
-      by false e = rw e (some_held node h nodes (rw e at k))
+      by : (a b : Bool) {rest both : Bool} → (a ≡ true → b ≡ true) → (a || rest) ≡ true → (rest ≡ true → both ≡ true) → ((a && b) || both) ≡ true
+      by true true f m g = refl
+      by true false f m g = let e : false ≡ true = f refl in absurd (cc)
+      by false b f m g = g m
 
   held_by : (node : NodeKey) (b : Bool) → holds node ≡ b → list_any (λ child. same_node child node && holds child) (children_in collection links) ≡ b
   held_by node true e = some_held node e (children_in collection links) (named node collection links (under_climb node collection (collection_of node links) links e))

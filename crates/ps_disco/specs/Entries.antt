@@ -55,3 +55,7 @@ entries_in book r node = node_entries book r (node_at node book.nodes)
 -- the nodes that a collection holds
 abbrev pub held_rows : Book → NodeKey → List NodeRow
 held_rows book collection = filter (is_held_by book collection) book.nodes
+
+-- these nodes, as the target's
+abbrev pub nodes_in : Book → Request → NodeKey → List Tree
+nodes_in book r collection = map (node_entry r.target) (held_rows book collection)

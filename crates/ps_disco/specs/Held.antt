@@ -42,7 +42,11 @@ is_held_at book collection node at = is_there node (slice_get book.nodes at) && 
 abbrev pub IsPlaceIn : Book → NodeKey → NodeKey → Option ℕ → Type 0
 IsPlaceIn book collection node place = (at : ℕ) → is_at_place at place ≡ is_held_at book collection node at
 
--- the places of the nodes that the collection holds
+-- the places of those of the nodes that the collection holds
+abbrev pub AreFound : Book → NodeKey → List NodeKey → List ℕ → Type 0
+AreFound book collection nodes places = (at : ℕ) → is_place at places ≡ list_any (λ node. is_held_at book collection node at) nodes
+
+-- the places of all nodes that the collection holds
 abbrev pub AreHeld : Book → NodeKey → List ℕ → Type 0
 AreHeld book collection places = ArePlaces (is_held_by book collection) book.nodes places
 

@@ -96,12 +96,7 @@ fn is_offered(at_account: bool, var: &str) -> bool
 }
 
 // Adds a feature, where it is offered.
-fn add_feature(
-    alloc: Global,
-    kids: &mut Kids,
-    at_account: bool,
-    var: &str,
-) -> Result<(), Memory>
+fn add_feature(alloc: Global, kids: &mut Kids, at_account: bool, var: &str) -> Result<(), Memory>
     ensures { OnOk result (kids.new ≡ kids.old ++ offered_children at_account (var.now ∷ [])) }
 {
     if is_offered(at_account, var) {

@@ -2,7 +2,7 @@
 ghost use Rattle.std.specs.Prelude.{◌≡◌, ◌++◌, IfOk, OnOk, map};
 ghost use Rattle.ps_access.specs.Tables.{book_of};
 ghost use Rattle.ps_disco.specs.Entries.{Hold, held_rows, row_children, row_at};
-ghost use Rattle.ps_disco.specs.Held.{AreHeld, IsPlaceIn, children_at, rows_at};
+ghost use Rattle.ps_disco.specs.Held.{AreFound, AreHeld, IsPlaceIn, children_at, rows_at};
 
 use crate::entries::add_node;
 use ps_access::Tables;
@@ -22,22 +22,31 @@ fn place_of(tables: &Tables, child: &NodeKey, collection: &NodeKey) -> Option<u6
     }
 }
 
-// The places of the nodes that the collection holds.
-fn places_of(
+// The places of those of these nodes that the collection holds.
+fn places_among(
     alloc: Global,
     tables: &Tables,
     collection: &NodeKey,
+    children: &[NodeKey],
 ) -> Result<BTreeSet<u64>, Memory>
-    ensures { IfOk result (λ places. AreHeld (book_of tables.now) collection.now places.keys) }
+    ensures { IfOk result (λ places. AreFound (book_of tables.now) collection.now children.now places.keys) }
 {
-    let children = tables.links.children(alloc, collection)?;
     let mut places = BTreeSet::new(alloc);
-    for child in &children {
+    for child in children {
         let Some(place) = place_of(tables, child, collection) else {
             continue;
         };
         places.insert(place)?;
     }
+    Ok(places)
+}
+
+// The places of the nodes that the collection holds.
+fn places_of(alloc: Global, tables: &Tables, collection: &NodeKey) -> Result<BTreeSet<u64>, Memory>
+    ensures { IfOk result (λ places. AreHeld (book_of tables.now) collection.now places.keys) }
+{
+    let children = tables.links.children(alloc, collection)?;
+    let places = places_among(alloc, tables, collection, &children)?;
     Ok(places)
 }
 
@@ -57,12 +66,7 @@ fn add_place(
     }
 }
 
-fn entries_at(
-    alloc: Global,
-    tables: &Tables,
-    places: &[u64],
-    jid: &Text,
-) -> Result<Kids, Memory>
+fn entries_at(alloc: Global, tables: &Tables, places: &[u64], jid: &Text) -> Result<Kids, Memory>
     ensures { IfOk result (λ kids. kids ≡ row_children jid.now (rows_at places.now tables.now.nodes.rows)) }
 {
     let mut kids = Kids::new(alloc);
@@ -83,6 +87,7 @@ pub(crate) fn held_entries(
 {
     let places = places_of(alloc, tables, collection)?;
     let _len = places.len();
-    let places: Vec<u64> = places.into_iter().collect(alloc)?;
-    entries_at(alloc, tables, &places, jid)
+    let listed: Vec<u64> = places.into_iter().collect(alloc)?;
+    let kids = entries_at(alloc, tables, &listed, jid)?;
+    Ok(kids)
 }

@@ -45,12 +45,7 @@ fn kids_of(alloc: Global, tables: &Tables, key: &NodeKey) -> Result<Kids, Memory
     }
 }
 
-fn info_kids(
-    alloc: Global,
-    tables: &Tables,
-    request: &Request,
-    node: &Text,
-) -> Result<Kids, Memory>
+fn info_kids(alloc: Global, tables: &Tables, request: &Request, node: &Text) -> Result<Kids, Memory>
     ensures { IfOk result (λ kids. Hold kids (model.info_kids (book_of tables.now) request.now node.now)) }
 {
     if node.is_empty() {
@@ -60,12 +55,7 @@ fn info_kids(
     kids_of(alloc, tables, &key)
 }
 
-fn child(
-    alloc: Global,
-    tables: &Tables,
-    request: &Request,
-    node: &Text,
-) -> Result<Elem, Memory>
+fn child(alloc: Global, tables: &Tables, request: &Request, node: &Text) -> Result<Elem, Memory>
     ensures { IfOk result (λ t. t ≡ model.info_child (book_of tables.now) request.now node.now) }
 {
     let kids = info_kids(alloc, tables, request, node)?;

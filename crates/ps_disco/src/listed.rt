@@ -7,7 +7,7 @@ ghost use Rattle.ps_model.specs.Discovery as model;
 ghost use Rattle.ps_model.specs.Steps.{first_denial};
 ghost use Rattle.ps_access.specs.Plans.{Agrees, Passes};
 ghost use Rattle.ps_access.specs.Tables.{book_of};
-ghost use Rattle.ps_disco.specs.Entries.{Hold, entries_in, is_shown, items_in, shown_entries};
+ghost use Rattle.ps_disco.specs.Entries.{Hold, entries_in, is_shown, items_in, nodes_in, shown_entries};
 ghost use Rattle.ps_disco.specs.Plans.{nodes_outcome};
 
 use crate::entries::{ITEMS, item_entries, node_entries};
@@ -15,9 +15,7 @@ use crate::held::held_entries;
 use crate::info::query;
 use ps_access::{Tables, allow, is_account_address, key_of, must_stand, verdict_read};
 use ps_base::Memory;
-use ps_types::{
-    Elem, Jid, Kids, NodeKey, NodeKind, Plan, PlanRefusal, Request, Text, Verdict,
-};
+use ps_types::{Elem, Jid, Kids, NodeKey, NodeKind, Plan, PlanRefusal, Request, Text, Verdict};
 use std::alloc::Global;
 
 // A node that is named stands, and may be read.
@@ -66,7 +64,8 @@ fn nodes_at(alloc: Global, tables: &Tables, request: &Request, jid: &Text) -> Re
 {
     let mut keys = tables.nodes.keys_of(alloc, &request.target)?;
     keep_shown(&mut keys, tables, request);
-    node_entries(alloc, jid, &keys)
+    let kids = node_entries(alloc, jid, &keys)?;
+    Ok(kids)
 }
 
 fn items_at(
@@ -80,7 +79,22 @@ fn items_at(
     ensures { IfOk result (λ kids. Hold kids (items_in (book_of tables.now) request.now key.now)) }
 {
     let rows = tables.items.list(alloc, key)?;
-    item_entries(alloc, jid, &rows)
+    let kids = item_entries(alloc, jid, &rows)?;
+    Ok(kids)
+}
+
+fn held_at(
+    alloc: Global,
+    tables: &Tables,
+    request: &Request,
+    key: &NodeKey,
+    jid: &Text,
+) -> Result<Kids, Memory>
+    requires jid { jid.now ≡ jid_text request.now.target }
+    ensures { IfOk result (λ kids. Hold kids (nodes_in (book_of tables.now) request.now key.now)) }
+{
+    let kids = held_entries(alloc, tables, key, jid)?;
+    Ok(kids)
 }
 
 // The items of a leaf, or the nodes of a collection.
@@ -99,7 +113,7 @@ fn entries_in(
     };
     match row.config.node_type {
         NodeKind::Leaf => items_at(alloc, tables, request, row.key, jid),
-        NodeKind::Collection => held_entries(alloc, tables, row.key, jid),
+        NodeKind::Collection => held_at(alloc, tables, request, row.key, jid),
     }
 }
 
@@ -119,12 +133,7 @@ fn listed_kids(
     entries_in(alloc, tables, request, &key, &jid)
 }
 
-fn child(
-    alloc: Global,
-    tables: &Tables,
-    request: &Request,
-    node: &Text,
-) -> Result<Elem, Memory>
+fn child(alloc: Global, tables: &Tables, request: &Request, node: &Text) -> Result<Elem, Memory>
     ensures { IfOk result (λ t. t ≡ model.nodes_child (book_of tables.now) request.now node.now) }
 {
     let kids = listed_kids(alloc, tables, request, node)?;

@@ -79,7 +79,7 @@ pub wanted_more : (who other : Jid) (name got : List ℕ) (feature : List ℕ) (
     → is_wanted other name (rows ++ record { who = who; name = got } ∷ []) ≡ (same_jid who other && asks_for name (take (at + 1) features))
 wanted_more who other name got feature features rows at h e before =
     let one : is_want other name (record { who = who; name = got }) ≡ (same_jid who other && bytes_eq (notify_feature name) feature) =
-      ap (λ b. b && bytes_eq name got) (same_back other who) ∙ ap (λ b. same_jid who other && b) (sym (same_name name got) ∙ ap (bytes_eq (notify_feature name)) (sym e)) in
+    ap (λ b. b && bytes_eq name got) (same_back other who) ∙ ap (λ b. same_jid who other && b) (sym (same_name name got) ∙ ap (bytes_eq (notify_feature name)) (sym e)) in
     any-push (is_want other name) rows (record { who = who; name = got })
     ∙ (ap (λ b. b || is_want other name (record { who = who; name = got })) before
     ∙ (ap (λ b. (same_jid who other && asks_for name (take at features)) || b) one

@@ -91,7 +91,6 @@ no_feature name (Some row) h = absurd (cc)
 -- ---- resources that go, where their address passes a test
 
 module _ (p : Jid → Bool) where
-
   wanted_by : (other : Jid) (name : List ℕ) (b : Bool) → p other ≡ b → (rows : List Want) → is_wanted other name (without (λ want. p want.who) rows) ≡ cond b false (is_wanted other name rows)
   wanted_by other name true e rows =
       any_gone (λ want. p want.who) (is_want other name) (λ want h. let s : other ≡ want.who = is_same other want.who (first_part (is_want_of other want) (is_want_for name want) h) in ap p (sym s) ∙ e) rows

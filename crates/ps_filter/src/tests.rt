@@ -30,10 +30,19 @@ fn resource_is(found: &[Jid], at: usize, name: &str) -> bool {
 fn a_resource_wants_what_its_features_ask_for(rt: HostRuntime) -> Result<(), Fail> {
     let alloc = rt.alloc();
     let mut wants = Wants::new(alloc)?;
-    let features = ["urn:t+notify", "urn:u", "http://jabber.org/protocol/tune+notify"];
+    let features = [
+        "urn:t+notify",
+        "urn:u",
+        "http://jabber.org/protocol/tune+notify",
+    ];
     update(alloc, &mut wants, "bob@b.example/2", &features)?;
     update(alloc, &mut wants, "bob@b.example/1", &["urn:t+notify"])?;
-    update(alloc, &mut wants, "ann@a.example/3", &["urn:t+notify", "urn:t+notify"])?;
+    update(
+        alloc,
+        &mut wants,
+        "ann@a.example/3",
+        &["urn:t+notify", "urn:t+notify"],
+    )?;
     assert!(rt; is_wanted(alloc, &wants, "bob@b.example/2", "urn:t")?);
     assert!(rt; !is_wanted(alloc, &wants, "bob@b.example/2", "urn:u")?);
     assert!(rt; !is_wanted(alloc, &wants, "bob@b.example", "urn:t")?);

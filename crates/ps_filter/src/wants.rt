@@ -109,12 +109,7 @@ impl Wants {
     /// A resource has these features from now on, and wants what they ask for.
     ///
     /// After `Memory` all is as it was.
-    pub fn update(
-        &mut self,
-        alloc: Global,
-        resource: &Jid,
-        features: &[Text],
-    ) -> Result<(), Memory>
+    pub fn update(&mut self, alloc: Global, resource: &Jid, features: &[Text]) -> Result<(), Memory>
         ensures ok { OnOk result (SetsWants resource.now features.now self.old.rows self.new.rows) }
         ensures err { OnErr result (self.new.rows ≡ self.old.rows) }
         ensures follows { OnOk result (FollowsSet resource.now features.now self.old.rows self.new.rows) }

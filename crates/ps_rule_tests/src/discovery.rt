@@ -155,10 +155,12 @@ fn denial(alloc: Global, tables: &Tables, request: &Request) -> Option<Condition
 
 fn told_of_nodes(rt: &impl Abort, alloc: Global, tables: &Tables) -> Result<(), Fail> {
     let leaf = info(alloc, "bob@b.example/1", SERVICE, "news")?;
-    let wanted = r#"{"a":{"node":"news"},"c":[{"a":{"category":"pubsub","type":"leaf"},"n":"identity"},{"a":{"var":"http://jabber.org/protocol/pubsub"},"n":"feature"}],"n":"query","ns":"http://jabber.org/protocol/disco#info"}"#;
+    let wanted =
+        r#"{"a":{"node":"news"},"c":[{"a":{"category":"pubsub","type":"leaf"},"n":"identity"},{"a":{"var":"http://jabber.org/protocol/pubsub"},"n":"feature"}],"n":"query","ns":"http://jabber.org/protocol/disco#info"}"#;
     lists(rt, alloc, tables, &leaf, wanted)?;
     let top = info(alloc, "bob@b.example/1", SERVICE, "top")?;
-    let wanted = r#"{"a":{"node":"top"},"c":[{"a":{"category":"pubsub","type":"collection"},"n":"identity"},{"a":{"var":"http://jabber.org/protocol/pubsub"},"n":"feature"}],"n":"query","ns":"http://jabber.org/protocol/disco#info"}"#;
+    let wanted =
+        r#"{"a":{"node":"top"},"c":[{"a":{"category":"pubsub","type":"collection"},"n":"identity"},{"a":{"var":"http://jabber.org/protocol/pubsub"},"n":"feature"}],"n":"query","ns":"http://jabber.org/protocol/disco#info"}"#;
     lists(rt, alloc, tables, &top, wanted)?;
     let none = info(alloc, "bob@b.example/1", SERVICE, "nope")?;
     assert_eq!(rt; denial(alloc, tables, &none), Some(Condition::C12));
@@ -173,15 +175,18 @@ fn a_node_tells_what_it_is(rt: HostRuntime) -> Result<(), Fail> {
 
 fn listed_in_order(rt: &impl Abort, alloc: Global, tables: &Tables) -> Result<(), Fail> {
     let all = listed(alloc, "bob@b.example/1", SERVICE, "")?;
-    let wanted = r#"{"c":[{"a":{"jid":"pubsub.example","node":"top"},"n":"item"},{"a":{"jid":"pubsub.example","node":"old"},"n":"item"},{"a":{"jid":"pubsub.example","node":"news"},"n":"item"}],"n":"query","ns":"http://jabber.org/protocol/disco#items"}"#;
+    let wanted =
+        r#"{"c":[{"a":{"jid":"pubsub.example","node":"top"},"n":"item"},{"a":{"jid":"pubsub.example","node":"old"},"n":"item"},{"a":{"jid":"pubsub.example","node":"news"},"n":"item"}],"n":"query","ns":"http://jabber.org/protocol/disco#items"}"#;
     lists(rt, alloc, tables, &all, wanted)?;
     // In the order in which the nodes were made.
     let held = listed(alloc, "bob@b.example/1", SERVICE, "top")?;
-    let wanted = r#"{"a":{"node":"top"},"c":[{"a":{"jid":"pubsub.example","node":"old"},"n":"item"},{"a":{"jid":"pubsub.example","node":"news"},"n":"item"}],"n":"query","ns":"http://jabber.org/protocol/disco#items"}"#;
+    let wanted =
+        r#"{"a":{"node":"top"},"c":[{"a":{"jid":"pubsub.example","node":"old"},"n":"item"},{"a":{"jid":"pubsub.example","node":"news"},"n":"item"}],"n":"query","ns":"http://jabber.org/protocol/disco#items"}"#;
     lists(rt, alloc, tables, &held, wanted)?;
     // In the order in which the items were published.
     let items = listed(alloc, "bob@b.example/1", SERVICE, "news")?;
-    let wanted = r#"{"a":{"node":"news"},"c":[{"a":{"jid":"pubsub.example","name":"y"},"n":"item"},{"a":{"jid":"pubsub.example","name":"x"},"n":"item"}],"n":"query","ns":"http://jabber.org/protocol/disco#items"}"#;
+    let wanted =
+        r#"{"a":{"node":"news"},"c":[{"a":{"jid":"pubsub.example","name":"y"},"n":"item"},{"a":{"jid":"pubsub.example","name":"x"},"n":"item"}],"n":"query","ns":"http://jabber.org/protocol/disco#items"}"#;
     lists(rt, alloc, tables, &items, wanted)
 }
 
@@ -193,10 +198,12 @@ fn nodes_and_items_are_listed_in_order(rt: HostRuntime) -> Result<(), Fail> {
 
 fn left_out(rt: &impl Abort, alloc: Global, tables: &Tables) -> Result<(), Fail> {
     let own = listed(alloc, "ann@a.example/1", ANN, "")?;
-    let wanted = r#"{"c":[{"a":{"jid":"ann@a.example","node":"urn:t"},"n":"item"},{"a":{"jid":"ann@a.example","node":"urn:u"},"n":"item"}],"n":"query","ns":"http://jabber.org/protocol/disco#items"}"#;
+    let wanted =
+        r#"{"c":[{"a":{"jid":"ann@a.example","node":"urn:t"},"n":"item"},{"a":{"jid":"ann@a.example","node":"urn:u"},"n":"item"}],"n":"query","ns":"http://jabber.org/protocol/disco#items"}"#;
     lists(rt, alloc, tables, &own, wanted)?;
     let strange = listed(alloc, "bob@b.example/1", ANN, "")?;
-    let wanted = r#"{"c":[{"a":{"jid":"ann@a.example","node":"urn:u"},"n":"item"}],"n":"query","ns":"http://jabber.org/protocol/disco#items"}"#;
+    let wanted =
+        r#"{"c":[{"a":{"jid":"ann@a.example","node":"urn:u"},"n":"item"}],"n":"query","ns":"http://jabber.org/protocol/disco#items"}"#;
     lists(rt, alloc, tables, &strange, wanted)?;
     let closed = listed(alloc, "bob@b.example/1", ANN, "urn:t")?;
     assert_eq!(rt; denial(alloc, tables, &closed), Some(Condition::C18));
