@@ -10,17 +10,18 @@ use Rattle.ps_types.specs.declared.rows.ResourceRow.{ResourceRow}
 use Rattle.ps_types.specs.declared.rows.VerRow.{VerRow}
 use Rattle.ps_types.specs.contracts.rows.ResourceRowPartialEq.TheImpl as resource
 use Rattle.ps_types.specs.contracts.rows.VerRowPartialEq.TheImpl as string
-use Rattle.ps_types.specs.Resources.{is_resource_of, resource_at}
+use Rattle.ps_types.specs.CapString.{info_of}
+use Rattle.ps_types.specs.Resources.{caps_in, is_resource_of, resource_at}
+use Rattle.ps_types.specs.Tree.{Tree}
 use Rattle.ps_types.specs.Vers.{ver_at, vers_by, vers_with}
 use Rattle.ps_model.specs.Book.{Book}
-use Rattle.ps_model.specs.ChangeRouter.{with_features}
+use Rattle.ps_model.specs.ChangeRouter.{answer_by, answer_change, with_features}
 use Rattle.ps_model.specs.SameRows.{same_resources, same_vers}
 use Rattle.ps_model.proofs.Differs.{all-same, same-change, found-kept}
 use Rattle.ps_base.specs.Rows.{change_row}
 use Rattle.ps_told.specs.declared.answers.Answered.{Answered}
 use Rattle.ps_told.specs.Answers.{answer_taken}
 use Rattle.ps_entity.specs.Answers.{knows_other, tells_anew}
-use Rattle.ps_entity.specs.Resources.{shows_caps}
 use Rattle.ps_entity.proofs.Contacts.{texts_itself}
 use Rattle.ps_entity.proofs.Resources.{same_resource-itself, same_features}
 
@@ -58,9 +59,13 @@ nor true true = refl
 nor true false = refl
 nor false b = refl
 
-pub same-book : (book : Book) → false ≡ knows_other book book
+same-book : (book : Book) → false ≡ knows_other book book
 same-book book =
     ap₂ (λ (a b : Bool). not (a && b)) (sym (all-same resource.eq-value.it same_resource-itself book.resources)) (sym (all-same string.eq-value.it same_string-itself book.vers))
+
+-- who shows no capabilities isn't asked
+pub unasked : (who : Jid) (node : List ℕ) (query : Tree) (book : Book) → caps_in (resource_at who book.resources) ≡ None → false ≡ knows_other (answer_change who node query book) book
+unasked who node query book h = same-book book ∙ sym (ap (λ (shown : Option Caps). knows_other (answer_by shown who node (info_of query) book) book) h)
 
 -- the Book differs after an answer exactly where it tells what isn't known
 pub taken-anew : (answer : Option Answered) (caps : Caps) (who : Jid) (row : ResourceRow) (book : Book) → resource_at who book.resources ≡ Some row

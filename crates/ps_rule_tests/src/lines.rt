@@ -1,5 +1,5 @@
 // Lines over a service in memory.
-use ps_core::Service;
+use ps_core::{Answer, Service};
 use ps_types::{Arrival, Bytes, Entry, Text};
 use ps_wire::print_tree;
 use std::alloc::Global;
@@ -67,7 +67,12 @@ pub fn answered_on(
 pub fn entry_at(alloc: Global, service: &Service, line: u64, text: &str) -> Result<Entry, Fail> {
     let host = Text::of(alloc, "a.example")?;
     let arrival = arrived(alloc, text)?;
-    match service.answer(&host, line, &arrival)?.entry {
+    let Answer {
+        reply: _,
+        entry,
+        full: _,
+    } = service.answer(&host, line, &arrival)?;
+    match entry {
         Some(entry) => Ok(entry),
         None => Err(Fail::new("no entry")),
     }
