@@ -33,9 +33,17 @@ caps_itself : (caps : Option Caps) → shows_caps caps caps ≡ true
 caps_itself None = refl
 caps_itself (Some caps) = three_true (bytes_eq caps.hash caps.hash) (bytes_eq caps.node caps.node) (bytes_eq caps.ver caps.ver) ((bytes_eq-Decides caps.hash caps.hash).1 refl) ((bytes_eq-Decides caps.node caps.node).1 refl) ((bytes_eq-Decides caps.ver caps.ver).1 refl)
 
-same_resource-itself : (a : ResourceRow) → row.eq-value.it a a ≡ true
+pub same_resource-itself : (a : ResourceRow) → row.eq-value.it a a ≡ true
 same_resource-itself a =
     same_resource-parts a a ∙ three_true (same_jid a.who a.who) (shows_caps a.caps a.caps) (pointwise bytes_eq a.features a.features) ((same_jid-Decides a.who a.who).1 refl) (caps_itself a.caps) (texts_itself a.features)
+
+-- a resource whose features alone are set is the same where it had them
+pub same_features : (a : ResourceRow) (features : List (List ℕ)) → row.eq-value.it (record a { features = features }) a ≡ pointwise bytes_eq features a.features
+same_features a features =
+    same_resource-parts (record a { features = features }) a ∙ two_true (same_jid a.who a.who) (shows_caps a.caps a.caps) (pointwise bytes_eq features a.features) ((same_jid-Decides a.who a.who).1 refl) (caps_itself a.caps)
+  where
+    two_true : (a b c : Bool) → a ≡ true → b ≡ true → (a && (b && c)) ≡ c
+    two_true a b c p q = rw (p, q) refl
 
 abbrev new_resource : Jid → Option Caps → List (List ℕ) → ResourceRow
 new_resource who caps features = record { who = who; caps = caps; features = features }

@@ -1,17 +1,10 @@
--- What a roster item tells, and when a contact is as it was.
+-- When a contact is as it was.
 use Rattle.std.specs.Prelude.{ℕ, Bool, ◌&&◌, ◌==◌, length, List}
 use Rattle.std.specs.Cmp.Lexicographic.{pointwise}
 use Rattle.std.specs.Str.{bytes_eq}
 use Rattle.ps_types.specs.declared.rows.RosterRow.{RosterRow}
 use Rattle.ps_types.specs.declared.rows.RosterState.{RosterState}
 use Rattle.ps_types.specs.contracts.rows.RosterStatePartialEq.TheImpl as state
-use Rattle.ps_model.specs.Words.{RosterAsk, set, remove}
-use Rattle.ps_entity.specs.declared.roster.Told.{Told}
-use Rattle.ps_entity.specs.declared.roster.Told.TheVariants as told
-
-abbrev pub told_in : Told → RosterAsk
-told_in (told.Set state) = set state
-told_in told.Remove = remove
 
 -- the row is of bare addresses, and has this state and these groups
 abbrev pub is_contact : RosterState → List (List ℕ) → RosterRow → Bool

@@ -14,4 +14,5 @@ is_planned (ask.ItemsGet node max ids) = true
 is_planned (ask.RosterSet item) = true
 is_planned (ask.Present caps) = true
 is_planned ask.Absent = true
+is_planned (ask.CapsAnswer node info) = true
 is_planned _ = false

@@ -5,6 +5,7 @@ ghost use Rattle.ps_access.specs.Tables.{book_of};
 ghost use Rattle.ps_entity.specs.Plans.{is_planned};
 
 use crate::affils::plan_my_affils;
+use crate::capabilities::plan_answer;
 use crate::items::plan_items;
 use crate::options_get::plan_options_get;
 use crate::options_set::plan_options_set;
@@ -41,6 +42,7 @@ pub fn plan(alloc: Global, tables: &Tables, request: &Request) -> Result<Plan, P
         Ask::RosterSet { item } => plan_roster_set(tables, request, item),
         Ask::Present { caps } => Ok(plan_present(tables, request, caps)),
         Ask::Absent => Ok(plan_absent(tables, request)),
+        Ask::CapsAnswer { node, info } => plan_answer(alloc, tables, request, node, info),
         _ => unreachable!(),
     }
 }

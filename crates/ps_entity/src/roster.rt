@@ -11,42 +11,22 @@ ghost use Rattle.ps_model.specs.Outcome.{outcome};
 ghost use Rattle.ps_model.specs.SameRows.{same_rosters};
 ghost use Rattle.ps_model.specs.Stanza.{host_jid};
 ghost use Rattle.ps_model.specs.Steps.{first_denial};
-ghost use Rattle.ps_model.specs.Words as words;
 ghost use Rattle.ps_access.specs.Plans.{Agrees, Passes};
 ghost use Rattle.ps_access.specs.Tables.{book_of};
-ghost use Rattle.ps_entity.specs.Contacts.{is_contact, told_in};
+ghost use Rattle.ps_told.specs.Told.{told_in};
+ghost use Rattle.ps_entity.specs.Contacts.{is_contact};
 
 use ps_access::{Tables, is_account_of, pass_if};
+use ps_told::{Told, told_by};
 use ps_types::{
     AskContact, Condition, Jid, Plan, PlanRefusal, Request, RosterRow, RosterState, Texts,
 };
-
-/// What a roster item tells: a contact of this state, or none any more.
-#[derive(Clone, Copy, Drop)]
-pub(crate) enum Told {
-    Set(RosterState),
-    Remove,
-}
 
 /// The contacts of a roster at most.
 pub fn max_contacts() -> u64
     ensures { result ≡ limits.max_contacts }
 {
     4_096
-}
-
-// A missing subscription is none.
-fn told_by(subscription: &str) -> Option<Told>
-    ensures { option_map told_in result ≡ words.roster_of subscription.now }
-{
-    match subscription {
-        "" | "none" => Some(Told::Set(RosterState::Nothing)),
-        "to" => Some(Told::Set(RosterState::To)),
-        "from" => Some(Told::Set(RosterState::From)),
-        "both" => Some(Told::Set(RosterState::Both)),
-        "remove" => Some(Told::Remove),
-        _ => None,
-    }
 }
 
 #[tactic(auto, unfolding(ps_types::specs::Same::same_jid))]

@@ -13,12 +13,13 @@ ghost use Rattle.ps_access.specs.Plans.{Passes};
 ghost use Rattle.ps_access.specs.Tables.{book_of};
 
 use crate::items::check_items;
-use crate::options::{check_options, options_config};
+use crate::options::check_options;
 use ps_access::{
     Tables, Verdict, allow, built_limit, is_account_of, is_collection, key_of, must_be_collection,
     must_have_room, pass, pass_if, verdict_publish,
 };
 use ps_config::default_config;
+use ps_told::options_config;
 use ps_types::{AskItem, Condition, Elem, NodeConfig, PlanRefusal, Request, Text};
 use std::alloc::Global;
 

@@ -4,7 +4,7 @@ use Rattle.std.specs.Str.{bytes_eq}
 use Rattle.ps_types.specs.Config.{config_rows}
 use Rattle.ps_types.specs.Forms.{form_type_var}
 use Rattle.ps_model.specs.CheckOptions.{is_var_of}
-use Rattle.ps_publish.proofs.options.is_known.Goals as goal
+use Rattle.ps_told.proofs.options.is_known.Goals as goal
 
 or-false : (a b : Bool) → a ≡ false → b ≡ (a || b)
 or-false true b e = absurd (cc)
