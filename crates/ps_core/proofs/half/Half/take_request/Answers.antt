@@ -3,11 +3,8 @@ use Rattle.std.specs.Prelude.{◌≤◌}
 use Rattle.ps_types.specs.Counts.{made_at}
 use Rattle.ps_access.specs.Tables.{book_of}
 use Rattle.ps_core.proofs.Counted.{below_made}
-use Rattle.ps_core.proofs.Known.{made_accepted, made_known}
+use Rattle.ps_core.proofs.Known.{made_accepted}
 use Rattle.ps_core.proofs.half.Half.take_request.Goals as goal
-
-pub change-requires-clause-known : goal.change-requires-clause-known
-change-requires-clause-known c = made_known (book_of c.args.self.now.tables) c.args.request.now c.requires.accepted
 
 pub change-requires-clause-accepted : goal.change-requires-clause-accepted
 change-requires-clause-accepted c = made_accepted (book_of c.args.self.now.tables) c.args.request.now c.requires.accepted

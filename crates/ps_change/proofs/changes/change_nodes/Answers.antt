@@ -3,7 +3,7 @@ use Rattle.ps_types.specs.declared.node.NodeKey.{NodeKey}
 use Rattle.ps_types.specs.Nodes.{stands}
 use Rattle.ps_access.specs.Tables.{book_of}
 use Rattle.ps_change.proofs.Accepted.{create_new}
-use Rattle.ps_change.proofs.changes.change.Goals as goal
+use Rattle.ps_change.proofs.changes.change_nodes.Goals as goal
 
 pub create_by-requires : goal.create_by-requires
 create_by-requires c =
