@@ -1,4 +1,4 @@
-//! Tests of `ps_entity`, `ps_change` and `ps_core`: of what no line reaches yet, and of lines over a service in memory.
+//! Tests of `ps_entity`, `ps_change` and `ps_core`: of requests over tables, and of lines over a service in memory.
 //!
 //! They stand in a crate of their own, since a crate with tests is proved twice. Nothing stands on this crate, and it has no public function.
 #![tactic(auto)]
@@ -9,6 +9,8 @@ mod changes;
 mod entity;
 #[cfg(test)]
 mod lines;
+#[cfg(test)]
+mod preparing;
 #[cfg(test)]
 mod service;
 #[cfg(test)]

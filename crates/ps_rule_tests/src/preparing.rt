@@ -1,0 +1,98 @@
+// An entry that is prepared in the place of another, and one that is prepared once more after memory was refused.
+ghost use Rattle.std.specs.Prelude.{◌≡◌, ◌<◌, ◌^◌, true, OnOk, Some};
+ghost use Rattle.ps_model.specs.Replay.{accepted};
+
+use crate::lines::{answered, boot, entry_at, says};
+use ps_core::Service;
+use ps_types::{Entry, Text};
+use std::alloc::Global;
+use std::process::Abort;
+use std::test::Fail;
+
+const NEWS: &str =
+    r#"{"a":{"from":"ann@a.example/1","id":"1","to":"pubsub.example","type":"set"},"c":[{"c":[{"a":{"node":"news"},"n":"create"}],"n":"pubsub","ns":"http://jabber.org/protocol/pubsub"}],"n":"iq"}"#;
+
+const OTHER: &str =
+    r#"{"a":{"from":"ann@a.example/1","id":"1","to":"pubsub.example","type":"set"},"c":[{"c":[{"a":{"node":"other"},"n":"create"}],"n":"pubsub","ns":"http://jabber.org/protocol/pubsub"}],"n":"iq"}"#;
+
+const MADE: &str =
+    r#"{"a":{"from":"pubsub.example","id":"1","to":"ann@a.example/1","type":"result"},"n":"iq"}"#;
+
+const CONFLICT: &str =
+    r#"{"a":{"from":"pubsub.example","id":"1","to":"ann@a.example/1","type":"error"},"c":[{"a":{"type":"cancel"},"c":[{"n":"conflict","ns":"urn:ietf:params:xml:ns:xmpp-stanzas"}],"n":"error"}],"n":"iq"}"#;
+
+// The second entry takes the place of the first, so the node of the first can still be made, by the copy that is committed then.
+fn replaces(rt: &impl Abort, alloc: Global, service: &mut Service) -> Result<(), Fail> {
+    boot(rt, alloc, service)?;
+    let news = entry_at(alloc, service, 1, NEWS)?;
+    let other = entry_at(alloc, service, 1, OTHER)?;
+    let first = service.accepts(&news)?;
+    assert!(rt; first);
+    let second = service.accepts(&other)?;
+    assert!(rt; second);
+    assert!(rt; service.count() < 1000);
+    service.prepare(&news)?;
+    service.prepare(&other)?;
+    service.commit();
+    assert_eq!(rt; service.count(), 2);
+    for (line, text, wanted) in [(2, OTHER, CONFLICT), (3, NEWS, MADE), (4, NEWS, CONFLICT)] {
+        let reply = answered(rt, alloc, service, line, text)?;
+        says(rt, &reply, wanted);
+    }
+    assert_eq!(rt; service.count(), 3);
+    Ok(())
+}
+
+#[test]
+fn a_second_entry_takes_the_place_of_the_first(rt: HostRuntime) -> Result<(), Fail> {
+    let mut service = Service::new(rt.alloc())?;
+    replaces(&rt, rt.alloc(), &mut service)
+}
+
+// Once more after memory was refused: nothing was prepared, and the second copy is made anew.
+fn prepare_at_last(service: &mut Service, entry: &Entry) -> Result<(), Fail>
+    requires { accepted service.old.state entry.now ≡ true }
+    requires { service.old.state.count < 2 ^ 62 }
+    ensures { OnOk result (service.new.prepared ≡ Some entry.now) }
+{
+    match service.prepare(entry) {
+        Ok(()) => Ok(()),
+        Err(_) => {
+            service.prepare(entry)?;
+            Ok(())
+        }
+    }
+}
+
+fn takes(rt: &impl Abort, service: &mut Service, entry: &Entry) -> Result<(), Fail> {
+    let accepted = service.accepts(entry)?;
+    assert!(rt; accepted);
+    assert!(rt; service.count() < 1000);
+    prepare_at_last(service, entry)?;
+    service.commit();
+    Ok(())
+}
+
+// `rt try --test --fail-alloc N` refuses the N-th growth: wherever that is in a preparation, what follows is answered all the same.
+fn goes_on(rt: &impl Abort, alloc: Global, service: &mut Service) -> Result<(), Fail> {
+    let boot = Entry::Boot {
+        service: Text::of(alloc, "pubsub.example")?,
+    };
+    takes(rt, service, &boot)?;
+    let news = entry_at(alloc, service, 1, NEWS)?;
+    takes(rt, service, &news)?;
+    let other = entry_at(alloc, service, 2, OTHER)?;
+    takes(rt, service, &other)?;
+    for (line, text) in [(3, NEWS), (4, OTHER)] {
+        let reply = answered(rt, alloc, service, line, text)?;
+        says(rt, &reply, CONFLICT);
+    }
+    assert_eq!(rt; service.count(), 3);
+    Ok(())
+}
+
+#[test]
+fn what_was_refused_memory_is_prepared_once_more(rt: HostRuntime) -> Result<(), Fail> {
+    let mut service = Service::new(rt.alloc())?;
+    goes_on(&rt, rt.alloc(), &mut service)
+}
