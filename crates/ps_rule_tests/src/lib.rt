@@ -1,12 +1,10 @@
-//! Tests of `ps_entity`, `ps_disco`, `ps_change` and `ps_core`: of requests over tables, and of lines over a service in memory.
+//! Tests of `ps_entity`, `ps_change` and `ps_core`: of requests over tables, and of lines over a service in memory.
 //!
 //! They stand in a crate of their own, since a crate with tests is proved twice. Nothing stands on this crate, and it has no public function.
 #![tactic(auto)]
 
 #[cfg(test)]
 mod changes;
-#[cfg(test)]
-mod discovery;
 #[cfg(test)]
 mod entity;
 #[cfg(test)]

@@ -1,4 +1,0 @@
-pub mod Plans
-pub mod Features
-pub mod Entries
-pub mod Held
