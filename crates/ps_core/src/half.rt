@@ -22,6 +22,8 @@ pub struct Half {
     pub tables: Tables,
     pub count: u64,
     pub lines: Lines,
+    /// What the digests of its tables go by.
+    pub seed: u64,
 }
 
 // By hand, so that a copy is let go by one call wherever a function ends.
@@ -31,19 +33,21 @@ impl Drop for Half {
             tables: _,
             count: _,
             lines: _,
+            seed: _,
         } = self;
     }
 }
 
 impl Half {
-    /// The empty State.
-    pub fn new(alloc: Global) -> Result<Half, Memory>
+    /// The empty State, of which the tables' digests go by a seed.
+    pub fn seeded(alloc: Global, seed: u64) -> Result<Half, Memory>
         ensures state { IfOk result (λ h. state_of h ≡ empty_state) }
     {
         Ok(Half {
-            tables: Tables::new(alloc)?,
+            tables: Tables::seeded(alloc, seed)?,
             count: 0,
             lines: Lines::new(alloc),
+            seed,
         })
     }
 
@@ -55,6 +59,7 @@ impl Half {
             tables: self.tables.copy()?,
             count: self.count,
             lines: self.lines.copy()?,
+            seed: self.seed,
         })
     }
 
@@ -83,7 +88,7 @@ impl Half {
         ensures state { OnOk result (state_of self.new ≡ after (state_of self.old) (Boot service.now)) }
     {
         self.tables.service = service.clone()?;
-        self.tables.presence = Presence::new(alloc)?;
+        self.tables.presence = Presence::seeded(alloc, self.seed)?;
         self.lines = Lines::new(alloc);
         self.count += 1;
         Ok(())
