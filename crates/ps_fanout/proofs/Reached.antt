@@ -20,7 +20,6 @@ use Rattle.ps_model.specs.Ways.{is_entitled, is_interested, is_subscriber, reach
 use Rattle.ps_model.specs.Access.{is_account}
 use Rattle.ps_fanout.specs.Hearing.{heard, heard_by, heard_tree, hears, is_delivered, is_wanted, subscribers, way_by, way_in, wanting, wished}
 use Rattle.ps_fanout.specs.declared.news.News.{News}
-use Rattle.ps_rows.specs.Standing.{standing}
 use Rattle.ps_fanout.proofs.Ordered.{In}
 
 -- ---- lists
@@ -176,9 +175,3 @@ each-wanting P book node ps = at (is_account node.service)
     at : (b : Bool) → Each P (cond b (flat_map (λ (row : ResourceRow). wished (notify_feature node.name) (Some row)) book.resources) [])
     at true = each-wish P (notify_feature node.name) book.resources ps
     at false = tt
-
--- places, of which some are empty
-pub wished-places : (feature : List ℕ) (slots : List (Option ResourceRow)) → flat_map (wished feature) slots ≡ flat_map (λ (row : ResourceRow). wished feature (Some row)) (standing slots)
-wished-places feature [] = refl
-wished-places feature (None ∷ slots) = wished-places feature slots
-wished-places feature (Some r ∷ slots) = ap (λ (xs : List Jid). wished feature (Some r) ++ xs) (wished-places feature slots)

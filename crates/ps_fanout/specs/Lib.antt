@@ -1,4 +1,3 @@
 pub mod Told
 pub mod Hearing
-pub mod Changed
 pub mod Trees

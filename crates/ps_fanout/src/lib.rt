@@ -1,29 +1,20 @@
-//! Who is told of an event, and by what stanza.
+//! Who is told of an event, and by what stanza: the part that needs no tables.
 //!
-//! [`notices`] gives what an event hands to each address: the model's `given` (`ps_model`, `specs/Given.antt`) over the Book that the tables are seen
-//! as, for the addresses that get something, in the order of the octets of their printed form (`specs/Told.antt`). It asks those alone that have a
-//! row on the node or on a collection above it, and the resources that want the node of an account: nobody else is given anything, which is part of
-//! what is proved. Of an event of a node, [`notices`] works out once what does not depend on the address (`specs/Hearing.antt`): the node, the
-//! collections above it, the configuration that decides, and the `event` of the stanza.
-//!
-//! [`stamp`] is the text of a moment, which a last item carries (XEP-0203).
+//! What an event gives all addresses is `told` (`specs/Told.antt`): the model's `given` of each address that is asked, in the order of the octets of
+//! the printed addresses. [`those_asked_suffice`] says that nobody is missed where those alone are asked that have a row on the node or on a collection
+//! above it, and the resources that want the node of an account (`specs/Hearing.antt`); [`one_event_is_told`] that an entry with one event hands out
+//! just this. [`in_order`] puts addresses in that order, and [`stamp`] is the text of a moment, which a last item carries (XEP-0203). The stanzas are
+//! made of the model's words (`specs/Trees.antt`).
 #![tactic(auto)]
 
-mod asked;
-mod fanout;
-mod hearing;
-mod last;
 mod laws;
 mod moments;
 mod news;
 mod order;
-mod reading;
 mod single;
 mod trees;
-mod wanting;
 mod ways;
 
-pub use fanout::notices;
 pub use laws::{one_event_is_told, those_asked_suffice};
 pub use moments::stamp;
 pub use order::in_order;

@@ -6,13 +6,11 @@ ghost use Rattle.ps_fanout.specs.Told as told;
 ghost use Rattle.ps_fanout.specs.Trees as trees;
 
 use crate::trees::message;
-use ps_access::sub_text;
 use ps_base::Memory;
 use ps_forms::form_tree;
 use ps_names::{element, only, put};
 use ps_types::{
-    Attrs, Caps, Elem, Field, Fields, Form, FormKind, Jid, Kids, NodeKey, NoticeKind, SubState,
-    Text, Texts,
+    Attrs, Caps, Elem, Field, Fields, Form, FormKind, Jid, Kids, NodeKey, NoticeKind, Text, Texts,
 };
 use std::alloc::Global;
 
@@ -78,36 +76,6 @@ pub(crate) fn approval(
     let form = approval_form(alloc, node, who)?;
     let kids = only(alloc, form_tree(alloc, &form)?)?;
     message(alloc, &node.service, owner, NoticeKind::Normal, kids)
-}
-
-fn subscription(alloc: Global, node: &NodeKey, who: &Jid, state: SubState) -> Result<Elem, Memory>
-    ensures { IfOk result (λ t. t ≡ model.told_tree node.now who.now state) }
-{
-    let mut attrs = Attrs::new(alloc);
-    put(alloc, &mut attrs, "subscription", sub_text(state))?;
-    put(alloc, &mut attrs, "node", node.name.as_str())?;
-    put(alloc, &mut attrs, "jid", who.text(alloc)?.as_str())?;
-    let row = element(alloc, "subscription", PUBSUB, attrs, Kids::new(alloc))?;
-    element(
-        alloc,
-        "pubsub",
-        PUBSUB,
-        Attrs::new(alloc),
-        only(alloc, row)?,
-    )
-}
-
-/// The address is told what became of its subscription.
-pub(crate) fn subscription_told(
-    alloc: Global,
-    node: &NodeKey,
-    who: &Jid,
-    state: SubState,
-) -> Result<Elem, Memory>
-    ensures { IfOk result (λ t. t ≡ trees.sub_tree node.now who.now state) }
-{
-    let kids = only(alloc, subscription(alloc, node, who, state)?)?;
-    message(alloc, &node.service, who, NoticeKind::Normal, kids)
 }
 
 fn asked_name(alloc: Global, caps: &Caps) -> Result<Text, Memory>
