@@ -1,6 +1,6 @@
 -- A disk in memory: its calls, and what it is after each of them.
 use Rattle.std.specs.Prelude.{ℕ, ◌+◌, ◌≤◌, nat_le, List, [], ◌∷◌, ◌++◌, length, take, drop, filter, replicate}
-use Rattle.ps_disk.specs.Disk.{MayLeave}
+use Rattle.ps_disk.specs.Disk.{MayLeave, Elapses}
 use Rattle.ps_disk.specs.declared.replay.Call.{Call}
 use Rattle.ps_disk.specs.declared.replay.Call.TheVariants.{Wrote, Failed, Synced}
 use Rattle.ps_disk.specs.declared.replay.Kept.{Kept}
@@ -63,6 +63,24 @@ abbrev pub syncs_in : List Kept → ℕ
 syncs_in [] = 0
 syncs_in (one ∷ others) = syncs_in others + sync_count one.call
 
+-- the calls with one more
+abbrev pub with_call : List Kept → ℕ → Call → List Kept
+with_call kept number call = kept ++ record { number = number; call = call } ∷ []
+
+-- what the disk tells: what a read gives, what stood at the last sync, and the ranges written since
+abbrev pub seen_of : Recorded → List ℕ
+seen_of d = (state_of d).seen
+
+abbrev pub synced_of : Recorded → List ℕ
+synced_of d = (state_of d).synced
+
+abbrev pub written_of : Recorded → List (ℕ × ℕ)
+written_of d = (state_of d).written
+
+-- what a crash may leave of a disk that is so
+abbrev pub LeftOf : State → List ℕ → Type 0
+LeftOf s = MayLeave s.synced s.written
+
 -- what the disk was after its first n calls
 abbrev pub state_after : ℕ → Recorded → State
 state_after n d = after_calls (start_of d.start) (filter (λ one. nat_le one.number n) d.kept)
@@ -72,6 +90,10 @@ abbrev pub LeftSince : Recorded → ℕ → List ℕ → Type 0
 LeftSince d t c =
     (k : ℕ) × (t ≤ k) × (k ≤ length d.kept)
     × MayLeave (after_calls (start_of d.start) (take k d.kept)).synced (after_calls (start_of d.start) (take k d.kept)).written c
+
+-- time goes on from one call to the next
+abbrev pub GoesOn : Recorded → Recorded → Type 0
+GoesOn old new = Elapses (length old.kept) (length new.kept) (LeftSince old) (LeftSince new) (LeftOf (state_of new))
 
 -- the bytes, with this one in each of the ranges, the newest last
 abbrev pub filled : ℕ → List (ℕ × ℕ) → List ℕ → List ℕ

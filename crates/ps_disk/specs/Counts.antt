@@ -3,6 +3,10 @@ use Rattle.std.specs.Prelude.{◌≡◌, ◌⊎◌, ◌<◌, ◌↔◌, Contains
 use Rattle.ps_base.specs.Causes.{next_count, Rose}
 use Rattle.ps_disk.specs.Calls.{Recorded}
 
+-- a call that gave up for want of memory
+abbrev pub given_up : Recorded → Recorded
+given_up d = record d { faults = next_count d.faults; refused = next_count d.refused }
+
 -- The call has the next number. It fails where that number is one of those that fail, and where it gave up for want of memory, and only there.
 pub record IsCall {T E : Type 0} (old new : Recorded) (result : Result T E) : Type 0 where
   pub calls : new.calls ≡ next_count old.calls

@@ -38,7 +38,8 @@ pub trait Disk {
         ensures synced { synced self.new ≡ synced self.old }
         ensures written { written self.new ≡ written self.old }
         ensures syncs { tells → syncs self.new ≡ syncs self.old }
-        ensures time { tells → Elapses (moment self.old) (moment self.new) (left_since self.old) (left_since self.new) (MayLeave (synced self.new) (written self.new)) }
+        ensures time { tells → Elapses (moment self.old) (moment self.new) (left_since self.old) (left_since self.new)
+            (MayLeave (synced self.new) (written self.new)) }
         ensures cause { HasCause (faults self.old) (faults self.new) result };
 
     /// Reads the bytes from the offset on. Fewer than the room has come only at the end of the disk.
@@ -49,7 +50,8 @@ pub trait Disk {
         ensures synced { synced self.new ≡ synced self.old }
         ensures written { written self.new ≡ written self.old }
         ensures syncs { tells → syncs self.new ≡ syncs self.old }
-        ensures time { tells → Elapses (moment self.old) (moment self.new) (left_since self.old) (left_since self.new) (MayLeave (synced self.new) (written self.new)) }
+        ensures time { tells → Elapses (moment self.old) (moment self.new) (left_since self.old) (left_since self.new)
+            (MayLeave (synced self.new) (written self.new)) }
         ensures cause { HasCause (faults self.old) (faults self.new) result };
 
     /// Writes over what is there, and past the end. A write that fails may have written any part.
@@ -59,18 +61,22 @@ pub trait Disk {
         ensures failed { tells → OnErr result (TornAt at (length piece.now) (seen self.old) (seen self.new)) }
         ensures synced { tells → synced self.new ≡ synced self.old }
         ensures counted { tells → OnOk result (written self.new ≡ (at, length piece.now) ∷ written self.old) }
-        ensures maybe { tells → (written self.new ≡ written self.old) ⊎ (written self.new ≡ (at, length piece.now) ∷ written self.old) }
+        ensures maybe { tells → (written self.new ≡ written self.old)
+            ⊎ (written self.new ≡ (at, length piece.now) ∷ written self.old) }
         ensures syncs { tells → syncs self.new ≡ syncs self.old }
-        ensures time { tells → Elapses (moment self.old) (moment self.new) (left_since self.old) (left_since self.new) (MayLeave (synced self.new) (written self.new)) }
+        ensures time { tells → Elapses (moment self.old) (moment self.new) (left_since self.old) (left_since self.new)
+            (MayLeave (synced self.new) (written self.new)) }
         ensures cause { HasCause (faults self.old) (faults self.new) result };
 
     /// Once it succeeds, a crash leaves what a read gives.
     fn sync(&mut self) -> Result<(), Failed>
         ensures seen { tells → seen self.new ≡ seen self.old }
         ensures ok { tells → OnOk result ((synced self.new ≡ seen self.old) × (written self.new ≡ [])) }
-        ensures failed { tells → OnErr result ((synced self.new ≡ synced self.old) × (written self.new ≡ written self.old)) }
+        ensures failed { tells → OnErr result
+            ((synced self.new ≡ synced self.old) × (written self.new ≡ written self.old)) }
         ensures counted { tells → OnOk result (syncs self.new ≡ syncs self.old + 1) }
-        ensures time { tells → Elapses (moment self.old) (moment self.new) (left_since self.old) (left_since self.new) (MayLeave (synced self.new) (written self.new)) }
+        ensures time { tells → Elapses (moment self.old) (moment self.new) (left_since self.old) (left_since self.new)
+            (MayLeave (synced self.new) (written self.new)) }
         ensures cause { HasCause (faults self.old) (faults self.new) result };
 
     /// How often the disk has failed.

@@ -1,9 +1,10 @@
 // A disk in memory. It keeps its calls, so that it can tell what a crash after any of them may leave.
-ghost use Rattle.std.specs.Prelude.{◌≡◌, ◌⊎◌, ◌++◌, ◌∷◌, ◌+◌, ◌≤◌, ◌↔◌, [], length, take, drop, Contains, IsErr, IfOk, OnOk, OnErr};
+ghost use Rattle.std.specs.Prelude.{◌≡◌, ◌⊎◌, ◌∷◌, ◌+◌, ◌≤◌, ◌↔◌, [], length, take, drop, Contains, IsErr, IfOk, OnOk, OnErr};
 ghost use Rattle.ps_base.specs.Causes.{next_count, HasCause};
-ghost use Rattle.ps_disk.specs.Disk.{Holds, TornAt, MayLeave, Elapses};
-ghost use Rattle.ps_disk.specs.Calls.{new_disk, state_of, state_after, syncs_in, LeftSince, outcome, step};
-ghost use Rattle.ps_disk.specs.Counts.{IsCall, IsReading};
+ghost use Rattle.ps_disk.specs.Disk.{Holds, TornAt};
+ghost use Rattle.ps_disk.specs.Calls.{new_disk, state_of, state_after, seen_of, synced_of, written_of, syncs_in, with_call};
+ghost use Rattle.ps_disk.specs.Calls.{GoesOn, LeftOf, LeftSince, outcome, step};
+ghost use Rattle.ps_disk.specs.Counts.{given_up, IsCall, IsReading};
 ghost use Rattle.ps_disk.specs.Filled.{IsTornBy, BeginsWithin};
 
 use crate::replay::{Call, Kept, replay, written_over};
@@ -46,7 +47,14 @@ impl Model for MemDisk {
 
     ghost Value = { Recorded };
 
-    ghost view = { λ d. record { start = d.start.items; kept = d.kept.items; failing = d.failing.items; calls = d.calls; faults = d.faults; refused = d.refused } };
+    ghost view = { λ d. record {
+      start = d.start.items;
+      kept = d.kept.items;
+      failing = d.failing.items;
+      calls = d.calls;
+      faults = d.faults;
+      refused = d.refused;
+    } };
 
     ghost invariant = { λ d. IsKept d.start.items d.bytes.items d.kept.items d.calls };
 }
@@ -73,7 +81,7 @@ impl MemDisk {
 
     /// What a read gives.
     pub fn bytes(&self) -> &[u8]
-        ensures { result.now ≡ (state_of self.now).seen }
+        ensures { result.now ≡ seen_of self.now }
     {
         &self.bytes
     }
@@ -96,7 +104,7 @@ impl MemDisk {
     pub fn crashed(&self, alloc: Global, calls: u64, torn: Torn) -> Result<MemDisk, Memory>
         requires { calls ≤ self.now.calls }
         ensures which { IfOk result (λ d. d ≡ new_disk (outcome torn (state_after calls self.now)) []) }
-        ensures one { IfOk result (λ d. MayLeave (state_after calls self.now).synced (state_after calls self.now).written d.start) }
+        ensures one { IfOk result (λ d. LeftOf (state_after calls self.now) d.start) }
         ensures bytes { IfOk result (λ d. IsTornBy torn (state_after calls self.now) d.start) }
     {
         let bytes = self.left_by_crash(alloc, calls, torn)?;
@@ -122,7 +130,8 @@ impl MemDisk {
     // Counts a call, which fails where its number is one of those that fail.
     fn begin(&mut self) -> Result<(), Failed>
         ensures ok { OnOk result (self.new ≡ record self.old { calls = next_count self.old.calls }) }
-        ensures err { OnErr result (self.new ≡ record self.old { calls = next_count self.old.calls; faults = next_count self.old.faults }) }
+        ensures err { OnErr result
+            (self.new ≡ record self.old { calls = next_count self.old.calls; faults = next_count self.old.faults }) }
         ensures fails { IsErr result ↔ Contains self.old.failing (next_count self.old.calls) }
         ensures later { self.old.faults ≤ self.new.faults }
     {
@@ -136,7 +145,7 @@ impl MemDisk {
 
     // Counts that a call gave up for want of memory.
     fn give_up(&mut self)
-        ensures counts { self.new ≡ record self.old { faults = next_count self.old.faults; refused = next_count self.old.refused } }
+        ensures counts { self.new ≡ given_up self.old }
         ensures later { self.old.faults ≤ self.new.faults }
     {
         self.faults = self.faults.saturating_add(1);
@@ -145,10 +154,10 @@ impl MemDisk {
 
     // Keeps a call that doesn't change what is seen.
     fn keep(&mut self, call: Call) -> Result<(), Failed>
-        requires same { (step (state_of self.old) call).seen ≡ (state_of self.old).seen }
+        requires same { (step (state_of self.old) call).seen ≡ seen_of self.old }
         requires within { BeginsWithin (state_of self.old) call }
-        ensures ok { OnOk result (self.new ≡ record self.old { kept = self.old.kept ++ record { number = self.old.calls; call = call } ∷ [] }) }
-        ensures err { OnErr result (self.new ≡ record self.old { faults = next_count self.old.faults; refused = next_count self.old.refused }) }
+        ensures ok { OnOk result (self.new ≡ record self.old { kept = with_call self.old.kept self.old.calls call }) }
+        ensures err { OnErr result (self.new ≡ given_up self.old) }
         ensures later { self.old.faults ≤ self.new.faults }
     {
         let number = self.calls;
@@ -163,8 +172,9 @@ impl MemDisk {
 
     // Writes a piece, and keeps the call.
     fn keep_write(&mut self, at: u64, piece: &[u8]) -> Result<(), Memory>
-        requires { at ≤ length (state_of self.old).seen }
-        ensures ok { OnOk result (self.new ≡ record self.old { kept = self.old.kept ++ record { number = self.old.calls; call = Call.Wrote at piece.now } ∷ [] }) }
+        requires { at ≤ length (seen_of self.old) }
+        ensures ok { OnOk result
+            (self.new ≡ record self.old { kept = with_call self.old.kept self.old.calls (Call.Wrote at piece.now) }) }
         ensures err { OnErr result (self.new ≡ self.old) }
     {
         let number = self.calls;
@@ -182,11 +192,11 @@ impl Disk for MemDisk {
 
     ghost tells = { Unit {0} };
 
-    ghost seen = { λ d. (state_of d).seen };
+    ghost seen = { λ d. seen_of d };
 
-    ghost synced = { λ d. (state_of d).synced };
+    ghost synced = { λ d. synced_of d };
 
-    ghost written = { λ d. (state_of d).written };
+    ghost written = { λ d. written_of d };
 
     ghost moment = { λ d. length d.kept };
 
@@ -203,12 +213,12 @@ impl Disk for MemDisk {
     ghost only_now = { only_left_now };
 
     fn len(&mut self) -> Result<u64, Failed>
-        ensures length { IfOk result (λ n. n ≡ length (state_of self.old).seen) }
-        ensures seen { (state_of self.new).seen ≡ (state_of self.old).seen }
-        ensures synced { (state_of self.new).synced ≡ (state_of self.old).synced }
-        ensures written { (state_of self.new).written ≡ (state_of self.old).written }
+        ensures length { IfOk result (λ n. n ≡ length (seen_of self.old)) }
+        ensures seen { seen_of self.new ≡ seen_of self.old }
+        ensures synced { synced_of self.new ≡ synced_of self.old }
+        ensures written { written_of self.new ≡ written_of self.old }
         ensures syncs { syncs_in self.new.kept ≡ syncs_in self.old.kept }
-        ensures time { Elapses (length self.old.kept) (length self.new.kept) (LeftSince self.old) (LeftSince self.new) (MayLeave (state_of self.new).synced (state_of self.new).written) }
+        ensures time { GoesOn self.old self.new }
         ensures cause { HasCause self.old.faults self.new.faults result }
         ensures reads { IsReading self.old self.new result }
     {
@@ -218,12 +228,12 @@ impl Disk for MemDisk {
 
     fn read_at(&mut self, at: u64, room: &mut [u8]) -> Result<usize, Failed>
         ensures bound { IfOk result (λ n. n ≤ length room.new) }
-        ensures bytes { IfOk result (λ n. take n room.new ≡ take (length room.new) (drop at (state_of self.old).seen)) }
-        ensures seen { (state_of self.new).seen ≡ (state_of self.old).seen }
-        ensures synced { (state_of self.new).synced ≡ (state_of self.old).synced }
-        ensures written { (state_of self.new).written ≡ (state_of self.old).written }
+        ensures bytes { IfOk result (λ n. take n room.new ≡ take (length room.new) (drop at (seen_of self.old))) }
+        ensures seen { seen_of self.new ≡ seen_of self.old }
+        ensures synced { synced_of self.new ≡ synced_of self.old }
+        ensures written { written_of self.new ≡ written_of self.old }
         ensures syncs { syncs_in self.new.kept ≡ syncs_in self.old.kept }
-        ensures time { Elapses (length self.old.kept) (length self.new.kept) (LeftSince self.old) (LeftSince self.new) (MayLeave (state_of self.new).synced (state_of self.new).written) }
+        ensures time { GoesOn self.old self.new }
         ensures cause { HasCause self.old.faults self.new.faults result }
         ensures reads { IsReading self.old self.new result }
     {
@@ -232,16 +242,17 @@ impl Disk for MemDisk {
     }
 
     fn write_at(&mut self, at: u64, piece: &[u8]) -> Result<(), Failed>
-        requires { at ≤ length (state_of self.old).seen }
-        ensures ok { OnOk result (Holds (state_of self.old).seen at piece.now (state_of self.new).seen) }
-        ensures failed { OnErr result (TornAt at (length piece.now) (state_of self.old).seen (state_of self.new).seen) }
-        ensures synced { (state_of self.new).synced ≡ (state_of self.old).synced }
-        ensures counted { OnOk result ((state_of self.new).written ≡ (at, length piece.now) ∷ (state_of self.old).written) }
-        ensures maybe { ((state_of self.new).written ≡ (state_of self.old).written) ⊎ ((state_of self.new).written ≡ (at, length piece.now) ∷ (state_of self.old).written) }
+        requires { at ≤ length (seen_of self.old) }
+        ensures ok { OnOk result (Holds (seen_of self.old) at piece.now (seen_of self.new)) }
+        ensures failed { OnErr result (TornAt at (length piece.now) (seen_of self.old) (seen_of self.new)) }
+        ensures synced { synced_of self.new ≡ synced_of self.old }
+        ensures counted { OnOk result (written_of self.new ≡ (at, length piece.now) ∷ written_of self.old) }
+        ensures maybe { (written_of self.new ≡ written_of self.old)
+            ⊎ (written_of self.new ≡ (at, length piece.now) ∷ written_of self.old) }
         ensures syncs { syncs_in self.new.kept ≡ syncs_in self.old.kept }
-        ensures time { Elapses (length self.old.kept) (length self.new.kept) (LeftSince self.old) (LeftSince self.new) (MayLeave (state_of self.new).synced (state_of self.new).written) }
+        ensures time { GoesOn self.old self.new }
         ensures cause { HasCause self.old.faults self.new.faults result }
-        ensures kept { OnOk result (self.new.kept ≡ self.old.kept ++ record { number = self.new.calls; call = Call.Wrote at piece.now } ∷ []) }
+        ensures kept { OnOk result (self.new.kept ≡ with_call self.old.kept self.new.calls (Call.Wrote at piece.now)) }
         ensures call { IsCall self.old self.new result }
     {
         match self.begin() {
@@ -260,13 +271,14 @@ impl Disk for MemDisk {
     }
 
     fn sync(&mut self) -> Result<(), Failed>
-        ensures seen { (state_of self.new).seen ≡ (state_of self.old).seen }
-        ensures ok { OnOk result (((state_of self.new).synced ≡ (state_of self.old).seen) × ((state_of self.new).written ≡ [])) }
-        ensures failed { OnErr result (((state_of self.new).synced ≡ (state_of self.old).synced) × ((state_of self.new).written ≡ (state_of self.old).written)) }
+        ensures seen { seen_of self.new ≡ seen_of self.old }
+        ensures ok { OnOk result ((synced_of self.new ≡ seen_of self.old) × (written_of self.new ≡ [])) }
+        ensures failed { OnErr result
+            ((synced_of self.new ≡ synced_of self.old) × (written_of self.new ≡ written_of self.old)) }
         ensures counted { OnOk result (syncs_in self.new.kept ≡ syncs_in self.old.kept + 1) }
-        ensures time { Elapses (length self.old.kept) (length self.new.kept) (LeftSince self.old) (LeftSince self.new) (MayLeave (state_of self.new).synced (state_of self.new).written) }
+        ensures time { GoesOn self.old self.new }
         ensures cause { HasCause self.old.faults self.new.faults result }
-        ensures kept { OnOk result (self.new.kept ≡ self.old.kept ++ record { number = self.new.calls; call = Call.Synced } ∷ []) }
+        ensures kept { OnOk result (self.new.kept ≡ with_call self.old.kept self.new.calls Call.Synced) }
         ensures call { IsCall self.old self.new result }
     {
         match self.begin() {

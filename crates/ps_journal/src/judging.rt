@@ -1,5 +1,6 @@
 // Judging the bytes of a store.
-ghost use Rattle.std.specs.Prelude.{◌≡◌, ◌≢◌, ◌++◌, ◌∷◌, ◌+◌, ◌<◌, ◌≤◌, ◌^◌, [], List, ℕ, true, length, take, map, option_map, IfOk, IfErr, IsTrue};
+ghost use Rattle.std.specs.Prelude.{◌≡◌, ◌≢◌, ◌++◌, ◌∷◌, ◌+◌, ◌<◌, ◌≤◌, ◌^◌, [], List, ℕ, true};
+ghost use Rattle.std.specs.Prelude.{length, take, map, option_map, IfOk, IfErr, IsTrue};
 ghost use Rattle.ps_model.specs.Entries.{in_version};
 ghost use Rattle.ps_model.specs.Store.{is_header, is_second, gate_at};
 ghost use Rattle.ps_journal.specs.Judged.{Walked, Judged, FramesRead, IsBadAt, IsVerdict};
@@ -72,7 +73,8 @@ fn more_entries(
     stop: Option<u64>,
 ) -> Result<Option<u64>, Memory>
     requires { at + length body.now < 2 ^ 64 }
-    ensures { (bs : List (List ℕ)) → Judged second bs placed.old.items stop → at ≡ gate_at bs + 5 → IfOk result (λ next. Judged second (bs ++ body.now ∷ []) placed.new.items next) }
+    ensures { (bs : List (List ℕ)) → Judged second bs placed.old.items stop → at ≡ gate_at bs + 5
+        → IfOk result (λ next. Judged second (bs ++ body.now ∷ []) placed.new.items next) }
 {
     match stop {
         Some(stop) => Ok(Some(stop)),
