@@ -51,9 +51,9 @@ fn a_second_entry_takes_the_place_of_the_first(rt: HostRuntime) -> Result<(), Fa
 
 // Once more after memory was refused: nothing was prepared, and the second copy is made anew.
 fn prepare_at_last(service: &mut Service, entry: &Entry) -> Result<(), Fail>
-    requires { accepted service.old.state entry.now ≡ true }
-    requires { service.old.state.count < 2 ^ 62 }
-    ensures { OnOk result (service.new.prepared ≡ Some entry.now) }
+    requires fits { accepted service.old.state entry.now ≡ true }
+    requires few { service.old.state.count < 2 ^ 62 }
+    ensures prepared { OnOk result (service.new.prepared ≡ Some entry.now) }
 {
     match service.prepare(entry) {
         Ok(()) => Ok(()),
