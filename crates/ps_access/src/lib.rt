@@ -34,7 +34,7 @@ pub use making::{max_nodes, must_be_collection, must_have_room};
 pub use ps_types::{Rule, Verdict};
 pub use replies::about;
 pub use setting::{new_sub, set_asked_affils, set_asked_subs, set_state, set_sub};
-pub use steps::{allow, built_limit, key_of, must_be_leaf, must_stand, pass, pass_if};
+pub use steps::{allow, key_of, must_be_leaf, must_stand, pass_if};
 pub use subscribing::{base_options, given_options, new_state};
 pub use tables::Tables;
 pub use verdicts::{verdict_own, verdict_publish, verdict_read, verdict_subscribe};

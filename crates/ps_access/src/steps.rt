@@ -2,7 +2,6 @@
 ghost use Rattle.std.specs.Prelude.{◌≡◌, true, IfOk, OnOk};
 ghost use Rattle.ps_types.specs.Nodes.{node_at, stands};
 ghost use Rattle.ps_types.specs.declared.denial.Condition.TheVariants.{C12};
-ghost use Rattle.ps_model.specs.Built.{built_config, is_built_access as is_built_model};
 ghost use Rattle.ps_model.specs.CheckForms.{node_of};
 ghost use Rattle.ps_model.specs.CheckNode.{leaf_by};
 ghost use Rattle.ps_model.specs.Steps.{denied_by, unless};
@@ -10,9 +9,7 @@ ghost use Rattle.ps_access.specs.Plans.{Passes};
 
 use crate::tables::Tables;
 use ps_base::Memory;
-use ps_types::{
-    Access, Condition, NodeConfig, NodeKey, NodeKind, PlanRefusal, Request, Text, Verdict,
-};
+use ps_types::{Condition, NodeKey, NodeKind, PlanRefusal, Request, Text, Verdict};
 
 /// The key of the node of that name at the request's target.
 pub fn key_of(request: &Request, name: &Text) -> Result<NodeKey, Memory>
@@ -22,16 +19,6 @@ pub fn key_of(request: &Request, name: &Text) -> Result<NodeKey, Memory>
         service: request.target.clone()?,
         name: name.clone()?,
     })
-}
-
-/// A step that passes unless there is a condition that denies.
-pub fn pass(denial: Option<Condition>) -> Result<(), PlanRefusal>
-    ensures passes { Passes result denial }
-{
-    match denial {
-        Some(why) => Err(PlanRefusal::Denied(why)),
-        None => Ok(()),
-    }
 }
 
 /// A step that passes where its test holds.
@@ -78,24 +65,4 @@ pub fn must_be_leaf(tables: &Tables, node: &NodeKey) -> Result<(), PlanRefusal>
         NodeKind::Leaf => Ok(()),
         NodeKind::Collection => Err(PlanRefusal::Denied(Condition::C10)),
     }
-}
-
-fn is_built_access(access: Access) -> bool
-    ensures { result ≡ is_built_model access }
-{
-    matches!(
-        access,
-        Access::Everyone | Access::Authorize | Access::Whitelist
-    )
-}
-
-/// What keeps a configuration from being given to a node today.
-pub fn built_limit(config: &NodeConfig) -> Option<Condition>
-    ensures limit { result ≡ built_config config.now }
-{
-    let built = is_built_access(config.access_model)
-        && matches!(config.node_type, NodeKind::Leaf)
-        && config.collection.is_empty()
-        && !config.presence_based_delivery;
-    if built { None } else { Some(Condition::C14) }
 }

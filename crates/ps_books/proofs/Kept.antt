@@ -26,7 +26,6 @@ use Rattle.ps_model.specs.BaseRead.{row_of}
 use Rattle.ps_model.specs.BaseRows.{BaseRow, node, affiliation, subscription, item, link, contact, ver, made, counter, notice}
 use Rattle.ps_model.specs.Book.{Book, State, empty_book, empty_state}
 use Rattle.ps_model.specs.Bounds.{IsBounded, item_bound}
-use Rattle.ps_model.specs.Built.{built_config}
 use Rattle.ps_model.specs.CheckForms.{is_collection}
 use Rattle.ps_model.specs.Replay.{IsLawfulFrom, accepted_at, is_booted, lawful_by, request_accepted, row_accepted, replay_from}
 use Rattle.ps_model.specs.Taking.{request_in, tree_taken}
@@ -125,7 +124,7 @@ row-kept (notice to line) s ok reach is = is
 
 request-kept : (o : Option Request) (moment : Option ℕ) (book : Book) → request_accepted o book ≡ true → HoldsItems book → HoldsItems (step.book_changed o moment book)
 request-kept None moment book h is = is
-request-kept (Some r) moment book h is = record { leaves = changed-leaves built_config r.ask r moment book (passes book r h) is.leaves; bounded = changed-bounded r.ask r moment book is.bounded }
+request-kept (Some r) moment book h is = record { leaves = changed-leaves r.ask r moment book (passes book r h) is.leaves; bounded = changed-bounded r.ask r moment book is.bounded }
 
 base-kept : (o : Option BaseRow) (s : State) → row_accepted o s ≡ true → IsReachable s.book → HoldsItems s.book → HoldsItems (step.book_based o s.book)
 base-kept None s h reach is = is

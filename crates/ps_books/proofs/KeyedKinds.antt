@@ -167,12 +167,11 @@ not-true : (b : Bool) → not b ≡ true → b ≡ false
 not-true true h = absurd (cc h)
 not-true false h = refl
 
-create-by : (limits : NodeConfig → Option Condition) (given : Result NodeConfig Condition) (r : Request) (node : List ℕ) (book : Book) → stands (node_of r node) book.nodes ≡ false → new_node_step limits given book r ≡ None → IsKeyed book
+create-by : (given : Result NodeConfig Condition) (r : Request) (node : List ℕ) (book : Book) → stands (node_of r node) book.nodes ≡ false → new_node_step given book r ≡ None → IsKeyed book
     → IsKeyed (created_by given (node_of r node) r.from book)
-create-by limits (Err why) r node book absent step is = is
-create-by limits (Ok config) r node book absent step is =
-    let rest = (step-parts (limits config) (collection_step book r config.collection ∷ []) step).1 in
-    created-keyed (node_of r node) r.from config book absent (linkable config.collection book r (node_of r node) refl (step-parts (collection_step book r config.collection) [] rest).0) is
+create-by (Err why) r node book absent step is = is
+create-by (Ok config) r node book absent step is =
+    created-keyed (node_of r node) r.from config book absent (linkable config.collection book r (node_of r node) refl step) is
 
 -- ---- an item is published
 
@@ -188,26 +187,25 @@ published-keyed : (node : NodeKey) (config : NodeConfig) (who : Jid) (moment : O
 published-keyed node config who moment [] book is = is
 published-keyed node config who moment (item ∷ items) book is = record { keys = record { nodes = is.keys.nodes; affils = is.keys.affils; subs = is.keys.subs; items = kept-apart config.persist_items (item_row node (item_id item.id book node who) who item.payloads moment) config.max_items book.items is.keys.items; links = is.keys.links; rosters = is.keys.rosters; vers = is.keys.vers; counts = counted-apart item.id node who book is.keys.counts }; links = is.links }
 
-new-keyed : (limits : NodeConfig → Option Condition) (given : Result NodeConfig Condition) (r : Request) (node : List ℕ) (moment : Option ℕ) (items : List AskItem) (book : Book) → stands (node_of r node) book.nodes ≡ false
-    → made_step limits given book r ≡ None → IsKeyed book → IsKeyed (published_new given (node_of r node) r.from moment items book)
-new-keyed limits (Err why) r node moment items book absent step is = is
-new-keyed limits (Ok config) r node moment items book absent step is =
-    let rest = (step-parts (unless (not (is_collection config.node_type)) C14) (limits config ∷ collection_step book r config.collection ∷ []) step).1 in
-    let last = (step-parts (limits config) (collection_step book r config.collection ∷ []) rest).1 in
+new-keyed : (given : Result NodeConfig Condition) (r : Request) (node : List ℕ) (moment : Option ℕ) (items : List AskItem) (book : Book) → stands (node_of r node) book.nodes ≡ false
+    → made_step given book r ≡ None → IsKeyed book → IsKeyed (published_new given (node_of r node) r.from moment items book)
+new-keyed (Err why) r node moment items book absent step is = is
+new-keyed (Ok config) r node moment items book absent step is =
+    let rest = (step-parts (unless (not (is_collection config.node_type)) C14) (collection_step book r config.collection ∷ []) step).1 in
     published-keyed (node_of r node) config r.from moment items (created (node_of r node) r.from config book)
-    (created-keyed (node_of r node) r.from config book absent (linkable config.collection book r (node_of r node) refl (step-parts (collection_step book r config.collection) [] last).0) is)
+    (created-keyed (node_of r node) r.from config book absent (linkable config.collection book r (node_of r node) refl (step-parts (collection_step book r config.collection) [] rest).0) is)
 
-publish-keyed : (limits : NodeConfig → Option Condition) (o : Option NodeRow) (r : Request) (node : List ℕ) (items : List AskItem) (options : Option Tree) (moment : Option ℕ) (book : Book) → node_at (node_of r node) book.nodes ≡ o
-    → first_denial (publish_by limits o book r node items options) ≡ None → IsKeyed book → IsKeyed (published_by o (node_of r node) r.from moment items options book)
-publish-keyed limits (Some row) r node items options moment book at ok is = published-keyed (node_of r node) row.config r.from moment items book is
-publish-keyed limits None r node items options moment book at ok is = own (is_own_account r.target r.from) ok
+publish-keyed : (o : Option NodeRow) (r : Request) (node : List ℕ) (items : List AskItem) (options : Option Tree) (moment : Option ℕ) (book : Book) → node_at (node_of r node) book.nodes ≡ o
+    → first_denial (publish_by o book r node items options) ≡ None → IsKeyed book → IsKeyed (published_by o (node_of r node) r.from moment items options book)
+publish-keyed (Some row) r node items options moment book at ok is = published-keyed (node_of r node) row.config r.from moment items book is
+publish-keyed None r node items options moment book at ok is = own (is_own_account r.target r.from) ok
   where
-    own : (b : Bool) → first_denial (cond b (publish_new_steps limits book r items (options_config options (default_config true))) (Some C12 ∷ [])) ≡ None
+    own : (b : Bool) → first_denial (cond b (publish_new_steps book r items (options_config options (default_config true))) (Some C12 ∷ [])) ≡ None
         → IsKeyed (published_new (options_config options (default_config true)) (node_of r node) r.from moment items book)
     own false h = absurd (cc h)
     own true h =
         let given = options_config options (default_config true) in
-        new-keyed limits given r node moment items book (ap (λ (o : Option NodeRow). is_some o) at) (step-parts (made_step limits given book r) (made_item_steps given items ++ node_limit_step book r ∷ []) h).0 is
+        new-keyed given r node moment items book (ap (λ (o : Option NodeRow). is_some o) at) (step-parts (made_step given book r) (made_item_steps given items ++ node_limit_step book r ∷ []) h).0 is
 
 -- ---- a node goes
 
@@ -280,39 +278,39 @@ answer-keyed : (shown : Option Caps) (who : Jid) (node : List ℕ) (info : Info)
 answer-keyed None who node info book is = is
 answer-keyed (Some caps) who node info book is = usable-keyed (is_usable caps node info) caps who info book is
 
-pub changed-keyed : (limits : NodeConfig → Option Condition) (a : Ask) (r : Request) (moment : Option ℕ) (book : Book) → first_denial (steps_of limits a book r) ≡ None → IsKeyed book → IsKeyed (changed_by a r moment book)
-changed-keyed limits (ask.Create node form) r moment book ok is =
+pub changed-keyed : (a : Ask) (r : Request) (moment : Option ℕ) (book : Book) → first_denial (steps_of a book r) ≡ None → IsKeyed book → IsKeyed (changed_by a r moment book)
+changed-keyed (ask.Create node form) r moment book ok is =
     let first = unless (not (stands (node_of r node) book.nodes)) C8 in
     let second = unless (not (is_account r.target) || same_bare r.target r.from) C11 in
-    let third = new_node_step limits (new_config r.target form) book r in
+    let third = new_node_step (new_config r.target form) book r in
     let one = step-parts first (second ∷ third ∷ node_limit_step book r ∷ []) ok in
     let two = step-parts second (third ∷ node_limit_step book r ∷ []) one.1 in
-    create-by limits (new_config r.target form) r node book (not-true (stands (node_of r node) book.nodes) (unless-holds (not (stands (node_of r node) book.nodes)) C8 one.0)) (step-parts third (node_limit_step book r ∷ []) two.1).0 is
-changed-keyed limits (ask.Publish node items options) r moment book ok is = publish-keyed limits (node_at (node_of r node) book.nodes) r node items options moment book refl ok is
-changed-keyed limits (ask.Retract node ids notify) r moment book ok is = retract-keyed (node_of r node) ids book is
-changed-keyed limits (ask.Purge node) r moment book ok is = record { keys = record { nodes = is.keys.nodes; affils = is.keys.affils; subs = is.keys.subs; items = apart-filter item_key (λ x. not (is_item_at (node_of r node) x)) book.items is.keys.items; links = is.keys.links; rosters = is.keys.rosters; vers = is.keys.vers; counts = is.keys.counts }; links = is.links }
-changed-keyed limits (ask.Delete node) r moment book ok is = deleted-keyed (node_of r node) book is
-changed-keyed limits (ask.ConfigGet node) r moment book ok is = is
-changed-keyed limits (ask.ConfigSet node form) r moment book ok is = configured_by-keyed (node_at (node_of r node) book.nodes) (node_of r node) form book is
-changed-keyed limits (ask.AffilsGet node) r moment book ok is = is
-changed-keyed limits (ask.AffilsSet node rows) r moment book ok is = record { keys = record { nodes = is.keys.nodes; affils = affils-all (node_of r node) rows book.affils is.keys.affils; subs = is.keys.subs; items = is.keys.items; links = is.keys.links; rosters = is.keys.rosters; vers = is.keys.vers; counts = is.keys.counts }; links = is.links }
-changed-keyed limits (ask.SubsGet node) r moment book ok is = is
-changed-keyed limits (ask.SubsSet node rows) r moment book ok is = record { keys = record { nodes = is.keys.nodes; affils = is.keys.affils; subs = subs-all (node_of r node) rows book.subs is.keys.subs; items = is.keys.items; links = is.keys.links; rosters = is.keys.rosters; vers = is.keys.vers; counts = is.keys.counts }; links = is.links }
-changed-keyed limits (ask.MyAffils node) r moment book ok is = is
-changed-keyed limits (ask.MySubs node) r moment book ok is = is
-changed-keyed limits (ask.Subscribe node who form) r moment book ok is = subscribed-keyed (sub_options form (base_options book (node_of r node) who)) (node_of r node) who (new_state book r (node_of r node) who) book is
-changed-keyed limits (ask.Unsubscribe node who subid) r moment book ok is = record { keys = record { nodes = is.keys.nodes; affils = is.keys.affils; subs = subs-set (record { node = node_of r node; who = who; state = sub.Nothing; options = base_options book (node_of r node) who }) book.subs is.keys.subs; items = is.keys.items; links = is.keys.links; rosters = is.keys.rosters; vers = is.keys.vers; counts = is.keys.counts }; links = is.links }
-changed-keyed limits (ask.OptionsGet node who) r moment book ok is = is
-changed-keyed limits (ask.OptionsSet node who form) r moment book ok is = subscribed-keyed (sub_options form (base_options book (node_of r node) who)) (node_of r node) who (sub_at (node_of r node) who book.subs) book is
-changed-keyed limits (ask.ItemsGet node max ids) r moment book ok is = is
-changed-keyed limits (ask.InfoGet node) r moment book ok is = is
-changed-keyed limits (ask.NodesGet node) r moment book ok is = is
-changed-keyed limits (ask.RosterSet item) r moment book ok is = roster-keyed (roster_of item.subscription) r.from item book is
-changed-keyed limits (ask.Approve node who allow) r moment book ok is = record { keys = record { nodes = is.keys.nodes; affils = is.keys.affils; subs = subs-set (sub_with (node_of r node) who (approved (is_true allow)) book.subs) book.subs is.keys.subs; items = is.keys.items; links = is.keys.links; rosters = is.keys.rosters; vers = is.keys.vers; counts = is.keys.counts }; links = is.links }
-changed-keyed limits (ask.Present caps) r moment book ok is = record { keys = record { nodes = is.keys.nodes; affils = is.keys.affils; subs = is.keys.subs; items = is.keys.items; links = is.keys.links; rosters = is.keys.rosters; vers = is.keys.vers; counts = is.keys.counts }; links = is.links }
-changed-keyed limits ask.Absent r moment book ok is = record { keys = record { nodes = is.keys.nodes; affils = is.keys.affils; subs = is.keys.subs; items = is.keys.items; links = is.keys.links; rosters = is.keys.rosters; vers = is.keys.vers; counts = is.keys.counts }; links = is.links }
-changed-keyed limits (ask.CapsAnswer node info) r moment book ok is = answer-keyed (caps_in (resource_at r.from book.resources)) r.from node (info_of info) book is
-changed-keyed limits ask.Silent r moment book ok is = is
+    create-by (new_config r.target form) r node book (not-true (stands (node_of r node) book.nodes) (unless-holds (not (stands (node_of r node) book.nodes)) C8 one.0)) (step-parts third (node_limit_step book r ∷ []) two.1).0 is
+changed-keyed (ask.Publish node items options) r moment book ok is = publish-keyed (node_at (node_of r node) book.nodes) r node items options moment book refl ok is
+changed-keyed (ask.Retract node ids notify) r moment book ok is = retract-keyed (node_of r node) ids book is
+changed-keyed (ask.Purge node) r moment book ok is = record { keys = record { nodes = is.keys.nodes; affils = is.keys.affils; subs = is.keys.subs; items = apart-filter item_key (λ x. not (is_item_at (node_of r node) x)) book.items is.keys.items; links = is.keys.links; rosters = is.keys.rosters; vers = is.keys.vers; counts = is.keys.counts }; links = is.links }
+changed-keyed (ask.Delete node) r moment book ok is = deleted-keyed (node_of r node) book is
+changed-keyed (ask.ConfigGet node) r moment book ok is = is
+changed-keyed (ask.ConfigSet node form) r moment book ok is = configured_by-keyed (node_at (node_of r node) book.nodes) (node_of r node) form book is
+changed-keyed (ask.AffilsGet node) r moment book ok is = is
+changed-keyed (ask.AffilsSet node rows) r moment book ok is = record { keys = record { nodes = is.keys.nodes; affils = affils-all (node_of r node) rows book.affils is.keys.affils; subs = is.keys.subs; items = is.keys.items; links = is.keys.links; rosters = is.keys.rosters; vers = is.keys.vers; counts = is.keys.counts }; links = is.links }
+changed-keyed (ask.SubsGet node) r moment book ok is = is
+changed-keyed (ask.SubsSet node rows) r moment book ok is = record { keys = record { nodes = is.keys.nodes; affils = is.keys.affils; subs = subs-all (node_of r node) rows book.subs is.keys.subs; items = is.keys.items; links = is.keys.links; rosters = is.keys.rosters; vers = is.keys.vers; counts = is.keys.counts }; links = is.links }
+changed-keyed (ask.MyAffils node) r moment book ok is = is
+changed-keyed (ask.MySubs node) r moment book ok is = is
+changed-keyed (ask.Subscribe node who form) r moment book ok is = subscribed-keyed (sub_options form (base_options book (node_of r node) who)) (node_of r node) who (new_state book r (node_of r node) who) book is
+changed-keyed (ask.Unsubscribe node who subid) r moment book ok is = record { keys = record { nodes = is.keys.nodes; affils = is.keys.affils; subs = subs-set (record { node = node_of r node; who = who; state = sub.Nothing; options = base_options book (node_of r node) who }) book.subs is.keys.subs; items = is.keys.items; links = is.keys.links; rosters = is.keys.rosters; vers = is.keys.vers; counts = is.keys.counts }; links = is.links }
+changed-keyed (ask.OptionsGet node who) r moment book ok is = is
+changed-keyed (ask.OptionsSet node who form) r moment book ok is = subscribed-keyed (sub_options form (base_options book (node_of r node) who)) (node_of r node) who (sub_at (node_of r node) who book.subs) book is
+changed-keyed (ask.ItemsGet node max ids) r moment book ok is = is
+changed-keyed (ask.InfoGet node) r moment book ok is = is
+changed-keyed (ask.NodesGet node) r moment book ok is = is
+changed-keyed (ask.RosterSet item) r moment book ok is = roster-keyed (roster_of item.subscription) r.from item book is
+changed-keyed (ask.Approve node who allow) r moment book ok is = record { keys = record { nodes = is.keys.nodes; affils = is.keys.affils; subs = subs-set (sub_with (node_of r node) who (approved (is_true allow)) book.subs) book.subs is.keys.subs; items = is.keys.items; links = is.keys.links; rosters = is.keys.rosters; vers = is.keys.vers; counts = is.keys.counts }; links = is.links }
+changed-keyed (ask.Present caps) r moment book ok is = record { keys = record { nodes = is.keys.nodes; affils = is.keys.affils; subs = is.keys.subs; items = is.keys.items; links = is.keys.links; rosters = is.keys.rosters; vers = is.keys.vers; counts = is.keys.counts }; links = is.links }
+changed-keyed ask.Absent r moment book ok is = record { keys = record { nodes = is.keys.nodes; affils = is.keys.affils; subs = is.keys.subs; items = is.keys.items; links = is.keys.links; rosters = is.keys.rosters; vers = is.keys.vers; counts = is.keys.counts }; links = is.links }
+changed-keyed (ask.CapsAnswer node info) r moment book ok is = answer-keyed (caps_in (resource_at r.from book.resources)) r.from node (info_of info) book is
+changed-keyed ask.Silent r moment book ok is = is
 
 -- the Book before anything is asked
 pub empty-keyed : IsKeyed empty_book

@@ -96,30 +96,30 @@ last-leaf (Some r) row b e none leaf = absurd (cc none)
 last-leaf None row true e none leaf = leaf
 last-leaf None row false e none leaf = absurd (cc e)
 
-new-leaves : (limits : NodeConfig → Option Condition) (given : Result NodeConfig Condition) (r : Request) (node : List ℕ) (moment : Option ℕ) (items : List AskItem) (book : Book) → stands (node_of r node) book.nodes ≡ false
-    → made_step limits given book r ≡ None → AreAtLeaves book → AreAtLeaves (published_new given (node_of r node) r.from moment items book)
-new-leaves limits (Err why) r node moment items book none step is = is
-new-leaves limits (Ok config) r node moment items book none step is =
+new-leaves : (given : Result NodeConfig Condition) (r : Request) (node : List ℕ) (moment : Option ℕ) (items : List AskItem) (book : Book) → stands (node_of r node) book.nodes ≡ false
+    → made_step given book r ≡ None → AreAtLeaves book → AreAtLeaves (published_new given (node_of r node) r.from moment items book)
+new-leaves (Err why) r node moment items book none step is = is
+new-leaves (Ok config) r node moment items book none step is =
     let key = node_of r node in
     let row = new_node key r.from config in
-    let leaf = unless-holds (not (is_collection config.node_type)) C14 (step-parts (unless (not (is_collection config.node_type)) C14) (limits config ∷ collection_step book r config.collection ∷ []) step).0 in
+    let leaf = unless-holds (not (is_collection config.node_type)) C14 (step-parts (unless (not (is_collection config.node_type)) C14) (collection_step book r config.collection ∷ []) step).0 in
     published-leaves key config r.from moment items (created key r.from config book)
     (ap (λ (o : Option NodeRow). is_leaf_at (option_map (λ x. x.config) o)) (find-append (is_node key) book.nodes (row ∷ [])) ∙ last-leaf (node_at key book.nodes) row (same_node key key) (same_node-itself key) none leaf)
     (created-leaves key r.from config book is)
 
-publish-leaves : (limits : NodeConfig → Option Condition) (o : Option NodeRow) (r : Request) (node : List ℕ) (items : List AskItem) (options : Option Tree) (moment : Option ℕ) (book : Book) → node_at (node_of r node) book.nodes ≡ o
-    → first_denial (publish_by limits o book r node items options) ≡ None → AreAtLeaves book → AreAtLeaves (published_by o (node_of r node) r.from moment items options book)
-publish-leaves limits (Some row) r node items options moment book at ok is =
+publish-leaves : (o : Option NodeRow) (r : Request) (node : List ℕ) (items : List AskItem) (options : Option Tree) (moment : Option ℕ) (book : Book) → node_at (node_of r node) book.nodes ≡ o
+    → first_denial (publish_by o book r node items options) ≡ None → AreAtLeaves book → AreAtLeaves (published_by o (node_of r node) r.from moment items options book)
+publish-leaves (Some row) r node items options moment book at ok is =
     let leaf = unless-holds (not (is_collection row.config.node_type)) C10 (step-parts (leaf_by (Some row)) (denied_by (publish book (node_of r node) r.from) ∷ options_step options row.config ∷ item_steps row.config items) ok).0 in
     published-leaves (node_of r node) row.config r.from moment items book (ap (λ (o : Option NodeRow). is_leaf_at (option_map (λ x. x.config) o)) at ∙ leaf) is
-publish-leaves limits None r node items options moment book at ok is = mine (is_own_account r.target r.from) ok
+publish-leaves None r node items options moment book at ok is = mine (is_own_account r.target r.from) ok
   where
-    mine : (b : Bool) → first_denial (cond b (publish_new_steps limits book r items (options_config options (default_config true))) (Some C12 ∷ [])) ≡ None
+    mine : (b : Bool) → first_denial (cond b (publish_new_steps book r items (options_config options (default_config true))) (Some C12 ∷ [])) ≡ None
         → AreAtLeaves (published_new (options_config options (default_config true)) (node_of r node) r.from moment items book)
     mine false h = absurd (cc h)
     mine true h =
         let given = options_config options (default_config true) in
-        new-leaves limits given r node moment items book (ap (λ (o : Option NodeRow). is_some o) at) (step-parts (made_step limits given book r) (made_item_steps given items ++ node_limit_step book r ∷ []) h).0 is
+        new-leaves given r node moment items book (ap (λ (o : Option NodeRow). is_some o) at) (step-parts (made_step given book r) (made_item_steps given items ++ node_limit_step book r ∷ []) h).0 is
 
 gone-at : (node : NodeKey) (nodes : List NodeRow) (r : ItemRow) (more : List ItemRow) (b : Bool) → same_node node r.node ≡ b → IsAtLeaf nodes r → Each (IsAtLeaf (nodes_without node nodes)) more → Each (IsAtLeaf (nodes_without node nodes)) (cond (not b) (r ∷ more) more)
 gone-at node nodes r more true e is rest = rest
@@ -152,20 +152,20 @@ set-leaves node config row book found unmoved is =
     under-leaves config.persist_items (nodes_with node config book.nodes) node config book.items
     (each-by (IsAtLeaf (nodes_with node config book.nodes)) (IsAtLeaf book.nodes) book.items (λ r h. leaf-with r.node node config row book.nodes (same_node r.node node) refl found parts.0 ∙ h) is)
 
-given-leaves : (limits : NodeConfig → Option Condition) (given : Result NodeConfig Condition) (node : NodeKey) (row : NodeRow) (book : Book) → node_at node book.nodes ≡ Some row → given_step limits given row.config ≡ None → AreAtLeaves book → AreAtLeaves (configured node given book)
-given-leaves limits (Err why) node row book found ok is = is
-given-leaves limits (Ok config) node row book found ok is =
-    set-leaves node config row book found (unless-holds (is_unmoved row.config config) C14 (step-parts (unless (is_unmoved row.config config) C14) (limits config ∷ []) ok).0) is
+given-leaves : (given : Result NodeConfig Condition) (node : NodeKey) (row : NodeRow) (book : Book) → node_at node book.nodes ≡ Some row → given_step given row.config ≡ None → AreAtLeaves book → AreAtLeaves (configured node given book)
+given-leaves (Err why) node row book found ok is = is
+given-leaves (Ok config) node row book found ok is =
+    set-leaves node config row book found (unless-holds (is_unmoved row.config config) C14 ok) is
 
-step-leaves : (limits : NodeConfig → Option Condition) (form : Option Form) (node : NodeKey) (row : NodeRow) (book : Book) (b : Bool) → is_cancelled form ≡ b → node_at node book.nodes ≡ Some row
-    → cond b None (given_step limits (config_given config_type row.config form) row.config) ≡ None → AreAtLeaves book → AreAtLeaves (configured node (config_given config_type row.config form) book)
-step-leaves limits form node row book true e found ok is = rw (cancelled-given config_type row.config form e) is
-step-leaves limits form node row book false e found ok is = given-leaves limits (config_given config_type row.config form) node row book found ok is
+step-leaves : (form : Option Form) (node : NodeKey) (row : NodeRow) (book : Book) (b : Bool) → is_cancelled form ≡ b → node_at node book.nodes ≡ Some row
+    → cond b None (given_step (config_given config_type row.config form) row.config) ≡ None → AreAtLeaves book → AreAtLeaves (configured node (config_given config_type row.config form) book)
+step-leaves form node row book true e found ok is = rw (cancelled-given config_type row.config form e) is
+step-leaves form node row book false e found ok is = given-leaves (config_given config_type row.config form) node row book found ok is
 
-configured_by-leaves : (limits : NodeConfig → Option Condition) (o : Option NodeRow) (node : NodeKey) (form : Option Tree) (book : Book) → node_at node book.nodes ≡ o → config_by limits o form ≡ None → AreAtLeaves book → AreAtLeaves (configured_by o node form book)
-configured_by-leaves limits None node form book found ok is = is
-configured_by-leaves limits (Some row) node None book found ok is = is
-configured_by-leaves limits (Some row) node (Some form) book found ok is = step-leaves limits (form_of form) node row book (is_cancelled (form_of form)) refl found ok is
+configured_by-leaves : (o : Option NodeRow) (node : NodeKey) (form : Option Tree) (book : Book) → node_at node book.nodes ≡ o → config_by o form ≡ None → AreAtLeaves book → AreAtLeaves (configured_by o node form book)
+configured_by-leaves None node form book found ok is = is
+configured_by-leaves (Some row) node None book found ok is = is
+configured_by-leaves (Some row) node (Some form) book found ok is = step-leaves (form_of form) node row book (is_cancelled (form_of form)) refl found ok is
 
 subscribed-leaves : (given : Result SubOptions Condition) (node : NodeKey) (who : Jid) (state : SubState) (book : Book) → AreAtLeaves book → AreAtLeaves (subscribed_by given node who state book)
 subscribed-leaves (Err why) node who state book is = is
@@ -188,33 +188,33 @@ answer-leaves : (shown : Option Caps) (who : Jid) (node : List ℕ) (info : Info
 answer-leaves None who node info book is = is
 answer-leaves (Some caps) who node info book is = usable-leaves (is_usable caps node info) caps who info book is
 
-pub changed-leaves : (limits : NodeConfig → Option Condition) (a : Ask) (r : Request) (moment : Option ℕ) (book : Book) → first_denial (steps_of limits a book r) ≡ None → AreAtLeaves book → AreAtLeaves (changed_by a r moment book)
-changed-leaves limits (ask.Create node form) r moment book ok is = created_by-leaves (new_config r.target form) (node_of r node) r.from book is
-changed-leaves limits (ask.Publish node items options) r moment book ok is = publish-leaves limits (node_at (node_of r node) book.nodes) r node items options moment book refl ok is
-changed-leaves limits (ask.Retract node ids notify) r moment book ok is = retract-leaves (node_of r node) ids book is
-changed-leaves limits (ask.Purge node) r moment book ok is = each-filter (IsAtLeaf book.nodes) (λ x. not (is_item_at (node_of r node) x)) book.items is
-changed-leaves limits (ask.Delete node) r moment book ok is = gone-leaves (node_of r node) book.nodes book.items is
-changed-leaves limits (ask.ConfigGet node) r moment book ok is = is
-changed-leaves limits (ask.ConfigSet node form) r moment book ok is =
-    (let last = config_by limits (node_at (node_of r node) book.nodes) form in
+pub changed-leaves : (a : Ask) (r : Request) (moment : Option ℕ) (book : Book) → first_denial (steps_of a book r) ≡ None → AreAtLeaves book → AreAtLeaves (changed_by a r moment book)
+changed-leaves (ask.Create node form) r moment book ok is = created_by-leaves (new_config r.target form) (node_of r node) r.from book is
+changed-leaves (ask.Publish node items options) r moment book ok is = publish-leaves (node_at (node_of r node) book.nodes) r node items options moment book refl ok is
+changed-leaves (ask.Retract node ids notify) r moment book ok is = retract-leaves (node_of r node) ids book is
+changed-leaves (ask.Purge node) r moment book ok is = each-filter (IsAtLeaf book.nodes) (λ x. not (is_item_at (node_of r node) x)) book.items is
+changed-leaves (ask.Delete node) r moment book ok is = gone-leaves (node_of r node) book.nodes book.items is
+changed-leaves (ask.ConfigGet node) r moment book ok is = is
+changed-leaves (ask.ConfigSet node form) r moment book ok is =
+    (let last = config_by (node_at (node_of r node) book.nodes) form in
     let two = step-parts (denied_by (own book (node_of r node) r.from)) (last ∷ []) (step-parts (stands_step book r node) (denied_by (own book (node_of r node) r.from) ∷ last ∷ []) ok).1 in
-    configured_by-leaves limits (node_at (node_of r node) book.nodes) (node_of r node) form book refl (step-parts last [] two.1).0 is)
-changed-leaves limits (ask.AffilsGet node) r moment book ok is = is
-changed-leaves limits (ask.AffilsSet node rows) r moment book ok is = is
-changed-leaves limits (ask.SubsGet node) r moment book ok is = is
-changed-leaves limits (ask.SubsSet node rows) r moment book ok is = is
-changed-leaves limits (ask.MyAffils node) r moment book ok is = is
-changed-leaves limits (ask.MySubs node) r moment book ok is = is
-changed-leaves limits (ask.Subscribe node who form) r moment book ok is = subscribed-leaves (sub_options form (base_options book (node_of r node) who)) (node_of r node) who (new_state book r (node_of r node) who) book is
-changed-leaves limits (ask.Unsubscribe node who subid) r moment book ok is = is
-changed-leaves limits (ask.OptionsGet node who) r moment book ok is = is
-changed-leaves limits (ask.OptionsSet node who form) r moment book ok is = subscribed-leaves (sub_options form (base_options book (node_of r node) who)) (node_of r node) who (sub_at (node_of r node) who book.subs) book is
-changed-leaves limits (ask.ItemsGet node max ids) r moment book ok is = is
-changed-leaves limits (ask.InfoGet node) r moment book ok is = is
-changed-leaves limits (ask.NodesGet node) r moment book ok is = is
-changed-leaves limits (ask.RosterSet item) r moment book ok is = roster-leaves (roster_of item.subscription) r.from item book is
-changed-leaves limits (ask.Approve node who allow) r moment book ok is = is
-changed-leaves limits (ask.Present caps) r moment book ok is = is
-changed-leaves limits ask.Absent r moment book ok is = is
-changed-leaves limits (ask.CapsAnswer node info) r moment book ok is = answer-leaves (caps_in (resource_at r.from book.resources)) r.from node (info_of info) book is
-changed-leaves limits ask.Silent r moment book ok is = is
+    configured_by-leaves (node_at (node_of r node) book.nodes) (node_of r node) form book refl (step-parts last [] two.1).0 is)
+changed-leaves (ask.AffilsGet node) r moment book ok is = is
+changed-leaves (ask.AffilsSet node rows) r moment book ok is = is
+changed-leaves (ask.SubsGet node) r moment book ok is = is
+changed-leaves (ask.SubsSet node rows) r moment book ok is = is
+changed-leaves (ask.MyAffils node) r moment book ok is = is
+changed-leaves (ask.MySubs node) r moment book ok is = is
+changed-leaves (ask.Subscribe node who form) r moment book ok is = subscribed-leaves (sub_options form (base_options book (node_of r node) who)) (node_of r node) who (new_state book r (node_of r node) who) book is
+changed-leaves (ask.Unsubscribe node who subid) r moment book ok is = is
+changed-leaves (ask.OptionsGet node who) r moment book ok is = is
+changed-leaves (ask.OptionsSet node who form) r moment book ok is = subscribed-leaves (sub_options form (base_options book (node_of r node) who)) (node_of r node) who (sub_at (node_of r node) who book.subs) book is
+changed-leaves (ask.ItemsGet node max ids) r moment book ok is = is
+changed-leaves (ask.InfoGet node) r moment book ok is = is
+changed-leaves (ask.NodesGet node) r moment book ok is = is
+changed-leaves (ask.RosterSet item) r moment book ok is = roster-leaves (roster_of item.subscription) r.from item book is
+changed-leaves (ask.Approve node who allow) r moment book ok is = is
+changed-leaves (ask.Present caps) r moment book ok is = is
+changed-leaves ask.Absent r moment book ok is = is
+changed-leaves (ask.CapsAnswer node info) r moment book ok is = answer-leaves (caps_in (resource_at r.from book.resources)) r.from node (info_of info) book is
+changed-leaves ask.Silent r moment book ok is = is

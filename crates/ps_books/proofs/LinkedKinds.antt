@@ -145,37 +145,35 @@ not-true : (b : Bool) → not b ≡ true → b ≡ false
 not-true true h = absurd (cc h)
 not-true false h = refl
 
-create-by : (limits : NodeConfig → Option Condition) (given : Result NodeConfig Condition) (r : Request) (node : List ℕ) (book : Book) → stands (node_of r node) book.nodes ≡ false → new_node_step limits given book r ≡ None → IsKeyed book → IsLinked book
+create-by : (given : Result NodeConfig Condition) (r : Request) (node : List ℕ) (book : Book) → stands (node_of r node) book.nodes ≡ false → new_node_step given book r ≡ None → IsKeyed book → IsLinked book
     → IsLinked (created_by given (node_of r node) r.from book)
-create-by limits (Err why) r node book none step keyed is = is
-create-by limits (Ok config) r node book none step keyed is =
-    let rest = (step-parts (limits config) (collection_step book r config.collection ∷ []) step).1 in
-    created-linked (node_of r node) r.from config book none (into config.collection book r (node_of r node) refl (step-parts (collection_step book r config.collection) [] rest).0) keyed is
+create-by (Err why) r node book none step keyed is = is
+create-by (Ok config) r node book none step keyed is =
+    created-linked (node_of r node) r.from config book none (into config.collection book r (node_of r node) refl step) keyed is
 
 published-linked : (node : NodeKey) (config : NodeConfig) (who : Jid) (moment : Option ℕ) (items : List AskItem) (book : Book) → IsLinked book → IsLinked (published node config who moment items book)
 published-linked node config who moment [] book is = is
 published-linked node config who moment (item ∷ items) book is = record { links = is.links; configured = is.configured }
 
-new-linked : (limits : NodeConfig → Option Condition) (given : Result NodeConfig Condition) (r : Request) (node : List ℕ) (moment : Option ℕ) (items : List AskItem) (book : Book) → stands (node_of r node) book.nodes ≡ false
-    → made_step limits given book r ≡ None → IsKeyed book → IsLinked book → IsLinked (published_new given (node_of r node) r.from moment items book)
-new-linked limits (Err why) r node moment items book none step keyed is = is
-new-linked limits (Ok config) r node moment items book none step keyed is =
-    let rest = (step-parts (unless (not (is_collection config.node_type)) C14) (limits config ∷ collection_step book r config.collection ∷ []) step).1 in
-    let last = (step-parts (limits config) (collection_step book r config.collection ∷ []) rest).1 in
+new-linked : (given : Result NodeConfig Condition) (r : Request) (node : List ℕ) (moment : Option ℕ) (items : List AskItem) (book : Book) → stands (node_of r node) book.nodes ≡ false
+    → made_step given book r ≡ None → IsKeyed book → IsLinked book → IsLinked (published_new given (node_of r node) r.from moment items book)
+new-linked (Err why) r node moment items book none step keyed is = is
+new-linked (Ok config) r node moment items book none step keyed is =
+    let rest = (step-parts (unless (not (is_collection config.node_type)) C14) (collection_step book r config.collection ∷ []) step).1 in
     published-linked (node_of r node) config r.from moment items (created (node_of r node) r.from config book)
-    (created-linked (node_of r node) r.from config book none (into config.collection book r (node_of r node) refl (step-parts (collection_step book r config.collection) [] last).0) keyed is)
+    (created-linked (node_of r node) r.from config book none (into config.collection book r (node_of r node) refl (step-parts (collection_step book r config.collection) [] rest).0) keyed is)
 
-publish-linked : (limits : NodeConfig → Option Condition) (o : Option NodeRow) (r : Request) (node : List ℕ) (items : List AskItem) (options : Option Tree) (moment : Option ℕ) (book : Book) → node_at (node_of r node) book.nodes ≡ o
-    → first_denial (publish_by limits o book r node items options) ≡ None → IsKeyed book → IsLinked book → IsLinked (published_by o (node_of r node) r.from moment items options book)
-publish-linked limits (Some row) r node items options moment book at ok keyed is = published-linked (node_of r node) row.config r.from moment items book is
-publish-linked limits None r node items options moment book at ok keyed is = mine (is_own_account r.target r.from) ok
+publish-linked : (o : Option NodeRow) (r : Request) (node : List ℕ) (items : List AskItem) (options : Option Tree) (moment : Option ℕ) (book : Book) → node_at (node_of r node) book.nodes ≡ o
+    → first_denial (publish_by o book r node items options) ≡ None → IsKeyed book → IsLinked book → IsLinked (published_by o (node_of r node) r.from moment items options book)
+publish-linked (Some row) r node items options moment book at ok keyed is = published-linked (node_of r node) row.config r.from moment items book is
+publish-linked None r node items options moment book at ok keyed is = mine (is_own_account r.target r.from) ok
   where
-    mine : (b : Bool) → first_denial (cond b (publish_new_steps limits book r items (options_config options (default_config true))) (Some C12 ∷ [])) ≡ None
+    mine : (b : Bool) → first_denial (cond b (publish_new_steps book r items (options_config options (default_config true))) (Some C12 ∷ [])) ≡ None
         → IsLinked (published_new (options_config options (default_config true)) (node_of r node) r.from moment items book)
     mine false h = absurd (cc h)
     mine true h =
         let given = options_config options (default_config true) in
-        new-linked limits given r node moment items book (ap (λ (o : Option NodeRow). is_some o) at) (step-parts (made_step limits given book r) (made_item_steps given items ++ node_limit_step book r ∷ []) h).0 keyed is
+        new-linked given r node moment items book (ap (λ (o : Option NodeRow). is_some o) at) (step-parts (made_step given book r) (made_item_steps given items ++ node_limit_step book r ∷ []) h).0 keyed is
 
 -- ---- a node goes that no node is in
 
@@ -260,10 +258,10 @@ set-linked node config row book found unmoved is =
       configured = with-configured book.links node config row book.nodes found ((bytes_eq-Decides config.collection row.config.collection).0 parts.1) is.configured;
     }
 
-given-linked : (limits : NodeConfig → Option Condition) (given : Result NodeConfig Condition) (node : NodeKey) (row : NodeRow) (book : Book) → node_at node book.nodes ≡ Some row → given_step limits given row.config ≡ None → IsLinked book → IsLinked (configured node given book)
-given-linked limits (Err why) node row book found ok is = is
-given-linked limits (Ok config) node row book found ok is =
-    set-linked node config row book found (unless-holds (is_unmoved row.config config) C14 (step-parts (unless (is_unmoved row.config config) C14) (limits config ∷ []) ok).0) is
+given-linked : (given : Result NodeConfig Condition) (node : NodeKey) (row : NodeRow) (book : Book) → node_at node book.nodes ≡ Some row → given_step given row.config ≡ None → IsLinked book → IsLinked (configured node given book)
+given-linked (Err why) node row book found ok is = is
+given-linked (Ok config) node row book found ok is =
+    set-linked node config row book found (unless-holds (is_unmoved row.config config) C14 ok) is
 
 -- a cancelled form gives nothing
 cancelled-kind : (k : FormKind) → is_cancel k ≡ true → is_submit k ≡ false
@@ -276,15 +274,15 @@ pub cancelled-given : (type : List ℕ) (base : NodeConfig) (form : Option Form)
 cancelled-given type base None h = refl
 cancelled-given type base (Some form) h = rw (cancelled-kind form.kind h) refl
 
-step-linked : (limits : NodeConfig → Option Condition) (form : Option Form) (node : NodeKey) (row : NodeRow) (book : Book) (b : Bool) → is_cancelled form ≡ b → node_at node book.nodes ≡ Some row
-    → cond b None (given_step limits (config_given config_type row.config form) row.config) ≡ None → IsLinked book → IsLinked (configured node (config_given config_type row.config form) book)
-step-linked limits form node row book true e found ok is = rw (cancelled-given config_type row.config form e) is
-step-linked limits form node row book false e found ok is = given-linked limits (config_given config_type row.config form) node row book found ok is
+step-linked : (form : Option Form) (node : NodeKey) (row : NodeRow) (book : Book) (b : Bool) → is_cancelled form ≡ b → node_at node book.nodes ≡ Some row
+    → cond b None (given_step (config_given config_type row.config form) row.config) ≡ None → IsLinked book → IsLinked (configured node (config_given config_type row.config form) book)
+step-linked form node row book true e found ok is = rw (cancelled-given config_type row.config form e) is
+step-linked form node row book false e found ok is = given-linked (config_given config_type row.config form) node row book found ok is
 
-configured_by-linked : (limits : NodeConfig → Option Condition) (o : Option NodeRow) (node : NodeKey) (form : Option Tree) (book : Book) → node_at node book.nodes ≡ o → config_by limits o form ≡ None → IsLinked book → IsLinked (configured_by o node form book)
-configured_by-linked limits None node form book found ok is = is
-configured_by-linked limits (Some row) node None book found ok is = is
-configured_by-linked limits (Some row) node (Some form) book found ok is = step-linked limits (form_of form) node row book (is_cancelled (form_of form)) refl found ok is
+configured_by-linked : (o : Option NodeRow) (node : NodeKey) (form : Option Tree) (book : Book) → node_at node book.nodes ≡ o → config_by o form ≡ None → IsLinked book → IsLinked (configured_by o node form book)
+configured_by-linked None node form book found ok is = is
+configured_by-linked (Some row) node None book found ok is = is
+configured_by-linked (Some row) node (Some form) book found ok is = step-linked (form_of form) node row book (is_cancelled (form_of form)) refl found ok is
 
 -- ---- the others leave nodes and links
 
@@ -309,42 +307,42 @@ answer-linked : (shown : Option Caps) (who : Jid) (node : List ℕ) (info : Info
 answer-linked None who node info book is = is
 answer-linked (Some caps) who node info book is = usable-linked (is_usable caps node info) caps who info book is
 
-pub changed-linked : (limits : NodeConfig → Option Condition) (a : Ask) (r : Request) (moment : Option ℕ) (book : Book) → first_denial (steps_of limits a book r) ≡ None → IsKeyed book → IsLinked book → IsLinked (changed_by a r moment book)
-changed-linked limits (ask.Create node form) r moment book ok keyed is =
+pub changed-linked : (a : Ask) (r : Request) (moment : Option ℕ) (book : Book) → first_denial (steps_of a book r) ≡ None → IsKeyed book → IsLinked book → IsLinked (changed_by a r moment book)
+changed-linked (ask.Create node form) r moment book ok keyed is =
     let first = unless (not (stands (node_of r node) book.nodes)) C8 in
     let second = unless (not (is_account r.target) || same_bare r.target r.from) C11 in
-    let third = new_node_step limits (new_config r.target form) book r in
+    let third = new_node_step (new_config r.target form) book r in
     let one = step-parts first (second ∷ third ∷ node_limit_step book r ∷ []) ok in
     let two = step-parts second (third ∷ node_limit_step book r ∷ []) one.1 in
-    create-by limits (new_config r.target form) r node book (not-true (stands (node_of r node) book.nodes) (unless-holds (not (stands (node_of r node) book.nodes)) C8 one.0)) (step-parts third (node_limit_step book r ∷ []) two.1).0 keyed is
-changed-linked limits (ask.Publish node items options) r moment book ok keyed is = publish-linked limits (node_at (node_of r node) book.nodes) r node items options moment book refl ok keyed is
-changed-linked limits (ask.Retract node ids notify) r moment book ok keyed is = retract-linked (node_of r node) ids book is
-changed-linked limits (ask.Purge node) r moment book ok keyed is = record { links = is.links; configured = is.configured }
-changed-linked limits (ask.Delete node) r moment book ok keyed is =
+    create-by (new_config r.target form) r node book (not-true (stands (node_of r node) book.nodes) (unless-holds (not (stands (node_of r node) book.nodes)) C8 one.0)) (step-parts third (node_limit_step book r ∷ []) two.1).0 keyed is
+changed-linked (ask.Publish node items options) r moment book ok keyed is = publish-linked (node_at (node_of r node) book.nodes) r node items options moment book refl ok keyed is
+changed-linked (ask.Retract node ids notify) r moment book ok keyed is = retract-linked (node_of r node) ids book is
+changed-linked (ask.Purge node) r moment book ok keyed is = record { links = is.links; configured = is.configured }
+changed-linked (ask.Delete node) r moment book ok keyed is =
     let last = unless (not (has_children (node_of r node) book.links)) C14 in
     let two = step-parts (denied_by (own book (node_of r node) r.from)) (last ∷ []) (step-parts (stands_step book r node) (denied_by (own book (node_of r node) r.from) ∷ last ∷ []) ok).1 in
     deleted-linked (node_of r node) book (not-true (has_children (node_of r node) book.links) (unless-holds (not (has_children (node_of r node) book.links)) C14 (step-parts last [] two.1).0)) is
-changed-linked limits (ask.ConfigGet node) r moment book ok keyed is = is
-changed-linked limits (ask.ConfigSet node form) r moment book ok keyed is =
-    let last = config_by limits (node_at (node_of r node) book.nodes) form in
+changed-linked (ask.ConfigGet node) r moment book ok keyed is = is
+changed-linked (ask.ConfigSet node form) r moment book ok keyed is =
+    let last = config_by (node_at (node_of r node) book.nodes) form in
     let two = step-parts (denied_by (own book (node_of r node) r.from)) (last ∷ []) (step-parts (stands_step book r node) (denied_by (own book (node_of r node) r.from) ∷ last ∷ []) ok).1 in
-    configured_by-linked limits (node_at (node_of r node) book.nodes) (node_of r node) form book refl (step-parts last [] two.1).0 is
-changed-linked limits (ask.AffilsGet node) r moment book ok keyed is = is
-changed-linked limits (ask.AffilsSet node rows) r moment book ok keyed is = record { links = is.links; configured = is.configured }
-changed-linked limits (ask.SubsGet node) r moment book ok keyed is = is
-changed-linked limits (ask.SubsSet node rows) r moment book ok keyed is = record { links = is.links; configured = is.configured }
-changed-linked limits (ask.MyAffils node) r moment book ok keyed is = is
-changed-linked limits (ask.MySubs node) r moment book ok keyed is = is
-changed-linked limits (ask.Subscribe node who form) r moment book ok keyed is = subscribed-linked (sub_options form (base_options book (node_of r node) who)) (node_of r node) who (new_state book r (node_of r node) who) book is
-changed-linked limits (ask.Unsubscribe node who subid) r moment book ok keyed is = record { links = is.links; configured = is.configured }
-changed-linked limits (ask.OptionsGet node who) r moment book ok keyed is = is
-changed-linked limits (ask.OptionsSet node who form) r moment book ok keyed is = subscribed-linked (sub_options form (base_options book (node_of r node) who)) (node_of r node) who (sub_at (node_of r node) who book.subs) book is
-changed-linked limits (ask.ItemsGet node max ids) r moment book ok keyed is = is
-changed-linked limits (ask.InfoGet node) r moment book ok keyed is = is
-changed-linked limits (ask.NodesGet node) r moment book ok keyed is = is
-changed-linked limits (ask.RosterSet item) r moment book ok keyed is = roster-linked (roster_of item.subscription) r.from item book is
-changed-linked limits (ask.Approve node who allow) r moment book ok keyed is = record { links = is.links; configured = is.configured }
-changed-linked limits (ask.Present caps) r moment book ok keyed is = record { links = is.links; configured = is.configured }
-changed-linked limits ask.Absent r moment book ok keyed is = record { links = is.links; configured = is.configured }
-changed-linked limits (ask.CapsAnswer node info) r moment book ok keyed is = answer-linked (caps_in (resource_at r.from book.resources)) r.from node (info_of info) book is
-changed-linked limits ask.Silent r moment book ok keyed is = is
+    configured_by-linked (node_at (node_of r node) book.nodes) (node_of r node) form book refl (step-parts last [] two.1).0 is
+changed-linked (ask.AffilsGet node) r moment book ok keyed is = is
+changed-linked (ask.AffilsSet node rows) r moment book ok keyed is = record { links = is.links; configured = is.configured }
+changed-linked (ask.SubsGet node) r moment book ok keyed is = is
+changed-linked (ask.SubsSet node rows) r moment book ok keyed is = record { links = is.links; configured = is.configured }
+changed-linked (ask.MyAffils node) r moment book ok keyed is = is
+changed-linked (ask.MySubs node) r moment book ok keyed is = is
+changed-linked (ask.Subscribe node who form) r moment book ok keyed is = subscribed-linked (sub_options form (base_options book (node_of r node) who)) (node_of r node) who (new_state book r (node_of r node) who) book is
+changed-linked (ask.Unsubscribe node who subid) r moment book ok keyed is = record { links = is.links; configured = is.configured }
+changed-linked (ask.OptionsGet node who) r moment book ok keyed is = is
+changed-linked (ask.OptionsSet node who form) r moment book ok keyed is = subscribed-linked (sub_options form (base_options book (node_of r node) who)) (node_of r node) who (sub_at (node_of r node) who book.subs) book is
+changed-linked (ask.ItemsGet node max ids) r moment book ok keyed is = is
+changed-linked (ask.InfoGet node) r moment book ok keyed is = is
+changed-linked (ask.NodesGet node) r moment book ok keyed is = is
+changed-linked (ask.RosterSet item) r moment book ok keyed is = roster-linked (roster_of item.subscription) r.from item book is
+changed-linked (ask.Approve node who allow) r moment book ok keyed is = record { links = is.links; configured = is.configured }
+changed-linked (ask.Present caps) r moment book ok keyed is = record { links = is.links; configured = is.configured }
+changed-linked ask.Absent r moment book ok keyed is = record { links = is.links; configured = is.configured }
+changed-linked (ask.CapsAnswer node info) r moment book ok keyed is = answer-linked (caps_in (resource_at r.from book.resources)) r.from node (info_of info) book is
+changed-linked ask.Silent r moment book ok keyed is = is

@@ -214,30 +214,30 @@ answer-rowed (Some caps) who node info book is = usable-rowed (is_usable caps no
 first-stands : (book : Book) (r : Request) (node : List ℕ) (more : List (Option Condition)) → first_denial (stands_step book r node ∷ more) ≡ None → stands (node_of r node) book.nodes ≡ true
 first-stands book r node more ok = unless-holds (stands (node_of r node) book.nodes) C12 (step-parts (stands_step book r node) more ok).0
 
-pub changed-rowed : (limits : NodeConfig → Option Condition) (a : Ask) (r : Request) (moment : Option ℕ) (book : Book) → first_denial (steps_of limits a book r) ≡ None → IsRowed book → IsRowed (changed_by a r moment book)
-changed-rowed limits (ask.Create node form) r moment book ok is = created_by-rowed (new_config r.target form) (node_of r node) r.from book is
-changed-rowed limits (ask.Publish node items options) r moment book ok is = publish-rowed (node_at (node_of r node) book.nodes) (node_of r node) r.from moment items options book refl is
-changed-rowed limits (ask.Retract node ids notify) r moment book ok is = retract-rowed (node_of r node) ids book is
-changed-rowed limits (ask.Purge node) r moment book ok is = record { affils = is.affils; subs = is.subs; counts = is.counts }
-changed-rowed limits (ask.Delete node) r moment book ok is = deleted-rowed (node_of r node) book is
-changed-rowed limits (ask.ConfigGet node) r moment book ok is = is
-changed-rowed limits (ask.ConfigSet node form) r moment book ok is = configured_by-rowed (node_at (node_of r node) book.nodes) (node_of r node) form book is
-changed-rowed limits (ask.AffilsGet node) r moment book ok is = is
-changed-rowed limits (ask.AffilsSet node rows) r moment book ok is = record { affils = affils-all book.nodes (node_of r node) rows book.affils (first-stands book r node (denied_by (own book (node_of r node) r.from) ∷ unless (list_all is_affil_word rows) C1 ∷ unless (keeps_owner book (node_of r node) rows) C14 ∷ []) ok) is.affils; subs = is.subs; counts = is.counts }
-changed-rowed limits (ask.SubsGet node) r moment book ok is = is
-changed-rowed limits (ask.SubsSet node rows) r moment book ok is = record { affils = is.affils; subs = subs-all book.nodes (node_of r node) rows book.subs (first-stands book r node (denied_by (own book (node_of r node) r.from) ∷ unless (not (list_any is_unconfigured rows)) C14 ∷ unless (list_all is_sub_word rows) C1 ∷ unless (nat_le (sub_count (node_of r node) (subs_asked (node_of r node) rows book.subs)) max_subs) C23 ∷ []) ok) is.subs; counts = is.counts }
-changed-rowed limits (ask.MyAffils node) r moment book ok is = is
-changed-rowed limits (ask.MySubs node) r moment book ok is = is
-changed-rowed limits (ask.Subscribe node who form) r moment book ok is = subscribed-rowed (sub_options form (base_options book (node_of r node) who)) (node_of r node) who (new_state book r (node_of r node) who) book (first-stands book r node (denied_by (subscribe book (node_of r node) r.from) ∷ unless (not (is_pending (sub_at (node_of r node) who book.subs))) C21 ∷ denial_of (sub_options form (base_options book (node_of r node) who)) ∷ sub_limit_step book r node who ∷ []) ok) is
-changed-rowed limits (ask.Unsubscribe node who subid) r moment book ok is = record { affils = is.affils; subs = subs-set book.nodes (record { node = node_of r node; who = who; state = sub.Nothing; options = base_options book (node_of r node) who }) book.subs (first-stands book r node (unless (length subid == 0) C15 ∷ row_step book r node who ∷ []) ok) is.subs; counts = is.counts }
-changed-rowed limits (ask.OptionsGet node who) r moment book ok is = is
-changed-rowed limits (ask.OptionsSet node who form) r moment book ok is = subscribed-rowed (sub_options form (base_options book (node_of r node) who)) (node_of r node) who (sub_at (node_of r node) who book.subs) book (first-stands book r node (row_step book r node who ∷ unless (is_some form) C28 ∷ denial_of (sub_options form (base_options book (node_of r node) who)) ∷ []) ok) is
-changed-rowed limits (ask.ItemsGet node max ids) r moment book ok is = is
-changed-rowed limits (ask.InfoGet node) r moment book ok is = is
-changed-rowed limits (ask.NodesGet node) r moment book ok is = is
-changed-rowed limits (ask.RosterSet item) r moment book ok is = roster-rowed (roster_of item.subscription) r.from item book is
-changed-rowed limits (ask.Approve node who allow) r moment book ok is = record { affils = is.affils; subs = subs-set book.nodes (sub_with (node_of r node) who (approved (is_true allow)) book.subs) book.subs (first-stands book r node (denied_by (own book (node_of r node) r.from) ∷ unless (is_pending (sub_at (node_of r node) who book.subs)) C22 ∷ unless (is_some (boolean_of allow)) C1 ∷ []) ok) is.subs; counts = is.counts }
-changed-rowed limits (ask.Present caps) r moment book ok is = record { affils = is.affils; subs = is.subs; counts = is.counts }
-changed-rowed limits ask.Absent r moment book ok is = record { affils = is.affils; subs = is.subs; counts = is.counts }
-changed-rowed limits (ask.CapsAnswer node info) r moment book ok is = answer-rowed (caps_in (resource_at r.from book.resources)) r.from node (info_of info) book is
-changed-rowed limits ask.Silent r moment book ok is = is
+pub changed-rowed : (a : Ask) (r : Request) (moment : Option ℕ) (book : Book) → first_denial (steps_of a book r) ≡ None → IsRowed book → IsRowed (changed_by a r moment book)
+changed-rowed (ask.Create node form) r moment book ok is = created_by-rowed (new_config r.target form) (node_of r node) r.from book is
+changed-rowed (ask.Publish node items options) r moment book ok is = publish-rowed (node_at (node_of r node) book.nodes) (node_of r node) r.from moment items options book refl is
+changed-rowed (ask.Retract node ids notify) r moment book ok is = retract-rowed (node_of r node) ids book is
+changed-rowed (ask.Purge node) r moment book ok is = record { affils = is.affils; subs = is.subs; counts = is.counts }
+changed-rowed (ask.Delete node) r moment book ok is = deleted-rowed (node_of r node) book is
+changed-rowed (ask.ConfigGet node) r moment book ok is = is
+changed-rowed (ask.ConfigSet node form) r moment book ok is = configured_by-rowed (node_at (node_of r node) book.nodes) (node_of r node) form book is
+changed-rowed (ask.AffilsGet node) r moment book ok is = is
+changed-rowed (ask.AffilsSet node rows) r moment book ok is = record { affils = affils-all book.nodes (node_of r node) rows book.affils (first-stands book r node (denied_by (own book (node_of r node) r.from) ∷ unless (list_all is_affil_word rows) C1 ∷ unless (keeps_owner book (node_of r node) rows) C14 ∷ []) ok) is.affils; subs = is.subs; counts = is.counts }
+changed-rowed (ask.SubsGet node) r moment book ok is = is
+changed-rowed (ask.SubsSet node rows) r moment book ok is = record { affils = is.affils; subs = subs-all book.nodes (node_of r node) rows book.subs (first-stands book r node (denied_by (own book (node_of r node) r.from) ∷ unless (not (list_any is_unconfigured rows)) C14 ∷ unless (list_all is_sub_word rows) C1 ∷ unless (nat_le (sub_count (node_of r node) (subs_asked (node_of r node) rows book.subs)) max_subs) C23 ∷ []) ok) is.subs; counts = is.counts }
+changed-rowed (ask.MyAffils node) r moment book ok is = is
+changed-rowed (ask.MySubs node) r moment book ok is = is
+changed-rowed (ask.Subscribe node who form) r moment book ok is = subscribed-rowed (sub_options form (base_options book (node_of r node) who)) (node_of r node) who (new_state book r (node_of r node) who) book (first-stands book r node (denied_by (subscribe book (node_of r node) r.from) ∷ unless (not (is_pending (sub_at (node_of r node) who book.subs))) C21 ∷ denial_of (sub_options form (base_options book (node_of r node) who)) ∷ sub_limit_step book r node who ∷ []) ok) is
+changed-rowed (ask.Unsubscribe node who subid) r moment book ok is = record { affils = is.affils; subs = subs-set book.nodes (record { node = node_of r node; who = who; state = sub.Nothing; options = base_options book (node_of r node) who }) book.subs (first-stands book r node (unless (length subid == 0) C15 ∷ row_step book r node who ∷ []) ok) is.subs; counts = is.counts }
+changed-rowed (ask.OptionsGet node who) r moment book ok is = is
+changed-rowed (ask.OptionsSet node who form) r moment book ok is = subscribed-rowed (sub_options form (base_options book (node_of r node) who)) (node_of r node) who (sub_at (node_of r node) who book.subs) book (first-stands book r node (row_step book r node who ∷ unless (is_some form) C28 ∷ denial_of (sub_options form (base_options book (node_of r node) who)) ∷ []) ok) is
+changed-rowed (ask.ItemsGet node max ids) r moment book ok is = is
+changed-rowed (ask.InfoGet node) r moment book ok is = is
+changed-rowed (ask.NodesGet node) r moment book ok is = is
+changed-rowed (ask.RosterSet item) r moment book ok is = roster-rowed (roster_of item.subscription) r.from item book is
+changed-rowed (ask.Approve node who allow) r moment book ok is = record { affils = is.affils; subs = subs-set book.nodes (sub_with (node_of r node) who (approved (is_true allow)) book.subs) book.subs (first-stands book r node (denied_by (own book (node_of r node) r.from) ∷ unless (is_pending (sub_at (node_of r node) who book.subs)) C22 ∷ unless (is_some (boolean_of allow)) C1 ∷ []) ok) is.subs; counts = is.counts }
+changed-rowed (ask.Present caps) r moment book ok is = record { affils = is.affils; subs = is.subs; counts = is.counts }
+changed-rowed ask.Absent r moment book ok is = record { affils = is.affils; subs = is.subs; counts = is.counts }
+changed-rowed (ask.CapsAnswer node info) r moment book ok is = answer-rowed (caps_in (resource_at r.from book.resources)) r.from node (info_of info) book is
+changed-rowed ask.Silent r moment book ok is = is

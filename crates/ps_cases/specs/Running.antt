@@ -1,8 +1,6 @@
 -- What the service does with lines, where every kind of request is built and every event is told.
 use Rattle.std.specs.Prelude.{ℕ, Bool, true, false, ◌&&◌, not, List, [], ◌∷◌, ◌++◌, Option, Some, None}
 use Rattle.ps_types.specs.Tree.{Tree}
-use Rattle.ps_types.specs.declared.config.NodeConfig.{NodeConfig}
-use Rattle.ps_types.specs.declared.denial.Condition.{Condition}
 use Rattle.ps_types.specs.declared.entry.Arrival.{Arrival}
 use Rattle.ps_types.specs.declared.entry.Entry.{Entry}
 use Rattle.ps_types.specs.declared.entry.Entry.TheVariants.{Change}
@@ -11,9 +9,8 @@ use Rattle.ps_types.specs.declared.event.Event.{Event}
 use Rattle.ps_types.specs.declared.jid.Jid.{Jid}
 use Rattle.ps_types.specs.declared.request.Request.{Request}
 use Rattle.ps_model.specs.Book.{Book, State, empty_state}
-use Rattle.ps_model.specs.Changes.{changed}
 use Rattle.ps_model.specs.Check.{judged}
-use Rattle.ps_model.specs.Commits.{commits_by}
+use Rattle.ps_model.specs.Commits.{commits}
 use Rattle.ps_model.specs.Outcome.{is_accepted}
 use Rattle.ps_model.specs.Replay.{AreAcceptedFrom, accepted_at, is_booted, replay_from, notices_from}
 use Rattle.ps_model.specs.Replies.{moment_of, outcome_entry, outcome_reply, reply_by}
@@ -22,9 +19,6 @@ use Rattle.ps_model.specs.Taking.{request_in, taken, tree_taken}
 use Rattle.ps_model.specs.Tallies.{is_next_line}
 
 -- ---- nothing is kept out as not built
-
-abbrev pub no_limits : NodeConfig → Option Condition
-no_limits config = None
 
 abbrev pub every : Event → Bool
 every event = true
@@ -48,23 +42,19 @@ pub record Line : Type 0 where
 abbrev pub taken_in : Line → Book → Taken
 taken_in line book = taken line.host book.service line.arrival
 
--- the Book differs afterwards, or the kind makes an entry always
-abbrev pub keeps : Book → Request → Bool
-keeps book r = commits_by r.ask book (changed r None book)
-
 abbrev pub reply_in : Taken → Book → Line → Option Tree
-reply_in (asked t r) book line = outcome_reply t r (keeps book r && line.full) (judged no_limits book r)
+reply_in (asked t r) book line = outcome_reply t r (commits book r && line.full) (judged book r)
 reply_in other book line = reply_by other book line.number line.full
 
 abbrev pub entry_in : Taken → Book → Line → Option Entry
-entry_in (asked t r) book line = outcome_entry (keeps book r && not line.full) (Change line.host line.number (moment_of line.arrival) t) (judged no_limits book r)
+entry_in (asked t r) book line = outcome_entry (commits book r && not line.full) (Change line.host line.number (moment_of line.arrival) t) (judged book r)
 entry_in other book line = None
 
 -- ---- one entry
 
 abbrev pub request_kept : Option Request → Book → Bool
 request_kept None book = false
-request_kept (Some r) book = is_accepted (judged no_limits book r) && keeps book r
+request_kept (Some r) book = is_accepted (judged book r) && commits book r
 
 -- it is accepted at its place
 abbrev pub accepted_in : State → Entry → Bool

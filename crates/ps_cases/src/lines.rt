@@ -12,7 +12,7 @@ pub fn bad_lines()
     ensures { Refusals }
 {}
 
-/// Where the kind of a request, its target and the configuration that it gives a node are built, the service of today answers its line and keeps it as the cases say.
+/// Where the kind of a request is built, the service of today answers its line and keeps it as the cases say.
 pub fn served_as_in_cases()
     ensures { AsServed }
 {}

@@ -1,5 +1,5 @@
 pub mod Answered
-pub mod Built
+pub mod Both
 pub mod Counted
 pub mod Known
 pub mod Named

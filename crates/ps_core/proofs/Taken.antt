@@ -19,7 +19,7 @@ use Rattle.ps_model.specs.Taken.{Head, Taken, silent, refused, denied, asked}
 use Rattle.ps_model.specs.Taking.{request_in, tree_taken}
 use Rattle.ps_model.specs.Tallies.{is_next_line, lines_with}
 use Rattle.ps_core.specs.States.{changed_state}
-use Rattle.ps_core.proofs.Built.{and_left, and_right}
+use Rattle.ps_core.proofs.Both.{and_left, and_right}
 
 -- what is accepted is a request that is accepted and makes an entry
 pub accepted_request : (s : State) (host : List ℕ) (line : ℕ) (moment : Option ℕ) (t : Tree) → accepted s (Change host line moment t) ≡ true → request_accepted (request_in (tree_taken host s.book.service t)) s.book ≡ true

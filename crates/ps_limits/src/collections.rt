@@ -1,11 +1,11 @@
 // Collections that stand: what they don't do, when they go, and what may be put into them.
 use crate::asking::{create, delete, form, publish, purge, read_items, retract};
 use crate::filling::{add_affil, add_node, empty, link};
-use crate::plans::{Ends, Outcome, by_entity, by_owner, by_publisher};
-use ps_access::{Tables, must_be_collection};
+use crate::plans::{Outcome, by_entity, by_owner, by_publisher, request};
+use ps_access::Tables;
 use ps_affil::Affils;
 use ps_nodes::Nodes;
-use ps_types::{Affil, Condition, NodeKind, PlanRefusal, Text};
+use ps_types::{Affil, Condition, NodeKind};
 use std::alloc::Global;
 use std::process::Abort;
 use std::test::Fail;
@@ -122,18 +122,7 @@ fn a_collection_goes_once_it_holds_nothing(rt: HostRuntime) -> Result<(), Fail> 
     goes(&rt, rt.alloc(), &mut tables)
 }
 
-// The step that decides, once collections are built, into which of them a new node may be put.
-fn put_into(alloc: Global, tables: &Tables, from: &str, collection: &str) -> Result<Outcome, Fail> {
-    let request = create(alloc, from, "new", None)?;
-    let collection = Text::of(alloc, collection)?;
-    match must_be_collection(tables, &request, &collection) {
-        Ok(()) => Ok(Outcome::Changes),
-        Err(PlanRefusal::Denied(why)) => Ok(Outcome::Denied(why)),
-        Err(PlanRefusal::Memory) => Err(Fail::new("no memory")),
-    }
-}
-
-// A configuration that names a collection isn't built yet, whichever it names.
+// A node that is put into a collection as it is made.
 fn creates_in(
     alloc: Global,
     tables: &Tables,
@@ -155,16 +144,10 @@ fn takes(rt: &impl Abort, alloc: Global, tables: &mut Tables) -> Result<(), Fail
         (ANN, "n", Outcome::Denied(Condition::C14)),
         (ANN, "top", Outcome::Changes),
     ] {
-        let unbuilt = Outcome::Denied(Condition::C14);
-        assert_eq!(rt;
-            put_into(alloc, tables, from, collection)?,
-            want,
-            "{from} {collection}"
-        );
         assert_eq!(rt;
             creates_in(alloc, tables, from, collection)?,
-            unbuilt,
-            "{collection}"
+            want,
+            "{from} {collection}"
         );
     }
     Ok(())

@@ -14,28 +14,28 @@ use Rattle.ps_model.specs.Access.{own}
 use Rattle.ps_model.specs.Book.{Book}
 use Rattle.ps_model.specs.CheckForms.{node_of, config_given, is_unmoved}
 use Rattle.ps_model.specs.CheckNode.{stands_step}
-use Rattle.ps_model.specs.Steps.{unless, denied_by, first_denial}
+use Rattle.ps_model.specs.Steps.{unless, denied_by}
 
-abbrev pub given_step : (NodeConfig → Option Condition) → Result NodeConfig Condition → NodeConfig → Option Condition
-given_step limits (Err why) base = Some why
-given_step limits (Ok config) base = first_denial (unless (is_unmoved base config) C14 ∷ limits config ∷ [])
+abbrev pub given_step : Result NodeConfig Condition → NodeConfig → Option Condition
+given_step (Err why) base = Some why
+given_step (Ok config) base = unless (is_unmoved base config) C14
 
 abbrev pub is_cancelled : Option Form → Bool
 is_cancelled None = false
 is_cancelled (Some form) = is_cancel form.kind
 
 -- a cancelled form passes, whatever its fields
-abbrev pub config_step : (NodeConfig → Option Condition) → Option Form → NodeConfig → Option Condition
-config_step limits form base = cond (is_cancelled form) None (given_step limits (config_given config_type base form) base)
+abbrev pub config_step : Option Form → NodeConfig → Option Condition
+config_step form base = cond (is_cancelled form) None (given_step (config_given config_type base form) base)
 
-abbrev pub config_by : (NodeConfig → Option Condition) → Option NodeRow → Option Tree → Option Condition
-config_by limits None form = None
-config_by limits (Some row) None = Some C1
-config_by limits (Some row) (Some form) = config_step limits (form_of form) row.config
+abbrev pub config_by : Option NodeRow → Option Tree → Option Condition
+config_by None form = None
+config_by (Some row) None = Some C1
+config_by (Some row) (Some form) = config_step (form_of form) row.config
 
-abbrev pub config_set_steps : (NodeConfig → Option Condition) → Book → Request → List ℕ → Option Tree → List (Option Condition)
-config_set_steps limits book r node form =
+abbrev pub config_set_steps : Book → Request → List ℕ → Option Tree → List (Option Condition)
+config_set_steps book r node form =
     stands_step book r node
     ∷ denied_by (own book (node_of r node) r.from)
-    ∷ config_by limits (node_at (node_of r node) book.nodes) form
+    ∷ config_by (node_at (node_of r node) book.nodes) form
     ∷ []

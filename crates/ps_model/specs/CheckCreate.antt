@@ -10,7 +10,7 @@ use Rattle.ps_types.specs.Tree.{Tree}
 use Rattle.ps_model.specs.Access.{is_account}
 use Rattle.ps_model.specs.Book.{Book}
 use Rattle.ps_model.specs.CheckForms.{node_of, new_config, collection_step}
-use Rattle.ps_model.specs.Steps.{unless, first_denial}
+use Rattle.ps_model.specs.Steps.{unless}
 
 -- a bare address makes so many nodes at most
 abbrev pub max_nodes : ℕ
@@ -19,15 +19,15 @@ max_nodes = 10000
 abbrev pub node_limit_step : Book → Request → Option Condition
 node_limit_step book r = unless (nat_lt (made_by r.from book.nodes) max_nodes) C24
 
--- the configuration of a node to be made, by the form's values; `limits` says which configurations are built
-abbrev pub new_node_step : (NodeConfig → Option Condition) → Result NodeConfig Condition → Book → Request → Option Condition
-new_node_step limits (Err why) book r = Some why
-new_node_step limits (Ok config) book r = first_denial (limits config ∷ collection_step book r config.collection ∷ [])
+-- the configuration of a node to be made, by the form's values
+abbrev pub new_node_step : Result NodeConfig Condition → Book → Request → Option Condition
+new_node_step (Err why) book r = Some why
+new_node_step (Ok config) book r = collection_step book r config.collection
 
-abbrev pub create_steps : (NodeConfig → Option Condition) → Book → Request → List ℕ → Option Tree → List (Option Condition)
-create_steps limits book r node form =
+abbrev pub create_steps : Book → Request → List ℕ → Option Tree → List (Option Condition)
+create_steps book r node form =
     unless (not (stands (node_of r node) book.nodes)) C8
     ∷ unless (not (is_account r.target) || same_bare r.target r.from) C11
-    ∷ new_node_step limits (new_config r.target form) book r
+    ∷ new_node_step (new_config r.target form) book r
     ∷ node_limit_step book r
     ∷ []

@@ -49,6 +49,6 @@ options_step None base = None
 options_step (Some t) base = met_step (form_options (form_of t) base) base
 
 -- for a node that the publish makes they change the defaults of an account
-abbrev pub made_step : (NodeConfig → Option Condition) → Result NodeConfig Condition → Book → Request → Option Condition
-made_step limits (Err why) book r = Some why
-made_step limits (Ok config) book r = first_denial (unless (not (is_collection config.node_type)) C14 ∷ limits config ∷ collection_step book r config.collection ∷ [])
+abbrev pub made_step : Result NodeConfig Condition → Book → Request → Option Condition
+made_step (Err why) book r = Some why
+made_step (Ok config) book r = first_denial (unless (not (is_collection config.node_type)) C14 ∷ collection_step book r config.collection ∷ [])

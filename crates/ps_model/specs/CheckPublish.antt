@@ -54,21 +54,21 @@ made_item_steps (Ok config) items = item_steps config items
 
 -- ---- the requests
 
-abbrev pub publish_new_steps : (NodeConfig → Option Condition) → Book → Request → List AskItem → Result NodeConfig Condition → List (Option Condition)
-publish_new_steps limits book r items config = made_step limits config book r ∷ made_item_steps config items ++ node_limit_step book r ∷ []
+abbrev pub publish_new_steps : Book → Request → List AskItem → Result NodeConfig Condition → List (Option Condition)
+publish_new_steps book r items config = made_step config book r ∷ made_item_steps config items ++ node_limit_step book r ∷ []
 
 -- an account that publishes to a node of its own that isn't there makes it (XEP-0163 §3)
-abbrev pub publish_by : (NodeConfig → Option Condition) → Option NodeRow → Book → Request → List ℕ → List AskItem → Option Tree → List (Option Condition)
-publish_by limits None book r node items options =
-    if is_own_account r.target r.from then publish_new_steps limits book r items (options_config options (default_config true)) else Some C12 ∷ []
-publish_by limits (Some row) book r node items options =
+abbrev pub publish_by : Option NodeRow → Book → Request → List ℕ → List AskItem → Option Tree → List (Option Condition)
+publish_by None book r node items options =
+    if is_own_account r.target r.from then publish_new_steps book r items (options_config options (default_config true)) else Some C12 ∷ []
+publish_by (Some row) book r node items options =
     leaf_by (Some row)
     ∷ denied_by (publish book (node_of r node) r.from)
     ∷ options_step options row.config
     ∷ item_steps row.config items
 
-abbrev pub publish_steps : (NodeConfig → Option Condition) → Book → Request → List ℕ → List AskItem → Option Tree → List (Option Condition)
-publish_steps limits book r node items options = publish_by limits (node_at (node_of r node) book.nodes) book r node items options
+abbrev pub publish_steps : Book → Request → List ℕ → List AskItem → Option Tree → List (Option Condition)
+publish_steps book r node items options = publish_by (node_at (node_of r node) book.nodes) book r node items options
 
 -- an owner and a publisher may take items away
 abbrev pub may_retract : Affil → Bool

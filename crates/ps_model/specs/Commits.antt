@@ -4,7 +4,6 @@ use Rattle.ps_types.specs.declared.request.Ask.{Ask}
 use Rattle.ps_types.specs.declared.request.Ask.TheVariants as ask
 use Rattle.ps_types.specs.declared.request.Request.{Request}
 use Rattle.ps_model.specs.Book.{Book}
-use Rattle.ps_model.specs.Built.{built_commits}
 use Rattle.ps_model.specs.Changes.{changed}
 use Rattle.ps_model.specs.Check.{check}
 use Rattle.ps_model.specs.Outcome.{is_accepted}
@@ -31,7 +30,7 @@ commits_by (ask.CapsAnswer node info) book after = not (same_resources after.res
 commits_by _ book after = false
 
 abbrev pub commits : Book → Request → Bool
-commits book r = built_commits book.service r (commits_by r.ask book (changed r None book))
+commits book r = commits_by r.ask book (changed r None book)
 
 -- the request is accepted and makes an entry
 abbrev pub makes_entry : Book → Request → Bool

@@ -18,7 +18,6 @@ use Rattle.ps_types.specs.Same.{same_node, same_jid}
 use Rattle.ps_types.proofs.Same.{same_node-itself, same_jid-Decides}
 use Rattle.ps_types.specs.Tree.{Tree}
 use Rattle.ps_model.specs.Book.{Book}
-use Rattle.ps_model.specs.Built.{built_config}
 use Rattle.ps_model.specs.ChangeOwner.{items_under, config_change, configured, configured_by}
 use Rattle.ps_model.specs.CheckConfig.{config_step, given_step, is_cancelled}
 use Rattle.ps_model.specs.CheckForms.{config_given, is_unmoved}
@@ -74,15 +73,12 @@ given book node row t config at is =
 
 -- ---- the form's step
 
-pub cancelled-passes : (form : Option Form) (base : NodeConfig) → is_cancelled form ≡ true → config_step built_config form base ≡ None
-cancelled-passes form base is = ap (λ (b : Bool). cond b None (given_step built_config (config_given config_type base form) base)) is
+pub cancelled-passes : (form : Option Form) (base : NodeConfig) → is_cancelled form ≡ true → config_step form base ≡ None
+cancelled-passes form base is = ap (λ (b : Bool). cond b None (given_step (config_given config_type base form) base)) is
 
-both : (a b : Option Condition) → a ≡ None → b ≡ None → first_denial (a ∷ b ∷ []) ≡ None
-both a b p q = rw (p, q) refl
-
-pub passes : (form : Option Form) (base config : NodeConfig) → is_cancelled form ≡ false → config_given config_type base form ≡ Ok config → unless (is_unmoved base config) C14 ≡ None → built_config config ≡ None
-    → config_step built_config form base ≡ None
-passes form base config is given unmoved built =
-    ap (λ (b : Bool). cond b None (given_step built_config (config_given config_type base form) base)) is
-    ∙ ap (λ (g : Result NodeConfig Condition). given_step built_config g base) given
-    ∙ both (unless (is_unmoved base config) C14) (built_config config) unmoved built
+pub passes : (form : Option Form) (base config : NodeConfig) → is_cancelled form ≡ false → config_given config_type base form ≡ Ok config → unless (is_unmoved base config) C14 ≡ None
+    → config_step form base ≡ None
+passes form base config is given unmoved =
+    ap (λ (b : Bool). cond b None (given_step (config_given config_type base form) base)) is
+    ∙ ap (λ (g : Result NodeConfig Condition). given_step g base) given
+    ∙ unmoved

@@ -2,7 +2,6 @@
 ghost use Rattle.std.specs.Prelude.{◌≡◌, ◌==◌, ◌&&◌, length, not, true, Some, None};
 ghost use Rattle.ps_types.specs.Nodes.{node_at, stands};
 ghost use Rattle.ps_types.specs.Forms.{form_of};
-ghost use Rattle.ps_model.specs.Built.{built_config};
 ghost use Rattle.ps_model.specs.ChangeOwner.{items_under};
 ghost use Rattle.ps_model.specs.CheckConfig as model;
 ghost use Rattle.ps_model.specs.CheckConfig.{config_by, config_step, config_set_steps};
@@ -17,8 +16,7 @@ ghost use Rattle.ps_owner.specs.Plans.{Settles, configures};
 
 use crate::plans::entry_plan;
 use ps_access::{
-    Tables, allow, built_limit, config_given, form_in, is_unmoved, key_of, must_stand, pass,
-    pass_if, verdict_own,
+    Tables, allow, config_given, form_in, is_unmoved, key_of, must_stand, pass_if, verdict_own,
 };
 use ps_nodes::NodeRef;
 use ps_types::{
@@ -68,7 +66,7 @@ fn settle(
     tree: &Elem,
 ) -> Result<bool, PlanRefusal>
     requires row { node_at key.now tables.now.nodes.rows ≡ Some (row_seen row.now) }
-    ensures { Settles result (config_step built_config (form_of tree.now) (row_seen row.now).config) (configures (book_of tables.now) key.now (Some tree.now)) }
+    ensures { Settles result (config_step (form_of tree.now) (row_seen row.now).config) (configures (book_of tables.now) key.now (Some tree.now)) }
 {
     let form = form_in(alloc, tree)?;
     if is_cancelled(&form) {
@@ -76,7 +74,6 @@ fn settle(
     }
     let config = config_given(alloc, &form, row.config)?;
     pass_if(is_unmoved(row.config, &config), Condition::C14)?;
-    pass(built_limit(&config))?;
     Ok(!stays(tables, key, &config, row.config))
 }
 
@@ -87,7 +84,7 @@ fn check_form(
     form: &Option<Elem>,
 ) -> Result<bool, PlanRefusal>
     requires stands { stands key.now tables.now.nodes.rows ≡ true }
-    ensures { Settles result (config_by built_config (node_at key.now tables.now.nodes.rows) form.now) (configures (book_of tables.now) key.now form.now) }
+    ensures { Settles result (config_by (node_at key.now tables.now.nodes.rows) form.now) (configures (book_of tables.now) key.now form.now) }
 {
     let Some(row) = tables.nodes.get(key) else {
         return Err(PlanRefusal::Denied(Condition::C12));
@@ -105,7 +102,7 @@ fn check_config(
     node: &Text,
     form: &Option<Elem>,
 ) -> Result<bool, PlanRefusal>
-    ensures { Settles result (first_denial (config_set_steps built_config (book_of tables.now) request.now node.now form.now)) (configures (book_of tables.now) (node_of request.now node.now) form.now) }
+    ensures { Settles result (first_denial (config_set_steps (book_of tables.now) request.now node.now form.now)) (configures (book_of tables.now) (node_of request.now node.now) form.now) }
 {
     let key = key_of(request, node)?;
     must_stand(tables, &key)?;
@@ -121,7 +118,7 @@ pub fn plan_set_config(
     node: &Text,
     form: &Option<Elem>,
 ) -> Result<Plan, PlanRefusal>
-    ensures { Agrees result (outcome (first_denial (config_set_steps built_config (book_of tables.now) request.now node.now form.now)) None) (configures (book_of tables.now) (node_of request.now node.now) form.now) }
+    ensures { Agrees result (outcome (first_denial (config_set_steps (book_of tables.now) request.now node.now form.now)) None) (configures (book_of tables.now) (node_of request.now node.now) form.now) }
 {
     let commits = check_config(alloc, tables, request, node, form)?;
     Ok(entry_plan(commits))

@@ -2,7 +2,6 @@
 ghost use Rattle.std.specs.Prelude.{◌≡◌, ◌||◌, not, true, None};
 ghost use Rattle.ps_types.specs.Same.{same_bare};
 ghost use Rattle.ps_model.specs.Access.{is_account};
-ghost use Rattle.ps_model.specs.Built.{built_config};
 ghost use Rattle.ps_model.specs.CheckCreate.{create_steps, new_node_step};
 ghost use Rattle.ps_model.specs.CheckForms as model;
 ghost use Rattle.ps_model.specs.Outcome.{outcome};
@@ -12,8 +11,7 @@ ghost use Rattle.ps_access.specs.Tables.{book_of};
 
 use crate::plans::entry_plan;
 use ps_access::{
-    Tables, built_limit, is_account_address, key_of, must_be_collection, must_have_room,
-    new_config, pass, pass_if,
+    Tables, is_account_address, key_of, must_be_collection, must_have_room, new_config, pass_if,
 };
 use ps_types::{Condition, Elem, Jid, Plan, PlanRefusal, Request, Text};
 use std::alloc::Global;
@@ -25,17 +23,16 @@ fn may_make_at(target: &Jid, who: &Jid) -> bool
     !is_account_address(target) || target.same_bare(who)
 }
 
-// The configuration of the node is one that is built, and its collection can take it.
+// The form gives a configuration, and its collection can take the node.
 fn check_config(
     alloc: Global,
     tables: &Tables,
     request: &Request,
     form: &Option<Elem>,
 ) -> Result<(), PlanRefusal>
-    ensures { Passes result (new_node_step built_config (model.new_config request.now.target form.now) (book_of tables.now) request.now) }
+    ensures { Passes result (new_node_step (model.new_config request.now.target form.now) (book_of tables.now) request.now) }
 {
     let config = new_config(alloc, &request.target, form)?;
-    pass(built_limit(&config))?;
     must_be_collection(tables, request, &config.collection)
 }
 
@@ -46,7 +43,7 @@ fn check_create(
     node: &Text,
     form: &Option<Elem>,
 ) -> Result<(), PlanRefusal>
-    ensures { Passes result (first_denial (create_steps built_config (book_of tables.now) request.now node.now form.now)) }
+    ensures { Passes result (first_denial (create_steps (book_of tables.now) request.now node.now form.now)) }
 {
     let key = key_of(request, node)?;
     pass_if(!tables.nodes.has(&key), Condition::C8)?;
@@ -63,7 +60,7 @@ pub fn plan_create(
     node: &Text,
     form: &Option<Elem>,
 ) -> Result<Plan, PlanRefusal>
-    ensures { Agrees result (outcome (first_denial (create_steps built_config (book_of tables.now) request.now node.now form.now)) None) true }
+    ensures { Agrees result (outcome (first_denial (create_steps (book_of tables.now) request.now node.now form.now)) None) true }
 {
     check_create(alloc, tables, request, node, form)?;
     Ok(entry_plan(true))

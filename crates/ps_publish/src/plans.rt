@@ -1,6 +1,5 @@
 // The plan of a request.
 ghost use Rattle.std.specs.Prelude.{◌≡◌, true, Some, None};
-ghost use Rattle.ps_model.specs.Built.{built_config};
 ghost use Rattle.ps_model.specs.CheckPublish.{publish_steps, retract_steps};
 ghost use Rattle.ps_model.specs.Children as model;
 ghost use Rattle.ps_model.specs.Outcome.{outcome};
@@ -24,7 +23,7 @@ fn plan_publish(
     items: &[AskItem],
     options: &Option<Elem>,
 ) -> Result<Plan, PlanRefusal>
-    ensures { Agrees result (outcome (first_denial (publish_steps built_config (book_of tables.now) request.now node.now items.now options.now)) (Some (model.publish_child (book_of tables.now) request.now node.now items.now))) true }
+    ensures { Agrees result (outcome (first_denial (publish_steps (book_of tables.now) request.now node.now items.now options.now)) (Some (model.publish_child (book_of tables.now) request.now node.now items.now))) true }
 {
     check_publish(alloc, tables, request, node, items, options)?;
     let child = publish_child(alloc, tables, request, node, items)?;

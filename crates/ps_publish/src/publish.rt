@@ -2,7 +2,6 @@
 ghost use Rattle.std.specs.Prelude.{not, [], ◌∷◌, ◌++◌, Ok, true};
 ghost use Rattle.ps_types.specs.Defaults as defaults;
 ghost use Rattle.ps_types.specs.declared.denial.Condition.TheVariants.{C10};
-ghost use Rattle.ps_model.specs.Built.{built_config};
 ghost use Rattle.ps_model.specs.CheckCreate.{node_limit_step};
 ghost use Rattle.ps_model.specs.CheckForms.{is_collection as is_collection_kind};
 ghost use Rattle.ps_model.specs.CheckOptions as model;
@@ -15,8 +14,8 @@ ghost use Rattle.ps_access.specs.Tables.{book_of};
 use crate::items::check_items;
 use crate::options::check_options;
 use ps_access::{
-    Tables, Verdict, allow, built_limit, is_account_of, is_collection, key_of, must_be_collection,
-    must_have_room, pass, pass_if, verdict_publish,
+    Tables, Verdict, allow, is_account_of, is_collection, key_of, must_be_collection,
+    must_have_room, pass_if, verdict_publish,
 };
 use ps_config::default_config;
 use ps_told::options_config;
@@ -25,10 +24,9 @@ use std::alloc::Global;
 
 // The configuration of a node that the publish makes.
 fn check_made(tables: &Tables, request: &Request, config: &NodeConfig) -> Result<(), PlanRefusal>
-    ensures { Passes result (made_step built_config (Ok config.now) (book_of tables.now) request.now) }
+    ensures { Passes result (made_step (Ok config.now) (book_of tables.now) request.now) }
 {
     pass_if(!is_collection(config.node_type), Condition::C14)?;
-    pass(built_limit(config))?;
     must_be_collection(tables, request, &config.collection)
 }
 
@@ -56,7 +54,7 @@ fn check_new(
     items: &[AskItem],
     options: &Option<Elem>,
 ) -> Result<(), PlanRefusal>
-    ensures { Passes result (first_denial (publish_new_steps built_config (book_of tables.now) request.now items.now (model.options_config options.now (defaults.default_config true)))) }
+    ensures { Passes result (first_denial (publish_new_steps (book_of tables.now) request.now items.now (model.options_config options.now (defaults.default_config true)))) }
 {
     let base = default_config(alloc, true)?;
     let config = options_config(alloc, options, &base)?;
@@ -89,7 +87,7 @@ pub fn check_publish(
     items: &[AskItem],
     options: &Option<Elem>,
 ) -> Result<(), PlanRefusal>
-    ensures { Passes result (first_denial (publish_steps built_config (book_of tables.now) request.now node.now items.now options.now)) }
+    ensures { Passes result (first_denial (publish_steps (book_of tables.now) request.now node.now items.now options.now)) }
 {
     let key = key_of(request, node)?;
     match tables.nodes.get(&key) {

@@ -4,14 +4,22 @@
 #![tactic(auto)]
 
 #[cfg(test)]
+mod capabilities;
+#[cfg(test)]
 mod changes;
 #[cfg(test)]
+mod collections;
+#[cfg(test)]
 mod entity;
+#[cfg(test)]
+mod home;
 #[cfg(test)]
 mod lines;
 #[cfg(test)]
 mod preparing;
 #[cfg(test)]
 mod service;
+#[cfg(test)]
+mod stanzas;
 #[cfg(test)]
 mod world;

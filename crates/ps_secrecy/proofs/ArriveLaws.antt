@@ -137,7 +137,7 @@ module _ (S : List NodeKey) (a : Jid) where
   -- ---- the reply to one who is shut out
 
   judged-there : (choice : Choice) (x y : Book) → Beside S a x y → IsShutOut S a x → (r : Request) → same_bare r.from a ≡ true → verdict choice x r ≡ verdict choice y r
-  judged-there choice x y h shut r same = by-twin S a (λ (b : Book). verdict choice x r ≡ verdict choice b r) x y h (λ i c is ks. ap (choice.wrap x.service r) (sym (judged-same S a x shut i c is ks choice.limits r same)))
+  judged-there choice x y h shut r same = by-twin S a (λ (b : Book). verdict choice x r ≡ verdict choice b r) x y h (λ i c is ks. ap (choice.wrap r.ask) (sym (judged-same S a x shut i c is ks r same)))
 
   reply-by : (choice : Choice) (s t : State) → SameBut S a s t → (line : ℕ) (x : Taken) (b : Bool) → is_from a x ≡ b → cond b (reply_in choice x s.book line) None ≡ cond b (reply_in choice x t.book line) None
   reply-by choice s t h line x false is = refl

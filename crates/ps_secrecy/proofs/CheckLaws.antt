@@ -77,7 +77,7 @@ unless-none false why e = absurd (true≢false (ap (λ (o : Option Condition). i
 
 -- ---- the steps of every kind but one don't ask for items
 
-module _ (limits : NodeConfig → Option Condition) (x : Book) (i : List ItemRow) (c : List CountRow) where
+module _ (x : Book) (i : List ItemRow) (c : List CountRow) where
   collection_by-twin : (found : Option NodeRow) (who : Jid) → collection_by found (twin x i c) who ≡ collection_by found x who
   collection_by-twin None who = refl
   collection_by-twin (Some row) who = refl
@@ -86,15 +86,15 @@ module _ (limits : NodeConfig → Option Condition) (x : Book) (i : List ItemRow
   collection-twin r [] = refl
   collection-twin r (n ∷ name) = collection_by-twin (node_at (node_of r (n ∷ name)) x.nodes) r.from
 
-  new-twin : (given : Result NodeConfig Condition) (r : Request) → new_node_step limits given (twin x i c) r ≡ new_node_step limits given x r
+  new-twin : (given : Result NodeConfig Condition) (r : Request) → new_node_step given (twin x i c) r ≡ new_node_step given x r
   new-twin (Err why) r = refl
-  new-twin (Ok config) r = ap (λ d. first_denial (limits config ∷ d ∷ [])) (collection-twin r config.collection)
+  new-twin (Ok config) r = ap (λ d. d) (collection-twin r config.collection)
 
-  made-twin : (given : Result NodeConfig Condition) (r : Request) → made_step limits given (twin x i c) r ≡ made_step limits given x r
+  made-twin : (given : Result NodeConfig Condition) (r : Request) → made_step given (twin x i c) r ≡ made_step given x r
   made-twin (Err why) r = refl
-  made-twin (Ok config) r = ap (λ d. first_denial (unless (not (is_collection config.node_type)) C14 ∷ limits config ∷ d ∷ [])) (collection-twin r config.collection)
+  made-twin (Ok config) r = ap (λ d. first_denial (unless (not (is_collection config.node_type)) C14 ∷ d ∷ [])) (collection-twin r config.collection)
 
-  publish_by-twin : (found : Option NodeRow) (r : Request) (node : List ℕ) (items : List AskItem) (options : Option Tree) → publish_by limits found (twin x i c) r node items options ≡ publish_by limits found x r node items options
+  publish_by-twin : (found : Option NodeRow) (r : Request) (node : List ℕ) (items : List AskItem) (options : Option Tree) → publish_by found (twin x i c) r node items options ≡ publish_by found x r node items options
   publish_by-twin None r node items options = rw (made-twin (options_config options (default_config true)) r) refl
   publish_by-twin (Some row) r node items options = rw (publish-twin x i c (node_of r node) r.from) refl
 
@@ -106,7 +106,7 @@ module _ (limits : NodeConfig → Option Condition) (x : Book) (i : List ItemRow
   not_retract (ask.Retract node ids notify) = false
   not_retract _ = true
 
-  pub steps-twin : (q : Ask) (r : Request) → not_retract q ≡ true → steps_of limits q (twin x i c) r ≡ steps_of limits q x r
+  pub steps-twin : (q : Ask) (r : Request) → not_retract q ≡ true → steps_of q (twin x i c) r ≡ steps_of q x r
   steps-twin (ask.Create node form) r is = rw (new-twin (new_config r.target form) r) refl
   steps-twin (ask.Publish node items options) r is = publish_by-twin (node_at (node_of r node) x.nodes) r node items options
   steps-twin (ask.Retract node ids notify) r is = absurd (true≢false (sym is))
@@ -249,44 +249,44 @@ module _ (S : List NodeKey) (a : Jid) (x : Book) (shut : IsShutOut S a x) (i : L
 
   -- ---- the verdict
 
-  plain : (limits : NodeConfig → Option Condition) (q : Ask) (r : Request) → not_retract limits x i c q ≡ true → (first_denial (steps_of limits q x r) ≡ None → child_of q x r ≡ child_of q (twin x i c) r)
-      → outcome (first_denial (steps_of limits q (twin x i c) r)) (child_of q (twin x i c) r) ≡ outcome (first_denial (steps_of limits q x r)) (child_of q x r)
-  plain limits q r is child =
-      ap (λ ds. outcome (first_denial ds) (child_of q (twin x i c) r)) (steps-twin limits x i c q r is)
-      ∙ sym (by-denial (first_denial (steps_of limits q x r)) (child_of q x r) (child_of q (twin x i c) r) child)
+  plain : (q : Ask) (r : Request) → not_retract x i c q ≡ true → (first_denial (steps_of q x r) ≡ None → child_of q x r ≡ child_of q (twin x i c) r)
+      → outcome (first_denial (steps_of q (twin x i c) r)) (child_of q (twin x i c) r) ≡ outcome (first_denial (steps_of q x r)) (child_of q x r)
+  plain q r is child =
+      ap (λ ds. outcome (first_denial ds) (child_of q (twin x i c) r)) (steps-twin x i c q r is)
+      ∙ sym (by-denial (first_denial (steps_of q x r)) (child_of q x r) (child_of q (twin x i c) r) child)
 
-  pub judged-by : (limits : NodeConfig → Option Condition) (q : Ask) (r : Request) → same_bare r.from a ≡ true
-      → outcome (first_denial (steps_of limits q (twin x i c) r)) (child_of q (twin x i c) r) ≡ outcome (first_denial (steps_of limits q x r)) (child_of q x r)
-  judged-by limits (ask.Create node form) r same = plain limits (ask.Create node form) r refl (λ none. refl)
-  judged-by limits (ask.Publish node items options) r same = plain limits (ask.Publish node items options) r refl (λ none. ap (λ (ts : List Tree). Some (about pubsub_ns (codes "publish") node ts)) (sym (published-same r node items same)))
-  judged-by limits (ask.Retract node ids notify) r same = ap (λ (d : Option Condition). outcome d None) (retract-denial r node ids same)
-  judged-by limits (ask.Purge node) r same = plain limits (ask.Purge node) r refl (λ none. refl)
-  judged-by limits (ask.Delete node) r same = plain limits (ask.Delete node) r refl (λ none. refl)
-  judged-by limits (ask.ConfigGet node) r same = plain limits (ask.ConfigGet node) r refl (λ none. refl)
-  judged-by limits (ask.ConfigSet node form) r same = plain limits (ask.ConfigSet node form) r refl (λ none. refl)
-  judged-by limits (ask.AffilsGet node) r same = plain limits (ask.AffilsGet node) r refl (λ none. refl)
-  judged-by limits (ask.AffilsSet node rows) r same = plain limits (ask.AffilsSet node rows) r refl (λ none. refl)
-  judged-by limits (ask.SubsGet node) r same = plain limits (ask.SubsGet node) r refl (λ none. refl)
-  judged-by limits (ask.SubsSet node rows) r same = plain limits (ask.SubsSet node rows) r refl (λ none. refl)
-  judged-by limits (ask.MyAffils node) r same = plain limits (ask.MyAffils node) r refl (λ none. refl)
-  judged-by limits (ask.MySubs node) r same = plain limits (ask.MySubs node) r refl (λ none. refl)
-  judged-by limits (ask.Subscribe node who form) r same = plain limits (ask.Subscribe node who form) r refl (λ none. rw (subscribe-twin x i c (node_of r node) r.from) refl)
-  judged-by limits (ask.Unsubscribe node who subid) r same = plain limits (ask.Unsubscribe node who subid) r refl (λ none. refl)
-  judged-by limits (ask.OptionsGet node who) r same = plain limits (ask.OptionsGet node who) r refl (λ none. refl)
-  judged-by limits (ask.OptionsSet node who form) r same = plain limits (ask.OptionsSet node who form) r refl (λ none. refl)
-  judged-by limits (ask.ItemsGet node max ids) r same = plain limits (ask.ItemsGet node max ids) r refl (λ none. ap (λ (t : Tree). Some t) (items-same r node max ids (get-open r node max same none)))
-  judged-by limits (ask.InfoGet []) r same = plain limits (ask.InfoGet []) r refl (λ none. refl)
-  judged-by limits (ask.InfoGet (n ∷ node)) r same = plain limits (ask.InfoGet (n ∷ node)) r refl (λ none. refl)
-  judged-by limits (ask.NodesGet node) r same = plain limits (ask.NodesGet node) r refl (λ none. ap (λ (t : Tree). Some t) (nodes-same r node same none))
-  judged-by limits (ask.RosterSet item) r same = plain limits (ask.RosterSet item) r refl (λ none. refl)
-  judged-by limits (ask.Approve node who allow) r same = plain limits (ask.Approve node who allow) r refl (λ none. refl)
-  judged-by limits (ask.Present caps) r same = plain limits (ask.Present caps) r refl (λ none. refl)
-  judged-by limits ask.Absent r same = plain limits ask.Absent r refl (λ none. refl)
-  judged-by limits (ask.CapsAnswer node info) r same = plain limits (ask.CapsAnswer node info) r refl (λ none. refl)
-  judged-by limits ask.Silent r same = plain limits ask.Silent r refl (λ none. refl)
+  pub judged-by : (q : Ask) (r : Request) → same_bare r.from a ≡ true
+      → outcome (first_denial (steps_of q (twin x i c) r)) (child_of q (twin x i c) r) ≡ outcome (first_denial (steps_of q x r)) (child_of q x r)
+  judged-by (ask.Create node form) r same = plain (ask.Create node form) r refl (λ none. refl)
+  judged-by (ask.Publish node items options) r same = plain (ask.Publish node items options) r refl (λ none. ap (λ (ts : List Tree). Some (about pubsub_ns (codes "publish") node ts)) (sym (published-same r node items same)))
+  judged-by (ask.Retract node ids notify) r same = ap (λ (d : Option Condition). outcome d None) (retract-denial r node ids same)
+  judged-by (ask.Purge node) r same = plain (ask.Purge node) r refl (λ none. refl)
+  judged-by (ask.Delete node) r same = plain (ask.Delete node) r refl (λ none. refl)
+  judged-by (ask.ConfigGet node) r same = plain (ask.ConfigGet node) r refl (λ none. refl)
+  judged-by (ask.ConfigSet node form) r same = plain (ask.ConfigSet node form) r refl (λ none. refl)
+  judged-by (ask.AffilsGet node) r same = plain (ask.AffilsGet node) r refl (λ none. refl)
+  judged-by (ask.AffilsSet node rows) r same = plain (ask.AffilsSet node rows) r refl (λ none. refl)
+  judged-by (ask.SubsGet node) r same = plain (ask.SubsGet node) r refl (λ none. refl)
+  judged-by (ask.SubsSet node rows) r same = plain (ask.SubsSet node rows) r refl (λ none. refl)
+  judged-by (ask.MyAffils node) r same = plain (ask.MyAffils node) r refl (λ none. refl)
+  judged-by (ask.MySubs node) r same = plain (ask.MySubs node) r refl (λ none. refl)
+  judged-by (ask.Subscribe node who form) r same = plain (ask.Subscribe node who form) r refl (λ none. rw (subscribe-twin x i c (node_of r node) r.from) refl)
+  judged-by (ask.Unsubscribe node who subid) r same = plain (ask.Unsubscribe node who subid) r refl (λ none. refl)
+  judged-by (ask.OptionsGet node who) r same = plain (ask.OptionsGet node who) r refl (λ none. refl)
+  judged-by (ask.OptionsSet node who form) r same = plain (ask.OptionsSet node who form) r refl (λ none. refl)
+  judged-by (ask.ItemsGet node max ids) r same = plain (ask.ItemsGet node max ids) r refl (λ none. ap (λ (t : Tree). Some t) (items-same r node max ids (get-open r node max same none)))
+  judged-by (ask.InfoGet []) r same = plain (ask.InfoGet []) r refl (λ none. refl)
+  judged-by (ask.InfoGet (n ∷ node)) r same = plain (ask.InfoGet (n ∷ node)) r refl (λ none. refl)
+  judged-by (ask.NodesGet node) r same = plain (ask.NodesGet node) r refl (λ none. ap (λ (t : Tree). Some t) (nodes-same r node same none))
+  judged-by (ask.RosterSet item) r same = plain (ask.RosterSet item) r refl (λ none. refl)
+  judged-by (ask.Approve node who allow) r same = plain (ask.Approve node who allow) r refl (λ none. refl)
+  judged-by (ask.Present caps) r same = plain (ask.Present caps) r refl (λ none. refl)
+  judged-by ask.Absent r same = plain ask.Absent r refl (λ none. refl)
+  judged-by (ask.CapsAnswer node info) r same = plain (ask.CapsAnswer node info) r refl (λ none. refl)
+  judged-by ask.Silent r same = plain ask.Silent r refl (λ none. refl)
 
-  pub judged-same : (limits : NodeConfig → Option Condition) (r : Request) → same_bare r.from a ≡ true → judged limits (twin x i c) r ≡ judged limits x r
-  judged-same limits r same = judged-by limits r.ask r same
+  pub judged-same : (r : Request) → same_bare r.from a ≡ true → judged (twin x i c) r ≡ judged x r
+  judged-same r same = judged-by r.ask r same
 
   -- Retract of another node, whoever asks
   pub retract-same : (r : Request) (node : List ℕ) (ids : List (List ℕ)) → is_in S (node_of r node) ≡ false → first_denial (retract_steps (twin x i c) r node ids) ≡ first_denial (retract_steps x r node ids)
@@ -303,9 +303,9 @@ module _ (S : List NodeKey) (a : Jid) (x : Book) (shut : IsShutOut S a x) (i : L
   own-reads affil.Outcast e = absurd (true≢false (ap (λ (o : Option Condition). is_some o) e))
   own-reads affil.Nothing e = absurd (true≢false (ap (λ (o : Option Condition). is_some o) e))
 
-  pub config-open : (limits : NodeConfig → Option Condition) (r : Request) (node : List ℕ) (form : Option Tree) → same_bare r.from a ≡ true → first_denial (config_set_steps limits x r node form) ≡ None → is_in S (node_of r node) ≡ false
-  config-open limits r node form same none =
-      let p = none-first (stands_step x r node) (denied_by (own x (node_of r node) r.from) ∷ config_by limits (node_at (node_of r node) x.nodes) form ∷ []) none in
-      let q = none-first (denied_by (own x (node_of r node) r.from)) (config_by limits (node_at (node_of r node) x.nodes) form ∷ []) p.1 in
+  pub config-open : (r : Request) (node : List ℕ) (form : Option Tree) → same_bare r.from a ≡ true → first_denial (config_set_steps x r node form) ≡ None → is_in S (node_of r node) ≡ false
+  config-open r node form same none =
+      let p = none-first (stands_step x r node) (denied_by (own x (node_of r node) r.from) ∷ config_by (node_at (node_of r node) x.nodes) form ∷ []) none in
+      let q = none-first (denied_by (own x (node_of r node) r.from)) (config_by (node_at (node_of r node) x.nodes) form ∷ []) p.1 in
       opened (node_of r node) r.from same
       (retract-reads (node_at (node_of r node) x.nodes) x (node_of r node) r.from (unless-none (stands (node_of r node) x.nodes) C12 p.0) (affiliation x (node_of r node) r.from) refl (own-reads (affiliation x (node_of r node) r.from) q.0))

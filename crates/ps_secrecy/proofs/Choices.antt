@@ -1,13 +1,14 @@
 -- What is built, and any events that are told, are one choice: its replies and entries are those of the model.
 use Rattle.std.proofs.Common.{◌≡◌, ℕ, Bool, true, false, cond, List, Option, Some, None, refl, ap}
 use Rattle.std.specs.Prelude.{◌&&◌}
+use Rattle.ps_types.specs.declared.denial.Condition.TheVariants.{C26}
 use Rattle.ps_types.specs.declared.entry.Arrival.{Arrival}
 use Rattle.ps_types.specs.declared.entry.Entry.{Entry}
 use Rattle.ps_types.specs.declared.entry.Entry.TheVariants.{Change}
 use Rattle.ps_types.specs.declared.event.Event.{Event}
 use Rattle.ps_types.specs.declared.request.Request.{Request}
 use Rattle.ps_model.specs.Book.{Book, State}
-use Rattle.ps_model.specs.Built.{built_commits, built_config, built_outcome, is_unbuilt, unbuilt_outcome}
+use Rattle.ps_model.specs.Built.{built_outcome, is_unbuilt}
 use Rattle.ps_model.specs.Check.{check}
 use Rattle.ps_model.specs.Commits.{commits, makes_entry}
 use Rattle.ps_model.specs.Outcome.{Outcome, is_accepted}
@@ -20,17 +21,15 @@ use Rattle.ps_secrecy.specs.Alike.{IsBlind}
 use Rattle.ps_secrecy.proofs.Choice.{Choice, makes}
 use Rattle.ps_secrecy.proofs.Lined.{entry_in, line_entry, line_reply, reply_in}
 
-pub built-by : (b : Bool) (r : Request) (o p : Outcome) → is_accepted o ≡ is_accepted p → is_accepted (cond b (unbuilt_outcome r.ask) o) ≡ is_accepted (cond b (unbuilt_outcome r.ask) p)
-built-by true r o p e = refl
-built-by false r o p e = e
+built-by : (b : Bool) (o p : Outcome) → is_accepted o ≡ is_accepted p → is_accepted (cond b (outcome.denied C26) o) ≡ is_accepted (cond b (outcome.denied C26) p)
+built-by true o p e = refl
+built-by false o p e = e
 
 unfoldable pub choice_of : (told : Event → Bool) → IsBlind told → Choice
 choice_of told blind = record {
-  limits = built_config;
   told = told;
   wrap = built_outcome;
-  gate = built_commits;
-  wraps = λ service r o p e. built-by (is_unbuilt service r) r o p e;
+  wraps = λ q o p e. built-by (is_unbuilt q) o p e;
   told_items = blind.items;
   told_last = blind.last;
 }

@@ -26,13 +26,13 @@ use Rattle.ps_model.specs.ChangeOwner.{config_change, configured, configured_by,
 use Rattle.ps_model.specs.Changes.{changed_by, changed}
 use Rattle.ps_model.specs.Check.{steps_of, judged}
 use Rattle.ps_model.specs.CheckForms.{config_given, node_of}
-use Rattle.ps_model.specs.Commits.{commits_by}
+use Rattle.ps_model.specs.Commits.{commits, commits_by}
 use Rattle.ps_model.specs.SameRows.{same_nodes}
 use Rattle.ps_model.specs.Outcome.{outcome, is_accepted}
 use Rattle.ps_model.specs.Steps.{first_denial}
 use Rattle.ps_model.specs.TwoWorlds.{IsShutOut, is_in, items_outside, counts_outside}
 use Rattle.ps_secrecy.proofs.Blank.{is_quiet}
-use Rattle.ps_secrecy.proofs.Choice.{Choice, verdict, commit, makes}
+use Rattle.ps_secrecy.proofs.Choice.{Choice, verdict, makes}
 use Rattle.ps_secrecy.proofs.Twin.{twin, Beside}
 use Rattle.ps_secrecy.proofs.RowLaws.{count-seen, kept-hidden, without-hidden}
 use Rattle.ps_secrecy.proofs.ChangeLaws.{changed-twin, beside-itself, retract-touches}
@@ -143,36 +143,36 @@ module _ (S : List NodeKey) (a : Jid) (decides : (ms ns : List NodeRow) → same
 
   -- ---- whether it is accepted
 
-  denial-even : (limits : NodeConfig → Option Condition) (q : Ask) (r : Request) → not_retract limits x i c q ≡ true → first_denial (steps_of limits q x r) ≡ first_denial (steps_of limits q (twin x i c) r)
-  denial-even limits q r is = ap first_denial (sym (steps-twin limits x i c q r is))
+  denial-even : (q : Ask) (r : Request) → not_retract x i c q ≡ true → first_denial (steps_of q x r) ≡ first_denial (steps_of q (twin x i c) r)
+  denial-even q r is = ap first_denial (sym (steps-twin x i c q r is))
 
-  denial-quiet : (limits : NodeConfig → Option Condition) (q : Ask) (r : Request) → is_quiet S r q ≡ false → first_denial (steps_of limits q x r) ≡ first_denial (steps_of limits q (twin x i c) r)
-  denial-quiet limits (ask.Retract node ids notify) r is = sym (retract-same S a x shut i c h k r node ids is)
-  denial-quiet limits (ask.Create node form) r is = denial-even limits (ask.Create node form) r refl
-  denial-quiet limits (ask.Publish node items options) r is = denial-even limits (ask.Publish node items options) r refl
-  denial-quiet limits (ask.Purge node) r is = denial-even limits (ask.Purge node) r refl
-  denial-quiet limits (ask.Delete node) r is = denial-even limits (ask.Delete node) r refl
-  denial-quiet limits (ask.ConfigGet node) r is = denial-even limits (ask.ConfigGet node) r refl
-  denial-quiet limits (ask.ConfigSet node form) r is = denial-even limits (ask.ConfigSet node form) r refl
-  denial-quiet limits (ask.AffilsGet node) r is = denial-even limits (ask.AffilsGet node) r refl
-  denial-quiet limits (ask.AffilsSet node rows) r is = denial-even limits (ask.AffilsSet node rows) r refl
-  denial-quiet limits (ask.SubsGet node) r is = denial-even limits (ask.SubsGet node) r refl
-  denial-quiet limits (ask.SubsSet node rows) r is = denial-even limits (ask.SubsSet node rows) r refl
-  denial-quiet limits (ask.MyAffils node) r is = denial-even limits (ask.MyAffils node) r refl
-  denial-quiet limits (ask.MySubs node) r is = denial-even limits (ask.MySubs node) r refl
-  denial-quiet limits (ask.Subscribe node who form) r is = denial-even limits (ask.Subscribe node who form) r refl
-  denial-quiet limits (ask.Unsubscribe node who subid) r is = denial-even limits (ask.Unsubscribe node who subid) r refl
-  denial-quiet limits (ask.OptionsGet node who) r is = denial-even limits (ask.OptionsGet node who) r refl
-  denial-quiet limits (ask.OptionsSet node who form) r is = denial-even limits (ask.OptionsSet node who form) r refl
-  denial-quiet limits (ask.ItemsGet node max ids) r is = denial-even limits (ask.ItemsGet node max ids) r refl
-  denial-quiet limits (ask.InfoGet node) r is = denial-even limits (ask.InfoGet node) r refl
-  denial-quiet limits (ask.NodesGet node) r is = denial-even limits (ask.NodesGet node) r refl
-  denial-quiet limits (ask.RosterSet item) r is = denial-even limits (ask.RosterSet item) r refl
-  denial-quiet limits (ask.Approve node who allow) r is = denial-even limits (ask.Approve node who allow) r refl
-  denial-quiet limits (ask.Present caps) r is = denial-even limits (ask.Present caps) r refl
-  denial-quiet limits ask.Absent r is = denial-even limits ask.Absent r refl
-  denial-quiet limits (ask.CapsAnswer node info) r is = denial-even limits (ask.CapsAnswer node info) r refl
-  denial-quiet limits ask.Silent r is = denial-even limits ask.Silent r refl
+  denial-quiet : (q : Ask) (r : Request) → is_quiet S r q ≡ false → first_denial (steps_of q x r) ≡ first_denial (steps_of q (twin x i c) r)
+  denial-quiet (ask.Retract node ids notify) r is = sym (retract-same S a x shut i c h k r node ids is)
+  denial-quiet (ask.Create node form) r is = denial-even (ask.Create node form) r refl
+  denial-quiet (ask.Publish node items options) r is = denial-even (ask.Publish node items options) r refl
+  denial-quiet (ask.Purge node) r is = denial-even (ask.Purge node) r refl
+  denial-quiet (ask.Delete node) r is = denial-even (ask.Delete node) r refl
+  denial-quiet (ask.ConfigGet node) r is = denial-even (ask.ConfigGet node) r refl
+  denial-quiet (ask.ConfigSet node form) r is = denial-even (ask.ConfigSet node form) r refl
+  denial-quiet (ask.AffilsGet node) r is = denial-even (ask.AffilsGet node) r refl
+  denial-quiet (ask.AffilsSet node rows) r is = denial-even (ask.AffilsSet node rows) r refl
+  denial-quiet (ask.SubsGet node) r is = denial-even (ask.SubsGet node) r refl
+  denial-quiet (ask.SubsSet node rows) r is = denial-even (ask.SubsSet node rows) r refl
+  denial-quiet (ask.MyAffils node) r is = denial-even (ask.MyAffils node) r refl
+  denial-quiet (ask.MySubs node) r is = denial-even (ask.MySubs node) r refl
+  denial-quiet (ask.Subscribe node who form) r is = denial-even (ask.Subscribe node who form) r refl
+  denial-quiet (ask.Unsubscribe node who subid) r is = denial-even (ask.Unsubscribe node who subid) r refl
+  denial-quiet (ask.OptionsGet node who) r is = denial-even (ask.OptionsGet node who) r refl
+  denial-quiet (ask.OptionsSet node who form) r is = denial-even (ask.OptionsSet node who form) r refl
+  denial-quiet (ask.ItemsGet node max ids) r is = denial-even (ask.ItemsGet node max ids) r refl
+  denial-quiet (ask.InfoGet node) r is = denial-even (ask.InfoGet node) r refl
+  denial-quiet (ask.NodesGet node) r is = denial-even (ask.NodesGet node) r refl
+  denial-quiet (ask.RosterSet item) r is = denial-even (ask.RosterSet item) r refl
+  denial-quiet (ask.Approve node who allow) r is = denial-even (ask.Approve node who allow) r refl
+  denial-quiet (ask.Present caps) r is = denial-even (ask.Present caps) r refl
+  denial-quiet ask.Absent r is = denial-even ask.Absent r refl
+  denial-quiet (ask.CapsAnswer node info) r is = denial-even (ask.CapsAnswer node info) r refl
+  denial-quiet ask.Silent r is = denial-even ask.Silent r refl
 
   child-apart : (d : Option Condition) (s t : Option Tree) → is_accepted (outcome d s) ≡ is_accepted (outcome d t)
   child-apart None s t = refl
@@ -184,8 +184,8 @@ module _ (S : List NodeKey) (a : Jid) (decides : (ms ns : List NodeRow) → same
   -- whether it makes an entry
   pub makes-even : (choice : Choice) (r : Request) → is_quiet S r r.ask ≡ false → makes choice x r ≡ makes choice (twin x i c) r
   makes-even choice r is =
-      ap (λ b. b && commit choice x r) (choice.wraps x.service r (judged choice.limits x r) (judged choice.limits (twin x i c) r) (accepted-by (first_denial (steps_of choice.limits r.ask x r)) (first_denial (steps_of choice.limits r.ask (twin x i c) r)) _ _ (denial-quiet choice.limits r.ask r is)))
-      ∙ ap (λ b. is_accepted (verdict choice (twin x i c) r) && choice.gate x.service r b) (commits-even r.ask r is)
+      ap (λ b. b && commits x r) (choice.wraps r.ask (judged x r) (judged (twin x i c) r) (accepted-by (first_denial (steps_of r.ask x r)) (first_denial (steps_of r.ask (twin x i c) r)) _ _ (denial-quiet r.ask r is)))
+      ∙ ap (λ b. is_accepted (verdict choice (twin x i c) r) && b) (commits-even r.ask r is)
 
   -- ---- where it makes one in one world alone
 
@@ -223,12 +223,12 @@ module _ (S : List NodeKey) (a : Jid) (decides : (ms ns : List NodeRow) → same
       inr (rw e refl ∙ ap (λ (y : Book). not (same_nodes y.nodes x.nodes && (length y.items == length i))) p)
 
   Odd : Ask → Request → Type 0
-  Odd q r = Lone q r ⊎ (Even q r × ((limits : NodeConfig → Option Condition) → first_denial (steps_of limits q x r) ≡ first_denial (steps_of limits q (twin x i c) r)))
+  Odd q r = Lone q r ⊎ (Even q r × (first_denial (steps_of q x r) ≡ first_denial (steps_of q (twin x i c) r)))
 
   config-sum : (r : Request) (node : List ℕ) (form : Option Tree) → Lone (ask.ConfigSet node form) r ⊎ Even (ask.ConfigSet node form) r → Odd (ask.ConfigSet node form) r
   unfolding Odd
   config-sum r node form (inl lone) = inl lone
-  config-sum r node form (inr even) = inr (even, λ limits. denial-even limits (ask.ConfigSet node form) r refl)
+  config-sum r node form (inr even) = inr (even, denial-even (ask.ConfigSet node form) r refl)
 
   odd : (q : Ask) (r : Request) → is_quiet S r q ≡ true → Odd q r
   unfolding Odd Lone
@@ -267,8 +267,8 @@ module _ (S : List NodeKey) (a : Jid) (decides : (ms ns : List NodeRow) → same
   unfolding Odd Lone Even
   turn-odd choice r is (inl lone) = inr (is, lone)
   turn-odd choice r is (inr even) = inl (
-      ap (λ b. b && commit choice x r) (choice.wraps x.service r (judged choice.limits x r) (judged choice.limits (twin x i c) r) (accepted-by (first_denial (steps_of choice.limits r.ask x r)) (first_denial (steps_of choice.limits r.ask (twin x i c) r)) _ _ (even.1 choice.limits)))
-      ∙ ap (λ b. is_accepted (verdict choice (twin x i c) r) && choice.gate x.service r b) even.0)
+      ap (λ b. b && commits x r) (choice.wraps r.ask (judged x r) (judged (twin x i c) r) (accepted-by (first_denial (steps_of r.ask x r)) (first_denial (steps_of r.ask (twin x i c) r)) _ _ (even.1)))
+      ∙ ap (λ b. is_accepted (verdict choice (twin x i c) r) && b) even.0)
 
   turn-by : (choice : Choice) (r : Request) (b : Bool) → is_quiet S r r.ask ≡ b → Turns choice r
   turn-by choice r true is = turn-odd choice r is (odd r.ask r is)
@@ -279,30 +279,30 @@ module _ (S : List NodeKey) (a : Jid) (decides : (ms ns : List NodeRow) → same
 
   -- ---- an accepted request of one who is shut out commits in both or in none
 
-  pub commits-own : (limits : NodeConfig → Option Condition) (q : Ask) (r : Request) → same_bare r.from a ≡ true → first_denial (steps_of limits q x r) ≡ None → commits_by q x (changed_by q r None x) ≡ commits_by q (twin x i c) (changed_by q r None (twin x i c))
-  commits-own limits (ask.Retract node ids notify) r same none = refl
-  commits-own limits (ask.ConfigSet node form) r same none = commits-even (ask.ConfigSet node form) r (config-open S a x shut i c h k limits r node form same none)
-  commits-own limits (ask.Create node form) r same none = commits-even (ask.Create node form) r refl
-  commits-own limits (ask.Publish node items options) r same none = commits-even (ask.Publish node items options) r refl
-  commits-own limits (ask.Purge node) r same none = commits-even (ask.Purge node) r refl
-  commits-own limits (ask.Delete node) r same none = commits-even (ask.Delete node) r refl
-  commits-own limits (ask.ConfigGet node) r same none = commits-even (ask.ConfigGet node) r refl
-  commits-own limits (ask.AffilsGet node) r same none = commits-even (ask.AffilsGet node) r refl
-  commits-own limits (ask.AffilsSet node rows) r same none = commits-even (ask.AffilsSet node rows) r refl
-  commits-own limits (ask.SubsGet node) r same none = commits-even (ask.SubsGet node) r refl
-  commits-own limits (ask.SubsSet node rows) r same none = commits-even (ask.SubsSet node rows) r refl
-  commits-own limits (ask.MyAffils node) r same none = commits-even (ask.MyAffils node) r refl
-  commits-own limits (ask.MySubs node) r same none = commits-even (ask.MySubs node) r refl
-  commits-own limits (ask.Subscribe node who form) r same none = commits-even (ask.Subscribe node who form) r refl
-  commits-own limits (ask.Unsubscribe node who subid) r same none = commits-even (ask.Unsubscribe node who subid) r refl
-  commits-own limits (ask.OptionsGet node who) r same none = commits-even (ask.OptionsGet node who) r refl
-  commits-own limits (ask.OptionsSet node who form) r same none = commits-even (ask.OptionsSet node who form) r refl
-  commits-own limits (ask.ItemsGet node max ids) r same none = commits-even (ask.ItemsGet node max ids) r refl
-  commits-own limits (ask.InfoGet node) r same none = commits-even (ask.InfoGet node) r refl
-  commits-own limits (ask.NodesGet node) r same none = commits-even (ask.NodesGet node) r refl
-  commits-own limits (ask.RosterSet item) r same none = commits-even (ask.RosterSet item) r refl
-  commits-own limits (ask.Approve node who allow) r same none = commits-even (ask.Approve node who allow) r refl
-  commits-own limits (ask.Present caps) r same none = commits-even (ask.Present caps) r refl
-  commits-own limits ask.Absent r same none = commits-even ask.Absent r refl
-  commits-own limits (ask.CapsAnswer node info) r same none = commits-even (ask.CapsAnswer node info) r refl
-  commits-own limits ask.Silent r same none = commits-even ask.Silent r refl
+  pub commits-own : (q : Ask) (r : Request) → same_bare r.from a ≡ true → first_denial (steps_of q x r) ≡ None → commits_by q x (changed_by q r None x) ≡ commits_by q (twin x i c) (changed_by q r None (twin x i c))
+  commits-own (ask.Retract node ids notify) r same none = refl
+  commits-own (ask.ConfigSet node form) r same none = commits-even (ask.ConfigSet node form) r (config-open S a x shut i c h k r node form same none)
+  commits-own (ask.Create node form) r same none = commits-even (ask.Create node form) r refl
+  commits-own (ask.Publish node items options) r same none = commits-even (ask.Publish node items options) r refl
+  commits-own (ask.Purge node) r same none = commits-even (ask.Purge node) r refl
+  commits-own (ask.Delete node) r same none = commits-even (ask.Delete node) r refl
+  commits-own (ask.ConfigGet node) r same none = commits-even (ask.ConfigGet node) r refl
+  commits-own (ask.AffilsGet node) r same none = commits-even (ask.AffilsGet node) r refl
+  commits-own (ask.AffilsSet node rows) r same none = commits-even (ask.AffilsSet node rows) r refl
+  commits-own (ask.SubsGet node) r same none = commits-even (ask.SubsGet node) r refl
+  commits-own (ask.SubsSet node rows) r same none = commits-even (ask.SubsSet node rows) r refl
+  commits-own (ask.MyAffils node) r same none = commits-even (ask.MyAffils node) r refl
+  commits-own (ask.MySubs node) r same none = commits-even (ask.MySubs node) r refl
+  commits-own (ask.Subscribe node who form) r same none = commits-even (ask.Subscribe node who form) r refl
+  commits-own (ask.Unsubscribe node who subid) r same none = commits-even (ask.Unsubscribe node who subid) r refl
+  commits-own (ask.OptionsGet node who) r same none = commits-even (ask.OptionsGet node who) r refl
+  commits-own (ask.OptionsSet node who form) r same none = commits-even (ask.OptionsSet node who form) r refl
+  commits-own (ask.ItemsGet node max ids) r same none = commits-even (ask.ItemsGet node max ids) r refl
+  commits-own (ask.InfoGet node) r same none = commits-even (ask.InfoGet node) r refl
+  commits-own (ask.NodesGet node) r same none = commits-even (ask.NodesGet node) r refl
+  commits-own (ask.RosterSet item) r same none = commits-even (ask.RosterSet item) r refl
+  commits-own (ask.Approve node who allow) r same none = commits-even (ask.Approve node who allow) r refl
+  commits-own (ask.Present caps) r same none = commits-even (ask.Present caps) r refl
+  commits-own ask.Absent r same none = commits-even ask.Absent r refl
+  commits-own (ask.CapsAnswer node info) r same none = commits-even (ask.CapsAnswer node info) r refl
+  commits-own ask.Silent r same none = commits-even ask.Silent r refl

@@ -123,39 +123,39 @@ child-apart : (d : Option Condition) (s t : Option Tree) → is_accepted (outcom
 child-apart None s t = refl
 child-apart (Some why) s t = refl
 
-steps-other : (limits : NodeConfig → Option Condition) (x : Book) (i : List ItemRow) (c : List CountRow) (q : Ask) (r : Request) → is_retract q ≡ false → steps_of limits q (twin x i c) r ≡ steps_of limits q x r
-steps-other limits x i c (ask.Create node form) r e = steps-twin limits x i c (ask.Create node form) r refl
-steps-other limits x i c (ask.Publish node items options) r e = steps-twin limits x i c (ask.Publish node items options) r refl
-steps-other limits x i c (ask.Retract node ids notify) r e = absurd (true≢false e)
-steps-other limits x i c (ask.Purge node) r e = steps-twin limits x i c (ask.Purge node) r refl
-steps-other limits x i c (ask.Delete node) r e = steps-twin limits x i c (ask.Delete node) r refl
-steps-other limits x i c (ask.ConfigGet node) r e = steps-twin limits x i c (ask.ConfigGet node) r refl
-steps-other limits x i c (ask.ConfigSet node form) r e = steps-twin limits x i c (ask.ConfigSet node form) r refl
-steps-other limits x i c (ask.AffilsGet node) r e = steps-twin limits x i c (ask.AffilsGet node) r refl
-steps-other limits x i c (ask.AffilsSet node rows) r e = steps-twin limits x i c (ask.AffilsSet node rows) r refl
-steps-other limits x i c (ask.SubsGet node) r e = steps-twin limits x i c (ask.SubsGet node) r refl
-steps-other limits x i c (ask.SubsSet node rows) r e = steps-twin limits x i c (ask.SubsSet node rows) r refl
-steps-other limits x i c (ask.MyAffils node) r e = steps-twin limits x i c (ask.MyAffils node) r refl
-steps-other limits x i c (ask.MySubs node) r e = steps-twin limits x i c (ask.MySubs node) r refl
-steps-other limits x i c (ask.Subscribe node who form) r e = steps-twin limits x i c (ask.Subscribe node who form) r refl
-steps-other limits x i c (ask.Unsubscribe node who subid) r e = steps-twin limits x i c (ask.Unsubscribe node who subid) r refl
-steps-other limits x i c (ask.OptionsGet node who) r e = steps-twin limits x i c (ask.OptionsGet node who) r refl
-steps-other limits x i c (ask.OptionsSet node who form) r e = steps-twin limits x i c (ask.OptionsSet node who form) r refl
-steps-other limits x i c (ask.ItemsGet node max ids) r e = steps-twin limits x i c (ask.ItemsGet node max ids) r refl
-steps-other limits x i c (ask.InfoGet node) r e = steps-twin limits x i c (ask.InfoGet node) r refl
-steps-other limits x i c (ask.NodesGet node) r e = steps-twin limits x i c (ask.NodesGet node) r refl
-steps-other limits x i c (ask.RosterSet item) r e = steps-twin limits x i c (ask.RosterSet item) r refl
-steps-other limits x i c (ask.Approve node who allow) r e = steps-twin limits x i c (ask.Approve node who allow) r refl
-steps-other limits x i c (ask.Present caps) r e = steps-twin limits x i c (ask.Present caps) r refl
-steps-other limits x i c ask.Absent r e = steps-twin limits x i c ask.Absent r refl
-steps-other limits x i c (ask.CapsAnswer node info) r e = steps-twin limits x i c (ask.CapsAnswer node info) r refl
-steps-other limits x i c ask.Silent r e = steps-twin limits x i c ask.Silent r refl
+steps-other : (x : Book) (i : List ItemRow) (c : List CountRow) (q : Ask) (r : Request) → is_retract q ≡ false → steps_of q (twin x i c) r ≡ steps_of q x r
+steps-other x i c (ask.Create node form) r e = steps-twin x i c (ask.Create node form) r refl
+steps-other x i c (ask.Publish node items options) r e = steps-twin x i c (ask.Publish node items options) r refl
+steps-other x i c (ask.Retract node ids notify) r e = absurd (true≢false e)
+steps-other x i c (ask.Purge node) r e = steps-twin x i c (ask.Purge node) r refl
+steps-other x i c (ask.Delete node) r e = steps-twin x i c (ask.Delete node) r refl
+steps-other x i c (ask.ConfigGet node) r e = steps-twin x i c (ask.ConfigGet node) r refl
+steps-other x i c (ask.ConfigSet node form) r e = steps-twin x i c (ask.ConfigSet node form) r refl
+steps-other x i c (ask.AffilsGet node) r e = steps-twin x i c (ask.AffilsGet node) r refl
+steps-other x i c (ask.AffilsSet node rows) r e = steps-twin x i c (ask.AffilsSet node rows) r refl
+steps-other x i c (ask.SubsGet node) r e = steps-twin x i c (ask.SubsGet node) r refl
+steps-other x i c (ask.SubsSet node rows) r e = steps-twin x i c (ask.SubsSet node rows) r refl
+steps-other x i c (ask.MyAffils node) r e = steps-twin x i c (ask.MyAffils node) r refl
+steps-other x i c (ask.MySubs node) r e = steps-twin x i c (ask.MySubs node) r refl
+steps-other x i c (ask.Subscribe node who form) r e = steps-twin x i c (ask.Subscribe node who form) r refl
+steps-other x i c (ask.Unsubscribe node who subid) r e = steps-twin x i c (ask.Unsubscribe node who subid) r refl
+steps-other x i c (ask.OptionsGet node who) r e = steps-twin x i c (ask.OptionsGet node who) r refl
+steps-other x i c (ask.OptionsSet node who form) r e = steps-twin x i c (ask.OptionsSet node who form) r refl
+steps-other x i c (ask.ItemsGet node max ids) r e = steps-twin x i c (ask.ItemsGet node max ids) r refl
+steps-other x i c (ask.InfoGet node) r e = steps-twin x i c (ask.InfoGet node) r refl
+steps-other x i c (ask.NodesGet node) r e = steps-twin x i c (ask.NodesGet node) r refl
+steps-other x i c (ask.RosterSet item) r e = steps-twin x i c (ask.RosterSet item) r refl
+steps-other x i c (ask.Approve node who allow) r e = steps-twin x i c (ask.Approve node who allow) r refl
+steps-other x i c (ask.Present caps) r e = steps-twin x i c (ask.Present caps) r refl
+steps-other x i c ask.Absent r e = steps-twin x i c ask.Absent r refl
+steps-other x i c (ask.CapsAnswer node info) r e = steps-twin x i c (ask.CapsAnswer node info) r refl
+steps-other x i c ask.Silent r e = steps-twin x i c ask.Silent r refl
 
 accepted-twin : (choice : Choice) (x : Book) (i : List ItemRow) (c : List CountRow) (r : Request) → is_retract r.ask ≡ false → is_accepted (verdict choice x r) ≡ is_accepted (verdict choice (twin x i c) r)
 accepted-twin choice x i c r other =
-    choice.wraps x.service r (judged choice.limits x r) (judged choice.limits (twin x i c) r)
-    (ap (λ (d : Option Condition). is_accepted (outcome.outcome d (child_of r.ask x r))) (ap first_denial (sym (steps-other choice.limits x i c r.ask r other)))
-    ∙ child-apart (first_denial (steps_of choice.limits r.ask (twin x i c) r)) (child_of r.ask x r) (child_of r.ask (twin x i c) r))
+    choice.wraps r.ask (judged x r) (judged (twin x i c) r)
+    (ap (λ (d : Option Condition). is_accepted (outcome.outcome d (child_of r.ask x r))) (ap first_denial (sym (steps-other x i c r.ask r other)))
+    ∙ child-apart (first_denial (steps_of r.ask (twin x i c) r)) (child_of r.ask x r) (child_of r.ask (twin x i c) r))
 
 -- the reply of a request that its tree spells, by whether it is an iq
 asked-some : (choice : Choice) (S : List NodeKey) (a : Jid) (x y : Book) → Beside S a x y → (host service : List ℕ) (u : Tree) (r : Request) → SpellsRequest host service u r
