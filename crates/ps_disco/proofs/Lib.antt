@@ -1,0 +1,6 @@
+pub mod Trees
+pub mod Keyed
+pub mod Places
+pub mod Under
+pub mod Steps
+pub mod Offered

@@ -1,0 +1,4 @@
+pub mod Plans
+pub mod Features
+pub mod Entries
+pub mod Held
