@@ -8,7 +8,7 @@ use Rattle.ps_types.specs.declared.plan.PlanRefusal.TheVariants.{Denied, Memory}
 use Rattle.ps_types.specs.declared.request.Request.{Request}
 use Rattle.ps_model.specs.Book.{Book}
 use Rattle.ps_model.specs.Changes.{changed}
-use Rattle.ps_model.specs.Check.{judged}
+use Rattle.ps_model.specs.Check.{check}
 use Rattle.ps_model.specs.Commits.{commits_by}
 use Rattle.ps_model.specs.Outcome.{Outcome, denied, accepted}
 
@@ -28,7 +28,7 @@ Gives (Err Memory) given = Unit {0}
 
 -- the plan is the check of the request over the Book, and says whether an accepted one makes an entry
 abbrev pub Plans : Result Plan PlanRefusal → Book → Request → Type 0
-Plans result book r = Agrees result (judged book r) (commits_by r.ask book (changed r None book))
+Plans result book r = Agrees result (check book r) (commits_by r.ask book (changed r None book))
 
 -- the steps of a check, where none denies or the first one that does
 abbrev pub Passes : Result (Unit {0}) PlanRefusal → Option Condition → Type 0

@@ -5,7 +5,6 @@ use Rattle.std.specs.List.{list_any}
 use Rattle.std.proofs.lemmas.Bool.{and_parts, eqb-true}
 use Rattle.ps_types.specs.declared.config.NodeConfig.{NodeConfig}
 use Rattle.ps_types.specs.declared.denial.Condition.{Condition}
-use Rattle.ps_types.specs.declared.denial.Condition.TheVariants.{C26}
 use Rattle.ps_types.specs.declared.entry.Entry.{Entry}
 use Rattle.ps_types.specs.declared.entry.Entry.TheVariants.{Boot, Change, Handed, Gone, Base}
 use Rattle.ps_types.specs.declared.event.Event.{Event}
@@ -27,11 +26,10 @@ use Rattle.ps_model.specs.BaseRead.{row_of}
 use Rattle.ps_model.specs.BaseRows.{BaseRow, node, affiliation, subscription, item, link, contact, ver, made, counter, notice}
 use Rattle.ps_model.specs.Book.{Book, State, empty_book, empty_state}
 use Rattle.ps_model.specs.CheckForms.{is_collection}
-use Rattle.ps_model.specs.Built.{is_unbuilt}
-use Rattle.ps_model.specs.Check.{check, child_of, judged, steps_of}
+use Rattle.ps_model.specs.Check.{check, child_of, steps_of}
 use Rattle.ps_model.specs.Commits.{commits, commits_by, makes_entry}
 use Rattle.ps_model.specs.Changes.{changed}
-use Rattle.ps_model.specs.Outcome.{Outcome, denied, is_accepted, outcome}
+use Rattle.ps_model.specs.Outcome.{is_accepted, outcome}
 use Rattle.ps_model.specs.Steps.{first_denial}
 use Rattle.ps_model.specs.Tallies.{is_next_line}
 use Rattle.ps_model.specs.Taking.{request_in, tree_taken}
@@ -254,16 +252,11 @@ none-denied : (d : Option Condition) (child : Option Tree) → is_accepted (outc
 none-denied None child h = refl
 none-denied (Some why) child h = absurd (cc h)
 
--- what is accepted as far as it is built is accepted
-accepted-built : (b : Bool) (o : Outcome) → is_accepted (cond b (denied C26) o) ≡ true → is_accepted o ≡ true
-accepted-built true o h = absurd (cc h)
-accepted-built false o h = h
-
 -- a request that makes an entry passes each of its steps
 pub passes : (book : Book) (r : Request) → makes_entry book r ≡ true → first_denial (steps_of r.ask book r) ≡ None
 passes book r h =
     let p = and_parts (is_accepted (check book r)) (commits book r) h in
-    none-denied (first_denial (steps_of r.ask book r)) (child_of r.ask book r) (accepted-built (is_unbuilt r.ask) (judged book r) p.0)
+    none-denied (first_denial (steps_of r.ask book r)) (child_of r.ask book r) p.0
 
 request-reachable : (o : Option Request) (moment : Option ℕ) (book : Book) → request_accepted o book ≡ true → IsReachable book → IsReachable (step.book_changed o moment book)
 request-reachable None moment book h is = is

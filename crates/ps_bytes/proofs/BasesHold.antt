@@ -34,13 +34,13 @@ use Rattle.ps_model.specs.Book.{State, empty_state}
 use Rattle.ps_model.specs.Core.{handed}
 use Rattle.ps_model.specs.Heard.{placeless}
 use Rattle.ps_model.specs.Stanza.{host_jid}
-use Rattle.ps_model.specs.Replay.{AreAcceptedFrom, notices_from, of_bare, replay_from, to_address}
+use Rattle.ps_model.specs.Replay.{AreAcceptedFrom, accepted_at, notices_from, of_bare, replay_from, to_address}
 use Rattle.ps_cases.proofs.Parts.{all_from, part-of}
 use Rattle.ps_cases.specs.AccessCases.{q}
 use Rattle.ps_cases.specs.Compacted.{base_by}
 use Rattle.ps_cases.specs.HomeCases.{t}
 use Rattle.ps_cases.specs.PresenceCases.{ver}
-use Rattle.ps_cases.specs.Running.{Line, accepted_in, entry_in, every, handed_by, lawful_in, left_by, reply_in, taken_in}
+use Rattle.ps_cases.specs.Running.{Line, entry_in, every, handed_by, lawful_in, left_by, reply_in, taken_in}
 use Rattle.ps_cases.specs.Words.{payload, to_ann, to_bob}
 use Rattle.ps_bytes.proofs.GoingOn.{behind, from-on, joined, lawful-on, tails-alike, uncounted}
 use Rattle.ps_bytes.specs.Bases as it
@@ -53,7 +53,7 @@ rows-stand = refl
 
 abbrev all_accepted : State → List Entry → Bool
 all_accepted s [] = true
-all_accepted s (e ∷ E) = accepted_in s e && all_accepted (after every s e) E
+all_accepted s (e ∷ E) = accepted_at s e && all_accepted (after every s e) E
 
 whole-accepted : all_accepted empty_state it.whole ≡ true
 unfolding same.same_jid same.same_bare same.same_node text.escape_byte fmt.digits str.is_utf8 str.chars utf8.encode json.value lex.punctuate lex.lex content.content b64.encode_symbols sha.sha1 sha.digest_bytes sha.hash_after sha.compress sha.rounds sha.schedule sha.first_words
@@ -113,9 +113,9 @@ told-again = refl
 
 -- ---- lawful
 
-lawful-from : (s : State) (E : List Entry) → all_accepted s E ≡ true → AreAcceptedFrom every accepted_in s E
+lawful-from : (s : State) (E : List Entry) → all_accepted s E ≡ true → AreAcceptedFrom every accepted_at s E
 lawful-from s [] e = tt
-lawful-from s (x ∷ E) e = let p = and_parts (accepted_in s x) (all_accepted (after every s x) E) e in (p.0, lawful-from (after every s x) E p.1)
+lawful-from s (x ∷ E) e = let p = and_parts (accepted_at s x) (all_accepted (after every s x) E) e in (p.0, lawful-from (after every s x) E p.1)
 
 pub whole-lawful : lawful_in it.whole
 whole-lawful = lawful-from empty_state it.whole whole-accepted
@@ -125,7 +125,7 @@ rows-lawful = lawful-from empty_state it.rows rows-accepted
 
 -- lists whose States after a boot are alike
 module _ (E B : List Entry) (service : List ℕ) (F : List Entry) (alike : uncounted (after every (left_by E) (Boot service)) ≡ uncounted (after every (left_by B) (Boot service))) where
-  same-boot : accepted_in (left_by E) (Boot service) ≡ accepted_in (left_by B) (Boot service)
+  same-boot : accepted_at (left_by E) (Boot service) ≡ accepted_at (left_by B) (Boot service)
   same-boot = refl
 
   goes-on : lawful_in B → lawful_in (E ++ Boot service ∷ F) → lawful_in (B ++ Boot service ∷ F)

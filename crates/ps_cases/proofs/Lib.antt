@@ -16,4 +16,3 @@ pub mod OwnersHold
 pub mod Parts
 pub mod PresenceHold
 pub mod Rows
-pub mod Serving

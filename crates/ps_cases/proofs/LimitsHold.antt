@@ -20,7 +20,7 @@ use Rattle.ps_types.specs.declared.rows.NodeRow.{NodeRow}
 use Rattle.ps_types.specs.declared.rows.RosterRow.{RosterRow}
 use Rattle.ps_types.specs.declared.rows.SubRow.{SubRow}
 use Rattle.ps_model.specs.Book.{Book}
-use Rattle.ps_model.specs.Check.{judged}
+use Rattle.ps_model.specs.Check.{check}
 use Rattle.ps_model.specs.Commits.{commits}
 use Rattle.ps_model.specs.Outcome.{Outcome, accepted, denied}
 use Rattle.ps_model.specs.Replies.{outcome_reply}
@@ -44,38 +44,38 @@ friend state = record (by (codes "ann") (codes "a.example") (ask.RosterSet (reco
 
 -- ---- what they come to
 
-reply-by : (t : Tree) (r : Request) (book : Book) (o : Outcome) → judged book r ≡ o → outcome_reply t r (commits book r && false) (judged book r) ≡ outcome_reply t r false o
-reply-by t r book o e = ap (λ b. outcome_reply t r b (judged book r)) (and-false (commits book r)) ∙ ap (λ x. outcome_reply t r false x) e
+reply-by : (t : Tree) (r : Request) (book : Book) (o : Outcome) → check book r ≡ o → outcome_reply t r (commits book r && false) (check book r) ≡ outcome_reply t r false o
+reply-by t r book o e = ap (λ b. outcome_reply t r b (check book r)) (and-false (commits book r)) ∙ ap (λ x. outcome_reply t r false x) e
 
-subs-full : (subs : List SubRow) → it.HasSubs subs 65536 → judged (record it.with_news { subs = subs }) subscription_request ≡ denied C23
+subs-full : (subs : List SubRow) → it.HasSubs subs 65536 → check (record it.with_news { subs = subs }) subscription_request ≡ denied C23
 unfolding same.same_jid same.same_bare same.same_node fmt.digits
 subs-full subs is = rw is.none (rw is.count refl)
 
-nodes-full : (nodes : List NodeRow) → it.HasNodes nodes 10000 → judged (record it.empty { nodes = nodes }) creation ≡ denied C24
+nodes-full : (nodes : List NodeRow) → it.HasNodes nodes 10000 → check (record it.empty { nodes = nodes }) creation ≡ denied C24
 unfolding same.same_jid same.same_bare same.same_node fmt.digits
 nodes-full nodes is = rw is.none (rw is.count refl)
 
-nodes-room : (nodes : List NodeRow) → it.HasNodes nodes 9999 → judged (record it.empty { nodes = nodes }) creation ≡ accepted None
+nodes-room : (nodes : List NodeRow) → it.HasNodes nodes 9999 → check (record it.empty { nodes = nodes }) creation ≡ accepted None
 unfolding same.same_jid same.same_bare same.same_node fmt.digits
 nodes-room nodes is = rw is.none (rw is.count refl)
 
-contacts-full : (rosters : List RosterRow) → it.HasContacts rosters None 4096 → judged (record it.empty { rosters = rosters }) (friend (codes "both")) ≡ denied C24
+contacts-full : (rosters : List RosterRow) → it.HasContacts rosters None 4096 → check (record it.empty { rosters = rosters }) (friend (codes "both")) ≡ denied C24
 unfolding same.same_jid same.same_bare same.same_node fmt.digits
 contacts-full rosters is = rw is.bob (rw is.count refl)
 
-contacts-room : (rosters : List RosterRow) → it.HasContacts rosters None 4095 → judged (record it.empty { rosters = rosters }) (friend (codes "both")) ≡ accepted None
+contacts-room : (rosters : List RosterRow) → it.HasContacts rosters None 4095 → check (record it.empty { rosters = rosters }) (friend (codes "both")) ≡ accepted None
 unfolding same.same_jid same.same_bare same.same_node fmt.digits
 contacts-room rosters is = rw is.bob (rw is.count refl)
 
-contact-there : (rosters : List RosterRow) (row : RosterRow) → it.HasContacts rosters (Some row) 4096 → judged (record it.empty { rosters = rosters }) (friend (codes "both")) ≡ accepted None
+contact-there : (rosters : List RosterRow) (row : RosterRow) → it.HasContacts rosters (Some row) 4096 → check (record it.empty { rosters = rosters }) (friend (codes "both")) ≡ accepted None
 unfolding same.same_jid same.same_bare same.same_node fmt.digits
 contact-there rosters row is = rw is.bob refl
 
-contact-gone : (rosters : List RosterRow) → it.HasContacts rosters None 4096 → judged (record it.empty { rosters = rosters }) (friend (codes "remove")) ≡ accepted None
+contact-gone : (rosters : List RosterRow) → it.HasContacts rosters None 4096 → check (record it.empty { rosters = rosters }) (friend (codes "remove")) ≡ accepted None
 unfolding same.same_jid same.same_bare same.same_node fmt.digits
 contact-gone rosters is = refl
 
-subs-room : (subs : List SubRow) → it.HasSubs subs 65535 → judged (record it.with_news { subs = subs }) subscription_request ≡ accepted (Some (pubsub (subscription bare_bob news (codes "subscribed") ∷ [])))
+subs-room : (subs : List SubRow) → it.HasSubs subs 65535 → check (record it.with_news { subs = subs }) subscription_request ≡ accepted (Some (pubsub (subscription bare_bob news (codes "subscribed") ∷ [])))
 unfolding same.same_jid same.same_bare same.same_node fmt.digits
 subs-room subs is = rw is.none (rw is.count refl)
 

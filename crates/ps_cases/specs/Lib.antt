@@ -20,5 +20,4 @@ pub mod OptionCases
 pub mod OwnerCases
 pub mod PresenceCases
 pub mod Running
-pub mod Today
 pub mod Words

@@ -1,24 +1,18 @@
--- What the service does with lines, where every kind of request is built and every event is told.
-use Rattle.std.specs.Prelude.{ℕ, Bool, true, false, ◌&&◌, not, List, [], ◌∷◌, ◌++◌, Option, Some, None}
+-- What the service does with lines, where every event is told.
+use Rattle.std.specs.Prelude.{ℕ, Bool, true, List, [], ◌∷◌, ◌++◌, Option, Some, None}
 use Rattle.ps_types.specs.Tree.{Tree}
 use Rattle.ps_types.specs.declared.entry.Arrival.{Arrival}
 use Rattle.ps_types.specs.declared.entry.Entry.{Entry}
-use Rattle.ps_types.specs.declared.entry.Entry.TheVariants.{Change}
 use Rattle.ps_types.specs.declared.entry.Notice.{Notice}
 use Rattle.ps_types.specs.declared.event.Event.{Event}
 use Rattle.ps_types.specs.declared.jid.Jid.{Jid}
-use Rattle.ps_types.specs.declared.request.Request.{Request}
 use Rattle.ps_model.specs.Book.{Book, State, empty_state}
-use Rattle.ps_model.specs.Check.{judged}
-use Rattle.ps_model.specs.Commits.{commits}
-use Rattle.ps_model.specs.Outcome.{is_accepted}
-use Rattle.ps_model.specs.Replay.{AreAcceptedFrom, accepted_at, is_booted, replay_from, notices_from}
-use Rattle.ps_model.specs.Replies.{moment_of, outcome_entry, outcome_reply, reply_by}
-use Rattle.ps_model.specs.Taken.{Taken, asked}
-use Rattle.ps_model.specs.Taking.{request_in, taken, tree_taken}
-use Rattle.ps_model.specs.Tallies.{is_next_line}
+use Rattle.ps_model.specs.Replay.{lawful_by, replay_from, notices_from}
+use Rattle.ps_model.specs.Replies.{entry_by, moment_of, reply_by}
+use Rattle.ps_model.specs.Taken.{Taken}
+use Rattle.ps_model.specs.Taking.{taken}
 
--- ---- nothing is kept out as not built
+-- ---- every event is told
 
 abbrev pub every : Event → Bool
 every event = true
@@ -43,27 +37,14 @@ abbrev pub taken_in : Line → Book → Taken
 taken_in line book = taken line.host book.service line.arrival
 
 abbrev pub reply_in : Taken → Book → Line → Option Tree
-reply_in (asked t r) book line = outcome_reply t r (commits book r && line.full) (judged book r)
-reply_in other book line = reply_by other book line.number line.full
+reply_in k book line = reply_by k book line.number line.full
 
 abbrev pub entry_in : Taken → Book → Line → Option Entry
-entry_in (asked t r) book line = outcome_entry (commits book r && not line.full) (Change line.host line.number (moment_of line.arrival) t) (judged book r)
-entry_in other book line = None
+entry_in k book line = entry_by k line.host book line.number (moment_of line.arrival) line.full
 
--- ---- one entry
-
-abbrev pub request_kept : Option Request → Book → Bool
-request_kept None book = false
-request_kept (Some r) book = is_accepted (judged book r) && commits book r
-
--- it is accepted at its place
-abbrev pub accepted_in : State → Entry → Bool
-accepted_in s (Change host line moment t) = is_booted s && request_kept (request_in (tree_taken host s.book.service t)) s.book && is_next_line host line s.lines
-accepted_in s e = accepted_at s e
-
--- each is
+-- each entry of a list is accepted at its place
 abbrev pub lawful_in : List Entry → Type 0
-lawful_in E = AreAcceptedFrom every accepted_in empty_state E
+lawful_in E = lawful_by every E
 
 -- ---- one after the other
 

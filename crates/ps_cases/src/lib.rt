@@ -5,8 +5,7 @@
 //!
 //! The words of `specs/`: `Case.Holds given told` says of a list of stanzas, whose printed lines come one after the other from the first boot on, that they get
 //! exactly the replies that `given` names and make exactly the entries that it marks, and that of these entries each address is handed exactly its part of
-//! `told`. `Running` is the service in it: the model's own steps, where every kind of request is built and every event is told; `Today` compares it with what is
-//! built. `Words`, `Denials`, `Forms` and `Handed` are stanzas, replies and notices in short; the stanzas of each case stand in the files `..Cases`.
+//! `told`. `Running` is the service in it: the model's own steps, where every event is told. `Words`, `Denials`, `Forms` and `Handed` are stanzas, replies and notices in short; the stanzas of each case stand in the files `..Cases`.
 //! `Compacted` and `Crashed` go on from entries of these.
 #![tactic(auto)]
 
@@ -33,7 +32,7 @@ pub use conditions::{
 pub use discovery::{entities_say_what_they_are, nodes_and_items_are_listed};
 pub use home::{last_item, roster_groups, wanted_items};
 pub use limits::greatest_numbers;
-pub use lines::{bad_lines, first_lines, served_as_in_cases};
+pub use lines::{bad_lines, first_lines};
 pub use nodes::{
     bookmarks_are_kept, configuration_shown, item_denials, item_ids, last_owner, nodes_are_found,
     numbers_and_names, other_subscribers,

@@ -1,6 +1,5 @@
 // Lines as bytes. Each function is its contract.
 ghost use Rattle.ps_cases.specs.LineCases.{FirstLines, Refusals};
-ghost use Rattle.ps_cases.specs.Today.{AsServed};
 
 /// The first request of a service and its answer, byte for byte, and the entry that it makes; then the same again, which conflicts and makes none.
 pub fn first_lines()
@@ -10,9 +9,4 @@ pub fn first_lines()
 /// Lines that are no JSON, no tree, no stanza or no stanza of their stream, and stanzas that ask for what there isn't, each with its answer, byte for byte.
 pub fn bad_lines()
     ensures { Refusals }
-{}
-
-/// Where the kind of a request is built, the service of today answers its line and keeps it as the cases say.
-pub fn served_as_in_cases()
-    ensures { AsServed }
 {}

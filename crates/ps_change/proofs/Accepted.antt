@@ -9,7 +9,7 @@ use Rattle.ps_types.specs.declared.request.Request.{Request}
 use Rattle.ps_types.specs.Nodes.{stands}
 use Rattle.ps_types.specs.Tree.{Tree}
 use Rattle.ps_model.specs.Book.{Book}
-use Rattle.ps_model.specs.Check.{judged}
+use Rattle.ps_model.specs.Check.{check}
 use Rattle.ps_model.specs.CheckForms.{node_of}
 use Rattle.ps_model.specs.Outcome.{outcome, is_accepted}
 use Rattle.ps_model.specs.Steps.{first_denial, unless}
@@ -27,25 +27,25 @@ first_holds true why steps child h = refl
 first_holds false why steps child h = absurd (cc)
 
 IsNew : Book → List ℕ → Request → Type 0
-IsNew book node r = is_accepted (judged book r) ≡ true → stands (node_of r node) book.nodes ≡ false
+IsNew book node r = is_accepted (check book r) ≡ true → stands (node_of r node) book.nodes ≡ false
 
 new_at : (book : Book) (r : Request) (node : List ℕ) (form : Option Tree) → IsNew book node (with_ask r (ask.Create node form))
 unfolding IsNew with_ask
 new_at book r node form h = not_so _ (first_holds (not (stands (node_of r node) book.nodes)) _ _ _ h)
 
 -- a node that is made doesn't stand before
-pub create_new : (book : Book) (r : Request) (node : List ℕ) (form : Option Tree) → r.ask ≡ ask.Create node form → is_accepted (judged book r) ≡ true → stands (node_of r node) book.nodes ≡ false
+pub create_new : (book : Book) (r : Request) (node : List ℕ) (form : Option Tree) → r.ask ≡ ask.Create node form → is_accepted (check book r) ≡ true → stands (node_of r node) book.nodes ≡ false
 unfolding IsNew with_ask
 create_new book r node form is = subst (λ (a : Ask). IsNew book node (with_ask r a)) (sym is) (new_at book r node form)
 
 IsThere : Book → List ℕ → Request → Type 0
-IsThere book node r = is_accepted (judged book r) ≡ true → stands (node_of r node) book.nodes ≡ true
+IsThere book node r = is_accepted (check book r) ≡ true → stands (node_of r node) book.nodes ≡ true
 
 there_at : (book : Book) (r : Request) (node : List ℕ) (who : Jid) (form : Option Tree) → IsThere book node (with_ask r (ask.Subscribe node who form))
 unfolding IsThere with_ask
 there_at book r node who form h = first_holds (stands (node_of r node) book.nodes) _ _ _ h
 
 -- a node that is subscribed to stands
-pub subscribe_there : (book : Book) (r : Request) (node : List ℕ) (who : Jid) (form : Option Tree) → r.ask ≡ ask.Subscribe node who form → is_accepted (judged book r) ≡ true → stands (node_of r node) book.nodes ≡ true
+pub subscribe_there : (book : Book) (r : Request) (node : List ℕ) (who : Jid) (form : Option Tree) → r.ask ≡ ask.Subscribe node who form → is_accepted (check book r) ≡ true → stands (node_of r node) book.nodes ≡ true
 unfolding IsThere with_ask
 subscribe_there book r node who form is = subst (λ (a : Ask). IsThere book node (with_ask r a)) (sym is) (there_at book r node who form)

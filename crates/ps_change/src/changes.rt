@@ -1,7 +1,7 @@
 // The change of a request, by its kind.
 ghost use Rattle.std.specs.Prelude.{◌≡◌, true, OnOk};
 ghost use Rattle.ps_model.specs.Changes.{changed};
-ghost use Rattle.ps_model.specs.Check.{judged};
+ghost use Rattle.ps_model.specs.Check.{check};
 ghost use Rattle.ps_model.specs.Outcome.{is_accepted};
 ghost use Rattle.ps_access.specs.Tables.{book_of};
 ghost use Rattle.ps_change.specs.Kinds.{AreFew, is_of_nodes, is_of_subs, is_of_router};
@@ -29,7 +29,7 @@ fn change_nodes(
     moment: Option<u64>,
 ) -> Result<(), Memory>
     requires kind { is_of_nodes request.now.ask ≡ true }
-    requires accepted { is_accepted (judged (book_of tables.old) request.now) ≡ true }
+    requires accepted { is_accepted (check (book_of tables.old) request.now) ≡ true }
     requires few { AreFew (book_of tables.old) }
     ensures book { OnOk result (book_of tables.new ≡ changed request.now moment (book_of tables.old)) }
 {
@@ -74,7 +74,7 @@ fn change_subs(
     moment: Option<u64>,
 ) -> Result<(), Memory>
     requires kind { is_of_subs request.now.ask ≡ true }
-    requires accepted { is_accepted (judged (book_of tables.old) request.now) ≡ true }
+    requires accepted { is_accepted (check (book_of tables.old) request.now) ≡ true }
     ensures book { OnOk result (book_of tables.new ≡ changed request.now moment (book_of tables.old)) }
 {
     match &request.ask {
@@ -125,7 +125,7 @@ pub fn change(
     request: &Request,
     moment: Option<u64>,
 ) -> Result<(), Memory>
-    requires accepted { is_accepted (judged (book_of tables.old) request.now) ≡ true }
+    requires accepted { is_accepted (check (book_of tables.old) request.now) ≡ true }
     requires few { AreFew (book_of tables.old) }
     ensures book { OnOk result (book_of tables.new ≡ changed request.now moment (book_of tables.old)) }
 {

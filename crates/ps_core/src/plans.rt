@@ -1,4 +1,4 @@
-// The check of a request: its kind's plan, as far as its kind is built.
+// The check of a request: its kind's plan.
 ghost use Rattle.std.specs.Prelude.{◌≡◌, false, None};
 ghost use Rattle.ps_model.specs.Check.{check};
 ghost use Rattle.ps_model.specs.Commits.{commits};
@@ -6,7 +6,7 @@ ghost use Rattle.ps_access.specs.Plans.{Agrees};
 ghost use Rattle.ps_access.specs.Tables.{book_of};
 
 use ps_access::Tables;
-use ps_types::{Ask, Condition, Plan, PlanRefusal, Request};
+use ps_types::{Ask, Plan, PlanRefusal, Request};
 use std::alloc::Global;
 
 fn nothing_said() -> Plan
@@ -45,7 +45,7 @@ pub fn plan(alloc: Global, tables: &Tables, request: &Request) -> Result<Plan, P
         | Ask::Present { .. }
         | Ask::Absent
         | Ask::CapsAnswer { .. } => ps_entity::plan(alloc, tables, request),
-        Ask::InfoGet { .. } | Ask::NodesGet { .. } => Err(PlanRefusal::Denied(Condition::C26)),
+        Ask::InfoGet { .. } | Ask::NodesGet { .. } => ps_disco::plan(alloc, tables, request),
         Ask::Silent => Ok(nothing_said()),
     }
 }

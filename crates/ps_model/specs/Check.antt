@@ -6,7 +6,6 @@ use Rattle.ps_types.specs.declared.request.Ask.TheVariants as ask
 use Rattle.ps_types.specs.declared.request.Request.{Request}
 use Rattle.ps_types.specs.Tree.{Tree}
 use Rattle.ps_model.specs.Book.{Book}
-use Rattle.ps_model.specs.Built.{built_outcome}
 use Rattle.ps_model.specs.CheckConfig.{config_set_steps}
 use Rattle.ps_model.specs.CheckCreate.{create_steps}
 use Rattle.ps_model.specs.CheckEntity.{mine_steps, subscribe_steps, unsubscribe_steps, options_get_steps, options_set_steps, items_get_steps, nodes_get_steps}
@@ -63,9 +62,5 @@ child_of (ask.NodesGet node) book r = Some (nodes_child book r node)
 child_of _ book r = None
 
 -- a request is denied by the first step that fails, and else accepted
-abbrev pub judged : (NodeConfig → Option Condition) → Book → Request → Outcome
-judged limits book r = outcome (first_denial (steps_of r.ask book r)) (child_of r.ask book r)
-
--- the same, as far as it is built
 abbrev pub check : Book → Request → Outcome
-check book r = built_outcome r.ask (judged book r)
+check book r = outcome (first_denial (steps_of r.ask book r)) (child_of r.ask book r)

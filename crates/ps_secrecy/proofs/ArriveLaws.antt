@@ -30,7 +30,9 @@ use Rattle.ps_model.specs.Taken as taken
 use Rattle.ps_model.specs.Taking.{ask_taken, head_of, is_white, request_in, result_taken, sender_taken, target_taken, tree_taken}
 use Rattle.ps_model.specs.Taking as taking
 use Rattle.ps_model.specs.TwoWorlds.{IsShutOut, SameBut, Touches, is_in}
-use Rattle.ps_secrecy.proofs.Choice.{Choice, makes, verdict}
+use Rattle.ps_model.specs.Check.{check}
+use Rattle.ps_model.specs.Commits.{makes_entry}
+use Rattle.ps_secrecy.proofs.Choice.{Choice}
 use Rattle.ps_model.specs.Heard.{heard}
 use Rattle.ps_model.specs.Heard.{is_from}
 use Rattle.ps_secrecy.specs.Alike.{added, notes}
@@ -112,12 +114,12 @@ module _ (S : List NodeKey) (a : Jid) where
       let e = Change host line m u in
       let f = Change host line2 m u in
       let p = on u r refl in
-      let b = added-is choice s (makes choice s.book r) e in
-      let c = added-is choice t (makes choice t.book r) f in
+      let b = added-is choice s (makes_entry s.book r) e in
+      let c = added-is choice t (makes_entry t.book r) f in
       let k = change-on S a nodes-are choice s t h m r host host line line2 u u p.0 p.1 (subst (λ (w : State). IsShutOut S a w.book) b shut) (subst (λ (w : State). IsShutOut S a w.book) c shut2) in
       record {
-        same = subst (λ (w : State). SameBut S a w (added choice.told t (cond (makes choice t.book r) (Some f) None))) (sym b) (subst (λ (w : State). SameBut S a (stepped choice s r e) w) (sym c) k.same);
-        hear = ap (heard a) (notes-is choice s (makes choice s.book r) e) ∙ k.hear ∙ ap (heard a) (sym (notes-is choice t (makes choice t.book r) f));
+        same = subst (λ (w : State). SameBut S a w (added choice.told t (cond (makes_entry t.book r) (Some f) None))) (sym b) (subst (λ (w : State). SameBut S a (stepped choice s r e) w) (sym c) k.same);
+        hear = ap (heard a) (notes-is choice s (makes_entry s.book r) e) ∙ k.hear ∙ ap (heard a) (sym (notes-is choice t (makes_entry t.book r) f));
       }
 
   -- ---- one line in both worlds
@@ -136,8 +138,8 @@ module _ (S : List NodeKey) (a : Jid) where
 
   -- ---- the reply to one who is shut out
 
-  judged-there : (choice : Choice) (x y : Book) → Beside S a x y → IsShutOut S a x → (r : Request) → same_bare r.from a ≡ true → verdict choice x r ≡ verdict choice y r
-  judged-there choice x y h shut r same = by-twin S a (λ (b : Book). verdict choice x r ≡ verdict choice b r) x y h (λ i c is ks. ap (choice.wrap r.ask) (sym (judged-same S a x shut i c is ks r same)))
+  judged-there : (choice : Choice) (x y : Book) → Beside S a x y → IsShutOut S a x → (r : Request) → same_bare r.from a ≡ true → check x r ≡ check y r
+  judged-there choice x y h shut r same = by-twin S a (λ (b : Book). check x r ≡ check b r) x y h (λ i c is ks. (sym (judged-same S a x shut i c is ks r same)))
 
   reply-by : (choice : Choice) (s t : State) → SameBut S a s t → (line : ℕ) (x : Taken) (b : Bool) → is_from a x ≡ b → cond b (reply_in choice x s.book line) None ≡ cond b (reply_in choice x t.book line) None
   reply-by choice s t h line x false is = refl
@@ -159,7 +161,7 @@ module _ (S : List NodeKey) (a : Jid) where
       record { name = node.name; asks = p.name; is_one = ap (is_in S) e ∙ p.is_one; there = ap (λ (n : NodeKey). stands n s.book.nodes) e ∙ p.stands; other = p.other }
 
   entry-is : (choice : Choice) (s : State) (host : List ℕ) (line : ℕ) (one : Arrival) (u : Tree) (r : Request) → taking.taken host s.book.service one ≡ taken.asked u r
-      → line_entry choice s host line one ≡ cond (makes choice s.book r) (Some (Change host line (moment_of one) u)) None
+      → line_entry choice s host line one ≡ cond (makes_entry s.book r) (Some (Change host line (moment_of one) u)) None
   entry-is choice s host line one u r e = ap (λ (x : Taken). entry_in choice x host s.book line (moment_of one)) e
 
   pub lines-on : (choice : Choice) (s t : State) → SameBut S a s t → (host : List ℕ) (node : NodeKey) (line line2 : ℕ) (one two : Arrival) → Touches S a s host one node → Touches S a t host two node
@@ -168,18 +170,18 @@ module _ (S : List NodeKey) (a : Jid) where
   lines-on choice s t h host node line line2 one two p q shut shut2 =
       let e = Change host line (moment_of one) p.tree in
       let f = Change host line2 (moment_of two) q.tree in
-      let b : added choice.told s (line_entry choice s host line one) ≡ stepped choice s p.request e = ap (added choice.told s) (entry-is choice s host line one p.tree p.request p.is_taken) ∙ added-is choice s (makes choice s.book p.request) e in
-      let c : added choice.told t (line_entry choice t host line2 two) ≡ stepped choice t q.request f = ap (added choice.told t) (entry-is choice t host line2 two q.tree q.request q.is_taken) ∙ added-is choice t (makes choice t.book q.request) f in
+      let b : added choice.told s (line_entry choice s host line one) ≡ stepped choice s p.request e = ap (added choice.told s) (entry-is choice s host line one p.tree p.request p.is_taken) ∙ added-is choice s (makes_entry s.book p.request) e in
+      let c : added choice.told t (line_entry choice t host line2 two) ≡ stepped choice t q.request f = ap (added choice.told t) (entry-is choice t host line2 two q.tree q.request q.is_taken) ∙ added-is choice t (makes_entry t.book q.request) f in
       let k = pair-on S a choice s t h (moment_of one) (moment_of two) p.request q.request host host line line2 p.tree q.tree (on-tree host s.book one p.tree p.request p.is_taken) (on-tree host t.book two q.tree q.request q.is_taken)
       (touch-of s host one node p) (touch-of t host two node q) (subst (λ (w : State). IsShutOut S a w.book) b shut) (subst (λ (w : State). IsShutOut S a w.book) c shut2) in
       record {
         same = subst (λ (w : State). SameBut S a w (added choice.told t (line_entry choice t host line2 two))) (sym b) (subst (λ (w : State). SameBut S a (stepped choice s p.request e) w) (sym c) k.same);
         hear =
-            ap (λ (o : Option Entry). heard a (notes choice.told s o)) (entry-is choice s host line one p.tree p.request p.is_taken) ∙ ap (heard a) (notes-is choice s (makes choice s.book p.request) e)
+            ap (λ (o : Option Entry). heard a (notes choice.told s o)) (entry-is choice s host line one p.tree p.request p.is_taken) ∙ ap (heard a) (notes-is choice s (makes_entry s.book p.request) e)
             ∙ k.hear
-            ∙ ap (heard a) (sym (notes-is choice t (makes choice t.book q.request) f)) ∙ ap (λ (o : Option Entry). heard a (notes choice.told t o)) (sym (entry-is choice t host line2 two q.tree q.request q.is_taken));
+            ∙ ap (heard a) (sym (notes-is choice t (makes_entry t.book q.request) f)) ∙ ap (λ (o : Option Entry). heard a (notes choice.told t o)) (sym (entry-is choice t host line2 two q.tree q.request q.is_taken));
       }
 
   -- neither gets a reply that is to an address of a
   pub lines-reply : (choice : Choice) (s : State) (host : List ℕ) (node : NodeKey) (line : ℕ) (one : Arrival) → Touches S a s host one node → line_to choice a s host line one ≡ None
-  lines-reply choice s host node line one p = ap (λ (x : Taken). cond (is_from a x) (reply_in choice x s.book line) None) p.is_taken ∙ ap (λ (b : Bool). cond b (outcome_reply p.tree p.request false (verdict choice s.book p.request)) None) p.other
+  lines-reply choice s host node line one p = ap (λ (x : Taken). cond (is_from a x) (reply_in choice x s.book line) None) p.is_taken ∙ ap (λ (b : Bool). cond b (outcome_reply p.tree p.request false (check s.book p.request)) None) p.other

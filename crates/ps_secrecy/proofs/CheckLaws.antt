@@ -32,7 +32,7 @@ use Rattle.ps_types.proofs.Same.{same_node-Decides}
 use Rattle.ps_model.specs.Access.{read, read_at, affiliation, own, own_by}
 use Rattle.ps_model.specs.CheckConfig.{config_by, config_set_steps}
 use Rattle.ps_model.specs.Book.{Book}
-use Rattle.ps_model.specs.Check.{steps_of, child_of, judged}
+use Rattle.ps_model.specs.Check.{steps_of, child_of, check}
 use Rattle.ps_model.specs.CheckCreate.{new_node_step}
 use Rattle.ps_model.specs.CheckEntity.{given_read_step, is_most, items_get_steps, nodes_get_steps}
 use Rattle.ps_model.specs.CheckForms.{node_of, new_config, collection_step, collection_by, is_collection}
@@ -285,7 +285,7 @@ module _ (S : List NodeKey) (a : Jid) (x : Book) (shut : IsShutOut S a x) (i : L
   judged-by (ask.CapsAnswer node info) r same = plain (ask.CapsAnswer node info) r refl (λ none. refl)
   judged-by ask.Silent r same = plain ask.Silent r refl (λ none. refl)
 
-  pub judged-same : (r : Request) → same_bare r.from a ≡ true → judged (twin x i c) r ≡ judged x r
+  pub judged-same : (r : Request) → same_bare r.from a ≡ true → check (twin x i c) r ≡ check x r
   judged-same r same = judged-by r.ask r same
 
   -- Retract of another node, whoever asks

@@ -1,14 +1,12 @@
--- What is built, and any events that are told, are one choice: its replies and entries are those of the model.
+-- Any events that are told are one choice: its replies and entries are those of the model.
 use Rattle.std.proofs.Common.{◌≡◌, ℕ, Bool, true, false, cond, List, Option, Some, None, refl, ap}
 use Rattle.std.specs.Prelude.{◌&&◌}
-use Rattle.ps_types.specs.declared.denial.Condition.TheVariants.{C26}
 use Rattle.ps_types.specs.declared.entry.Arrival.{Arrival}
 use Rattle.ps_types.specs.declared.entry.Entry.{Entry}
 use Rattle.ps_types.specs.declared.entry.Entry.TheVariants.{Change}
 use Rattle.ps_types.specs.declared.event.Event.{Event}
 use Rattle.ps_types.specs.declared.request.Request.{Request}
 use Rattle.ps_model.specs.Book.{Book, State}
-use Rattle.ps_model.specs.Built.{built_outcome, is_unbuilt}
 use Rattle.ps_model.specs.Check.{check}
 use Rattle.ps_model.specs.Commits.{commits, makes_entry}
 use Rattle.ps_model.specs.Outcome.{Outcome, is_accepted}
@@ -18,18 +16,12 @@ use Rattle.ps_model.specs.Taken.{Taken}
 use Rattle.ps_model.specs.Taken as taken
 use Rattle.ps_model.specs.Taking as taking
 use Rattle.ps_secrecy.specs.Alike.{IsBlind}
-use Rattle.ps_secrecy.proofs.Choice.{Choice, makes}
+use Rattle.ps_secrecy.proofs.Choice.{Choice}
 use Rattle.ps_secrecy.proofs.Lined.{entry_in, line_entry, line_reply, reply_in}
-
-built-by : (b : Bool) (o p : Outcome) → is_accepted o ≡ is_accepted p → is_accepted (cond b (outcome.denied C26) o) ≡ is_accepted (cond b (outcome.denied C26) p)
-built-by true o p e = refl
-built-by false o p e = e
 
 unfoldable pub choice_of : (told : Event → Bool) → IsBlind told → Choice
 choice_of told blind = record {
   told = told;
-  wrap = built_outcome;
-  wraps = λ q o p e. built-by (is_unbuilt q) o p e;
   told_items = blind.items;
   told_last = blind.last;
 }
@@ -43,10 +35,6 @@ and-true true = refl
 and-true false = refl
 
 module _ (told : Event → Bool) (blind : IsBlind told) where
-  pub makes-is : (book : Book) (r : Request) → makes_entry book r ≡ makes (choice_of told blind) book r
-  unfolding choice_of
-  makes-is book r = refl
-
   reply-is : (x : Taken) (book : Book) (line : ℕ) → reply_by x book line false ≡ reply_in (choice_of told blind) x book line
   unfolding choice_of
   reply-is taken.silent book line = refl

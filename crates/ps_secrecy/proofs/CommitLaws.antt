@@ -24,15 +24,15 @@ use Rattle.ps_types.specs.Tree.{Tree}
 use Rattle.ps_model.specs.Book.{Book}
 use Rattle.ps_model.specs.ChangeOwner.{config_change, configured, configured_by, items_under}
 use Rattle.ps_model.specs.Changes.{changed_by, changed}
-use Rattle.ps_model.specs.Check.{steps_of, judged}
+use Rattle.ps_model.specs.Check.{steps_of, check}
 use Rattle.ps_model.specs.CheckForms.{config_given, node_of}
-use Rattle.ps_model.specs.Commits.{commits, commits_by}
+use Rattle.ps_model.specs.Commits.{commits, commits_by, makes_entry}
 use Rattle.ps_model.specs.SameRows.{same_nodes}
 use Rattle.ps_model.specs.Outcome.{outcome, is_accepted}
 use Rattle.ps_model.specs.Steps.{first_denial}
 use Rattle.ps_model.specs.TwoWorlds.{IsShutOut, is_in, items_outside, counts_outside}
 use Rattle.ps_secrecy.proofs.Blank.{is_quiet}
-use Rattle.ps_secrecy.proofs.Choice.{Choice, verdict, makes}
+use Rattle.ps_secrecy.proofs.Choice.{Choice}
 use Rattle.ps_secrecy.proofs.Twin.{twin, Beside}
 use Rattle.ps_secrecy.proofs.RowLaws.{count-seen, kept-hidden, without-hidden}
 use Rattle.ps_secrecy.proofs.ChangeLaws.{changed-twin, beside-itself, retract-touches}
@@ -182,10 +182,10 @@ module _ (S : List NodeKey) (a : Jid) (decides : (ms ns : List NodeRow) → same
   accepted-by d e s t same = ap (λ (f : Option Condition). is_accepted (outcome f s)) same ∙ child-apart e s t
 
   -- whether it makes an entry
-  pub makes-even : (choice : Choice) (r : Request) → is_quiet S r r.ask ≡ false → makes choice x r ≡ makes choice (twin x i c) r
+  pub makes-even : (choice : Choice) (r : Request) → is_quiet S r r.ask ≡ false → makes_entry x r ≡ makes_entry (twin x i c) r
   makes-even choice r is =
-      ap (λ b. b && commits x r) (choice.wraps r.ask (judged x r) (judged (twin x i c) r) (accepted-by (first_denial (steps_of r.ask x r)) (first_denial (steps_of r.ask (twin x i c) r)) _ _ (denial-quiet r.ask r is)))
-      ∙ ap (λ b. is_accepted (verdict choice (twin x i c) r) && b) (commits-even r.ask r is)
+      ap (λ b. b && commits x r) ((accepted-by (first_denial (steps_of r.ask x r)) (first_denial (steps_of r.ask (twin x i c) r)) _ _ (denial-quiet r.ask r is)))
+      ∙ ap (λ b. is_accepted (check (twin x i c) r) && b) (commits-even r.ask r is)
 
   -- ---- where it makes one in one world alone
 
@@ -261,14 +261,14 @@ module _ (S : List NodeKey) (a : Jid) (decides : (ms ns : List NodeRow) → same
 
   -- both worlds make the entry or none does, or it does nothing that is compared
   abbrev pub Turns : Choice → Request → Type 0
-  Turns choice r = (makes choice x r ≡ makes choice (twin x i c) r) ⊎ ((is_quiet S r r.ask ≡ true) × ((m : Option ℕ) → Beside S a x (changed r m x)))
+  Turns choice r = (makes_entry x r ≡ makes_entry (twin x i c) r) ⊎ ((is_quiet S r r.ask ≡ true) × ((m : Option ℕ) → Beside S a x (changed r m x)))
 
   turn-odd : (choice : Choice) (r : Request) → is_quiet S r r.ask ≡ true → Odd r.ask r → Turns choice r
   unfolding Odd Lone Even
   turn-odd choice r is (inl lone) = inr (is, lone)
   turn-odd choice r is (inr even) = inl (
-      ap (λ b. b && commits x r) (choice.wraps r.ask (judged x r) (judged (twin x i c) r) (accepted-by (first_denial (steps_of r.ask x r)) (first_denial (steps_of r.ask (twin x i c) r)) _ _ (even.1)))
-      ∙ ap (λ b. is_accepted (verdict choice (twin x i c) r) && b) even.0)
+      ap (λ b. b && commits x r) ((accepted-by (first_denial (steps_of r.ask x r)) (first_denial (steps_of r.ask (twin x i c) r)) _ _ (even.1)))
+      ∙ ap (λ b. is_accepted (check (twin x i c) r) && b) even.0)
 
   turn-by : (choice : Choice) (r : Request) (b : Bool) → is_quiet S r r.ask ≡ b → Turns choice r
   turn-by choice r true is = turn-odd choice r is (odd r.ask r is)

@@ -11,19 +11,21 @@ use Rattle.ps_model.specs.Taken.{Taken}
 use Rattle.ps_model.specs.Taken as taken
 use Rattle.ps_model.specs.Taking as taking
 use Rattle.ps_model.specs.Heard.{is_from}
-use Rattle.ps_secrecy.proofs.Choice.{Choice, makes, verdict}
+use Rattle.ps_model.specs.Check.{check}
+use Rattle.ps_model.specs.Commits.{makes_entry}
+use Rattle.ps_secrecy.proofs.Choice.{Choice}
 
 abbrev pub reply_in : Choice → Taken → Book → ℕ → Option Tree
 reply_in choice taken.silent book line = None
 reply_in choice (taken.refused why) book line = Some (refused_tree line why)
 reply_in choice (taken.denied head why) book line = if_answered head.is_answered (error_reply head [] why)
-reply_in choice (taken.asked t r) book line = outcome_reply t r false (verdict choice book r)
+reply_in choice (taken.asked t r) book line = outcome_reply t r false (check book r)
 
 abbrev pub entry_in : Choice → Taken → List ℕ → Book → ℕ → Option ℕ → Option Entry
 entry_in choice taken.silent host book line moment = None
 entry_in choice (taken.refused why) host book line moment = None
 entry_in choice (taken.denied head why) host book line moment = None
-entry_in choice (taken.asked t r) host book line moment = cond (makes choice book r) (Some (Change host line moment t)) None
+entry_in choice (taken.asked t r) host book line moment = cond (makes_entry book r) (Some (Change host line moment t)) None
 
 abbrev pub line_reply : Choice → State → List ℕ → ℕ → Arrival → Option Tree
 line_reply choice s host line arrival = reply_in choice (taking.taken host s.book.service arrival) s.book line

@@ -14,7 +14,7 @@ use Rattle.ps_types.specs.declared.rows.CountRow.{CountRow}
 use Rattle.ps_types.specs.declared.rows.ItemRow.{ItemRow}
 use Rattle.ps_types.specs.Tree.{Tree}
 use Rattle.ps_model.specs.Book.{Book, State}
-use Rattle.ps_model.specs.Check.{child_of, judged, steps_of}
+use Rattle.ps_model.specs.Check.{child_of, check, steps_of}
 use Rattle.ps_model.specs.Outcome.{Outcome, is_accepted}
 use Rattle.ps_model.specs.Outcome as outcome
 use Rattle.ps_model.specs.Replies.{if_answered, outcome_reply}
@@ -31,7 +31,7 @@ use Rattle.ps_model.proofs.AskedStanza.{taken-spelled}
 use Rattle.ps_secrecy.proofs.ArriveLaws.{arrival-tree}
 use Rattle.ps_secrecy.proofs.ChangeLaws.{by-twin}
 use Rattle.ps_secrecy.proofs.CheckLaws.{steps-twin}
-use Rattle.ps_secrecy.proofs.Choice.{Choice, verdict}
+use Rattle.ps_secrecy.proofs.Choice.{Choice}
 use Rattle.ps_secrecy.proofs.Lined.{line_reply, reply_in}
 use Rattle.ps_secrecy.proofs.StepLaws.{beside-of}
 use Rattle.ps_secrecy.proofs.Twin.{Beside, twin}
@@ -151,24 +151,23 @@ steps-other x i c ask.Absent r e = steps-twin x i c ask.Absent r refl
 steps-other x i c (ask.CapsAnswer node info) r e = steps-twin x i c (ask.CapsAnswer node info) r refl
 steps-other x i c ask.Silent r e = steps-twin x i c ask.Silent r refl
 
-accepted-twin : (choice : Choice) (x : Book) (i : List ItemRow) (c : List CountRow) (r : Request) → is_retract r.ask ≡ false → is_accepted (verdict choice x r) ≡ is_accepted (verdict choice (twin x i c) r)
+accepted-twin : (choice : Choice) (x : Book) (i : List ItemRow) (c : List CountRow) (r : Request) → is_retract r.ask ≡ false → is_accepted (check x r) ≡ is_accepted (check (twin x i c) r)
 accepted-twin choice x i c r other =
-    choice.wraps r.ask (judged x r) (judged (twin x i c) r)
     (ap (λ (d : Option Condition). is_accepted (outcome.outcome d (child_of r.ask x r))) (ap first_denial (sym (steps-other x i c r.ask r other)))
     ∙ child-apart (first_denial (steps_of r.ask (twin x i c) r)) (child_of r.ask x r) (child_of r.ask (twin x i c) r))
 
 -- the reply of a request that its tree spells, by whether it is an iq
 asked-some : (choice : Choice) (S : List NodeKey) (a : Jid) (x y : Book) → Beside S a x y → (host service : List ℕ) (u : Tree) (r : Request) → SpellsRequest host service u r
-    → is_some (outcome_reply u r false (verdict choice x r)) ≡ is_some (outcome_reply u r false (verdict choice y r))
-asked-some choice S a x y h host service u r spells = outcome-some u r (verdict choice x r) ∙ by (is_retract r.ask) refl ∙ sym (outcome-some u r (verdict choice y r))
+    → is_some (outcome_reply u r false (check x r)) ≡ is_some (outcome_reply u r false (check y r))
+asked-some choice S a x y h host service u r spells = outcome-some u r (check x r) ∙ by (is_retract r.ask) refl ∙ sym (outcome-some u r (check y r))
   where
-    by : (b : Bool) → is_retract r.ask ≡ b → cond (is_accepted (verdict choice x r)) (is_answered u && is_iq u) (is_answered u) ≡ cond (is_accepted (verdict choice y r)) (is_answered u && is_iq u) (is_answered u)
+    by : (b : Bool) → is_retract r.ask ≡ b → cond (is_accepted (check x r)) (is_answered u && is_iq u) (is_answered u) ≡ cond (is_accepted (check y r)) (is_answered u && is_iq u) (is_answered u)
     by true e =
         let iq : is_iq u ≡ true = retract-iq service u r.from r.target r.ask e spells.ask in
-        ap (λ (b : Bool). cond (is_accepted (verdict choice x r)) (is_answered u && b) (is_answered u)) iq ∙ iq-some (is_accepted (verdict choice x r)) (is_answered u)
-        ∙ sym (ap (λ (b : Bool). cond (is_accepted (verdict choice y r)) (is_answered u && b) (is_answered u)) iq ∙ iq-some (is_accepted (verdict choice y r)) (is_answered u))
+        ap (λ (b : Bool). cond (is_accepted (check x r)) (is_answered u && b) (is_answered u)) iq ∙ iq-some (is_accepted (check x r)) (is_answered u)
+        ∙ sym (ap (λ (b : Bool). cond (is_accepted (check y r)) (is_answered u && b) (is_answered u)) iq ∙ iq-some (is_accepted (check y r)) (is_answered u))
     by false e =
-        ap (λ (b : Bool). cond b (is_answered u && is_iq u) (is_answered u)) (by-twin S a (λ (b : Book). is_accepted (verdict choice x r) ≡ is_accepted (verdict choice b r)) x y h (λ i c hi hc. accepted-twin choice x i c r e))
+        ap (λ (b : Bool). cond b (is_answered u && is_iq u) (is_answered u)) (by-twin S a (λ (b : Book). is_accepted (check x r) ≡ is_accepted (check b r)) x y h (λ i c hi hc. accepted-twin choice x i c r e))
 
 taken-some : (choice : Choice) (S : List NodeKey) (a : Jid) (x y : Book) → Beside S a x y → (host service : List ℕ) (line line2 : ℕ) (one : Arrival) (z : Taken) → taking.taken host service one ≡ z → is_some (reply_in choice z x line) ≡ is_some (reply_in choice z y line2)
 taken-some choice S a x y h host service line line2 one taken.silent e = refl
@@ -187,7 +186,7 @@ pub touch-some : (choice : Choice) (S : List NodeKey) (a : Jid) (s : State) (hos
 touch-some choice S a s host line one node p =
     let spells = taken-spelled host s.book.service p.tree p.tree p.request (arrival-tree host s.book.service one p.tree p.request p.is_taken) in
     let set = items-set s.book.service p.tree p.request.from p.request.target p.request.ask node.name p.name spells.ask in
-    let o = verdict choice s.book p.request in
+    let o = check s.book p.request in
     ap (λ (x : Taken). is_some (reply_in choice x s.book line)) p.is_taken
     ∙ outcome-some p.tree p.request o
     ∙ ap (λ (b : Bool). cond (is_accepted o) (is_answered p.tree && b) (is_answered p.tree)) (iq-is (codes "set") p.tree set)

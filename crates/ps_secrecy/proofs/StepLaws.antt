@@ -30,7 +30,8 @@ use Rattle.ps_model.specs.TwoWorlds.{IsShutOut, SameBut, is_in, items_outside, c
 use Rattle.ps_model.proofs.TallyLaws.{made-handed, handed-one}
 use Rattle.ps_secrecy.proofs.Blank.{is_hidden, is_quiet}
 use Rattle.ps_secrecy.specs.Alike.{LookAlike}
-use Rattle.ps_secrecy.proofs.Choice.{Choice, makes}
+use Rattle.ps_model.specs.Commits.{makes_entry}
+use Rattle.ps_secrecy.proofs.Choice.{Choice}
 use Rattle.ps_secrecy.proofs.Heard.{due_to, hears}
 use Rattle.ps_secrecy.proofs.Stepped.{outs, stepped, said}
 use Rattle.ps_secrecy.proofs.Twin.{twin, Beside}
@@ -273,8 +274,8 @@ module _ (S : List NodeKey) (a : Jid) where
       → IsShutOut S a (stepped choice s r (Change host line m u)).book → IsShutOut S a (stepped choice t q (Change host2 line2 n v)).book
       → LookAlike S a (stepped choice s r (Change host line m u)) (stepped choice t q (Change host2 line2 n v)) (said choice s r (Change host line m u)) (said choice t q (Change host2 line2 n v))
   pair-by choice s t h m n r q host host2 line line2 u v is is2 stays hidden stays2 hidden2 shut shut2 =
-      let l = lone-by choice s t h m r host line u is stays hidden (makes choice s.book r) shut in
-      let k = lone-by choice t (stepped choice s r (Change host line m u)) (same-back (stepped choice s r (Change host line m u)) t l.same) n q host2 line2 v is2 stays2 hidden2 (makes choice t.book q) shut2 in
+      let l = lone-by choice s t h m r host line u is stays hidden (makes_entry s.book r) shut in
+      let k = lone-by choice t (stepped choice s r (Change host line m u)) (same-back (stepped choice s r (Change host line m u)) t l.same) n q host2 line2 v is2 stays2 hidden2 (makes_entry t.book q) shut2 in
       record { same = same-back (stepped choice t q (Change host2 line2 n v)) (stepped choice s r (Change host line m u)) k.same; hear = l.hear ∙ sym k.hear }
 
   -- two requests of others for the items of nodes of these
@@ -292,11 +293,11 @@ module _ (S : List NodeKey) (a : Jid) where
 
   module _ (decides : (ms ns : List NodeRow) → same_nodes ms ns ≡ true → ms ≡ ns) where
     Turned : Choice → Request → Book → Book → Type 0
-    Turned choice r x y = (makes choice x r ≡ makes choice y r) ⊎ ((is_quiet S r r.ask ≡ true) × ((m : Option ℕ) → Beside S a x (changed r m x)))
+    Turned choice r x y = (makes_entry x r ≡ makes_entry y r) ⊎ ((is_quiet S r r.ask ≡ true) × ((m : Option ℕ) → Beside S a x (changed r m x)))
 
     turned : (choice : Choice) (r : Request) (x y : Book) → Beside S a x y → IsShutOut S a x → Turned choice r x y
     unfolding Turned
-    turned choice r x y h shut = by-twin S a (λ (b : Book). (makes choice x r ≡ makes choice b r) ⊎ ((is_quiet S r r.ask ≡ true) × ((m : Option ℕ) → Beside S a x (changed r m x)))) x y h (λ i c is ks. turns S a decides x shut i c is ks choice r)
+    turned choice r x y h shut = by-twin S a (λ (b : Book). (makes_entry x r ≡ makes_entry b r) ⊎ ((is_quiet S r r.ask ≡ true) × ((m : Option ℕ) → Beside S a x (changed r m x)))) x y h (λ i c is ks. turns S a decides x shut i c is ks choice r)
 
     even-by : (choice : Choice) (s t : State) → SameBut S a s t → (m : Option ℕ) (r : Request) (host host2 : List ℕ) (line line2 : ℕ) (u v : Tree) → request_on host s.book u ≡ Some r → request_on host2 t.book v ≡ Some r
         → (b c : Bool) → b ≡ c → IsShutOut S a (cond b (after choice.told s (Change host line m u)) s).book → IsShutOut S a (cond c (after choice.told t (Change host2 line2 m v)) t).book
@@ -311,7 +312,7 @@ module _ (S : List NodeKey) (a : Jid) where
         → IsShutOut S a (stepped choice s r (Change host line m u)).book → IsShutOut S a (stepped choice t r (Change host2 line2 m v)).book
         → LookAlike S a (stepped choice s r (Change host line m u)) (stepped choice t r (Change host2 line2 m v)) (said choice s r (Change host line m u)) (said choice t r (Change host2 line2 m v))
     unfolding Turned
-    change-by choice s t h m r host host2 line line2 u v is is2 (inl even) shut shut2 = even-by choice s t h m r host host2 line line2 u v is is2 (makes choice s.book r) (makes choice t.book r) even shut shut2
+    change-by choice s t h m r host host2 line line2 u v is is2 (inl even) shut shut2 = even-by choice s t h m r host host2 line line2 u v is is2 (makes_entry s.book r) (makes_entry t.book r) even shut shut2
     change-by choice s t h m r host host2 line line2 u v is is2 (inr lone) shut shut2 =
         let b = beside-of s t h in
         let there : Beside S a t.book (changed r m t.book) =

@@ -25,7 +25,8 @@ use Rattle.ps_model.specs.TwoWorlds.{IsShutOut, Touches}
 use Rattle.ps_model.specs.World.{AddressPart, HostPart, Said, World, all_taken, at_host, first, more_entries, with_entry}
 use Rattle.ps_model.proofs.ServiceStays.{service-stays}
 use Rattle.ps_secrecy.proofs.AlikeHosts.{AlikeHosts, IsCore, seen}
-use Rattle.ps_secrecy.proofs.Choice.{Choice, makes}
+use Rattle.ps_model.specs.Commits.{makes_entry}
+use Rattle.ps_secrecy.proofs.Choice.{Choice}
 use Rattle.ps_secrecy.proofs.Fronts.{Fits, Fronts}
 use Rattle.ps_model.specs.Heard.{is_from}
 use Rattle.ps_secrecy.specs.Alike.{added}
@@ -56,7 +57,7 @@ line-served : (choice : Choice) (s : State) (x : Taken) (host : List ℕ) (line 
 line-served choice s taken.silent host line m = refl
 line-served choice s (taken.refused why) host line m = refl
 line-served choice s (taken.denied head why) host line m = refl
-line-served choice s (taken.asked u r) host line m = by (makes choice s.book r)
+line-served choice s (taken.asked u r) host line m = by (makes_entry s.book r)
   where
     by : (b : Bool) → (added choice.told s (cond b (Some (Change host line m u)) None)).book.service ≡ s.book.service
     by true = book-served (request_on host s.book u) m s.book
@@ -66,7 +67,7 @@ line-hands : (choice : Choice) (a : Jid) (x : Taken) (host : List ℕ) (book : B
 line-hands choice a taken.silent host book line m = refl
 line-hands choice a (taken.refused why) host book line m = refl
 line-hands choice a (taken.denied head why) host book line m = refl
-line-hands choice a (taken.asked u r) host book line m = by (makes choice book r)
+line-hands choice a (taken.asked u r) host book line m = by (makes_entry book r)
   where
     by : (b : Bool) → hands (cond b (Some (Change host line m u)) None) a ≡ 0
     by true = refl
