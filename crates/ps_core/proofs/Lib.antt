@@ -5,3 +5,4 @@ pub mod Known
 pub mod Named
 pub mod Staged
 pub mod Taken
+pub mod Requests

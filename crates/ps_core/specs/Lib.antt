@@ -3,3 +3,4 @@ pub mod States
 pub mod Stages
 pub mod Answers
 pub mod Lines
+pub mod Requests

@@ -4,6 +4,8 @@ use Rattle.ps_types.specs.declared.entry.Entry.{Entry}
 use Rattle.ps_model.specs.Book.{State}
 use Rattle.ps_model.specs.Replay.{after, accepted}
 use Rattle.ps_core.specs.Counted.{AreCounted}
+use Rattle.ps_core.specs.Requests.{IsRequestOf}
+use Rattle.ps_core.specs.declared.service.Kept.{Kept}
 use Rattle.ps_core.specs.declared.service.Stage.{Stage}
 use Rattle.ps_core.specs.declared.service.Stage.TheVariants.{Even, Prepared, Behind, Stale}
 
@@ -18,17 +20,18 @@ prepared_in (Prepared kept) = Some kept.entry
 prepared_in (Behind kept) = None
 prepared_in Stale = None
 
--- an entry is accepted at a State that has room for it
-pub record Follows (old : State) (entry : Entry) (new : State) : Type 0 where
-  pub is_accepted : accepted old entry ≡ true
+-- an entry is accepted at a State that has room for it, and its request is known
+pub record Follows (old : State) (kept : Kept) (new : State) : Type 0 where
+  pub is_accepted : accepted old kept.entry ≡ true
   pub few : old.count < 2 ^ 62
   pub is_counted : AreCounted old
-  pub is_after : new ≡ after old entry
+  pub is_requested : IsRequestOf old.book.service kept.entry kept.request
+  pub is_after : new ≡ after old kept.entry
 
 abbrev pub IsStage : Stage → State → State → Type 0
 IsStage Even front back = back ≡ front
-IsStage (Prepared kept) front back = Follows front kept.entry back
-IsStage (Behind kept) front back = Follows back kept.entry front
+IsStage (Prepared kept) front back = Follows front kept back
+IsStage (Behind kept) front back = Follows back kept front
 IsStage Stale front back = Unit {0}
 
 -- the first copy is a State that entries leave, and the second is what the stage says

@@ -8,9 +8,9 @@ ghost use Rattle.ps_core.specs.States.{state_of};
 
 use crate::half::Half;
 use crate::plans::plan;
-use crate::taking::{TakenLine, take_stanza};
 use ps_access::Tables;
 use ps_base::Memory;
+use ps_request::{TakenTree, take_tree};
 use ps_types::{Elem, Entry, PlanRefusal, Request, Text};
 use std::alloc::Global;
 
@@ -34,11 +34,10 @@ fn is_accepted_tree(
 ) -> Result<bool, Memory>
     ensures { IfOk result (λ b. b ≡ request_accepted (request_in (tree_taken host.now tables.now.service tree.now)) (book_of tables.now)) }
 {
-    match take_stanza(alloc, host, &tables.service, tree)? {
-        TakenLine::Asked(_, request) => makes_entry(alloc, tables, &request),
-        TakenLine::Refused(_) => Ok(false),
-        TakenLine::Denied(_, _) => Ok(false),
-        TakenLine::Silent => Ok(false),
+    match take_tree(alloc, tree, host, &tables.service)? {
+        TakenTree::Asked(request) => makes_entry(alloc, tables, &request),
+        TakenTree::Refused(_) => Ok(false),
+        TakenTree::Denied(_, _) => Ok(false),
     }
 }
 

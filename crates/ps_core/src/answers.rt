@@ -1,13 +1,15 @@
 // What a line is answered at a State.
-ghost use Rattle.std.specs.Prelude.{◌≡◌, ◌≢◌, [], true, false, cond, IfOk, Some, None};
+ghost use Rattle.std.specs.Prelude.{◌≡◌, ◌≢◌, ℕ, List, [], true, false, cond, IfOk, IfSome, Some, None};
 ghost use Rattle.ps_types.specs.declared.entry.Entry.TheVariants.{Change};
 ghost use Rattle.ps_model.specs.Outcome.{denied};
 ghost use Rattle.ps_model.specs.Replies as model;
 ghost use Rattle.ps_model.specs.Replies.{reply_to, entry_of, reply_by, entry_by, if_answered, moment_of, outcome_reply, feature_of};
 ghost use Rattle.ps_model.specs.Taken.{asked};
+ghost use Rattle.ps_model.specs.Taking.{tree_taken};
 ghost use Rattle.ps_access.specs.Tables.{book_of};
 ghost use Rattle.ps_request.specs.Heads.{head_view};
 ghost use Rattle.ps_core.specs.Answers.{full_by, AnswersStanza};
+ghost use Rattle.ps_core.specs.Requests.{IsRequestOf};
 
 use crate::plans::plan;
 use crate::taking::{TakenLine, take_line};
@@ -18,7 +20,8 @@ use ps_request::{Head as StanzaHead, head_of, is_answered, is_iq, is_presence};
 use ps_types::{Arrival, Ask, Condition, Elem, Entry, Plan, PlanRefusal, Request, Text};
 use std::alloc::Global;
 
-/// The reply to a line, the entry that it makes, and the reply in its place where the entry finds no room in the journal.
+/// The reply to a line, the entry that it makes, and the reply in its place where the entry finds no room in the journal, where that
+/// was asked for.
 #[derive(Drop)]
 pub struct Answer {
     pub reply: Option<Elem>,
@@ -26,16 +29,11 @@ pub struct Answer {
     pub full: Option<Elem>,
 }
 
-fn nothing() -> Answer
-    ensures reply { result.reply ≡ None }
-    ensures entry { result.entry ≡ None }
-    ensures full { result.full ≡ None }
-{
-    Answer {
-        reply: None,
-        entry: None,
-        full: None,
-    }
+/// An answer, and the request that the tree of its entry was taken as.
+#[derive(Drop)]
+pub struct WithRequest {
+    pub answer: Answer,
+    pub request: Option<Request>,
 }
 
 fn reply_alone(reply: Option<Elem>) -> Answer
@@ -143,6 +141,22 @@ fn full_reply(alloc: Global, tree: &Elem, request: &Request) -> Result<Option<El
     Ok(Some(reply))
 }
 
+// The reply where the journal is full, if it is wanted.
+fn full_if(
+    alloc: Global,
+    tree: &Elem,
+    request: &Request,
+    wanted: bool,
+) -> Result<Option<Elem>, Memory>
+    ensures { wanted ≡ true → IfOk result (λ o. o ≡ model.full_reply tree.now request.now) }
+{
+    if wanted {
+        full_reply(alloc, tree, request)
+    } else {
+        Ok(None)
+    }
+}
+
 // Where a request comes from: its host, the number of its line, and its moment.
 #[derive(Clone, Copy)]
 struct Origin<'a> {
@@ -157,17 +171,18 @@ fn accepted_answer(
     tree: Elem,
     request: &Request,
     plan: Plan,
+    with_full: bool,
 ) -> Result<Answer, Memory>
     ensures reply { IfOk result (λ a. a.reply ≡ model.accepted_reply tree request.now plan.reply) }
     ensures entry { IfOk result (λ a. a.entry ≡ cond plan.commits (Some (Change origin.entry.host.now origin.entry.line origin.entry.moment tree)) None) }
-    ensures full { IfOk result (λ a. a.full ≡ cond plan.commits (model.full_reply tree request.now) None) }
+    ensures full { with_full ≡ true → IfOk result (λ a. a.full ≡ cond plan.commits (model.full_reply tree request.now) None) }
 {
     let commits = plan.commits;
     let reply = accepted_reply(alloc, &tree, request, plan.reply)?;
     if !commits {
         return Ok(reply_alone(reply));
     }
-    let full = full_reply(alloc, &tree, request)?;
+    let full = full_if(alloc, &tree, request, with_full)?;
     let host = origin.host.clone()?;
     Ok(Answer {
         reply,
@@ -187,19 +202,42 @@ fn asked_answer(
     origin: Origin<'_>,
     tree: Elem,
     request: &Request,
+    with_full: bool,
 ) -> Result<Answer, Memory>
     ensures reply { IfOk result (λ a. a.reply ≡ reply_by (asked tree request.now) (book_of tables.now) origin.entry.line false) }
     ensures entry { IfOk result (λ a. a.entry ≡ entry_by (asked tree request.now) origin.entry.host.now (book_of tables.now) origin.entry.line origin.entry.moment false) }
-    ensures full { IfOk result (λ a. a.full ≡ full_by a.entry (reply_by (asked tree request.now) (book_of tables.now) origin.entry.line true)) }
+    ensures full { with_full ≡ true → IfOk result (λ a. a.full ≡ full_by a.entry (reply_by (asked tree request.now) (book_of tables.now) origin.entry.line true)) }
 {
     match plan(alloc, tables, request) {
-        Ok(plan) => accepted_answer(alloc, origin, tree, request, plan),
+        Ok(plan) => accepted_answer(alloc, origin, tree, request, plan, with_full),
         Err(PlanRefusal::Denied(why)) => {
             let reply = denied_reply(alloc, &tree, request, why)?;
             Ok(reply_alone(reply))
         }
         Err(PlanRefusal::Memory) => Err(Memory),
     }
+}
+
+// The same, with the request, which its tree was taken as.
+fn answer_request(
+    alloc: Global,
+    tables: &Tables,
+    origin: Origin<'_>,
+    tree: Elem,
+    request: Request,
+    with_full: bool,
+) -> Result<WithRequest, Memory>
+    requires tree { asked tree request ≡ tree_taken origin.host.now tables.now.service tree }
+    ensures reply { IfOk result (λ a. a.answer.reply ≡ reply_by (asked tree request) (book_of tables.now) origin.entry.line false) }
+    ensures entry { IfOk result (λ a. a.answer.entry ≡ entry_by (asked tree request) origin.entry.host.now (book_of tables.now) origin.entry.line origin.entry.moment false) }
+    ensures full { with_full ≡ true → IfOk result (λ a. a.answer.full ≡ full_by a.answer.entry (reply_by (asked tree request) (book_of tables.now) origin.entry.line true)) }
+    ensures request { IfOk result (λ a. IfSome a.answer.entry (λ e. IsRequestOf tables.now.service e a.request)) }
+{
+    let answer = asked_answer(alloc, tables, origin, tree, &request, with_full)?;
+    Ok(WithRequest {
+        answer,
+        request: Some(request),
+    })
 }
 
 fn moment_in(arrival: &Arrival) -> Option<u64>
@@ -211,17 +249,37 @@ fn moment_in(arrival: &Arrival) -> Option<u64>
     }
 }
 
-/// What the line of that number on the stream of the host is answered over these tables.
+// A reply, if any, to a line that makes no entry.
+fn said(reply: Option<Elem>) -> WithRequest
+    ensures reply { result.answer.reply ≡ reply }
+    ensures entry { result.answer.entry ≡ None }
+    ensures full { result.answer.full ≡ None }
+    ensures request { (service : List ℕ) → IfSome result.answer.entry (λ e. IsRequestOf service e result.request) }
+{
+    WithRequest {
+        answer: Answer {
+            reply,
+            entry: None,
+            full: None,
+        },
+        request: None,
+    }
+}
+
+/// What the line of that number on the stream of the host is answered over these tables, with the reply where the journal is full, if
+/// that is wanted.
 pub fn answer_at(
     alloc: Global,
     tables: &Tables,
     host: &Text,
     line: u64,
     arrival: &Arrival,
-) -> Result<Answer, Memory>
-    ensures reply { IfOk result (λ a. a.reply ≡ reply_to host.now (book_of tables.now) line arrival.now false) }
-    ensures entry { IfOk result (λ a. a.entry ≡ entry_of host.now (book_of tables.now) line arrival.now false) }
-    ensures full { IfOk result (λ a. a.full ≡ full_by a.entry (reply_to host.now (book_of tables.now) line arrival.now true)) }
+    with_full: bool,
+) -> Result<WithRequest, Memory>
+    ensures reply { IfOk result (λ a. a.answer.reply ≡ reply_to host.now (book_of tables.now) line arrival.now false) }
+    ensures entry { IfOk result (λ a. a.answer.entry ≡ entry_of host.now (book_of tables.now) line arrival.now false) }
+    ensures full { with_full ≡ true → IfOk result (λ a. a.answer.full ≡ full_by a.answer.entry (reply_to host.now (book_of tables.now) line arrival.now true)) }
+    ensures request { IfOk result (λ a. IfSome a.answer.entry (λ e. IsRequestOf tables.now.service e a.request)) }
 {
     let origin = Origin {
         host,
@@ -229,15 +287,17 @@ pub fn answer_at(
         moment: moment_in(arrival),
     };
     match take_line(alloc, host, &tables.service, arrival)? {
-        TakenLine::Silent => Ok(nothing()),
+        TakenLine::Silent => Ok(said(None)),
         TakenLine::Refused(why) => {
             let reply = refused(alloc, line, why)?;
-            Ok(reply_alone(Some(reply)))
+            Ok(said(Some(reply)))
         }
         TakenLine::Denied(head, why) => {
             let reply = denied_stanza(alloc, head, why)?;
-            Ok(reply_alone(reply))
+            Ok(said(reply))
         }
-        TakenLine::Asked(tree, request) => asked_answer(alloc, tables, origin, tree, &request),
+        TakenLine::Asked(tree, request) => {
+            answer_request(alloc, tables, origin, tree, request, with_full)
+        }
     }
 }

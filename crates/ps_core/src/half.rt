@@ -4,16 +4,19 @@ ghost use Rattle.ps_types.specs.declared.entry.Entry.TheVariants.{Boot, Change, 
 ghost use Rattle.ps_model.specs.Book.{empty_state};
 ghost use Rattle.ps_model.specs.Replay.{after, accepted};
 ghost use Rattle.ps_model.specs.Commits.{makes_entry};
+ghost use Rattle.ps_model.specs.Taken.{asked};
+ghost use Rattle.ps_model.specs.Taking.{tree_taken};
 ghost use Rattle.ps_access.specs.Tables.{book_of};
 ghost use Rattle.ps_core.specs.Counted.{AreCounted};
+ghost use Rattle.ps_core.specs.Requests.{IsRequestOf};
 ghost use Rattle.ps_core.specs.States.{state_of, changed_state};
 
 use crate::lines::Lines;
-use crate::taking::{TakenLine, take_stanza};
 use ps_access::Tables;
 use ps_base::Memory;
 use ps_change::change;
 use ps_presence::Presence;
+use ps_request::{TakenTree, take_tree};
 use ps_types::{Elem, Entry, LineRow, Request, Text};
 use std::alloc::Global;
 
@@ -58,11 +61,47 @@ impl Half {
         })
     }
 
-    /// Takes an entry that is accepted here.
-    pub fn take(&mut self, alloc: Global, entry: &Entry) -> Result<(), Memory>
+    /// Takes an entry that is accepted here, and gives the request that its tree is taken as.
+    pub fn take(&mut self, alloc: Global, entry: &Entry) -> Result<Option<Request>, Memory>
         requires accepted { accepted (state_of self.old) entry.now ≡ true }
         requires few { self.old.count < 2 ^ 62 }
         requires counted { AreCounted (state_of self.old) }
+        ensures state { OnOk result (state_of self.new ≡ after (state_of self.old) entry.now) }
+        ensures request { IfOk result (λ r. IsRequestOf self.old.tables.service entry.now r) }
+    {
+        match entry {
+            Entry::Boot { service } => {
+                self.boot(alloc, service)?;
+                Ok(None)
+            }
+            Entry::Change {
+                host,
+                line,
+                moment,
+                tree,
+            } => {
+                let request = self.take_change(alloc, host, *line, *moment, tree)?;
+                Ok(Some(request))
+            }
+            Entry::Gone { host } => {
+                self.leave(host);
+                Ok(None)
+            }
+            _ => unreachable!(),
+        }
+    }
+
+    /// Takes an entry that is accepted here, and whose request is known.
+    pub fn take_known(
+        &mut self,
+        alloc: Global,
+        entry: &Entry,
+        request: &Option<Request>,
+    ) -> Result<(), Memory>
+        requires accepted { accepted (state_of self.old) entry.now ≡ true }
+        requires few { self.old.count < 2 ^ 62 }
+        requires counted { AreCounted (state_of self.old) }
+        requires request { IsRequestOf self.old.tables.service entry.now request.now }
         ensures state { OnOk result (state_of self.new ≡ after (state_of self.old) entry.now) }
     {
         match entry {
@@ -72,8 +111,14 @@ impl Half {
                 line,
                 moment,
                 tree,
-            } => self.take_change(alloc, host, *line, *moment, tree),
-            Entry::Gone { host } => self.leave(host),
+            } => match request {
+                Some(request) => self.take_asked(alloc, host, *line, *moment, tree, request),
+                None => unreachable!(),
+            },
+            Entry::Gone { host } => {
+                self.leave(host);
+                Ok(())
+            }
             _ => unreachable!(),
         }
     }
@@ -89,13 +134,12 @@ impl Half {
         Ok(())
     }
 
-    fn leave(&mut self, host: &Text) -> Result<(), Memory>
+    fn leave(&mut self, host: &Text)
         requires few { self.old.count < 2 ^ 62 }
-        ensures state { OnOk result (state_of self.new ≡ after (state_of self.old) (Gone host.now)) }
+        ensures state { state_of self.new ≡ after (state_of self.old) (Gone host.now) }
     {
         self.tables.presence.clear_host(host);
         self.count += 1;
-        Ok(())
     }
 
     fn take_change(
@@ -105,20 +149,53 @@ impl Half {
         line: u64,
         moment: Option<u64>,
         tree: &Elem,
-    ) -> Result<(), Memory>
+    ) -> Result<Request, Memory>
         requires accepted { accepted (state_of self.old) (Change host.now line moment tree.now) ≡ true }
         requires few { self.old.count < 2 ^ 62 }
         requires counted { AreCounted (state_of self.old) }
         ensures state { OnOk result (state_of self.new ≡ after (state_of self.old) (Change host.now line moment tree.now)) }
+        ensures request { IfOk result (λ r. asked tree.now r ≡ tree_taken host.now self.old.tables.service tree.now) }
     {
-        match take_stanza(alloc, host, &self.tables.service, tree)? {
-            TakenLine::Asked(_, request) => {
-                self.take_request(host, line, moment, alloc, &request)
-            },
-            TakenLine::Denied(_, _) => unreachable!(),
-            TakenLine::Refused(_) => unreachable!(),
-            TakenLine::Silent => unreachable!(),
+        let request = self.request_of(alloc, host, line, moment, tree)?;
+        self.take_asked(alloc, host, line, moment, tree, &request)?;
+        Ok(request)
+    }
+
+    // The request that the tree of an entry is taken as.
+    fn request_of(
+        &self,
+        alloc: Global,
+        host: &Text,
+        _line: u64,
+        _moment: Option<u64>,
+        tree: &Elem,
+    ) -> Result<Request, Memory>
+        requires accepted { accepted (state_of self.now) (Change host.now _line _moment tree.now) ≡ true }
+        ensures { IfOk result (λ r. asked tree.now r ≡ tree_taken host.now self.now.tables.service tree.now) }
+    {
+        match take_tree(alloc, tree, host, &self.tables.service)? {
+            TakenTree::Asked(request) => Ok(request),
+            TakenTree::Denied(_, _) => unreachable!(),
+            TakenTree::Refused(_) => unreachable!(),
         }
+    }
+
+    fn take_asked(
+        &mut self,
+        alloc: Global,
+        host: &Text,
+        line: u64,
+        moment: Option<u64>,
+        _tree: &Elem,
+        request: &Request,
+    ) -> Result<(), Memory>
+        requires accepted { accepted (state_of self.old) (Change host.now line moment _tree.now) ≡ true }
+        requires few { self.old.count < 2 ^ 62 }
+        requires counted { AreCounted (state_of self.old) }
+        requires asked { asked _tree.now request.now ≡ tree_taken host.now self.old.tables.service _tree.now }
+        ensures state { OnOk result (state_of self.new ≡ after (state_of self.old) (Change host.now line moment _tree.now)) }
+    {
+        self.take_request(host, line, moment, alloc, request)
     }
 
     fn take_request(

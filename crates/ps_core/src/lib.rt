@@ -14,7 +14,7 @@ mod plans;
 mod service;
 mod taking;
 
-pub use answers::Answer;
+pub use answers::{Answer, WithRequest};
 pub use half::Half;
 pub use lines::Lines;
 pub use service::{Service, Stage};

@@ -6,27 +6,30 @@ ghost use Rattle.ps_model.specs.Replies.{reply_to, entry_of};
 ghost use Rattle.ps_access.specs.Tables.{book_of};
 ghost use Rattle.ps_core.specs.Answers.{full_by};
 ghost use Rattle.ps_core.specs.Counted.{AreCounted};
+ghost use Rattle.ps_core.specs.Requests.{IsRequestOf};
 ghost use Rattle.ps_core.specs.States.{state_of};
 ghost use Rattle.ps_core.specs.Stages.{IsStage, stage_committed};
 
 use crate::accepting::accepts_at;
-use crate::answers::{Answer, answer_at};
+use crate::answers::{Answer, WithRequest, answer_at};
 use crate::half::Half;
 use ps_access::Tables;
 use ps_base::Memory;
-use ps_types::{Arrival, Entry, Text};
+use ps_types::{Arrival, Entry, Request, Text};
 use std::alloc::Global;
 use std::marker::Model;
 use std::mem;
 
-/// An entry that is kept. It is let go by one call, so that its cases are met nowhere else.
+/// An entry that is kept, with the request that its tree was taken as. It is let go by one call, so that its cases are met nowhere
+/// else.
 pub struct Kept {
     pub entry: Entry,
+    pub request: Option<Request>,
 }
 
 impl Drop for Kept {
     fn drop(self) {
-        let Kept { entry } = self;
+        let Kept { entry, request: _ } = self;
         let_go(entry);
     }
 }
@@ -116,7 +119,22 @@ impl Service {
         ensures entry { IfOk result (λ a. a.entry ≡ entry_of host.now self.now.state.book line arrival.now false) }
         ensures full { IfOk result (λ a. a.full ≡ full_by a.entry (reply_to host.now self.now.state.book line arrival.now true)) }
     {
-        answer_at(self.alloc, &self.front.tables, host, line, arrival)
+        let answered = answer_at(self.alloc, &self.front.tables, host, line, arrival, true)?;
+        Ok(answered.answer)
+    }
+
+    /// The same with the request of its entry, and without the reply where the journal is full, which is wanted seldom.
+    pub fn answer_with_room(
+        &self,
+        host: &Text,
+        line: u64,
+        arrival: &Arrival,
+    ) -> Result<WithRequest, Memory>
+        ensures reply { IfOk result (λ a. a.answer.reply ≡ reply_to host.now self.now.state.book line arrival.now false) }
+        ensures entry { IfOk result (λ a. a.answer.entry ≡ entry_of host.now self.now.state.book line arrival.now false) }
+        ensures request { IfOk result (λ a. IfSome a.answer.entry (λ e. IsRequestOf self.now.state.book.service e a.request)) }
+    {
+        answer_at(self.alloc, &self.front.tables, host, line, arrival, false)
     }
 
     /// Whether an entry is accepted at this State.
@@ -137,8 +155,33 @@ impl Service {
         let stage = mem::replace(&mut self.stage, Stage::Stale);
         bring_up(&self.front, &mut self.back, self.alloc, stage)?;
         let kept = copy_of(entry)?;
-        self.back.take(self.alloc, entry)?;
-        put_stage(&mut self.stage, Stage::Prepared(Kept { entry: kept }));
+        let request = self.back.take(self.alloc, entry)?;
+        let kept = Kept {
+            entry: kept,
+            request,
+        };
+        put_stage(&mut self.stage, Stage::Prepared(kept));
+        Ok(())
+    }
+
+    /// The same where the request of the entry is known, as [`Service::answer_with_room`] gives it.
+    pub fn prepare_known(&mut self, entry: &Entry, request: Option<Request>) -> Result<(), Memory>
+        requires accepted { accepted self.old.state entry.now ≡ true }
+        requires few { self.old.state.count < 2 ^ 62 }
+        requires request { IsRequestOf self.old.state.book.service entry.now request }
+        ensures state { self.new.state ≡ self.old.state }
+        ensures ok { OnOk result (self.new.prepared ≡ Some entry.now) }
+        ensures err { OnErr result (self.new.prepared ≡ None) }
+    {
+        let stage = mem::replace(&mut self.stage, Stage::Stale);
+        bring_up(&self.front, &mut self.back, self.alloc, stage)?;
+        let kept = copy_of(entry)?;
+        self.back.take_known(self.alloc, entry, &request)?;
+        let kept = Kept {
+            entry: kept,
+            request,
+        };
+        put_stage(&mut self.stage, Stage::Prepared(kept));
         Ok(())
     }
 
@@ -174,7 +217,7 @@ fn bring_up(front: &Half, back: &mut Half, alloc: Global, stage: Stage) -> Resul
 {
     match stage {
         Stage::Even => Ok(()),
-        Stage::Behind(last) => back.take(alloc, &last.entry),
+        Stage::Behind(last) => back.take_known(alloc, &last.entry, &last.request),
         Stage::Prepared(_) | Stage::Stale => {
             *back = front.copy()?;
             Ok(())

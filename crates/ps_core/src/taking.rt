@@ -4,7 +4,7 @@ ghost use Rattle.std.specs.List.{list_all};
 ghost use Rattle.ps_types.specs.LineTree.{line_tree};
 ghost use Rattle.ps_model.specs.Taking.{taken, tree_taken, line_taken, is_white};
 ghost use Rattle.ps_request.specs.Taking.{taken_of, taken_view};
-ghost use Rattle.ps_core.specs.Lines.{line_view, read_view, HasName};
+ghost use Rattle.ps_core.specs.Lines.{line_view, read_view, HasName, IsOfTree};
 
 use ps_base::Memory;
 use ps_request::{Head, TakenTree, take_tree};
@@ -53,6 +53,7 @@ fn found_in(host: &Text, service: &Text, tree: Elem, found: TakenTree) -> TakenL
     requires { taken_view tree found ≡ taken_of host.now service.now tree }
     ensures view { line_view result ≡ tree_taken host.now service.now tree }
     ensures named { HasName result }
+    ensures tree { IsOfTree host.now service.now result }
 {
     tree.know();
     match found {
@@ -62,24 +63,10 @@ fn found_in(host: &Text, service: &Text, tree: Elem, found: TakenTree) -> TakenL
     }
 }
 
-/// What a tree on the stream of the host is taken as.
-pub fn take_stanza(
-    alloc: Global,
-    host: &Text,
-    service: &Text,
-    tree: &Elem,
-) -> Result<TakenLine, Memory>
-    ensures view { IfOk result (λ x. line_view x ≡ tree_taken host.now service.now tree.now) }
-    ensures named { IfOk result HasName }
-{
-    let found = take_tree(alloc, tree, host, service)?;
-    let tree = tree.clone()?;
-    Ok(found_in(host, service, tree, found))
-}
-
 fn take_bytes(alloc: Global, host: &Text, service: &Text, bytes: &[u8]) -> Result<TakenLine, Memory>
     ensures view { IfOk result (λ x. line_view x ≡ line_taken host.now service.now bytes.now) }
     ensures named { IfOk result HasName }
+    ensures tree { IfOk result (IsOfTree host.now service.now) }
 {
     if is_blank(bytes) {
         return Ok(TakenLine::Silent);
@@ -102,6 +89,7 @@ pub fn take_line(
 ) -> Result<TakenLine, Memory>
     ensures view { IfOk result (λ x. line_view x ≡ taken host.now service.now arrival.now) }
     ensures named { IfOk result HasName }
+    ensures tree { IfOk result (IsOfTree host.now service.now) }
 {
     match arrival {
         Arrival::Line { bytes, .. } => take_bytes(alloc, host, service, bytes.as_slice()),

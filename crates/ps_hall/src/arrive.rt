@@ -7,6 +7,7 @@ ghost use Rattle.ps_model.specs.Replies.{entry_of, reply_to};
 ghost use Rattle.ps_model.specs.TheCore.{the_core};
 ghost use Rattle.ps_model.specs.World.{World};
 ghost use Rattle.ps_model.specs.declared.steps.Step.{Step};
+ghost use Rattle.ps_core.specs.Requests.{IsRequestOf};
 ghost use Rattle.ps_journal.specs.Journal.{broken_of, disk_of, length_of};
 ghost use Rattle.ps_hall.specs.Arrive.{ArriveRefused, Arrived, frame_of, outcome_of};
 ghost use Rattle.ps_hall.specs.Go.{Moves};
@@ -20,12 +21,12 @@ ghost use Rattle.ps_hall.specs.Stand.{IsStanding, Stands};
 use crate::answers::{ArriveRefusal, Outcome, Receipt};
 use crate::batches::batch_of;
 use crate::hall::{Hall, Pass};
-use crate::replies::{Replies, replies_at};
+use crate::replies::{Replies, full_at, replies_at};
 use crate::state::HostRow;
 use ps_base::{Bytes, Failed, Memory};
 use ps_disk::Disk;
 use ps_record::Batch;
-use ps_types::{Arrival, Entry};
+use ps_types::{Arrival, Entry, Request};
 
 // What came of a line that makes no entry.
 fn plain_outcome(reply: &Option<Bytes>) -> Outcome
@@ -134,6 +135,7 @@ impl<D: Disk> Hall<D> {
         arrival: &Arrival,
         reply: Option<Bytes>,
         entry: &Entry,
+        request: Option<Request>,
         batch: &Batch,
     ) -> Result<Receipt, ArriveRefusal>
         requires here { at < length self.old.state.rows.items }
@@ -142,6 +144,7 @@ impl<D: Disk> Hall<D> {
         requires opened { (row : HostRow) → slice_get self.old.state.rows.items at ≡ Some row → IsOpenRow self.old row }
         requires reply { (row : HostRow) → slice_get self.old.state.rows.items at ≡ Some row → reply ≡ option_map print (reply_to row.host self.old.state.service.state.book (row.line + 1) arrival.now false) }
         requires entry { (row : HostRow) → slice_get self.old.state.rows.items at ≡ Some row → Some entry.now ≡ entry_of row.host self.old.state.service.state.book (row.line + 1) arrival.now false }
+        requires request { IsRequestOf self.old.state.service.state.book.service entry.now request }
         requires batch { batch.now ≡ entry.now ∷ [] }
         requires room { length_of self.old.journal + frame_of entry.now ≤ self.old.limits.changes }
         ensures ok { (row : HostRow) → slice_get self.old.state.rows.items at ≡ Some row → IfOk result (λ r. Arrived self.old self.new row.host arrival.now r) }
@@ -151,7 +154,7 @@ impl<D: Disk> Hall<D> {
         ensures later { D.faults (disk_of self.old.journal) ≤ D.faults (disk_of self.new.journal) }
     {
         let place = self.state.service.count();
-        match self.state.service.prepare(entry) {
+        match self.state.service.prepare_known(entry, request) {
             Err(Memory) => Err(ArriveRefusal::Memory),
             Ok(()) => match self.commit_line(at, arrival, reply, entry, batch) {
                 Ok(()) => Ok(Receipt {
@@ -163,14 +166,62 @@ impl<D: Disk> Hall<D> {
         }
     }
 
+    // The reply to a line that makes an entry, where that finds no room.
+    fn full_reply(&self, at: usize, arrival: &Arrival) -> Result<Option<Bytes>, Memory>
+        requires here { at < length self.now.state.rows.items }
+        requires lines { (row : HostRow) → slice_get self.now.state.rows.items at ≡ Some row → row.line < 2 ^ 62 }
+        requires some { (row : HostRow) → slice_get self.now.state.rows.items at ≡ Some row → IsSome (entry_of row.host self.now.state.service.state.book (row.line + 1) arrival.now false) }
+        ensures full { (row : HostRow) → slice_get self.now.state.rows.items at ≡ Some row → IfOk result (λ o. o ≡ option_map print (reply_to row.host self.now.state.service.state.book (row.line + 1) arrival.now true)) }
+    {
+        full_at(
+            self.alloc,
+            &self.state.service,
+            &self.state.rows,
+            at,
+            arrival,
+        )
+    }
+
+    // A line that makes an entry for which there is no room.
+    fn answer_full(
+        &mut self,
+        at: usize,
+        arrival: &Arrival,
+        _entry: &Entry,
+    ) -> Result<Receipt, ArriveRefusal>
+        requires here { at < length self.old.state.rows.items }
+        requires few { self.old.state.steps < 2 ^ 61 }
+        requires standing { IsStanding self.old }
+        requires opened { (row : HostRow) → slice_get self.old.state.rows.items at ≡ Some row → IsOpenRow self.old row }
+        requires entry { (row : HostRow) → slice_get self.old.state.rows.items at ≡ Some row → Some _entry.now ≡ entry_of row.host self.old.state.service.state.book (row.line + 1) arrival.now false }
+        requires full { self.old.limits.changes < length_of self.old.journal + frame_of _entry.now }
+        ensures ok { (row : HostRow) → slice_get self.old.state.rows.items at ≡ Some row → IfOk result (λ r. Arrived self.old self.new row.host arrival.now r) }
+        ensures err { (row : HostRow) → slice_get self.old.state.rows.items at ≡ Some row → IfErr result (λ e. ArriveRefused self.old self.new row.host arrival.now e) }
+        ensures hosts { names self.new.state.rows.items ≡ names self.old.state.rows.items }
+        ensures limits { self.new.limits ≡ self.old.limits }
+        ensures later { D.faults (disk_of self.old.journal) ≤ D.faults (disk_of self.new.journal) }
+    {
+        let place = self.state.service.count();
+        match self.full_reply(at, arrival) {
+            Err(Memory) => Err(ArriveRefusal::Memory),
+            Ok(reply) => {
+                self.answer_plain(at, arrival, true, reply);
+                Ok(Receipt {
+                    place,
+                    outcome: Outcome::Full,
+                })
+            }
+        }
+    }
+
     // A line that makes an entry.
     fn answer_entry(
         &mut self,
         at: usize,
         arrival: &Arrival,
         reply: Option<Bytes>,
-        full: Option<Bytes>,
         entry: &Entry,
+        request: Option<Request>,
     ) -> Result<Receipt, ArriveRefusal>
         requires here { at < length self.old.state.rows.items }
         requires few { self.old.state.steps < 2 ^ 61 }
@@ -179,25 +230,20 @@ impl<D: Disk> Hall<D> {
         requires arrival { IsArrival arrival.now }
         requires reply { (row : HostRow) → slice_get self.old.state.rows.items at ≡ Some row → reply ≡ option_map print (reply_to row.host self.old.state.service.state.book (row.line + 1) arrival.now false) }
         requires entry { (row : HostRow) → slice_get self.old.state.rows.items at ≡ Some row → Some entry.now ≡ entry_of row.host self.old.state.service.state.book (row.line + 1) arrival.now false }
-        requires full { (row : HostRow) → slice_get self.old.state.rows.items at ≡ Some row → full ≡ option_map print (reply_to row.host self.old.state.service.state.book (row.line + 1) arrival.now true) }
+        requires request { IsRequestOf self.old.state.service.state.book.service entry.now request }
         ensures ok { (row : HostRow) → slice_get self.old.state.rows.items at ≡ Some row → IfOk result (λ r. Arrived self.old self.new row.host arrival.now r) }
         ensures err { (row : HostRow) → slice_get self.old.state.rows.items at ≡ Some row → IfErr result (λ e. ArriveRefused self.old self.new row.host arrival.now e) }
         ensures hosts { names self.new.state.rows.items ≡ names self.old.state.rows.items }
         ensures limits { self.new.limits ≡ self.old.limits }
         ensures later { D.faults (disk_of self.old.journal) ≤ D.faults (disk_of self.new.journal) }
     {
-        let place = self.state.service.count();
         let limit = self.limits.changes;
         match self.batch_within(entry, limit) {
             Err(Memory) => Err(ArriveRefusal::Memory),
-            Ok(Some(batch)) => self.commit_entry(at, arrival, reply, entry, &batch),
-            Ok(None) => {
-                self.answer_plain(at, arrival, true, full);
-                Ok(Receipt {
-                    place,
-                    outcome: Outcome::Full,
-                })
+            Ok(Some(batch)) => {
+                self.commit_entry(at, arrival, reply, entry, request, &batch)
             }
+            Ok(None) => self.answer_full(at, arrival, entry),
         }
     }
 
@@ -240,17 +286,21 @@ impl<D: Disk> Hall<D> {
         requires arrival { IsArrival arrival.now }
         requires reply { (row : HostRow) → slice_get self.old.state.rows.items at ≡ Some row → replies.reply ≡ option_map print (reply_to row.host self.old.state.service.state.book (row.line + 1) arrival.now false) }
         requires entry { (row : HostRow) → slice_get self.old.state.rows.items at ≡ Some row → replies.entry ≡ entry_of row.host self.old.state.service.state.book (row.line + 1) arrival.now false }
-        requires full { (row : HostRow) → slice_get self.old.state.rows.items at ≡ Some row → IsSome replies.entry → replies.full ≡ option_map print (reply_to row.host self.old.state.service.state.book (row.line + 1) arrival.now true) }
+        requires request { IfSome replies.entry (λ e. IsRequestOf self.old.state.service.state.book.service e replies.request) }
         ensures ok { (row : HostRow) → slice_get self.old.state.rows.items at ≡ Some row → IfOk result (λ r. Arrived self.old self.new row.host arrival.now r) }
         ensures err { (row : HostRow) → slice_get self.old.state.rows.items at ≡ Some row → IfErr result (λ e. ArriveRefused self.old self.new row.host arrival.now e) }
         ensures hosts { names self.new.state.rows.items ≡ names self.old.state.rows.items }
         ensures limits { self.new.limits ≡ self.old.limits }
         ensures later { D.faults (disk_of self.old.journal) ≤ D.faults (disk_of self.new.journal) }
     {
-        let Replies { reply, entry, full } = replies;
+        let Replies {
+            reply,
+            entry,
+            request,
+        } = replies;
         match entry {
             None => self.answer_none(at, arrival, reply),
-            Some(entry) => self.answer_entry(at, arrival, reply, full, &entry),
+            Some(entry) => self.answer_entry(at, arrival, reply, &entry, request),
         }
     }
 
@@ -260,7 +310,7 @@ impl<D: Disk> Hall<D> {
         requires lines { (row : HostRow) → slice_get self.now.state.rows.items at ≡ Some row → row.line < 2 ^ 62 }
         ensures reply { (row : HostRow) → slice_get self.now.state.rows.items at ≡ Some row → IfOk result (λ a. a.reply ≡ option_map print (reply_to row.host self.now.state.service.state.book (row.line + 1) arrival.now false)) }
         ensures entry { (row : HostRow) → slice_get self.now.state.rows.items at ≡ Some row → IfOk result (λ a. a.entry ≡ entry_of row.host self.now.state.service.state.book (row.line + 1) arrival.now false) }
-        ensures full { (row : HostRow) → slice_get self.now.state.rows.items at ≡ Some row → IfOk result (λ a. IsSome a.entry → a.full ≡ option_map print (reply_to row.host self.now.state.service.state.book (row.line + 1) arrival.now true)) }
+        ensures request { IfOk result (λ a. IfSome a.entry (λ e. IsRequestOf self.now.state.service.state.book.service e a.request)) }
     {
         replies_at(
             self.alloc,

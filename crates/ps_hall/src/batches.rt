@@ -1,12 +1,12 @@
 // An entry as it is appended.
 ghost use Rattle.std.specs.Prelude.{◌≡◌, ◌∷◌, ◌+◌, ◌≤◌, ◌<◌, ◌^◌, [], None, IfOk, IfSome, nat_le, length};
 ghost use Rattle.ps_model.specs.Entries.{IsEntry, spelling};
+ghost use Rattle.ps_record.specs.Texts.{print_in};
 ghost use Rattle.ps_hall.specs.Shape.{IsSketch};
 
 use ps_base::Memory;
-use ps_record::Batch;
+use ps_record::{Batch, print_of};
 use ps_types::{Entry, Text};
-use ps_wire::print_tree;
 use std::alloc::Global;
 
 const MOST: u64 = 1 << 30;
@@ -19,26 +19,21 @@ fn is_short(text: &Text, beside: u64) -> bool
     text.len() as u64 <= MOST && beside <= MOST && text.len() as u64 + beside <= MOST
 }
 
-// Whether the entry has at most 2^30 bytes.
-fn fits(alloc: Global, entry: &Entry) -> Result<bool, Memory>
+// Whether the entry, of which this is the print, has at most 2^30 bytes.
+fn fits(entry: &Entry, print: &[u8]) -> bool
     requires sketch { IsSketch entry.now }
-    ensures { IfOk result (λ b. b ≡ nat_le (length (spelling entry.now)) (2 ^ 30)) }
+    requires printed { print.now ≡ print_in entry.now }
+    ensures { result ≡ nat_le (length (spelling entry.now)) (2 ^ 30) }
 {
     match entry {
-        Entry::Boot { service } => Ok(is_short(service, 3)),
-        Entry::Gone { host } => Ok(is_short(host, 3)),
-        Entry::Change {
-            host,
-            line: _,
-            moment,
-            tree,
-        } => {
-            let text = print_tree(alloc, tree)?;
+        Entry::Boot { service } => is_short(service, 3),
+        Entry::Gone { host } => is_short(host, 3),
+        Entry::Change { host, moment, .. } => {
             let beside = match moment {
                 Some(_) => 23,
                 None => 15,
             };
-            Ok(text.len() as u64 <= MOST && is_short(host, beside + text.len() as u64))
+            print.len() as u64 <= MOST && is_short(host, beside + print.len() as u64)
         }
         _ => unreachable!(),
     }
@@ -64,11 +59,12 @@ pub(crate) fn batch_of(alloc: Global, entry: &Entry) -> Result<Option<Batch>, Me
     ensures some { IfOk result (λ o. IfSome o (λ b. b ≡ entry.now ∷ [])) }
     ensures none { IfOk result (λ o. o ≡ None → 2 ^ 30 < length (spelling entry.now)) }
 {
-    if !fits(alloc, entry)? {
+    let print = print_of(alloc, entry)?;
+    if !fits(entry, print.as_slice()) {
         return Ok(None);
     }
     know(entry);
     let mut batch = Batch::new(alloc)?;
-    batch.push(entry)?;
+    batch.push_printed(entry, print.as_slice())?;
     Ok(Some(batch))
 }

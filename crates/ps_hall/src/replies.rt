@@ -2,20 +2,21 @@
 ghost use Rattle.std.specs.Prelude.{◌≡◌, ◌+◌, ◌<◌, ◌^◌, Some, true, false, option_map, IfOk, IfSome, IsSome, length, slice_get};
 ghost use Rattle.ps_types.specs.Print.{print};
 ghost use Rattle.ps_model.specs.Replies.{entry_of, reply_to};
+ghost use Rattle.ps_core.specs.Requests.{IsRequestOf};
 
 use crate::state::HostRow;
 use ps_base::{Bytes, Memory};
-use ps_core::{Answer, Service};
-use ps_types::{Arrival, Elem, Entry};
+use ps_core::{Answer, Service, WithRequest};
+use ps_types::{Arrival, Elem, Entry, Request};
 use ps_wire::print_tree;
 use std::alloc::Global;
 
-/// The reply to a line, the entry that it makes, and the reply where that finds no room.
+/// The reply to a line, and the entry that it makes, with its request.
 #[derive(Drop)]
 pub(crate) struct Replies {
     pub reply: Option<Bytes>,
     pub entry: Option<Entry>,
-    pub full: Option<Bytes>,
+    pub request: Option<Request>,
 }
 
 fn printed(alloc: Global, tree: &Option<Elem>) -> Result<Option<Bytes>, Memory>
@@ -39,11 +40,34 @@ pub(crate) fn replies_at(
     requires lines { (row : HostRow) → slice_get rows.now.items at ≡ Some row → row.line < 2 ^ 62 }
     ensures reply { (row : HostRow) → slice_get rows.now.items at ≡ Some row → IfOk result (λ a. a.reply ≡ option_map print (reply_to row.host service.now.state.book (row.line + 1) arrival.now false)) }
     ensures entry { (row : HostRow) → slice_get rows.now.items at ≡ Some row → IfOk result (λ a. a.entry ≡ entry_of row.host service.now.state.book (row.line + 1) arrival.now false) }
-    ensures full { (row : HostRow) → slice_get rows.now.items at ≡ Some row → IfOk result (λ a. IsSome a.entry → a.full ≡ option_map print (reply_to row.host service.now.state.book (row.line + 1) arrival.now true)) }
+    ensures request { IfOk result (λ a. IfSome a.entry (λ e. IsRequestOf service.now.state.book.service e a.request)) }
 {
     let row = &rows[at];
-    let Answer { reply, entry, full } = service.answer(&row.host, row.line + 1, arrival)?;
+    let WithRequest { answer, request } =
+        service.answer_with_room(&row.host, row.line + 1, arrival)?;
+    let Answer { reply, entry, .. } = answer;
     let reply = printed(alloc, &reply)?;
-    let full = printed(alloc, &full)?;
-    Ok(Replies { reply, entry, full })
+    Ok(Replies {
+        reply,
+        entry,
+        request,
+    })
+}
+
+/// The reply to the next line of the row at a place, which makes an entry, where that finds no room.
+pub(crate) fn full_at(
+    alloc: Global,
+    service: &Service,
+    rows: &Vec<HostRow>,
+    at: usize,
+    arrival: &Arrival,
+) -> Result<Option<Bytes>, Memory>
+    requires here { at < length rows.now.items }
+    requires lines { (row : HostRow) → slice_get rows.now.items at ≡ Some row → row.line < 2 ^ 62 }
+    requires some { (row : HostRow) → slice_get rows.now.items at ≡ Some row → IsSome (entry_of row.host service.now.state.book (row.line + 1) arrival.now false) }
+    ensures full { (row : HostRow) → slice_get rows.now.items at ≡ Some row → IfOk result (λ o. o ≡ option_map print (reply_to row.host service.now.state.book (row.line + 1) arrival.now true)) }
+{
+    let row = &rows[at];
+    let answer = service.answer(&row.host, row.line + 1, arrival)?;
+    printed(alloc, &answer.full)
 }

@@ -20,14 +20,14 @@ returns-in-Ok-clause-reply c =
     c.accepted_answer.result (λ a e same. e ∙ sym (accepted_here c.args.tree c.args.request.now kept c.in-Ok.plan.reply)) c.accepted_answer.ensures.reply c.accepted_answer.ensures.reply)
 
 pub returns-in-Ok-clause-full : goal.returns-in-Ok-clause-full
-returns-in-Ok-clause-full c =
+returns-in-Ok-clause-full c = λ wanted.
     let book = book_of c.args.tables.now in
     let kept = commits book c.args.request.now in
     let made = Change c.args.origin.host.now c.args.origin.line c.args.origin.moment c.args.tree in
     let agreed = is_accepted c.in-Ok.plan (check book c.args.request.now) kept c.in-Ok.ensures in
     let here = if_ok _ _ (λ a. a.full ≡ full_by a.entry (outcome_reply c.args.tree c.args.request.now (c.in-Ok.plan.commits && true) (accepted c.in-Ok.plan.reply)))
     c.accepted_answer.result (λ a e f. full_here c.args.tree c.args.request.now c.in-Ok.plan.commits made c.in-Ok.plan.reply a.entry a.full e f)
-    c.accepted_answer.ensures.entry c.accepted_answer.ensures.full in
+    c.accepted_answer.ensures.entry (c.accepted_answer.ensures.full wanted) in
     let with_kept = subst (λ (k : Bool). IfOk c.accepted_answer.result (λ a. a.full ≡ full_by a.entry (outcome_reply c.args.tree c.args.request.now (k && true) (accepted c.in-Ok.plan.reply)))) (sym agreed.1) here in
     subst (λ (o : Outcome). IfOk c.accepted_answer.result (λ a. a.full ≡ full_by a.entry (outcome_reply c.args.tree c.args.request.now (kept && true) o))) (sym agreed.0) with_kept
 
