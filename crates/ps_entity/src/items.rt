@@ -1,8 +1,10 @@
 // The items of a node, as they are asked for (XEP-0060 §6.5).
-ghost use Rattle.std.specs.Prelude.{◌≡◌, ◌≢◌, ◌∷◌, [], map, true, false, Some, IfOk, OnOk};
+ghost use Rattle.std.specs.Prelude.{◌≡◌, ◌≢◌, ◌==◌, ◌∷◌, [], if◌then◌else◌, length, map, true, false, Some, IfOk, OnOk};
 ghost use Rattle.std.specs.Char.{is_ascii_digit};
 ghost use Rattle.std.specs.List.{list_all};
+ghost use Rattle.std.specs.Str.Parse.{digits_value};
 ghost use Rattle.ps_types.specs.Elem.{nodes};
+ghost use Rattle.ps_types.specs.Items.{items_of};
 ghost use Rattle.ps_types.specs.Shape.{holding};
 ghost use Rattle.ps_types.specs.Values as values;
 ghost use Rattle.ps_model.specs.CheckEntity.{is_most, items_get_steps};
@@ -17,26 +19,12 @@ ghost use Rattle.ps_access.specs.Tables.{book_of};
 use crate::build::PUBSUB;
 use ps_access::{Tables, about, allow, key_of, must_be_leaf, must_stand, pass_if, verdict_read};
 use ps_base::Memory;
+use ps_items::Items;
 use ps_names::{element, only, put_pair};
 use ps_types::{
     Attrs, Child, Condition, Elem, ItemRow, Kids, NodeKey, Plan, PlanRefusal, Request, Text, Texts,
 };
 use std::alloc::Global;
-
-// Whether the row's id is one of these.
-fn is_named(row: &ItemRow, ids: &[Text]) -> bool
-    ensures { result ≡ lists.is_named_item ids.now row.now }
-{
-    ids.iter().any(|id| row.id == *id)
-}
-
-fn keep_named(rows: &mut Vec<ItemRow>, ids: &[Text])
-    ensures { rows.new.items ≡ lists.named_items ids.now rows.old.items }
-{
-    if !ids.is_empty() {
-        rows.retain(|row| is_named(row, ids));
-    }
-}
 
 fn payload_kids(alloc: Global, payload: &Option<Elem>) -> Result<Kids, Memory>
     ensures { IfOk result (λ k. nodes k ≡ holding (model.payload_list payload.now)) }
@@ -86,17 +74,36 @@ fn says_how_many(max: &Text) -> bool
     max.is_empty() || are_digits(max.as_str())
 }
 
-// The newest rows, as many as are asked for.
-fn newest<'a>(rows: &'a [ItemRow], max: &Text) -> &'a [ItemRow]
+// As many as are asked for, or as there are.
+fn most_of(items: &Items, max: &Text) -> u64
     requires { is_most max.now ≡ true }
-    ensures { result.now ≡ lists.newest max.now rows.now }
+    ensures { result ≡ (if length max.now == 0 then length items.now.rows else digits_value 10 max.now) }
 {
     if max.is_empty() {
-        return rows;
+        return items.len();
     }
-    match max.as_str().parse::<usize>() {
-        Ok(most) => &rows[rows.len().saturating_sub(most)..],
+    match max.as_str().parse::<u64>() {
+        Ok(most) => most,
         Err(_) => unreachable!(),
+    }
+}
+
+// The items that are asked for, in the order of publishing.
+fn chosen(
+    alloc: Global,
+    items: &Items,
+    key: &NodeKey,
+    max: &Text,
+    ids: &[Text],
+) -> Result<Vec<ItemRow>, Memory>
+    requires { is_most max.now ≡ true }
+    ensures { IfOk result (λ rows. rows.items ≡ lists.newest max.now (lists.named_items ids.now (items_of key.now items.now.rows))) }
+{
+    let most = most_of(items, max);
+    if ids.is_empty() {
+        items.newest(alloc, key, most)
+    } else {
+        items.named(alloc, key, ids, most)
     }
 }
 
@@ -112,9 +119,8 @@ fn child(
     requires key { key.now ≡ node_of request.now key.now.name }
     ensures { IfOk result (λ t. t ≡ model.items_child (book_of tables.now) request.now key.now.name max.now ids.now) }
 {
-    let mut rows = tables.items.list(alloc, key)?;
-    keep_named(&mut rows, ids.as_slice());
-    let kids = row_kids(alloc, newest(&rows, max))?;
+    let rows = chosen(alloc, &tables.items, key, max, ids.as_slice())?;
+    let kids = row_kids(alloc, &rows)?;
     about(alloc, PUBSUB, "items", key.name.as_str(), kids)
 }
 

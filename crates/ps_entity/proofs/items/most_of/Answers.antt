@@ -1,8 +1,9 @@
-use Rattle.std.proofs.Common.{◌≡◌, true, false, length}
-use Rattle.std.specs.Prelude.{◌==◌}
+use Rattle.std.proofs.Common.{◌≡◌, true, false, length, rules, sym, ◌∙◌}
+use Rattle.std.specs.Prelude.{◌==◌, if◌then◌else◌}
+use Rattle.std.specs.Str.Parse.{digits_value}
 use Rattle.ps_types.specs.Values.{are_digits}
 use Rattle.ps_entity.proofs.Digits.{digits_given, number_read}
-use Rattle.ps_entity.proofs.items.newest.Goals as goal
+use Rattle.ps_entity.proofs.items.most_of.Goals as goal
 
 pub unreachable-requires : goal.unreachable-requires
 unreachable-requires c =
