@@ -75,39 +75,39 @@ struct People {
     cache: Cache,
 }
 
-fn no_places(alloc: Global) -> Result<Places, Memory>
+fn no_places(alloc: Global, seed: u64) -> Result<Places, Memory>
     ensures nodes { IfOk result (λ p. p.nodes.rows ≡ []) }
     ensures links { IfOk result (λ p. p.links.rows ≡ []) }
     ensures counts { IfOk result (λ p. p.counts.rows ≡ []) }
 {
     Ok(Places {
-        nodes: Nodes::new(alloc)?,
-        links: Links::new(alloc)?,
-        counts: Counts::new(alloc)?,
+        nodes: Nodes::seeded(alloc, seed)?,
+        links: Links::seeded(alloc, seed)?,
+        counts: Counts::seeded(alloc, seed)?,
     })
 }
 
-fn no_uses(alloc: Global) -> Result<Uses, Memory>
+fn no_uses(alloc: Global, seed: u64) -> Result<Uses, Memory>
     ensures affils { IfOk result (λ u. u.affils.rows ≡ []) }
     ensures subs { IfOk result (λ u. u.subs.rows ≡ []) }
     ensures items { IfOk result (λ u. u.items.rows ≡ []) }
 {
     Ok(Uses {
-        affils: Affils::new(alloc)?,
-        subs: Subs::new(alloc)?,
-        items: Items::new(alloc)?,
+        affils: Affils::seeded(alloc, seed)?,
+        subs: Subs::seeded(alloc, seed)?,
+        items: Items::seeded(alloc, seed)?,
     })
 }
 
-fn no_people(alloc: Global) -> Result<People, Memory>
+fn no_people(alloc: Global, seed: u64) -> Result<People, Memory>
     ensures roster { IfOk result (λ p. p.roster.rows ≡ []) }
     ensures presence { IfOk result (λ p. p.presence.rows ≡ []) }
     ensures cache { IfOk result (λ p. p.cache.rows ≡ []) }
 {
     Ok(People {
-        roster: Roster::new(alloc)?,
-        presence: Presence::new(alloc)?,
-        cache: Cache::new(alloc)?,
+        roster: Roster::seeded(alloc, seed)?,
+        presence: Presence::seeded(alloc, seed)?,
+        cache: Cache::seeded(alloc, seed)?,
     })
 }
 
@@ -184,9 +184,16 @@ impl Tables {
     pub fn new(alloc: Global) -> Result<Tables, Memory>
         ensures empty { IfOk result (λ t. book_of t ≡ empty_book) }
     {
-        let places = no_places(alloc)?;
-        let uses = no_uses(alloc)?;
-        let people = no_people(alloc)?;
+        Tables::seeded(alloc, 0)
+    }
+
+    /// The empty tables, of which the digests go by a seed that no stranger knows. No answer depends on it.
+    pub fn seeded(alloc: Global, seed: u64) -> Result<Tables, Memory>
+        ensures empty { IfOk result (λ t. book_of t ≡ empty_book) }
+    {
+        let places = no_places(alloc, seed)?;
+        let uses = no_uses(alloc, seed)?;
+        let people = no_people(alloc, seed)?;
         let service = Text::of(alloc, "")?;
         Ok(joined(service, places, uses, people))
     }

@@ -25,6 +25,8 @@ pub struct Half {
     pub tables: Tables,
     pub count: u64,
     pub lines: Lines,
+    /// What the digests of its tables go by.
+    pub seed: u64,
 }
 
 // By hand, so that a copy is let go by one call wherever a function ends.
@@ -34,19 +36,21 @@ impl Drop for Half {
             tables: _,
             count: _,
             lines: _,
+            seed: _,
         } = self;
     }
 }
 
 impl Half {
-    /// The empty State.
-    pub fn new(alloc: Global) -> Result<Half, Memory>
+    /// The empty State, of which the tables' digests go by a seed.
+    pub fn seeded(alloc: Global, seed: u64) -> Result<Half, Memory>
         ensures state { IfOk result (λ h. state_of h ≡ empty_state) }
     {
         Ok(Half {
-            tables: Tables::new(alloc)?,
+            tables: Tables::seeded(alloc, seed)?,
             count: 0,
             lines: Lines::new(alloc),
+            seed,
         })
     }
 
@@ -58,6 +62,7 @@ impl Half {
             tables: self.tables.copy()?,
             count: self.count,
             lines: self.lines.copy()?,
+            seed: self.seed,
         })
     }
 
@@ -128,7 +133,7 @@ impl Half {
         ensures state { OnOk result (state_of self.new ≡ after (state_of self.old) (Boot service.now)) }
     {
         self.tables.service = service.clone()?;
-        self.tables.presence = Presence::new(alloc)?;
+        self.tables.presence = Presence::seeded(alloc, self.seed)?;
         self.lines = Lines::new(alloc);
         self.count += 1;
         Ok(())

@@ -91,9 +91,17 @@ impl Service {
         ensures empty { IfOk result (λ s. s.state ≡ empty_state) }
         ensures none { IfOk result (λ s. s.prepared ≡ None) }
     {
+        Service::seeded(alloc, 0)
+    }
+
+    /// The empty State, of which the tables' digests go by a seed that no stranger knows. No answer depends on it.
+    pub fn seeded(alloc: Global, seed: u64) -> Result<Service, Memory>
+        ensures empty { IfOk result (λ s. s.state ≡ empty_state) }
+        ensures none { IfOk result (λ s. s.prepared ≡ None) }
+    {
         Ok(Service {
-            front: Half::new(alloc)?,
-            back: Half::new(alloc)?,
+            front: Half::seeded(alloc, seed)?,
+            back: Half::seeded(alloc, seed)?,
             stage: Stage::Even,
             alloc,
         })
