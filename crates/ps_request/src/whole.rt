@@ -92,7 +92,6 @@ fn stanza_type(ask: &Ask) -> &'static str
 fn stanza_kids(alloc: Global, ask: &Ask) -> Result<Kids, Memory>
     ensures { IfOk result (λ k. nodes k ≡ holding (written.stanza_kids ask.now)) }
 {
-    let none = Kids::new(alloc);
     match ask {
         Ask::Create { node, form } => create(alloc, node, form),
         Ask::Publish {
@@ -101,19 +100,19 @@ fn stanza_kids(alloc: Global, ask: &Ask) -> Result<Kids, Memory>
             options,
         } => publish(alloc, node, items.as_slice(), options),
         Ask::Retract { node, ids, notify } => retract(alloc, node, ids.as_slice(), *notify),
-        Ask::Purge { node } => part_alone(alloc, "purge", OWNER, node, none),
-        Ask::Delete { node } => part_alone(alloc, "delete", OWNER, node, none),
-        Ask::ConfigGet { node } => part_alone(alloc, "configure", OWNER, node, none),
+        Ask::Purge { node } => part_alone(alloc, "purge", OWNER, node, Kids::new(alloc)),
+        Ask::Delete { node } => part_alone(alloc, "delete", OWNER, node, Kids::new(alloc)),
+        Ask::ConfigGet { node } => part_alone(alloc, "configure", OWNER, node, Kids::new(alloc)),
         Ask::ConfigSet { node, form } => config_set(alloc, node, form),
-        Ask::AffilsGet { node } => part_alone(alloc, "affiliations", OWNER, node, none),
+        Ask::AffilsGet { node } => part_alone(alloc, "affiliations", OWNER, node, Kids::new(alloc)),
         Ask::AffilsSet { node, rows } => affils_set(alloc, node, rows.as_slice()),
-        Ask::SubsGet { node } => part_alone(alloc, "subscriptions", OWNER, node, none),
+        Ask::SubsGet { node } => part_alone(alloc, "subscriptions", OWNER, node, Kids::new(alloc)),
         Ask::SubsSet { node, rows } => subs_set(alloc, node, rows.as_slice()),
-        Ask::MyAffils { node } => part_alone(alloc, "affiliations", PUBSUB, node, none),
-        Ask::MySubs { node } => part_alone(alloc, "subscriptions", PUBSUB, node, none),
+        Ask::MyAffils { node } => part_alone(alloc, "affiliations", PUBSUB, node, Kids::new(alloc)),
+        Ask::MySubs { node } => part_alone(alloc, "subscriptions", PUBSUB, node, Kids::new(alloc)),
         Ask::Subscribe { node, who, form } => subscribe(alloc, node, who, form),
         Ask::Unsubscribe { node, who, subid } => unsubscribe(alloc, node, who, subid),
-        Ask::OptionsGet { node, who } => options(alloc, node, who, none),
+        Ask::OptionsGet { node, who } => options(alloc, node, who, Kids::new(alloc)),
         Ask::OptionsSet { node, who, form } => {
             options(alloc, node, who, form_kids(alloc, form)?)
         }
@@ -123,7 +122,7 @@ fn stanza_kids(alloc: Global, ask: &Ask) -> Result<Kids, Memory>
         Ask::RosterSet { item } => roster(alloc, item),
         Ask::Approve { node, who, allow } => approve(alloc, node, who, allow),
         Ask::Present { caps } => caps_kids(alloc, caps),
-        Ask::Absent | Ask::Silent => Ok(none),
+        Ask::Absent | Ask::Silent => Ok(Kids::new(alloc)),
         Ask::CapsAnswer { info, .. } => only(alloc, info.clone()?),
     }
 }
