@@ -50,19 +50,26 @@ Writes old new frame = (at : OpenedAt) (w v : World) → Loaded at old frame w v
 
 -- or it wasn't, since the disk failed meanwhile
 abbrev pub Tears : {D : Type 0} {g : Ghosts D} → Store D g → Store D g → Frame → Type 0
-Tears {D} {g} old new frame = (at : OpenedAt) (w v : World) → Loaded at old frame w v → Rose (g.faults (disk_in old)) (g.faults (disk_in new)) × IsTorn at new v
+Tears {D} {g} old new frame =
+    (at : OpenedAt) (w v : World) → Loaded at old frame w v
+    → Rose (g.faults (disk_in old)) (g.faults (disk_in new)) × IsTorn at new v
 
 -- once a step tells of the fault, the store stands for the world after that step
 abbrev pub NotesFault : {D : Type 0} {g : Ghosts D} → Store D g → Store D g → ℕ → Type 0
-NotesFault old new steps = (at : OpenedAt) (v u : World) → IsTorn at old v → Follows v u → Sound the_core u → u.broken ≡ true → steps ≡ u.steps → StoreStands at new u
+NotesFault old new steps =
+    (at : OpenedAt) (v u : World) → IsTorn at old v → Follows v u → Sound the_core u → u.broken ≡ true
+    → steps ≡ u.steps → StoreStands at new u
 
 -- the whole list was read
 abbrev pub IsRead : {D : Type 0} {g : Ghosts D} → Store D g → Store D g → List Entry → Type 0
-IsRead {D} {g} old new entries = (at : OpenedAt) (w : World) → StoreStands at old w → StoreStands at new w × (w.broken ≡ false) × (g.tells → entries ≡ w.entries)
+IsRead {D} {g} old new entries =
+    (at : OpenedAt) (w : World) → StoreStands at old w
+    → StoreStands at new w × (w.broken ≡ false) × (g.tells → entries ≡ w.entries)
 
 -- or not: the journal was broken before, or is now, or memory ran out
 abbrev pub NotRead : {D : Type 0} {g : Ghosts D} → Store D g → Store D g → EntriesRefusal → Type 0
 NotRead {D} {g} old new refusal.Store =
     (at : OpenedAt) (w : World) → StoreStands at old w
-    → ((w.broken ≡ true) × StoreStands at new w) ⊎ ((w.broken ≡ false) × Rose (g.faults (disk_in old)) (g.faults (disk_in new)) × IsTorn at new w)
+    → ((w.broken ≡ true) × StoreStands at new w)
+    ⊎ ((w.broken ≡ false) × Rose (g.faults (disk_in old)) (g.faults (disk_in new)) × IsTorn at new w)
 NotRead old new refusal.Memory = (at : OpenedAt) (w : World) → StoreStands at old w → StoreStands at new w

@@ -43,7 +43,8 @@ pub record OpenedAt : Type 0 where
   pub bytes : ℕ
 
 abbrev pub opened_at : {D : Type 0} {g : Ghosts D} → Journal D g → OpenedAt
-opened_at {D} {g} journal = record { moment = g.moment (disk_of journal); faults = g.faults (disk_of journal); bytes = length_of journal }
+opened_at {D} {g} journal =
+    record { moment = g.moment (disk_of journal); faults = g.faults (disk_of journal); bytes = length_of journal }
 
 -- ---- worlds
 
@@ -52,7 +53,8 @@ pub record IsKept {D : Type 0} (g : Ghosts D) (at : OpenedAt) (disk : D) (firm :
   pub later : at.moment ≤ g.moment disk
   -- now it leaves a front of the list that has all entries of the firm steps
   pub now : (c : List ℕ) → MayLeave (g.synced disk) (g.written disk) c → IsFront w.entries (ends firm w.made) c
-  -- at any moment since the opening it left a front that has all of the opened list, and is a front of a list that a crash may leave now
+  -- at any moment since the opening it left a front that has all of the opened list, and is a front of a list that a
+  -- crash may leave now
   pub since : (c : List ℕ) → g.left_since disk at.moment c → IsFront w.entries w.opened c
   pub fronts : (c : List ℕ) → g.left_since disk at.moment c → IsFrontOfLeft (g.synced disk) (g.written disk) c
 
@@ -64,7 +66,8 @@ pub record IsWhole {D : Type 0} {g : Ghosts D} (y : Store D g) (w : World) : Typ
   pub count : y.count ≡ length w.entries
   pub length_is : y.length ≡ length_in y
 
--- The store stands for the world: a fault is among its steps exactly where the journal is broken, and then the disk's count has risen since the opening.
+-- The store stands for the world: a fault is among its steps exactly where the journal is broken, and then the disk's
+-- count has risen since the opening.
 pub record StoreStands {D : Type 0} {g : Ghosts D} (at : OpenedAt) (y : Store D g) (w : World) : Type 0 where
   pub sound : Sound the_core w
   pub steps : y.steps ≡ w.steps

@@ -8,5 +8,6 @@ ghost use Rattle.ps_store.specs.Calm.{AreCalm, Follows};
 
 /// Steps with no crash among them lead to a world that follows.
 pub fn calm_steps_follow()
-    ensures { (service : List ℕ) (w : World) (steps : List Step) → AreCalm steps → Follows w (run the_core service w steps) }
+    ensures { (service : List ℕ) (w : World) (steps : List Step) → AreCalm steps
+        → Follows w (run the_core service w steps) }
 {}

@@ -17,7 +17,8 @@ use std::alloc::Global;
 // No store grows longer than this.
 const MOST: u64 = 1 << 30;
 
-/// What is written at once: the entries that wait, if any do, how many entries and bytes the store then has, and the number of steps so far.
+/// What is written at once: the entries that wait, if any do, how many entries and bytes the store then has, and the
+/// number of steps so far.
 #[derive(Drop)]
 pub struct Frame {
     pub batch: Option<Batch>,
@@ -26,8 +27,8 @@ pub struct Frame {
     pub steps: u64,
 }
 
-/// A journal, with the numbers of entries and of bytes of all frames that were begun, the number of steps of its list, and how many of them are
-/// firm, since no crash takes an entry of theirs away.
+/// A journal, with the numbers of entries and of bytes of all frames that were begun, the number of steps of its list,
+/// and how many of them are firm, since no crash takes an entry of theirs away.
 pub struct Store<D: Disk> {
     journal: Journal<D>,
     count: u64,
@@ -39,7 +40,8 @@ pub struct Store<D: Disk> {
 impl<D: Disk> Store<D> {
     /// The store of a journal that was opened and has so many entries, before the first step.
     pub fn new(journal: Journal<D>, count: u64) -> Store<D>
-        ensures stands { (w : World) → IsOpened journal w → count ≡ length w.entries → StoreStands (opened_at journal) result w }
+        ensures stands { (w : World) → IsOpened journal w → count ≡ length w.entries
+            → StoreStands (opened_at journal) result w }
         ensures mark { mark_of result ≡ (count, length_of journal) }
         ensures steps { steps_of result ≡ 0 }
         ensures firm { firm_of result ≡ 0 }
@@ -75,8 +77,8 @@ impl<D: Disk> Store<D> {
         (self.count, self.length)
     }
 
-    /// Writes a frame. Once it succeeds, all steps so far are firm. Where it fails, in this call or an earlier one, the fault is to be told by a step,
-    /// and then to be noted.
+    /// Writes a frame. Once it succeeds, all steps so far are firm. Where it fails, the fault is to be told by a step, and
+    /// then to be noted.
     pub fn append(&mut self, frame: &Frame) -> Result<(), Failed>
         requires some { IfSome frame.now.batch (λ b. b ≢ []) }
         ensures ok { OnOk result (Writes self.old self.new frame.now) }
@@ -115,8 +117,8 @@ impl<D: Disk> Store<D> {
         self.steps = steps;
     }
 
-    /// The entries of all frames, read again. After `Memory` the store is as before; after `Store` a fault is to be told by a step, and then to be noted,
-    /// unless one was.
+    /// The entries of all frames, read again. After `Memory` the store is as before; after `Store` a fault is to be told by
+    /// a step, and then to be noted, unless one was.
     pub fn entries(&mut self, alloc: Global) -> Result<Vec<Entry>, EntriesRefusal>
         ensures ok { IfOk result (λ v. IsRead self.old self.new v.items) }
         ensures err { IfErr result (λ e. NotRead self.old self.new e) }
@@ -136,7 +138,8 @@ impl<D: Disk> Store<D> {
     pub fn close(self) -> D
         ensures disk { result ≡ disk_in self }
         // While nothing has failed, the length is that of the bytes up to the closed gate and with it.
-        ensures long { D.tells → broken_in self ≡ None → (bs : List (List ℕ)) → Begun (D.seen result) bs → length_in self ≡ gate_at bs + 1 }
+        ensures long { D.tells → broken_in self ≡ None → (bs : List (List ℕ)) → Begun (D.seen result) bs
+            → length_in self ≡ gate_at bs + 1 }
         // Whether or not the disk has failed, no crash leaves a shorter store.
         ensures floor { D.tells → LeavesAtLeast (D.synced result) (D.written result) (length_in self) }
     {
