@@ -45,7 +45,8 @@ def kind_of(words):
     name = words[words.index("--crate-name") + 1]
     if "--test" in words:
         return name, "tests"
-    if words[1] == "build":
+    # A program is checked, and then built of what was checked.
+    if words[1] == "build" or "-o" in words:
         return name, "proof"
     place = words[words.index("--incremental") + 1] if "--incremental" in words else ""
     return name, "seed" if place.endswith("/seed") else "edits"

@@ -8,7 +8,5 @@
 
 mod affils;
 mod asks;
-#[cfg(test)]
-mod tests;
 
 pub use affils::Affils;

@@ -11,7 +11,5 @@ mod asks;
 mod climb;
 mod links;
 mod named;
-#[cfg(test)]
-mod tests;
 
 pub use links::{Links, NotCollection};

@@ -8,7 +8,5 @@
 
 mod asks;
 mod counts;
-#[cfg(test)]
-mod tests;
 
 pub use counts::Counts;

@@ -9,8 +9,6 @@
 mod asks;
 mod names;
 mod sorted;
-#[cfg(test)]
-mod tests;
 mod want;
 mod wants;
 

@@ -13,7 +13,5 @@ mod makers;
 mod nodes;
 mod served;
 mod tallied;
-#[cfg(test)]
-mod tests;
 
 pub use nodes::{Exists, NodeRef, Nodes};

@@ -16,8 +16,6 @@ mod asks;
 mod boxes;
 mod kept;
 mod laws;
-#[cfg(test)]
-mod tests;
 
 pub use boxes::Outboxes;
 pub use laws::first_in_first_out;

@@ -11,8 +11,6 @@ mod asks;
 mod cache;
 mod presence;
 mod resources;
-#[cfg(test)]
-mod tests;
 
 pub use cache::Cache;
 pub use presence::Presence;

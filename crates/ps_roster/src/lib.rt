@@ -8,7 +8,5 @@
 
 mod asks;
 mod roster;
-#[cfg(test)]
-mod tests;
 
 pub use roster::Roster;

@@ -8,7 +8,5 @@
 
 mod asks;
 mod subs;
-#[cfg(test)]
-mod tests;
 
 pub use subs::Subs;
