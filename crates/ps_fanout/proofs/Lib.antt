@@ -6,3 +6,4 @@ pub mod Reached
 pub mod Heard
 pub mod Spread
 pub mod More
+pub mod Kids

@@ -1,5 +1,5 @@
 -- One step more of a walk.
-use Rattle.std.proofs.Common.{◌≡◌, ℕ, ◌+◌, ◌<◌, List, [], ◌∷◌, ◌++◌, length, take, get_or, Option, Some, None, refl, sym, ap, ◌∙◌, append-nil}
+use Rattle.std.proofs.Common.{◌≡◌, ℕ, ◌+◌, ◌<◌, List, [], ◌∷◌, ◌++◌, length, take, get_or, Option, Some, None, refl, sym, ap, ap₂, ◌∙◌, append-nil}
 use Rattle.std.specs.Prelude.{flat_map, option_map}
 use Rattle.std.specs.List.{cons_option}
 use Rattle.std.proofs.lemmas.List.{take_more, flat_map_more}
@@ -35,3 +35,9 @@ pub given-some : (f : Jid → Option Tree) (xs : List Jid) (i : ℕ) (x : Jid) (
 given-some f xs i x t less is some told stands =
     ap (λ (l : List (Jid × Tree)). l ++ (x, t) ∷ []) stands ∙ ap (λ (o : Option Tree). given_to f (take i xs) ++ cons_option (option_map (λ (u : Tree). (x, u)) o) []) (sym some)
     ∙ sym (given-append f (take i xs) (x ∷ [])) ∙ sym (ap (given_to f) (one-more xs i x less is))
+
+-- addresses of equal parts are one
+pub jid-same : (a b : Jid) → (a.local ≡ b.local) × ((a.host ≡ b.host) × (a.resource ≡ b.resource)) → a ≡ b
+jid-same a b same =
+    ap (λ (l : List ℕ). record { local = l; host = a.host; resource = a.resource }) same.0
+    ∙ ap₂ (λ (h r : List ℕ). record { local = b.local; host = h; resource = r }) same.1.0 same.1.1

@@ -21,7 +21,7 @@ use Rattle.ps_model.specs.Ways.{is_entitled, is_interested, is_subscriber, reach
 use Rattle.ps_model.specs.Access.{is_account}
 use Rattle.ps_fanout.specs.Hearing.{heard, heard_by, heard_tree, hears, is_delivered, is_wanted, subscribers, way_by, way_in, wanting}
 use Rattle.ps_fanout.specs.declared.news.News.{News}
-use Rattle.ps_filter.specs.Wants.{AreWants, is_want_for, is_wanted, who_want}
+use Rattle.ps_filter.specs.Wants.{AreWants, is_want_for, is_wanted as has_want, who_want}
 use Rattle.ps_filter.specs.declared.want.Want.{Want}
 use Rattle.ps_fanout.proofs.Ordered.{In, each-in, each-sorted, in-sorted}
 
@@ -95,11 +95,11 @@ wants-row who name (r ∷ rows) h = at (same_jid who r.who) refl h (wants-row wh
     at false e h more = inr (more h)
 
 -- whoever is wanted by a row is among those of the name
-want-in : (who : Jid) (name : List ℕ) (rows : List Want) → is_wanted who name rows ≡ true → In who (who_want name rows)
+want-in : (who : Jid) (name : List ℕ) (rows : List Want) → has_want who name rows ≡ true → In who (who_want name rows)
 want-in who name [] h = absurd (true≢false (sym h))
 want-in who name (w ∷ rows) h = at (same_jid who w.who) (bytes_eq name w.name) refl h (want-in who name rows)
   where
-    at : (b c : Bool) → same_jid who w.who ≡ b → ((b && c) || is_wanted who name rows) ≡ true → (is_wanted who name rows ≡ true → In who (who_want name rows))
+    at : (b c : Bool) → same_jid who w.who ≡ b → ((b && c) || has_want who name rows) ≡ true → (has_want who name rows ≡ true → In who (who_want name rows))
         → In who (map (λ (want : Want). want.who) (cond c (w ∷ filter (is_want_for name) rows) (filter (is_want_for name) rows)))
     at true true e h more = inl ((same_jid-Decides who w.who).0 e)
     at true false e h more = more h
@@ -111,15 +111,15 @@ or-right true b h = refl
 or-right false b h = h
 
 -- and each of those is wanted
-in-want : (who : Jid) (name : List ℕ) (rows : List Want) → In who (who_want name rows) → is_wanted who name rows ≡ true
+in-want : (who : Jid) (name : List ℕ) (rows : List Want) → In who (who_want name rows) → has_want who name rows ≡ true
 in-want who name [] i = absurd i
 in-want who name (w ∷ rows) i = at (bytes_eq name w.name) i (in-want who name rows)
   where
     at : (c : Bool) → In who (map (λ (want : Want). want.who) (cond c (w ∷ filter (is_want_for name) rows) (filter (is_want_for name) rows)))
-        → (In who (who_want name rows) → is_wanted who name rows ≡ true) → ((same_jid who w.who && c) || is_wanted who name rows) ≡ true
-    at true (inl e) more = ap (λ (b : Bool). (b && true) || is_wanted who name rows) ((same_jid-Decides who w.who).1 e)
-    at true (inr k) more = or-right (same_jid who w.who && true) (is_wanted who name rows) (more k)
-    at false k more = or-right (same_jid who w.who && false) (is_wanted who name rows) (more k)
+        → (In who (who_want name rows) → has_want who name rows ≡ true) → ((same_jid who w.who && c) || has_want who name rows) ≡ true
+    at true (inl e) more = ap (λ (b : Bool). (b && true) || has_want who name rows) ((same_jid-Decides who w.who).1 e)
+    at true (inr k) more = or-right (same_jid who w.who && true) (has_want who name rows) (more k)
+    at false k more = or-right (same_jid who w.who && false) (has_want who name rows) (more k)
 
 each-of : (P : Jid → Type 0) (xs : List Jid) → ((j : Jid) → In j xs → P j) → Each P xs
 each-of P [] f = tt

@@ -1,5 +1,5 @@
 // Events of nodes, as they are worked.
-ghost use Rattle.std.specs.Prelude.{◌≡◌, ◌∷◌, IfOk};
+ghost use Rattle.std.specs.Prelude.{◌≡◌, ◌&&◌, ◌∷◌, IfOk};
 ghost use Rattle.ps_types.specs.Links.{above};
 ghost use Rattle.ps_access.specs.Tables.{book_of};
 ghost use Rattle.ps_fanout.specs.Hearing.{Tells};
@@ -61,6 +61,12 @@ fn is_told(config: &NodeConfig, change: &Change<'_>) -> bool
     }
 }
 
+fn is_on(config: &NodeConfig, change: &Change<'_>) -> bool
+    ensures { result ≡ (config.now.deliver_notifications && model.is_told change.now config.now) }
+{
+    config.deliver_notifications && is_told(config, change)
+}
+
 fn inside(
     alloc: Global,
     config: &NodeConfig,
@@ -93,7 +99,7 @@ pub(crate) fn node_news<'a>(
     let above = tables.links.ancestors(alloc, node)?;
     let inside = inside(alloc, config, node, change)?;
     let event = event_tree(alloc, inside)?;
-    let is_on = config.deliver_notifications && is_told(config, change);
+    let is_on = is_on(config, change);
     let items = is_of_items(change);
     Ok(Some(News {
         node,
