@@ -1,5 +1,5 @@
 -- The wants follow the rows of the resources.
-use Rattle.std.proofs.Common.{◌≡◌, ℕ, Bool, true, false, cond, List, [], Option, Some, None, refl, ap, sym, subst, ◌∙◌}
+use Rattle.std.proofs.Common.{◌≡◌, ℕ, Bool, true, false, cond, List, [], Option, refl, ap, sym, subst, ◌∙◌}
 use Rattle.std.specs.Prelude.{bytes_eq, IsSome, OnOk, Result, Ok, Err}
 use Rattle.std.specs.List.{list_any}
 use Rattle.ps_base.specs.Rows.{without}

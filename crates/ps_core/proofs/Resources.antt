@@ -23,7 +23,7 @@ use Rattle.ps_types.specs.Config.{config_type}
 use Rattle.ps_types.specs.Defaults.{default_config}
 use Rattle.ps_types.specs.Forms.{form_of}
 use Rattle.ps_types.specs.Nodes.{node_at}
-use Rattle.ps_types.specs.Resources.{caps_in, is_resource_of, resource_at, resources_with, resources_without}
+use Rattle.ps_types.specs.Resources.{caps_in, is_resource_of, resource_at}
 use Rattle.ps_types.specs.Same.{same_jid}
 use Rattle.ps_types.specs.Subs.{sub_at}
 use Rattle.ps_types.proofs.Same.{same_jid-Decides}

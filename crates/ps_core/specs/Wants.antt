@@ -26,6 +26,10 @@ BackHasWants (Prepared kept) back = HasWants back
 BackHasWants (Behind kept) back = HasWants back
 BackHasWants Stale back = Unit {0}
 
+-- both copies have theirs
+abbrev pub HaveWants : Stage → Half → Half → Type 0
+HaveWants stage front back = HasWants front × BackHasWants stage back
+
 -- a request of this kind may change the sender's row
 abbrev pub is_of_resource : Ask → Bool
 is_of_resource (ask.Present caps) = true

@@ -75,7 +75,7 @@ impl Drop for Service {
 impl Model for Service {
     ghost use Rattle.ps_core.specs.States.{state_of};
     ghost use Rattle.ps_core.specs.Stages.{Held, IsKept, prepared_in};
-    ghost use Rattle.ps_core.specs.Wants.{BackHasWants, HasWants};
+    ghost use Rattle.ps_core.specs.Wants.{HaveWants};
 
     ghost Value = { Held };
 
@@ -86,7 +86,7 @@ impl Model for Service {
 
     ghost view = { λ s. record { state = state_of s.front; prepared = prepared_in s.stage } };
 
-    ghost invariant = { λ s. IsKept s.stage (state_of s.front) (state_of s.back) × (HasWants s.front × BackHasWants s.stage s.back) };
+    ghost invariant = { λ s. IsKept s.stage (state_of s.front) (state_of s.back) × HaveWants s.stage s.front s.back };
 }
 
 impl Service {
