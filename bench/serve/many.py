@@ -80,17 +80,17 @@ def served(program, folder, phases):
     return seconds, peak
 
 
-def kinds(program, folder):
+def kinds(program, folder, sizes):
+    """Prints what a request of each kind takes: `sizes` are the phases that make rows, and those that are measured, with few rows and with many."""
     rows = {}
     peaks = []
-    sizes = [("few", 10, 10), ("many", NODES, SUBSCRIPTIONS)]
     for _ in range(measure.ROUNDS):
-        for size, nodes, subscriptions in sizes:
-            first = rows_before(nodes, subscriptions)
-            phases = first + asked(nodes)
+        for size, first, asked_of in sizes:
+            phases = first + asked_of
             seconds, peak = served(program, folder, phases)
             for (name, lines), took in list(zip(phases, seconds))[len(first):]:
-                rows.setdefault(name, {}).setdefault(size, []).append(1e6 * took / len(lines))
+                count = sum(line.count("\n") for line in lines)
+                rows.setdefault(name, {}).setdefault(size, []).append(1e6 * took / count)
             if size == "many":
                 peaks.append(peak)
     print(f"{'':16} {'few, us':>10} {'many, us':>10} {'ratio':>8}")
@@ -116,8 +116,10 @@ def main():
     program, folder = pathlib.Path(sys.argv[1]), pathlib.Path(sys.argv[2])
     os.mkfifo(folder / "in")
     os.mkfifo(folder / "out")
-    kinds(program, folder)
+    sizes = [("few", 10, 10), ("many", NODES, SUBSCRIPTIONS)]
+    kinds(program, folder, [(size, rows_before(nodes, subscriptions), asked(nodes)) for size, nodes, subscriptions in sizes])
     long_line(program, folder)
 
 
-main()
+if __name__ == "__main__":
+    main()

@@ -1,10 +1,11 @@
 #!/bin/sh
 # Requests a second of the program beside a plain loop in Python over the same bytes, and the program's peak memory.
-# Usage: run.sh [create|publish|access|many|profile|cost]. Wants `rt` and `python3`. It proves and builds crates/pubsubd where it stands.
+# Usage: run.sh [create|publish|access|many|home|profile|cost]. Wants `rt` and `python3`. It proves and builds crates/pubsubd where it stands.
 #   create   each line makes another node; LINES (1000 10000 100000)
 #   publish  LINES publishes to NODES nodes (1 10000), which keep 10 items each, and then a retrieval of every node
 #   access   REQUESTS (1000) of each kind over NODES nodes (10 1000 10000), and at one node with SUBSCRIPTIONS (10 10000)
 #   many     REQUESTS (1000) of each kind with few rows and with many: what many.py says
+#   home     the same at accounts, of ACCOUNTS (10000): what home.py says
 #   profile  where the instructions go as LINES (20000) lines each make a node; wants `valgrind` too
 #   cost     what a line takes, by its kind, in instructions and allocations, over LINES (1000) of each; wants `valgrind` too
 # The first three are run ROUNDS times (3), by turns; medians are printed. The store stands in SCRATCH too: on a disk each change waits for it, so name a
@@ -26,5 +27,6 @@ case "${1:-create}" in
 cost) python3 "$here/cost.py" "$program" "$scratch" ;;
 profile) python3 "$here/profile.py" "$program" "$scratch" ;;
 many) python3 "$here/many.py" "$program" "$scratch" ;;
+home) python3 "$here/home.py" "$program" "$scratch" ;;
 *) python3 "$here/measure.py" "${1:-create}" "$program" "$scratch" ;;
 esac

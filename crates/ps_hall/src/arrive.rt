@@ -240,9 +240,7 @@ impl<D: Disk> Hall<D> {
         let limit = self.limits.changes;
         match self.batch_within(entry, limit) {
             Err(Memory) => Err(ArriveRefusal::Memory),
-            Ok(Some(batch)) => {
-                self.commit_entry(at, arrival, reply, entry, request, &batch)
-            }
+            Ok(Some(batch)) => { self.commit_entry(at, arrival, reply, entry, request, &batch) }
             Ok(None) => self.answer_full(at, arrival, entry),
         }
     }

@@ -25,6 +25,7 @@ use ps_disk::Disk;
 use ps_journal::{Journal, JournalRefusal, JournalWhy, Placed};
 use ps_types::Text;
 use std::alloc::Global;
+use std::random::RandomSource;
 
 const MOST: usize = 1 << 61;
 
@@ -129,8 +130,9 @@ impl<D: Disk> Hall<D> {
     }
 
     /// Opens the store on a disk, takes its entries, and appends a Boot of the service. It answers the hall and the passes of the hosts, in
-    /// their order.
-    pub fn open(
+    /// their order. The runtime gives the secret by which rows are found; no answer rests on it.
+    pub fn open<R: RandomSource>(
+        rt: &R,
         alloc: Global,
         disk: D,
         service: &Text,
@@ -152,7 +154,7 @@ impl<D: Disk> Hall<D> {
         ensures fronts { D.tells → D.written disk ≡ [] → (E : List Entry) → spelled (D.seen disk) E → (is_unbegun (D.seen disk) ≡ true → length (D.seen disk) ≤ 9)
             → MatchResult result (λ r. Fronts D.moment D.left_since D.synced D.written disk (disk_under r.0)) (λ e. Fronts D.moment D.left_since D.synced D.written disk e.disk) }
     {
-        match make_ready(alloc, service, hosts) {
+        match make_ready(rt, alloc, service, hosts) {
             Err(Memory) => Err(HallRefusal {
                 disk,
                 why: HallWhy::Memory,

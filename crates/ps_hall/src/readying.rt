@@ -12,6 +12,7 @@ use ps_core::Service;
 use ps_model::Role;
 use ps_types::{Entry, Text};
 use std::alloc::Global;
+use std::random::RandomSource;
 
 // A host before its first line.
 fn fresh_row(alloc: Global, host: &Text) -> Result<HostRow, Memory>
@@ -82,8 +83,22 @@ pub(crate) struct Ready {
     pub passes: Vec<HostPasses>,
 }
 
+// A number that no stranger knows, or 0 where the system has none to give. The digests of the tables go by it, and no answer does.
+fn secret<R: RandomSource>(rt: &R) -> u64 {
+    let mut bytes = [0; 8];
+    match rt.fill_bytes(&mut bytes) {
+        Ok(()) => u64::from_le_bytes(bytes),
+        Err(_) => 0,
+    }
+}
+
 /// Makes ready what a hall needs.
-pub(crate) fn make_ready(alloc: Global, service: &Text, hosts: &[Text]) -> Result<Ready, Memory>
+pub(crate) fn make_ready<R: RandomSource>(
+    rt: &R,
+    alloc: Global,
+    service: &Text,
+    hosts: &[Text],
+) -> Result<Ready, Memory>
     ensures state { IfOk result (λ r. r.service.state ≡ empty_state) }
     ensures boot { IfOk result (λ r. r.boot ≡ Entry.Boot service.now) }
     ensures rows { IfOk result (λ r. AreFreshRows hosts.now r.rows.items) }
@@ -94,7 +109,7 @@ pub(crate) fn make_ready(alloc: Global, service: &Text, hosts: &[Text]) -> Resul
     };
     let rows = rows_of(alloc, hosts)?;
     let passes = passes_of(alloc, hosts)?;
-    let service = Service::new(alloc)?;
+    let service = Service::seeded(alloc, secret(rt))?;
     Ok(Ready {
         service,
         boot,

@@ -43,8 +43,11 @@ pub(crate) fn replies_at(
     ensures request { IfOk result (λ a. IfSome a.entry (λ e. IsRequestOf service.now.state.book.service e a.request)) }
 {
     let row = &rows[at];
-    let WithRequest { answer, request } =
-        service.answer_with_room(&row.host, row.line + 1, arrival)?;
+    let WithRequest { answer, request } = service.answer_with_room(
+        &row.host,
+        row.line + 1,
+        arrival,
+    )?;
     let Answer { reply, entry, .. } = answer;
     let reply = printed(alloc, &reply)?;
     Ok(Replies {

@@ -9,7 +9,9 @@ use ps_base::Bytes;
 use ps_disk::MemDisk;
 use ps_types::{Arrival, Text};
 use std::alloc::Global;
+use std::io;
 use std::process::Abort;
+use std::random::RandomSource;
 use std::test::Fail;
 
 fn service_name(alloc: Global) -> Option<Text>
@@ -59,6 +61,16 @@ fn full(alloc: Global, hall: &mut Hall<MemDisk>, passes: &mut HostPasses) -> Opt
     }
 }
 
+// A source of noughts in the place of the system's secrets.
+struct Noughts;
+
+impl RandomSource for Noughts {
+    fn fill_bytes(&self, buf: &mut [u8]) -> io::Result<()> {
+        buf.fill(0);
+        Ok(())
+    }
+}
+
 // How many entries and bytes the store has once it was opened, with that limit, and a line was answered for whose entry there is no room; or
 // why it wasn't opened.
 fn opens(alloc: Global, disk: MemDisk, whole: u64) -> Option<Result<(usize, usize), HallWhy>> {
@@ -68,7 +80,7 @@ fn opens(alloc: Global, disk: MemDisk, whole: u64) -> Option<Result<(usize, usiz
     let service = service_name(alloc)?;
     let host = host_name(alloc)?;
     let limits = Limits { changes: 48, whole };
-    match Hall::open(alloc, disk, &service, &[host], limits) {
+    match Hall::open(&Noughts, alloc, disk, &service, &[host], limits) {
         Ok((hall, passes)) => {
             let mut hall = hall;
             let mut passes = passes;

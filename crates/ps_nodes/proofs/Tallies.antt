@@ -11,6 +11,7 @@ use Rattle.std.proofs.lemmas.List.Sums.{count_by-le-length, sum_by-append}
 use Rattle.std.proofs.lemmas.Map.Views.{exact_unsigned_eq}
 use Rattle.std.proofs.lemmas.Option.{slice_get_within, slice_get-get_or, get_or_from_slice_get, slice_get-map}
 use Rattle.ps_base.proofs.Rows.{count_by-cons}
+use Rattle.ps_rows.specs.Digests.{with_text, with_bare, bare_digest}
 use Rattle.ps_types.specs.declared.jid.Jid.{Jid}
 use Rattle.ps_types.specs.declared.rows.NodeRow.{NodeRow}
 use Rattle.ps_base.specs.Rows.{change_row}
@@ -18,7 +19,7 @@ use Rattle.ps_types.specs.declared.config.NodeConfig.{NodeConfig}
 use Rattle.ps_types.specs.Nodes.{made_by, is_made_by, with_config}
 use Rattle.ps_types.specs.Same.{same_bare}
 use Rattle.ps_nodes.specs.declared.makers.Tally.{Tally}
-use Rattle.ps_nodes.specs.Tallies.{digest_of, is_maker, IsTally, IsTallied}
+use Rattle.ps_nodes.specs.Tallies.{is_maker, IsTally, IsTallied}
 
 same_parts : (a b : Jid) → same_bare a b ≡ true → (a.local ≡ b.local) × (a.host ≡ b.host)
 unfolding same_bare
@@ -29,9 +30,9 @@ unfolding same_bare
 same_itself a = (Decides-and (bytes_eq a.local a.local) (bytes_eq a.host a.host) (bytes_eq-Decides a.local a.local) (bytes_eq-Decides a.host a.host)).1 (refl, refl)
 
 -- one bare address has one digest
-pub one_digest : (a b : Jid) → same_bare a b ≡ true → digest_of a ≡ digest_of b
-unfolding digest_of
-one_digest a b h = let p = same_parts a b h in rw (p.0, p.1) refl
+pub one_digest : (seed : ℕ) (a b : Jid) → same_bare a b ≡ true → bare_digest seed a ≡ bare_digest seed b
+unfolding bare_digest with_bare with_text
+one_digest seed a b h = let p = same_parts a b h in rw (p.0, p.1) refl
 
 one_bare : (a b x : Jid) → same_bare a b ≡ true → same_bare a x ≡ same_bare b x
 unfolding same_bare
@@ -65,14 +66,14 @@ held f None y h = cc
 held f (Some x) y h = (x, refl, cc)
 
 -- no tallies for no rows
-pub tallied_none : IsTallied [] []
-tallied_none = record { none = λ who h. refl; each = λ d t h. cc; few = omega arith }
+pub tallied_none : (seed : ℕ) → IsTallied seed [] []
+tallied_none seed = record { none = λ who h. refl; each = λ d t h. cc; few = omega arith }
 
 -- a tally counts no more than there are rows
-pub tally_within : (rows : List NodeRow) (d : ℕ) (t : Tally) → IsTally rows d t → t.count ≤ length rows
-tally_within rows d t k = omega (arith, k.counted, count_by-le-length (is_made_by k.row.creator) rows)
+pub tally_within : (seed : ℕ) (rows : List NodeRow) (d : ℕ) (t : Tally) → IsTally seed rows d t → t.count ≤ length rows
+tally_within seed rows d t k = omega (arith, k.counted, count_by-le-length (is_made_by k.row.creator) rows)
 
-module _ (rows : List NodeRow) (row : NodeRow) where
+module _ (seed : ℕ) (rows : List NodeRow) (row : NodeRow) where
   made_push : (who : Jid) → made_by who (rows ++ row ∷ []) ≡ made_by who rows + cond (same_bare who row.creator) 1 0
   made_push who =
       let last = count_by-cons (is_made_by who) row [] in
@@ -85,104 +86,104 @@ module _ (rows : List NodeRow) (row : NodeRow) where
   no_more who h = made_push who ∙ (ap (λ b. made_by who rows + cond b 1 0) h ∙ omega arith)
 
   -- an address of another digest
-  other : (who : Jid) → nat_eq (digest_of row.creator) (digest_of who) ≡ false → same_bare who row.creator ≡ false
+  other : (who : Jid) → nat_eq (bare_digest seed row.creator) (bare_digest seed who) ≡ false → same_bare who row.creator ≡ false
   other who h = by (same_bare who row.creator) refl
     where
       by : (b : Bool) → same_bare who row.creator ≡ b → b ≡ false
-      by true e = let same = one_digest who row.creator e in let itself = nat_eq_equiv.refl (digest_of row.creator) in let h' : nat_eq (digest_of row.creator) (digest_of row.creator) ≡ false = subst (λ d. nat_eq (digest_of row.creator) d ≡ false) same h in cc
+      by true e = let same = one_digest seed who row.creator e in let itself = nat_eq_equiv.refl (bare_digest seed row.creator) in let h' : nat_eq (bare_digest seed row.creator) (bare_digest seed row.creator) ≡ false = subst (λ d. nat_eq (bare_digest seed row.creator) d ≡ false) same h in cc
       by false e = refl
 
   -- a tally of an address that did not make the row
-  kept : (d : ℕ) (t : Tally) → (k : IsTally rows d t) → same_bare k.row.creator row.creator ≡ false → IsTally (rows ++ row ∷ []) d t
+  kept : (d : ℕ) (t : Tally) → (k : IsTally seed rows d t) → same_bare k.row.creator row.creator ≡ false → IsTally seed (rows ++ row ∷ []) d t
   kept d t k h = record { row = k.row; here = got_append rows (row ∷ []) t.first k.row k.here; digested = k.digested; counted = k.counted ∙ sym (no_more k.row.creator h) }
 
-  kept_other : (d : ℕ) (t : Tally) → IsTally rows d t → nat_eq (digest_of row.creator) d ≡ false → IsTally (rows ++ row ∷ []) d t
-  kept_other d t k h = kept d t k (other k.row.creator (subst (λ x. nat_eq (digest_of row.creator) x ≡ false) (sym k.digested) h))
+  kept_other : (d : ℕ) (t : Tally) → IsTally seed rows d t → nat_eq (bare_digest seed row.creator) d ≡ false → IsTally seed (rows ++ row ∷ []) d t
+  kept_other d t k h = kept d t k (other k.row.creator (subst (λ x. nat_eq (bare_digest seed row.creator) x ≡ false) (sym k.digested) h))
 
-  module _ (before : List (ℕ × Tally)) (all : IsTallied rows before) where
+  module _ (before : List (ℕ × Tally)) (all : IsTallied seed rows before) where
     -- the address is new
-    module _ (after : List (ℕ × Tally)) (absent : lookup (nat_eq (digest_of row.creator)) before ≡ None)
-        (now : (q : ℕ) → lookup (nat_eq q) after ≡ cond (nat_eq (digest_of row.creator) q) (Some (record { first = length rows; count = 1 })) (lookup (nat_eq q) before)) where
-      new_none : (who : Jid) → lookup (nat_eq (digest_of who)) after ≡ None → made_by who (rows ++ row ∷ []) ≡ 0
-      new_none who h = by (nat_eq (digest_of row.creator) (digest_of who)) refl (sym (now (digest_of who)) ∙ h)
+    module _ (after : List (ℕ × Tally)) (absent : lookup (nat_eq (bare_digest seed row.creator)) before ≡ None)
+        (now : (q : ℕ) → lookup (nat_eq q) after ≡ cond (nat_eq (bare_digest seed row.creator) q) (Some (record { first = length rows; count = 1 })) (lookup (nat_eq q) before)) where
+      new_none : (who : Jid) → lookup (nat_eq (bare_digest seed who)) after ≡ None → made_by who (rows ++ row ∷ []) ≡ 0
+      new_none who h = by (nat_eq (bare_digest seed row.creator) (bare_digest seed who)) refl (sym (now (bare_digest seed who)) ∙ h)
         where
-          by : (b : Bool) → nat_eq (digest_of row.creator) (digest_of who) ≡ b → cond b (Some (record { first = length rows; count = 1 })) (lookup (nat_eq (digest_of who)) before) ≡ None → made_by who (rows ++ row ∷ []) ≡ 0
+          by : (b : Bool) → nat_eq (bare_digest seed row.creator) (bare_digest seed who) ≡ b → cond b (Some (record { first = length rows; count = 1 })) (lookup (nat_eq (bare_digest seed who)) before) ≡ None → made_by who (rows ++ row ∷ []) ≡ 0
           by true e g = cc
           by false e g = no_more who (other who e) ∙ all.none who g
 
-      new_each : (d : ℕ) (t : Tally) → lookup (nat_eq d) after ≡ Some t → IsTally (rows ++ row ∷ []) d t
-      new_each d t h = by (nat_eq (digest_of row.creator) d) refl (sym (now d) ∙ h)
+      new_each : (d : ℕ) (t : Tally) → lookup (nat_eq d) after ≡ Some t → IsTally seed (rows ++ row ∷ []) d t
+      new_each d t h = by (nat_eq (bare_digest seed row.creator) d) refl (sym (now d) ∙ h)
         where
-          by : (b : Bool) → nat_eq (digest_of row.creator) d ≡ b → cond b (Some (record { first = length rows; count = 1 })) (lookup (nat_eq d) before) ≡ Some t → IsTally (rows ++ row ∷ []) d t
+          by : (b : Bool) → nat_eq (bare_digest seed row.creator) d ≡ b → cond b (Some (record { first = length rows; count = 1 })) (lookup (nat_eq d) before) ≡ Some t → IsTally seed (rows ++ row ∷ []) d t
           by true e g =
               let is : record { first = length rows; count = 1 } ≡ t = cc in
               let one = one_more row.creator (same_itself row.creator) ∙ ap (λ n. n + 1) (all.none row.creator absent) in
-              subst (λ x. IsTally (rows ++ row ∷ []) d x) is (record { row = row; here = got_last rows row; digested = exact_unsigned_eq (digest_of row.creator) d e; counted = sym one })
+              subst (λ x. IsTally seed (rows ++ row ∷ []) d x) is (record { row = row; here = got_last rows row; digested = exact_unsigned_eq (bare_digest seed row.creator) d e; counted = sym one })
           by false e g = kept_other d t (all.each d t g) e
 
-      pub tallied_new : length after ≤ length before + 1 → IsTallied (rows ++ row ∷ []) after
+      pub tallied_new : length after ≤ length before + 1 → IsTallied seed (rows ++ row ∷ []) after
       tallied_new h = record { none = new_none; each = new_each; few = omega (arith, h, all.few, length-append rows (row ∷ [])) }
 
     -- the digest has a tally
     module _ (full : List NodeRow) (front : (i : ℕ) (r : NodeRow) → slice_get rows i ≡ Some r → slice_get full i ≡ Some r)
-        (was : Tally) (there : lookup (nat_eq (digest_of row.creator)) before ≡ Some was) where
-      tested : (d : ℕ) (k : IsTally rows d was) → is_maker row.creator (slice_get full was.first) ≡ same_bare k.row.creator row.creator
+        (was : Tally) (there : lookup (nat_eq (bare_digest seed row.creator)) before ≡ Some was) where
+      tested : (d : ℕ) (k : IsTally seed rows d was) → is_maker row.creator (slice_get full was.first) ≡ same_bare k.row.creator row.creator
       tested d k = ap (is_maker row.creator) (front was.first k.row k.here)
 
       -- of the same address, for which it counts one more
       module _ (after : List (ℕ × Tally)) (same : is_maker row.creator (slice_get full was.first) ≡ true)
-          (now : (q : ℕ) → lookup (nat_eq q) after ≡ cond (nat_eq (digest_of row.creator) q) (Some (record { first = was.first; count = was.count + 1 })) (lookup (nat_eq q) before)) where
-        more_none : (who : Jid) → lookup (nat_eq (digest_of who)) after ≡ None → made_by who (rows ++ row ∷ []) ≡ 0
-        more_none who h = by (nat_eq (digest_of row.creator) (digest_of who)) refl (sym (now (digest_of who)) ∙ h)
+          (now : (q : ℕ) → lookup (nat_eq q) after ≡ cond (nat_eq (bare_digest seed row.creator) q) (Some (record { first = was.first; count = was.count + 1 })) (lookup (nat_eq q) before)) where
+        more_none : (who : Jid) → lookup (nat_eq (bare_digest seed who)) after ≡ None → made_by who (rows ++ row ∷ []) ≡ 0
+        more_none who h = by (nat_eq (bare_digest seed row.creator) (bare_digest seed who)) refl (sym (now (bare_digest seed who)) ∙ h)
           where
-            by : (b : Bool) → nat_eq (digest_of row.creator) (digest_of who) ≡ b → cond b (Some (record { first = was.first; count = was.count + 1 })) (lookup (nat_eq (digest_of who)) before) ≡ None → made_by who (rows ++ row ∷ []) ≡ 0
+            by : (b : Bool) → nat_eq (bare_digest seed row.creator) (bare_digest seed who) ≡ b → cond b (Some (record { first = was.first; count = was.count + 1 })) (lookup (nat_eq (bare_digest seed who)) before) ≡ None → made_by who (rows ++ row ∷ []) ≡ 0
             by true e g = cc
             by false e g = no_more who (other who e) ∙ all.none who g
 
-        one : (d : ℕ) → nat_eq (digest_of row.creator) d ≡ true → IsTally rows (digest_of row.creator) was → IsTally (rows ++ row ∷ []) d (record { first = was.first; count = was.count + 1 })
+        one : (d : ℕ) → nat_eq (bare_digest seed row.creator) d ≡ true → IsTally seed rows (bare_digest seed row.creator) was → IsTally seed (rows ++ row ∷ []) d (record { first = was.first; count = was.count + 1 })
         one d e k =
-            let maker : same_bare k.row.creator row.creator ≡ true = sym (tested (digest_of row.creator) k) ∙ same in
+            let maker : same_bare k.row.creator row.creator ≡ true = sym (tested (bare_digest seed row.creator) k) ∙ same in
             record {
               row = k.row;
               here = got_append rows (row ∷ []) was.first k.row k.here;
-              digested = k.digested ∙ exact_unsigned_eq (digest_of row.creator) d e;
+              digested = k.digested ∙ exact_unsigned_eq (bare_digest seed row.creator) d e;
               counted = ap (λ n. n + 1) k.counted ∙ sym (one_more k.row.creator maker);
             }
 
-        more_each : (d : ℕ) (t : Tally) → lookup (nat_eq d) after ≡ Some t → IsTally (rows ++ row ∷ []) d t
-        more_each d t h = by (nat_eq (digest_of row.creator) d) refl (sym (now d) ∙ h)
+        more_each : (d : ℕ) (t : Tally) → lookup (nat_eq d) after ≡ Some t → IsTally seed (rows ++ row ∷ []) d t
+        more_each d t h = by (nat_eq (bare_digest seed row.creator) d) refl (sym (now d) ∙ h)
           where
-            by : (b : Bool) → nat_eq (digest_of row.creator) d ≡ b → cond b (Some (record { first = was.first; count = was.count + 1 })) (lookup (nat_eq d) before) ≡ Some t → IsTally (rows ++ row ∷ []) d t
+            by : (b : Bool) → nat_eq (bare_digest seed row.creator) d ≡ b → cond b (Some (record { first = was.first; count = was.count + 1 })) (lookup (nat_eq d) before) ≡ Some t → IsTally seed (rows ++ row ∷ []) d t
             by true e g =
                 let is : record { first = was.first; count = was.count + 1 } ≡ t = cc in
-                subst (λ x. IsTally (rows ++ row ∷ []) d x) is (one d e (all.each (digest_of row.creator) was there))
+                subst (λ x. IsTally seed (rows ++ row ∷ []) d x) is (one d e (all.each (bare_digest seed row.creator) was there))
             by false e g = kept_other d t (all.each d t g) e
 
-        pub tallied_more : length after ≡ length before → IsTallied (rows ++ row ∷ []) after
+        pub tallied_more : length after ≡ length before → IsTallied seed (rows ++ row ∷ []) after
         tallied_more h = record { none = more_none; each = more_each; few = omega (arith, h, all.few, length-append rows (row ∷ [])) }
 
       -- of another address, and it stays
       module _ (apart : is_maker row.creator (slice_get full was.first) ≡ false) where
-        apart_none : (who : Jid) → lookup (nat_eq (digest_of who)) before ≡ None → made_by who (rows ++ row ∷ []) ≡ 0
-        apart_none who h = by (nat_eq (digest_of row.creator) (digest_of who)) refl
+        apart_none : (who : Jid) → lookup (nat_eq (bare_digest seed who)) before ≡ None → made_by who (rows ++ row ∷ []) ≡ 0
+        apart_none who h = by (nat_eq (bare_digest seed row.creator) (bare_digest seed who)) refl
           where
-            by : (b : Bool) → nat_eq (digest_of row.creator) (digest_of who) ≡ b → made_by who (rows ++ row ∷ []) ≡ 0
-            by true e = let is = exact_unsigned_eq (digest_of row.creator) (digest_of who) e in let found : lookup (nat_eq (digest_of who)) before ≡ Some was = subst (λ d. lookup (nat_eq d) before ≡ Some was) is there in cc
+            by : (b : Bool) → nat_eq (bare_digest seed row.creator) (bare_digest seed who) ≡ b → made_by who (rows ++ row ∷ []) ≡ 0
+            by true e = let is = exact_unsigned_eq (bare_digest seed row.creator) (bare_digest seed who) e in let found : lookup (nat_eq (bare_digest seed who)) before ≡ Some was = subst (λ d. lookup (nat_eq d) before ≡ Some was) is there in cc
             by false e = no_more who (other who e) ∙ all.none who h
 
-        apart_each : (d : ℕ) (t : Tally) → lookup (nat_eq d) before ≡ Some t → IsTally (rows ++ row ∷ []) d t
-        apart_each d t h = by (nat_eq (digest_of row.creator) d) refl
+        apart_each : (d : ℕ) (t : Tally) → lookup (nat_eq d) before ≡ Some t → IsTally seed (rows ++ row ∷ []) d t
+        apart_each d t h = by (nat_eq (bare_digest seed row.creator) d) refl
           where
-            by : (b : Bool) → nat_eq (digest_of row.creator) d ≡ b → IsTally (rows ++ row ∷ []) d t
+            by : (b : Bool) → nat_eq (bare_digest seed row.creator) d ≡ b → IsTally seed (rows ++ row ∷ []) d t
             by true e =
-                let is = exact_unsigned_eq (digest_of row.creator) d e in
+                let is = exact_unsigned_eq (bare_digest seed row.creator) d e in
                 let found : lookup (nat_eq d) before ≡ Some was = subst (λ x. lookup (nat_eq x) before ≡ Some was) is there in
                 let w : was ≡ t = cc in
                 let k = all.each d was found in
-                subst (λ x. IsTally (rows ++ row ∷ []) d x) w (kept d was k (sym (tested d k) ∙ apart))
+                subst (λ x. IsTally seed (rows ++ row ∷ []) d x) w (kept d was k (sym (tested d k) ∙ apart))
             by false e = kept_other d t (all.each d t h) e
 
-        pub tallied_apart : IsTallied (rows ++ row ∷ []) before
+        pub tallied_apart : IsTallied seed (rows ++ row ∷ []) before
         tallied_apart = record { none = apart_none; each = apart_each; few = omega (arith, all.few, length-append rows (row ∷ [])) }
 
 abbrev maker_of : NodeRow → Jid
@@ -194,17 +195,17 @@ made_map who (row ∷ rows) =
     count_by-cons (is_made_by who) row rows ∙ (ap (λ n. cond (same_bare who row.creator) 1 0 + n) (made_map who rows) ∙ sym (count_by-cons (same_bare who) row.creator (map maker_of rows)))
 
 -- rows with the same makers have the same tallies
-module _ (rows more : List NodeRow) (same : map maker_of more ≡ map maker_of rows) where
+module _ (seed : ℕ) (rows more : List NodeRow) (same : map maker_of more ≡ map maker_of rows) where
   made_same : (who : Jid) → made_by who more ≡ made_by who rows
   made_same who = made_map who more ∙ (ap (count_by (same_bare who)) same ∙ sym (made_map who rows))
 
-  tally_same : (d : ℕ) (t : Tally) → IsTally rows d t → IsTally more d t
+  tally_same : (d : ℕ) (t : Tally) → IsTally seed rows d t → IsTally seed more d t
   tally_same d t k =
       let at = sym (slice_get-map maker_of more t.first) ∙ (ap (λ l. slice_get l t.first) same ∙ (slice_get-map maker_of rows t.first ∙ ap (option_map maker_of) k.here)) in
       let h = held maker_of (slice_get more t.first) k.row.creator at in
-      record { row = h.0; here = h.1; digested = ap digest_of h.2 ∙ k.digested; counted = k.counted ∙ (sym (made_same k.row.creator) ∙ ap (λ w. made_by w more) (sym h.2)) }
+      record { row = h.0; here = h.1; digested = ap (bare_digest seed) h.2 ∙ k.digested; counted = k.counted ∙ (sym (made_same k.row.creator) ∙ ap (λ w. made_by w more) (sym h.2)) }
 
-  pub tallied_same : (tallies : List (ℕ × Tally)) → IsTallied rows tallies → IsTallied more tallies
+  pub tallied_same : (tallies : List (ℕ × Tally)) → IsTallied seed rows tallies → IsTallied seed more tallies
   tallied_same tallies k = record {
     none = λ who h. made_same who ∙ k.none who h;
     each = λ d t h. tally_same d t (k.each d t h);
@@ -222,20 +223,20 @@ module _ (test : NodeRow → Bool) (config : NodeConfig) where
   makers_stay (row ∷ rows) = change_step row rows (test row) (makers_stay rows)
 
 -- where the tally found is of the address, it counts what the address made
-pub made_tallied : (who : Jid) (rows : List NodeRow) (tallies : List (ℕ × Tally)) (t : Tally) → IsTallied rows tallies → lookup (nat_eq (digest_of who)) tallies ≡ Some t → is_maker who (slice_get rows t.first) ≡ true → t.count ≡ made_by who rows
-made_tallied who rows tallies t k h same =
-    let one = k.each (digest_of who) t h in
+pub made_tallied : (seed : ℕ) (who : Jid) (rows : List NodeRow) (tallies : List (ℕ × Tally)) (t : Tally) → IsTallied seed rows tallies → lookup (nat_eq (bare_digest seed who)) tallies ≡ Some t → is_maker who (slice_get rows t.first) ≡ true → t.count ≡ made_by who rows
+made_tallied seed who rows tallies t k h same =
+    let one = k.each (bare_digest seed who) t h in
     let maker : same_bare one.row.creator who ≡ true = sym (ap (is_maker who) one.here) ∙ same in
     one.counted ∙ one_made one.row.creator who rows maker
 
 -- one more of the rows is tallied: `who` made it, and `d` is its digest
-module _ (all : List NodeRow) (at : ℕ) (who : Jid) (here : option_map (λ (row : NodeRow). row.creator) (slice_get all at) ≡ Some who)
-    (d : ℕ) (d_is : d ≡ digest_of who) (before : List (ℕ × Tally)) (k : IsTallied (take at all) before) where
+module _ (seed : ℕ) (all : List NodeRow) (at : ℕ) (who : Jid) (here : option_map (λ (row : NodeRow). row.creator) (slice_get all at) ≡ Some who)
+    (d : ℕ) (d_is : d ≡ bare_digest seed who) (before : List (ℕ × Tally)) (k : IsTallied seed (take at all) before) where
   last : (row : NodeRow) × (slice_get all at ≡ Some row) × (row.creator ≡ who)
   last = held (λ (row : NodeRow). row.creator) (slice_get all at) who here
 
-  same : d ≡ digest_of last.0.creator
-  same = d_is ∙ ap digest_of (sym last.2)
+  same : d ≡ bare_digest seed last.0.creator
+  same = d_is ∙ ap (bare_digest seed) (sym last.2)
 
   longer : take at all ++ last.0 ∷ [] ≡ take (at + 1) all
   longer = sym (take_got all at last.0 last.1)
@@ -243,28 +244,28 @@ module _ (all : List NodeRow) (at : ℕ) (who : Jid) (here : option_map (λ (row
   long : length (take at all) ≡ at
   long = let within : at < length all = slice_get_within all at last.0 last.1 in length-take-le at all (omega arith)
 
-  pub now_new : (after : List (ℕ × Tally)) → lookup (nat_eq d) before ≡ None → ((q : ℕ) → lookup (nat_eq q) after ≡ cond (nat_eq d q) (Some (record { first = at; count = 1 })) (lookup (nat_eq q) before)) → length after ≤ length before + 1 → IsTallied (take (at + 1) all) after
+  pub now_new : (after : List (ℕ × Tally)) → lookup (nat_eq d) before ≡ None → ((q : ℕ) → lookup (nat_eq q) after ≡ cond (nat_eq d q) (Some (record { first = at; count = 1 })) (lookup (nat_eq q) before)) → length after ≤ length before + 1 → IsTallied seed (take (at + 1) all) after
   now_new after absent now few =
-      subst (λ rows. IsTallied rows after) longer
-      (tallied_new (take at all) last.0 before k after (subst (λ x. lookup (nat_eq x) before ≡ None) same absent)
-      (λ q. subst (λ n. lookup (nat_eq q) after ≡ cond (nat_eq (digest_of last.0.creator) q) (Some (record { first = n; count = 1 })) (lookup (nat_eq q) before)) (sym long)
+      subst (λ rows. IsTallied seed rows after) longer
+      (tallied_new seed (take at all) last.0 before k after (subst (λ x. lookup (nat_eq x) before ≡ None) same absent)
+      (λ q. subst (λ n. lookup (nat_eq q) after ≡ cond (nat_eq (bare_digest seed last.0.creator) q) (Some (record { first = n; count = 1 })) (lookup (nat_eq q) before)) (sym long)
       (subst (λ x. lookup (nat_eq q) after ≡ cond (nat_eq x q) (Some (record { first = at; count = 1 })) (lookup (nat_eq q) before)) same (now q))) few)
 
   module _ (was : Tally) (there : lookup (nat_eq d) before ≡ Some was) where
     tested_at : (b : Bool) → is_maker who (slice_get all was.first) ≡ b → is_maker last.0.creator (slice_get all was.first) ≡ b
     tested_at b h = subst (λ w. is_maker w (slice_get all was.first) ≡ b) (sym last.2) h
 
-    pub now_more : (after : List (ℕ × Tally)) → is_maker who (slice_get all was.first) ≡ true → ((q : ℕ) → lookup (nat_eq q) after ≡ cond (nat_eq d q) (Some (record { first = was.first; count = was.count + 1 })) (lookup (nat_eq q) before)) → length after ≡ length before → IsTallied (take (at + 1) all) after
+    pub now_more : (after : List (ℕ × Tally)) → is_maker who (slice_get all was.first) ≡ true → ((q : ℕ) → lookup (nat_eq q) after ≡ cond (nat_eq d q) (Some (record { first = was.first; count = was.count + 1 })) (lookup (nat_eq q) before)) → length after ≡ length before → IsTallied seed (take (at + 1) all) after
     now_more after is now few =
-        subst (λ rows. IsTallied rows after) longer
-        (tallied_more (take at all) last.0 before k all (got_of_take all at) was (subst (λ x. lookup (nat_eq x) before ≡ Some was) same there) after (tested_at true is)
+        subst (λ rows. IsTallied seed rows after) longer
+        (tallied_more seed (take at all) last.0 before k all (got_of_take all at) was (subst (λ x. lookup (nat_eq x) before ≡ Some was) same there) after (tested_at true is)
         (λ q. subst (λ x. lookup (nat_eq q) after ≡ cond (nat_eq x q) (Some (record { first = was.first; count = was.count + 1 })) (lookup (nat_eq q) before)) same (now q)) few)
 
-    pub now_same : is_maker who (slice_get all was.first) ≡ false → IsTallied (take (at + 1) all) before
+    pub now_same : is_maker who (slice_get all was.first) ≡ false → IsTallied seed (take (at + 1) all) before
     now_same is =
-        subst (λ rows. IsTallied rows before) longer
-        (tallied_apart (take at all) last.0 before k all (got_of_take all at) was (subst (λ x. lookup (nat_eq x) before ≡ Some was) same there) (tested_at false is))
+        subst (λ rows. IsTallied seed rows before) longer
+        (tallied_apart seed (take at all) last.0 before k all (got_of_take all at) was (subst (λ x. lookup (nat_eq x) before ≡ Some was) same there) (tested_at false is))
 
     -- a tally counts no more rows than there are
     pub now_within : was.count ≤ at
-    now_within = omega (arith, tally_within (take at all) d was (k.each d was there), long)
+    now_within = omega (arith, tally_within seed (take at all) d was (k.each d was there), long)

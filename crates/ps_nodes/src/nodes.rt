@@ -6,10 +6,11 @@ ghost use Rattle.ps_nodes.specs.Served.{keys_at};
 
 use crate::entries::{NodeMap, config_in, copy_of, holds, place_in, row_at, row_in, set_config_in};
 use crate::makers::{Tally, made_in, tallies_of};
-use crate::served::{digest_at, keys_among, mark_all, marks_of};
+use crate::served::{keys_among, mark_all, marks_of};
 use crate::tallied::{add_tallied, remove_tallied, reserve};
 use indexmap::IndexMap;
 use ps_chains::{Chains, Seeded};
+use ps_rows::bare_digest;
 use ps_types::{Jid, Memory, NodeConfig, NodeKey, NodeRow};
 use std::alloc::Global;
 use std::marker::Model;
@@ -33,11 +34,12 @@ pub struct NodeRef<'a> {
     pub config: &'a NodeConfig,
 }
 
-/// The nodes in the order of their making, and how many more are taken without memory.
+/// The nodes in the order of their making, and how many more are taken without memory. All digests go by the seed.
 pub struct Nodes {
     nodes: NodeMap,
     made: IndexMap<u64, Tally>,
     served: Chains,
+    seed: u64,
 }
 
 // By hand, so that a table is let go by one call wherever a function ends.
@@ -47,6 +49,7 @@ impl Drop for Nodes {
             nodes: _,
             made: _,
             served: _,
+            seed: _,
         } = self;
     }
 }
@@ -62,7 +65,7 @@ impl Model for Nodes {
 
     ghost view = { λ t. record { rows = map row_of t.nodes.entries; spare = room_with t.nodes t.made t.served } };
 
-    ghost invariant = { λ t. IsIndexed t.nodes t.made t.served };
+    ghost invariant = { λ t. IsIndexed t.seed t.nodes t.made t.served };
 }
 
 impl Nodes {
@@ -73,7 +76,7 @@ impl Nodes {
         Nodes::seeded(alloc, 0)
     }
 
-    /// The empty table, whose keys are hashed by a seed that no stranger knows. No answer depends on it.
+    /// The empty table, whose digests go by a seed that no stranger knows. No answer depends on it.
     pub fn seeded(alloc: Global, seed: u64) -> Result<Nodes, Memory>
         ensures empty { IfOk result (λ t. t.rows ≡ []) }
     {
@@ -81,6 +84,7 @@ impl Nodes {
             nodes: IndexMap::with_hasher(alloc, Seeded { seed }),
             made: IndexMap::new(alloc),
             served: Chains::new(alloc),
+            seed,
         })
     }
 
@@ -113,12 +117,13 @@ impl Nodes {
         ensures rows { IfOk result (λ t. t.rows ≡ self.now.rows) }
     {
         let nodes = copy_of(&self.nodes)?;
-        let made = tallies_of(&nodes)?;
-        let served = marks_of(*nodes.allocator(), &nodes)?;
+        let made = tallies_of(self.seed, &nodes)?;
+        let served = marks_of(*nodes.allocator(), self.seed, &nodes)?;
         Ok(Nodes {
             nodes,
             made,
             served,
+            seed: self.seed,
         })
     }
 
@@ -158,14 +163,14 @@ impl Nodes {
     pub fn made_by(&self, who: &Jid) -> u64
         ensures made { result ≡ made_by who.now self.now.rows }
     {
-        made_in(&self.nodes, &self.made, who) as u64
+        made_in(self.seed, &self.nodes, &self.made, who) as u64
     }
 
     /// The keys of the nodes of a service host or an account, in the order of their making.
     pub fn keys_of(&self, alloc: Global, service: &Jid) -> Result<Vec<NodeKey>, Memory>
         ensures keys { IfOk result (λ keys. keys.items ≡ keys_at service.now self.now.rows) }
     {
-        keys_among(alloc, &self.nodes, &self.served, service)
+        keys_among(alloc, self.seed, &self.nodes, &self.served, service)
     }
 
     /// Adds a node as the last one, where its key is new. It takes no memory.
@@ -179,8 +184,8 @@ impl Nodes {
         if holds(&self.nodes, &row.key) {
             return Err(Exists);
         }
-        let digest = digest_at(&row.key.service);
-        add_tallied(&mut self.nodes, &mut self.made, row);
+        let digest = bare_digest(self.seed, &row.key.service);
+        add_tallied(self.seed, &mut self.nodes, &mut self.made, row);
         self.served.push(digest);
         Ok(())
     }
@@ -200,8 +205,8 @@ impl Nodes {
         ensures rows { self.new.rows ≡ nodes_without node.now self.old.rows }
         ensures room { self.old.spare ≤ self.new.spare }
     {
-        let stood = remove_tallied(&mut self.nodes, &mut self.made, node);
-        mark_all(&mut self.served, &self.nodes);
+        let stood = remove_tallied(self.seed, &mut self.nodes, &mut self.made, node);
+        mark_all(self.seed, &mut self.served, &self.nodes);
         stood
     }
 

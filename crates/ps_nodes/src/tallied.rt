@@ -3,7 +3,7 @@ ghost use Rattle.std.specs.Prelude.{◌≡◌, ◌+◌, ◌<◌, ◌≤◌, fals
 ghost use Rattle.indexmap.specs.IndexMap.{spare, index_map_len, IsUnchanged};
 ghost use Rattle.ps_types.specs.Nodes.{stands, nodes_with, nodes_without};
 ghost use Rattle.ps_nodes.specs.NodeRows.{row_of};
-ghost use Rattle.ps_nodes.specs.Tallies.{IsKept, room_of};
+ghost use Rattle.ps_nodes.specs.Tallies.{IsKept, capacity, room_of};
 
 use crate::entries::{NodeMap, add, remove_from};
 use crate::makers::{Makers, tally_all, tally_at};
@@ -11,9 +11,10 @@ use ps_types::{NodeKey, NodeRow};
 use std::alloc::AllocError;
 
 pub fn reserve(nodes: &mut NodeMap, made: &mut Makers, rows: usize) -> Result<(), AllocError>
-    requires kept { IsKept nodes.old made.old }
-    ensures kept { IsKept nodes.new made.new }
+    requires held { index_map_len nodes.old ≤ capacity made.old }
+    ensures held { index_map_len nodes.new ≤ capacity made.new }
     ensures entries { IsUnchanged nodes.old nodes.new }
+    ensures tallies { IsUnchanged made.old made.new }
     ensures ok { OnOk result (rows ≤ room_of nodes.new made.new) }
     ensures room { room_of nodes.old made.old ≤ room_of nodes.new made.new }
 {
@@ -21,28 +22,28 @@ pub fn reserve(nodes: &mut NodeMap, made: &mut Makers, rows: usize) -> Result<()
     made.reserve(nodes.capacity())
 }
 
-pub fn add_tallied(nodes: &mut NodeMap, made: &mut Makers, row: NodeRow)
-    requires kept { IsKept nodes.old made.old }
+pub fn add_tallied(seed: u64, nodes: &mut NodeMap, made: &mut Makers, row: NodeRow)
+    requires kept { IsKept seed nodes.old made.old }
     requires room { 0 < room_of nodes.old made.old }
     requires absent { stands row.key (map row_of nodes.old.entries) ≡ false }
-    ensures kept { IsKept nodes.new made.new }
+    ensures kept { IsKept seed nodes.new made.new }
     ensures rows { map row_of nodes.new.entries ≡ map row_of nodes.old.entries ++ row ∷ [] }
     ensures room { room_of nodes.old made.old ≤ room_of nodes.new made.new + 1 }
 {
     let at = nodes.len();
     add(nodes, row);
-    tally_at(made, nodes, at);
+    tally_at(seed, made, nodes, at);
 }
 
-pub fn remove_tallied(nodes: &mut NodeMap, made: &mut Makers, node: &NodeKey) -> bool
-    requires kept { IsKept nodes.old made.old }
-    ensures kept { IsKept nodes.new made.new }
+pub fn remove_tallied(seed: u64, nodes: &mut NodeMap, made: &mut Makers, node: &NodeKey) -> bool
+    requires kept { IsKept seed nodes.old made.old }
+    ensures kept { IsKept seed nodes.new made.new }
     ensures there { result ≡ stands node.now (map row_of nodes.old.entries) }
     ensures rows { map row_of nodes.new.entries ≡ nodes_without node.now (map row_of nodes.old.entries) }
     ensures room { room_of nodes.old made.old ≤ room_of nodes.new made.new }
     ensures fewer { index_map_len nodes.new ≤ index_map_len nodes.old }
 {
     let stood = remove_from(nodes, node);
-    tally_all(made, nodes);
+    tally_all(seed, made, nodes);
     stood
 }

@@ -20,6 +20,7 @@ use ps_hall::{Hall, HallRefusal, HallWhy, Limits, Pass};
 use ps_types::Text;
 use ps_wire::{Lines, LinesRefusal, Sink, Source};
 use std::alloc::Global;
+use std::random::RandomSource;
 
 /// How many bytes a store has at most: 2^29 by changes, and 2^30 in all.
 const LIMITS: Limits = Limits {
@@ -89,7 +90,8 @@ fn serve_host<D: Disk, S: Source, K: Sink>(
 }
 
 // Opens the store, answers all the lines over it, and hands the disk back.
-fn serve_store<D: Disk, S: Source, K: Sink>(
+fn serve_store<R: RandomSource, D: Disk, S: Source, K: Sink>(
+    rt: &R,
     alloc: Global,
     service: &Text,
     host: Text,
@@ -112,7 +114,7 @@ fn serve_store<D: Disk, S: Source, K: Sink>(
     ensures stream { result.0 ≡ Status.StreamFault → Rose (S.faults (source_of lines.old)) (S.faults (source_of lines.new)) ⊎ Rose (K.faults sink.old) (K.faults sink.new) }
     ensures never { (result.0 ≡ Status.Usage) ⊎ (result.0 ≡ Status.OpenFault) → ⊥ }
 {
-    match Hall::open(alloc, disk, service, &[host], LIMITS) {
+    match Hall::open(rt, alloc, disk, service, &[host], LIMITS) {
         Err(HallRefusal { disk, why }) => (not_opened(why), disk),
         Ok((hall, passes)) => {
             let mut hall = hall;
@@ -132,7 +134,8 @@ fn serve_store<D: Disk, S: Source, K: Sink>(
 }
 
 /// Answers all the lines of a source over the store on a disk, and hands both back.
-pub fn serve_stream<D: Disk, S: Source, K: Sink>(
+pub fn serve_stream<R: RandomSource, D: Disk, S: Source, K: Sink>(
+    rt: &R,
     alloc: Global,
     service: &Text,
     host: &Text,
@@ -162,7 +165,7 @@ pub fn serve_stream<D: Disk, S: Source, K: Sink>(
         Err(LinesRefusal { source }) => (Status::Memory, disk, source),
         Ok(lines) => {
             let mut lines = lines;
-            let (status, disk) = serve_store(alloc, service, own, disk, &mut lines, sink);
+            let (status, disk) = serve_store(rt, alloc, service, own, disk, &mut lines, sink);
             (status, disk, lines.close())
         }
     }

@@ -18,6 +18,7 @@ use crate::words::{Command, Stream, WordsRefusal, read_words};
 use ps_outside::{World, WorldRefusal};
 use ps_types::Text;
 use std::alloc::Global;
+use std::random::RandomSource;
 
 fn refused(why: WorldRefusal) -> Status
     ensures open { result ≡ Status.OpenFault → why ≡ WorldRefusal.Failed }
@@ -30,7 +31,8 @@ fn refused(why: WorldRefusal) -> Status
 }
 
 // Opens the stream's source and sink, answers its lines over the store on a disk, and gives both back; the disk is handed back.
-fn serve_over<W: World>(
+fn serve_over<R: RandomSource, W: World>(
+    rt: &R,
     alloc: Global,
     service: &Text,
     stream: &Stream,
@@ -73,6 +75,7 @@ fn serve_over<W: World>(
         }
     };
     let (status, disk, source) = serve_stream(
+        rt,
         alloc,
         service,
         &stream.host,
@@ -86,7 +89,8 @@ fn serve_over<W: World>(
 }
 
 // Opens the store, and the stream's source and sink, answers its lines, and gives all back.
-fn serve<W: World>(
+fn serve<R: RandomSource, W: World>(
+    rt: &R,
     alloc: Global,
     service: &Text,
     store: &Text,
@@ -117,7 +121,7 @@ fn serve<W: World>(
         Ok(disk) => disk,
         Err(why) => return refused(why),
     };
-    let (status, disk) = serve_over(alloc, service, stream, disk, world);
+    let (status, disk) = serve_over(rt, alloc, service, stream, disk, world);
     world.give_back_disk(store, disk);
     status
 }
@@ -138,7 +142,12 @@ fn served_in(command: &Command) -> (&Text, &Text, &Stream)
     (service, store, &streams.as_slice()[0])
 }
 
-fn run_words<W: World>(alloc: Global, words: &[Text], world: &mut W) -> Status
+fn run_words<R: RandomSource, W: World>(
+    rt: &R,
+    alloc: Global,
+    words: &[Text],
+    world: &mut W,
+) -> Status
     ensures usage_only { result ≡ Status.Usage → command_of words.now ≡ None }
     ensures usage { command_of words.now ≡ None → (result ≡ Status.Usage) ⊎ (result ≡ Status.Memory) }
     ensures done { result ≡ Status.Done → IfSome (served_by (command_of words.now)) (λ s. Answers W.Store.tells s (W.sources world.old) (W.sources world.new) (W.sinks world.old) (W.sinks world.new) (W.stores world.old s.store) (W.stores world.new s.store) (W.lefts world.new s.store)) }
@@ -160,7 +169,7 @@ fn run_words<W: World>(alloc: Global, words: &[Text], world: &mut W) -> Status
     match read_words(alloc, words) {
         Ok(command) => {
             let (service, store, stream) = served_in(&command);
-            serve(alloc, service, store, stream, world)
+            serve(rt, alloc, service, store, stream, world)
         }
         Err(WordsRefusal::Usage) => Status::Usage,
         Err(WordsRefusal::Memory) => Status::Memory,
@@ -193,7 +202,12 @@ fn tell<W: World>(status: Status, world: &mut W)
 /// each line, at the entries before it, and the store has the entries that the lines made, and the Gone of the host behind them. Each other answer
 /// than [`Status::Done`] has its cause, but for want of memory; then the sink gained a front of that, and no crash takes away what a line came to
 /// whose reply was written. Where the source alone failed, or gave 2^40 bytes, all lines that a newline ended in what it gave have their replies.
-pub fn run<W: World>(alloc: Global, words: &[Text], world: &mut W) -> Status
+pub fn run<R: RandomSource, W: World>(
+    rt: &R,
+    alloc: Global,
+    words: &[Text],
+    world: &mut W,
+) -> Status
     ensures usage_only { result ≡ Status.Usage → command_of words.now ≡ None }
     ensures usage { command_of words.now ≡ None → (result ≡ Status.Usage) ⊎ (result ≡ Status.Memory) }
     ensures done { result ≡ Status.Done → IfSome (served_by (command_of words.now)) (λ s. Answers W.Store.tells s (W.sources world.old) (W.sources world.new) (W.sinks world.old) (W.sinks world.new) (W.stores world.old s.store) (W.stores world.new s.store) (W.lefts world.new s.store)) }
@@ -212,7 +226,7 @@ pub fn run<W: World>(alloc: Global, words: &[Text], world: &mut W) -> Status
     ensures reported { IsReported (W.reported world.old) (W.reported world.new) (report_of result)
         (reported_from result (W.faults world.old) (W.last_opening world.new)) (W.faults world.new) }
 {
-    let status = run_words(alloc, words, world);
+    let status = run_words(rt, alloc, words, world);
     tell(status, world);
     status
 }

@@ -5,6 +5,8 @@ use ps_serve::run;
 use ps_types::Text;
 use ps_wire::{MemSink, MemSource};
 use std::alloc::Global;
+use std::io;
+use std::random::RandomSource;
 use std::test::Fail;
 
 pub const FIRST: &str =
@@ -110,13 +112,23 @@ pub fn world_of(
     Ok(world)
 }
 
+// A source of noughts in the place of the system's secrets.
+struct Noughts;
+
+impl RandomSource for Noughts {
+    fn fill_bytes(&self, buf: &mut [u8]) -> io::Result<()> {
+        buf.fill(0);
+        Ok(())
+    }
+}
+
 // Runs the words, and answers the status's code.
 pub fn code_of(alloc: Global, words: &str, world: &mut MemWorld) -> Result<u8, Fail> {
     let mut texts = Vec::new(alloc);
     for word in words.split(' ') {
         texts.push(Text::of(alloc, word)?)?;
     }
-    Ok(run(alloc, &texts, world).code())
+    Ok(run(&Noughts, alloc, &texts, world).code())
 }
 
 // What the sink holds, what was reported, and the code.

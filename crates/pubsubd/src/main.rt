@@ -29,7 +29,7 @@ fn main(rt: HostRuntime) -> ExitCode {
     let words = words_of(&rt);
     let mut world = RealWorld::new(alloc, rt);
     let status = match words {
-        Ok(words) => run(alloc, &words, &mut world),
+        Ok(words) => run(&rt, alloc, &words, &mut world),
         Err(Memory) => {
             let _ = world.report(Status::Memory.report().as_str().as_bytes());
             Status::Memory

@@ -19,7 +19,7 @@ one_longer (Err e) n m i h = cc
 
 pub overflow_add-tally : goal.overflow_add-tally
 overflow_add-tally c =
-    let within = now_within (map row_of c.args.nodes.now.entries) c.args.at c.args.who.now c.requires.here c.digest-digest.result c.digest-digest.ensures c.args.made.now.entries c.requires.before c.in-Some.tally.now (sym c.in-Some.ensures.value) in
+    let within = now_within c.args.seed (map row_of c.args.nodes.now.entries) c.args.at c.args.who.now c.requires.here c.bare_digest-digest.result c.bare_digest-digest.ensures.digest c.args.made.now.entries c.requires.before c.in-Some.tally.now (sym c.in-Some.ensures.value) in
     omega (arith, within, c.requires.small)
 
 pub returns-then-is_maker_at-clause-tallied : goal.returns-then-is_maker_at-clause-tallied
@@ -27,7 +27,7 @@ returns-then-is_maker_at-clause-tallied c =
     let tally = c.in-Some.tally.now in
     let there = sym c.in-Some.ensures.value in
     let written = c.get_mut.follows.holds (record { first = tally.first; count = tally.count + 1 }) in
-    now_more (map row_of c.args.nodes.now.entries) c.args.at c.args.who.now c.requires.here c.digest-digest.result c.digest-digest.ensures c.args.made.now.entries c.requires.before tally there _ (sym c.is_maker_at.ensures ∙ c.if-is_maker_at.true) (written.3 (ap is_some there)).0 written.2
+    now_more c.args.seed (map row_of c.args.nodes.now.entries) c.args.at c.args.who.now c.requires.here c.bare_digest-digest.result c.bare_digest-digest.ensures.digest c.args.made.now.entries c.requires.before tally there _ (sym c.is_maker_at.ensures ∙ c.if-is_maker_at.true) (written.3 (ap is_some there)).0 written.2
 
 pub returns-else-is_maker_at-clause-tallied : goal.returns-else-is_maker_at-clause-tallied
 returns-else-is_maker_at-clause-tallied c =
@@ -36,8 +36,8 @@ returns-else-is_maker_at-clause-tallied c =
     let written = c.get_mut.follows.holds tally in
     let same = written.0 ∙ set_value_same _ c.args.made.now.entries tally there in
     let rows = map row_of c.args.nodes.now.entries in
-    subst (λ es. IsTallied (take (c.args.at + 1) rows) es) (sym same)
-    (now_same rows c.args.at c.args.who.now c.requires.here c.digest-digest.result c.digest-digest.ensures c.args.made.now.entries c.requires.before tally there (sym c.is_maker_at.ensures ∙ c.if-is_maker_at.false))
+    subst (λ es. IsTallied c.args.seed (take (c.args.at + 1) rows) es) (sym same)
+    (now_same c.args.seed rows c.args.at c.args.who.now c.requires.here c.bare_digest-digest.result c.bare_digest-digest.ensures.digest c.args.made.now.entries c.requires.before tally there (sym c.is_maker_at.ensures ∙ c.if-is_maker_at.false))
 
 pub returns-in-None-clause-tallied : goal.returns-in-None-clause-tallied
 returns-in-None-clause-tallied c =
@@ -49,4 +49,4 @@ returns-in-None-clause-tallied c =
     let ok = rw same at c.insert.ensures.succeeds in
     let updates = rw same at c.insert.ensures.updates in
     let len = rw same at c.insert.ensures.len in
-    now_new rows c.args.at c.args.who.now c.requires.here c.digest-digest.result c.digest-digest.ensures made.entries c.requires.before c.insert.new.self.entries (sym c.in-None.ensures.value) (on_ok c.insert.result _ (ok room) updates).0 (one_longer c.insert.result _ _ (ok room) len)
+    now_new c.args.seed rows c.args.at c.args.who.now c.requires.here c.bare_digest-digest.result c.bare_digest-digest.ensures.digest made.entries c.requires.before c.insert.new.self.entries (sym c.in-None.ensures.value) (on_ok c.insert.result _ (ok room) updates).0 (one_longer c.insert.result _ _ (ok room) len)

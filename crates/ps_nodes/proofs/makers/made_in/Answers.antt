@@ -9,5 +9,5 @@ pub returns-then-is_maker_at : goal.returns-then-is_maker_at
 returns-then-is_maker_at c =
     let tally = c.in-Some.tally.now in
     let tallies = c.args.made.now.entries in
-    let there = subst (λ d. lookup (nat_eq d) tallies ≡ Some tally) c.digest.ensures (sym c.in-Some.ensures.value) in
-    made_tallied c.args.who.now (map row_of c.args.nodes.now.entries) tallies tally c.requires there (sym c.is_maker_at.ensures ∙ c.if-is_maker_at.true)
+    let there = subst (λ d. lookup (nat_eq d) tallies ≡ Some tally) c.bare_digest.ensures.digest (sym c.in-Some.ensures.value) in
+    made_tallied c.args.seed c.args.who.now (map row_of c.args.nodes.now.entries) tallies tally c.requires there (sym c.is_maker_at.ensures ∙ c.if-is_maker_at.true)

@@ -6,6 +6,6 @@ use Rattle.ps_nodes.proofs.makers.tally_all.Goals as goal
 
 pub loop-at-init : goal.loop-at-init
 loop-at-init c = record {
-  tallied = subst (λ es. IsTallied [] es) (sym c.clear.ensures.empty) tallied_none;
+  tallied = subst (λ es. IsTallied c.args.seed [] es) (sym c.clear.ensures.empty) (tallied_none c.args.seed);
   room = omega (arith, c.clear.ensures.capacity);
 }

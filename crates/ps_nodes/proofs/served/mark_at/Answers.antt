@@ -10,8 +10,8 @@ pub returns-in-Some-clause-marked : goal.returns-in-Some-clause-marked
 returns-in-Some-clause-marked c =
     let rows : List NodeRow = map row_of c.args.nodes.now.entries in
     c.push.ensures.rows
-    ∙ (ap (λ r. r ++ Some c.digest_at.result ∷ []) c.requires.before
-    ∙ (ap (λ d. service_marks (take c.args.at rows) ++ Some d ∷ []) c.digest_at.ensures.digest ∙ sym (marks-more rows c.args.at (row_seen c.in-Some.row) c.in-Some.ensures)))
+    ∙ (ap (λ r. r ++ Some c.bare_digest.result ∷ []) c.requires.before
+    ∙ (ap (λ d. service_marks c.args.seed (take c.args.at rows) ++ Some d ∷ []) c.bare_digest.ensures.digest ∙ sym (marks-more c.args.seed rows c.args.at (row_seen c.in-Some.row) c.in-Some.ensures)))
 
 pub returns-in_default-clause-marked : goal.returns-in_default-clause-marked
 returns-in_default-clause-marked c =

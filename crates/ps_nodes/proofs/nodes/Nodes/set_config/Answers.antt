@@ -12,11 +12,11 @@ invariant_of-self c =
     let kept = c.self.invariant in
     let changed = c.set_config_in.ensures in
     let rows = map row_of c.self.inside.nodes.entries in
-    let stayed = tallied_same rows _ (makers_stay (is_node c.args.node.now) c.args.config rows) c.self.inside.made.entries kept.kept.tallied in
+    let stayed = tallied_same c.self.inside.seed rows _ (makers_stay (is_node c.args.node.now) c.args.config rows) c.self.inside.made.entries kept.kept.tallied in
     record {
       kept = record {
-        tallied = subst (λ l. IsTallied l c.self.inside.made.entries) (sym changed.rows) stayed;
+        tallied = subst (λ l. IsTallied c.self.inside.seed l c.self.inside.made.entries) (sym changed.rows) stayed;
         held = omega (arith, changed.len, kept.kept.held);
       };
-      marked = kept.marked ∙ sym (ap service_marks changed.rows ∙ marks-change (is_node c.args.node.now) c.args.config rows);
+      marked = kept.marked ∙ sym (ap (service_marks c.self.inside.seed) changed.rows ∙ marks-change c.self.inside.seed (is_node c.args.node.now) c.args.config rows);
     }

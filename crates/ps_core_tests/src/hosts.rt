@@ -1,0 +1,109 @@
+// A service goes through lines on several hosts.
+use crate::lines::{answered_on, boot, says, take};
+use crate::rows::{Step, access, bookmarks, capabilities, collections, dealt, rosters, streams};
+use ps_core::Service;
+use ps_types::{Entry, Jid, Text};
+use std::alloc::Global;
+use std::process::Abort;
+use std::test::Fail;
+
+// Each line that makes an entry has a later number than the lines of the entries before.
+fn takes(rt: &impl Abort, alloc: Global, service: &mut Service, step: &Step) -> Result<(), Fail> {
+    let before = service.count();
+    match step {
+        Step::Line {
+            host,
+            line,
+            reply,
+            makes,
+        } => {
+            let said = answered_on(rt, alloc, service, host, before, line)?;
+            says(rt, &said, reply);
+            assert_eq!(rt; service.count() != before, *makes);
+            Ok(())
+        }
+        Step::Gone(host) => {
+            let gone = Entry::Gone {
+                host: Text::of(alloc, host)?,
+            };
+            take(rt, service, &gone)
+        }
+        Step::Boot => boot(rt, alloc, service),
+    }
+}
+
+fn goes(rt: &impl Abort, alloc: Global, service: &mut Service, steps: &[Step]) -> Result<(), Fail> {
+    boot(rt, alloc, service)?;
+    for step in steps {
+        takes(rt, alloc, service, step)?;
+    }
+    Ok(())
+}
+
+#[test]
+fn who_may_do_what_is_asked(rt: HostRuntime) -> Result<(), Fail> {
+    let mut service = Service::new(rt.alloc())?;
+    goes(&rt, rt.alloc(), &mut service, &access::STEPS)
+}
+
+#[test]
+fn personal_nodes_are_read_by_rosters(rt: HostRuntime) -> Result<(), Fail> {
+    let mut service = Service::new(rt.alloc())?;
+    goes(&rt, rt.alloc(), &mut service, &rosters::STEPS)
+}
+
+#[test]
+fn bookmarks_are_kept(rt: HostRuntime) -> Result<(), Fail> {
+    let mut service = Service::new(rt.alloc())?;
+    goes(&rt, rt.alloc(), &mut service, &bookmarks::STEPS)
+}
+
+#[test]
+fn nodes_stay_in_their_collections(rt: HostRuntime) -> Result<(), Fail> {
+    let mut service = Service::new(rt.alloc())?;
+    goes(&rt, rt.alloc(), &mut service, &collections::STEPS)
+}
+
+#[test]
+fn resources_end_with_their_stream(rt: HostRuntime) -> Result<(), Fail> {
+    let mut service = Service::new(rt.alloc())?;
+    goes(&rt, rt.alloc(), &mut service, &streams::STEPS)
+}
+
+#[test]
+fn two_hosts_are_answered(rt: HostRuntime) -> Result<(), Fail> {
+    let mut service = Service::new(rt.alloc())?;
+    goes(&rt, rt.alloc(), &mut service, &dealt::STEPS)
+}
+
+// How many features are known of the resource, or none where it isn't there.
+fn known(alloc: Global, service: &Service, who: &str) -> Result<Option<usize>, Fail> {
+    let who = Jid::read(alloc, who.as_bytes())?;
+    Ok(match service.tables().presence.resource(&who) {
+        Some(row) => Some(row.features.as_slice().len()),
+        None => None,
+    })
+}
+
+// An answer of another hash counts for its sender alone; an exact one counts for all who show the hash.
+fn verifies(rt: &impl Abort, alloc: Global, service: &mut Service) -> Result<(), Fail> {
+    goes(rt, alloc, service, &capabilities::STEPS)?;
+    for (who, features) in [
+        ("bob@b.example/p", Some(5)),
+        ("bob@b.example/q", Some(4)),
+        ("bob@b.example/r", Some(4)),
+        ("ann@a.example/1", Some(4)),
+        ("bob@b.example/z", None),
+    ] {
+        let found = known(alloc, service, who)?;
+        assert_eq!(rt; found, features);
+    }
+    assert_eq!(rt; service.tables().cache.len(), 1);
+    Ok(())
+}
+
+#[test]
+fn an_exact_answer_counts_for_all(rt: HostRuntime) -> Result<(), Fail> {
+    let mut service = Service::new(rt.alloc())?;
+    verifies(&rt, rt.alloc(), &mut service)
+}

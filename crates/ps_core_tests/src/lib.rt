@@ -1,0 +1,17 @@
+//! Tests of `ps_change` and `ps_core`: lines over a service in memory, on one host and on several.
+//!
+//! They stand in a crate of their own, since a crate with tests is proved twice. Nothing stands on this crate, and it has no public function.
+#![tactic(auto)]
+
+#[cfg(test)]
+mod changes;
+#[cfg(test)]
+mod hosts;
+#[cfg(test)]
+mod lines;
+#[cfg(test)]
+mod preparing;
+#[cfg(test)]
+mod rows;
+#[cfg(test)]
+mod service;
