@@ -7,14 +7,14 @@ use Rattle.ps_types.specs.Links.{above}
 use Rattle.ps_types.specs.Namespaces.{event_ns}
 use Rattle.ps_types.specs.Nodes.{config_at}
 use Rattle.ps_types.specs.Resources.{is_present}
-use Rattle.ps_types.specs.Tree.{Tree, tree, Nodes, none, branch}
+use Rattle.ps_types.specs.Tree.{Tree, tree, none, branch}
 use Rattle.ps_types.specs.declared.config.NodeConfig.{NodeConfig}
 use Rattle.ps_types.specs.declared.jid.Jid.{Jid}
 use Rattle.ps_types.specs.declared.node.NodeKey.{NodeKey}
 use Rattle.ps_model.specs.Book.{Book}
-use Rattle.ps_model.specs.Due.{About, about_new, about_node, always, may_pass, may_read, node_notice, one_way, told_about}
+use Rattle.ps_model.specs.Due.{About, about_new, about_node, may_pass, may_read, node_notice, one_way, told_about}
 use Rattle.ps_model.specs.Given.{given}
-use Rattle.ps_model.specs.NoticeTrees.{associate_tree, header_nodes, kind_attr, message}
+use Rattle.ps_model.specs.NoticeTrees.{associate_tree, kind_attr, message}
 use Rattle.ps_model.specs.Ways as ways
 use Rattle.ps_model.specs.Ways.{is_interested, way_above, way_to, way_to_new}
 use Rattle.ps_fanout.specs.Hearing.{Tells, behind, heard_by, hears, way_by}

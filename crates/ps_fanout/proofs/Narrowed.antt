@@ -1,6 +1,6 @@
 -- What is given depends on those alone that are given something.
 use Rattle.std.proofs.Common.{◌≡◌, ◌⊎◌, inl, inr, Bool, true, false, cond, List, [], ◌∷◌, Option, Some, None, refl, sym, ap, ap₂, ◌∙◌}
-use Rattle.std.specs.Prelude.{filter, filter_map, is_some, option_map}
+use Rattle.std.specs.Prelude.{filter, is_some, option_map}
 use Rattle.std.specs.List.{AllByRecursion as Each, cons_option}
 use Rattle.std.specs.declared.cmp.Ordering.TheVariants.{Less}
 use Rattle.ps_types.specs.Address.{IsAddress}

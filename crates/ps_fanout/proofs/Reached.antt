@@ -1,13 +1,12 @@
 -- Whoever hears of an event is among those that are asked.
 use Rattle.std.proofs.Common.{◌≡◌, ◌⊎◌, inl, inr, Bool, true, false, cond, ℕ, List, [], ◌∷◌, ◌++◌, Option, Some, None, map, refl, sym, ap, ◌∙◌}
-use Rattle.std.specs.Prelude.{◌&&◌, ◌||◌, not, filter, find, flat_map, is_some, option_map, bytes_eq}
+use Rattle.std.specs.Prelude.{◌&&◌, ◌||◌, not, filter, flat_map, is_some, option_map, bytes_eq}
 use Rattle.std.specs.List.{list_any, AllByRecursion as Each}
 use Rattle.std.proofs.lemmas.Bool.{and_parts, true≢false}
 use Rattle.ps_types.specs.Address.{IsAddress}
 use Rattle.ps_types.specs.Resources.{features_in, notify_feature, resource_at, wants}
 use Rattle.ps_types.specs.Same.{same_jid, same_node}
-use Rattle.ps_types.specs.Subs.{is_sub_at, is_sub_of, is_subscribed, state_in, sub_at, sub_row, subs_of}
-use Rattle.ps_types.specs.Tree.{Tree}
+use Rattle.ps_types.specs.Subs.{is_sub_at, is_subscribed, state_in, sub_at, sub_row, subs_of}
 use Rattle.ps_types.specs.declared.jid.Jid.{Jid}
 use Rattle.ps_types.specs.declared.node.NodeKey.{NodeKey}
 use Rattle.ps_types.specs.declared.rows.ResourceRow.{ResourceRow}

@@ -1,5 +1,5 @@
 -- An event of a node as it is worked: who hears of it, by which way, and by what tree.
-use Rattle.std.specs.Prelude.{◌≡◌, Bool, true, false, not, ◌&&◌, ◌||◌, cond, List, [], ◌∷◌, ◌++◌, map, flat_map, Option, Some, None, option_map, if◌then◌else◌}
+use Rattle.std.specs.Prelude.{◌≡◌, Bool, true, false, not, ◌&&◌, ◌||◌, cond, List, [], ◌++◌, map, flat_map, Option, Some, None, option_map, if◌then◌else◌}
 use Rattle.ps_types.specs.Resources.{is_present}
 use Rattle.ps_types.specs.Subs.{is_subscribed, sub_at, subs_of}
 use Rattle.ps_types.specs.Tree.{Tree, Nodes, none, branch}

@@ -1,4 +1,4 @@
-use Rattle.std.proofs.Common.{ap, sym, ◌∙◌, Bool, false}
+use Rattle.std.proofs.Common.{ap, sym, ◌∙◌, Bool}
 use Rattle.ps_types.specs.Tree.{Tree, branch, none}
 use Rattle.ps_model.specs.NoticeTrees.{header_nodes}
 use Rattle.ps_fanout.specs.Hearing.{behind, way_seen}

@@ -1,5 +1,4 @@
-use Rattle.std.proofs.Common.{◌≡◌, ◌<◌, List, [], ◌∷◌, ◌++◌, length, Option, None, ap, sym, ◌∙◌, arith}
-use Rattle.ps_types.specs.Tree.{Tree}
+use Rattle.std.proofs.Common.{◌<◌, [], ◌∷◌, ◌++◌, length, ap, sym, ◌∙◌, arith}
 use Rattle.ps_types.specs.declared.jid.Jid.{Jid}
 use Rattle.ps_access.specs.Tables.{book_of}
 use Rattle.ps_fanout.specs.Hearing.{hears}

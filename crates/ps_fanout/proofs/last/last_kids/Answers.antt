@@ -1,4 +1,4 @@
-use Rattle.std.proofs.Common.{ap, sym, ◌∙◌, Option, ℕ}
+use Rattle.std.proofs.Common.{ap, ◌∙◌, Option, ℕ}
 use Rattle.ps_model.specs.NoticeTrees.{delay_nodes}
 use Rattle.ps_fanout.proofs.Kids.{two-kids}
 use Rattle.ps_fanout.proofs.last.last_kids.Goals as goal
