@@ -46,19 +46,26 @@ def discover(k, target, namespace, node=""):
     return '{"a":{"from":"%s/1","id":"%d","to":"%s","type":"get"},"c":[{%s"n":"query","ns":"%s"}],"n":"iq"}\n' % (account(k), k, target, named, namespace)
 
 
-def features(count):
-    return ["urn:f%03d+notify" % at for at in range(count)]
+def features(count, kind=0):
+    """The features of a kind of client, in the order of their octets."""
+    return ["urn:f%03d:%d+notify" % (at, kind) for at in range(count)]
 
 
-def ver(count):
+def ver(count, kind=0):
     """The hash of an answer with these features alone (XEP-0115 section 5)."""
-    return base64.b64encode(hashlib.sha1("".join(it + "<" for it in features(count)).encode()).digest()).decode()
+    return base64.b64encode(hashlib.sha1("".join(it + "<" for it in features(count, kind)).encode()).digest()).decode()
 
 
-def answer(k, count):
-    told = ",".join('{"a":{"var":"%s"},"n":"feature"}' % it for it in features(count))
-    query = '{"a":{"node":"urn:n#%s"},"c":[%s],"n":"query","ns":"%s"}' % (ver(count), told, INFO)
-    return '{"a":{"from":"%s/1","id":"n-1","to":"pubsub.example","type":"result"},"c":[%s],"n":"iq"}\n' % (account(k), query)
+def answer(who, count, kind=0):
+    told = ",".join('{"a":{"var":"%s"},"n":"feature"}' % it for it in features(count, kind))
+    query = '{"a":{"node":"urn:n#%s"},"c":[%s],"n":"query","ns":"%s"}' % (ver(count, kind), told, INFO)
+    return '{"a":{"from":"%s/1","id":"n-1","to":"pubsub.example","type":"result"},"c":[%s],"n":"iq"}\n' % (who, query)
+
+
+def client(k):
+    """A new resource of a kind of client that nobody had, which is present and answers with 256 features."""
+    who = "client%d@a.example" % k
+    return PRESENT % (who, ver(256, k + 1)) + answer(who, 256, k + 1)
 
 
 def silent(lines):
@@ -76,7 +83,7 @@ def kept_in(collection, k):
 
 def rows_before(accounts):
     first = [corpus.phase("", accounts, lambda k: publish(k, "urn:t")), corpus.phase("", accounts, lambda k: contact(k, account(k + 1), "both"))]
-    first.append(("", silent([PRESENT % (account(k), ver(3)) for k in range(accounts)] + [answer(0, 3)])))
+    first.append(("", silent([PRESENT % (account(k), ver(3)) for k in range(accounts)] + [answer(account(0), 3)])))
     return first + [("", [kept_in("shelf", None)]), corpus.phase("", accounts // 10, lambda k: kept_in("shelf", k))]
 
 
@@ -92,7 +99,7 @@ def asked(accounts):
         ("present", silent([PRESENT % ("new%d@a.example" % k, "AAAA") for k in some])),
         ("absent", silent([ABSENT % ("new%d@a.example" % k) for k in some])),
         ("present, known", silent([PRESENT % ("new%d@a.example" % k, ver(3)) for k in some])),
-        ("answer, 256", silent([PRESENT % (account(who(k)), ver(256)) + answer(who(k), 256) for k in range(REQUESTS // 10)])),
+        ("answer, 256", silent([client(k) for k in range(REQUESTS // 10)])),
         corpus.phase("info", REQUESTS, lambda k: discover(k, "pubsub.example", INFO, "shelf")),
         corpus.phase("nodes", REQUESTS, lambda k: discover(who(k), account(who(k)), ITEMS)),
         corpus.phase("node's items", REQUESTS, lambda k: discover(who(k), account(who(k)), ITEMS, "urn:t")),

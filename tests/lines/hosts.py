@@ -3,6 +3,8 @@
     python3 tests/lines/hosts.py            writes crates/ps_core_tests/src/rows/NAME.rt for each hosts/NAME.txt
     python3 tests/lines/hosts.py --check    compares them, and ends with 1 where they differ
 
+A table has three lines for each step: whose stream it is on, the line, and the reply (specified in `src/rows.rt` there).
+
 A file begins with a service that was just booted. Its cases are those of make.py, but that WHO is `name@a` or `name@b`, of the host
 `a.example` or `b.example`, and that the reply of a line which makes an entry begins with `* `. A line `gone b` ends the stream of that
 host, and a line `boot` boots the service again.
@@ -34,37 +36,23 @@ def sent(number, text):
     return host, notation.line_of(root), head
 
 
-def literal(line):
-    text = (line or b"").decode()
-    if not text:
-        return '""'
-    marks = "#"
-    while f'"{marks}' in text:
-        marks += "#"
-    return f'r{marks}"{text}"{marks}'
-
-
-def row(host, line, reply, makes):
-    return f"""    Step::Line {{
-        host: "{host}",
-        line: {literal(line)},
-        reply: {literal(reply)},
-        makes: {'true' if makes else 'false'},
-    }},"""
+def record(head, line=b"", reply=b""):
+    """A step, as three lines of the table."""
+    return [head, line.decode(), (reply or b"").decode()]
 
 
 def steps(path):
-    """The steps of a file, as they are written."""
+    """The steps of a file, each as its three lines."""
     lines = [line for line in path.read_text().splitlines() if line.strip() and not line.startswith("#")]
     found, at = [], 0
     while at < len(lines):
         text = lines[at]
         at += 1
         if text == "boot":
-            found.append("    Step::Boot,")
+            found.append(record("boot"))
             continue
         if text.startswith("gone "):
-            found.append(f'    Step::Gone("{text[5:]}.example"),')
+            found.append(record(f"{text}.example"))
             continue
         reply = lines[at].strip()
         at += 1
@@ -72,15 +60,17 @@ def steps(path):
             makes = answer.startswith("* ")
             number = len(found) + 1
             host, line, head = sent(number, one)
-            found.append(row(host, line, make.received(number, head, answer.removeprefix("* ")), makes))
+            found.append(record(host + " makes" * makes, line, make.received(number, head, answer.removeprefix("* "))))
     return found
 
 
 def content(path):
     title = path.read_text().splitlines()[0].removeprefix("# ")
-    found = steps(path)
-    body = "\n".join(found)
-    return f"// {title}\n// Made by tests/lines/hosts.py from the cases in tests/lines/hosts/{path.name}.\nuse super::Step;\n\npub const STEPS: [Step; {len(found)}] = [\n{body}\n];\n"
+    table = "\n".join(line for step in steps(path) for line in step)
+    marks = "#"
+    while f'"{marks}' in table:
+        marks += "#"
+    return f'// {title}\n// Made by tests/lines/hosts.py from the cases in tests/lines/hosts/{path.name}.\npub const ROWS: &str = r{marks}"{table}\n"{marks};\n'
 
 
 def main():

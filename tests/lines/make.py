@@ -1,6 +1,6 @@
 """Makes the input and the output of the program's own run from the cases, or checks that they are those of the cases.
 
-    python3 tests/lines/make.py            writes crates/pubsubd/data/in.txt and crates/pubsubd/stdout
+    python3 tests/lines/make.py            writes crates/pubsubd/data/in.txt and tests/lines/replies.txt
     python3 tests/lines/make.py --check    compares them, and ends with 1 where they differ
 
 A case is a line that is sent and, indented below it, the reply. Lines that begin with `#` are comments. What is sent:
@@ -170,7 +170,7 @@ def main():
     # The last line has no newline.
     files = {
         PROGRAM / "data" / "in.txt": b"\n".join(lines),
-        PROGRAM / "stdout": b"".join(answer + b"\n" for answer in answers),
+        HERE / "replies.txt": b"".join(answer + b"\n" for answer in answers),
     }
     if "--check" not in sys.argv[1:]:
         for path, content in files.items():

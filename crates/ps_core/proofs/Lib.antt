@@ -6,3 +6,5 @@ pub mod Named
 pub mod Staged
 pub mod Taken
 pub mod Requests
+pub mod Resources
+pub mod Followed

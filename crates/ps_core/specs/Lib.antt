@@ -4,3 +4,4 @@ pub mod Stages
 pub mod Answers
 pub mod Lines
 pub mod Requests
+pub mod Wants

@@ -10,11 +10,14 @@ ghost use Rattle.ps_access.specs.Tables.{book_of};
 ghost use Rattle.ps_core.specs.Counted.{AreCounted};
 ghost use Rattle.ps_core.specs.Requests.{IsRequestOf};
 ghost use Rattle.ps_core.specs.States.{state_of, changed_state};
+ghost use Rattle.ps_core.specs.Wants.{HasWants};
 
 use crate::lines::Lines;
+use crate::wanting::follow_request;
 use ps_access::Tables;
 use ps_base::Memory;
 use ps_change::change;
+use ps_filter::Wants;
 use ps_presence::Presence;
 use ps_request::{TakenTree, take_tree};
 use ps_types::{Elem, Entry, LineRow, Request, Text};
@@ -25,6 +28,8 @@ pub struct Half {
     pub tables: Tables,
     pub count: u64,
     pub lines: Lines,
+    /// What each resource wants, by the features of its row.
+    pub wants: Wants,
     /// What the digests of its tables go by.
     pub seed: u64,
 }
@@ -36,6 +41,7 @@ impl Drop for Half {
             tables: _,
             count: _,
             lines: _,
+            wants: _,
             seed: _,
         } = self;
     }
@@ -45,11 +51,13 @@ impl Half {
     /// The empty State, of which the tables' digests go by a seed.
     pub fn seeded(alloc: Global, seed: u64) -> Result<Half, Memory>
         ensures state { IfOk result (λ h. state_of h ≡ empty_state) }
+        ensures wants { IfOk result HasWants }
     {
         Ok(Half {
             tables: Tables::seeded(alloc, seed)?,
             count: 0,
             lines: Lines::new(alloc),
+            wants: Wants::seeded(alloc, seed)?,
             seed,
         })
     }
@@ -57,11 +65,13 @@ impl Half {
     /// A copy with the same State.
     pub fn copy(&self) -> Result<Half, Memory>
         ensures state { IfOk result (λ h. state_of h ≡ state_of self.now) }
+        ensures wants { IfOk result (λ h. h.wants.rows ≡ self.now.wants.rows) }
     {
         Ok(Half {
             tables: self.tables.copy()?,
             count: self.count,
             lines: self.lines.copy()?,
+            wants: self.wants.copy()?,
             seed: self.seed,
         })
     }
@@ -71,7 +81,9 @@ impl Half {
         requires accepted { accepted (state_of self.old) entry.now ≡ true }
         requires few { self.old.count < 2 ^ 62 }
         requires counted { AreCounted (state_of self.old) }
+        requires wants { HasWants self.old }
         ensures state { OnOk result (state_of self.new ≡ after (state_of self.old) entry.now) }
+        ensures wants { OnOk result (HasWants self.new) }
         ensures request { IfOk result (λ r. IsRequestOf self.old.tables.service entry.now r) }
     {
         match entry {
@@ -106,8 +118,10 @@ impl Half {
         requires accepted { accepted (state_of self.old) entry.now ≡ true }
         requires few { self.old.count < 2 ^ 62 }
         requires counted { AreCounted (state_of self.old) }
+        requires wants { HasWants self.old }
         requires request { IsRequestOf self.old.tables.service entry.now request.now }
         ensures state { OnOk result (state_of self.new ≡ after (state_of self.old) entry.now) }
+        ensures wants { OnOk result (HasWants self.new) }
     {
         match entry {
             Entry::Boot { service } => self.boot(alloc, service),
@@ -131,9 +145,11 @@ impl Half {
     fn boot(&mut self, alloc: Global, service: &Text) -> Result<(), Memory>
         requires few { self.old.count < 2 ^ 62 }
         ensures state { OnOk result (state_of self.new ≡ after (state_of self.old) (Boot service.now)) }
+        ensures wants { OnOk result (HasWants self.new) }
     {
         self.tables.service = service.clone()?;
         self.tables.presence = Presence::seeded(alloc, self.seed)?;
+        self.wants = Wants::seeded(alloc, self.seed)?;
         self.lines = Lines::new(alloc);
         self.count += 1;
         Ok(())
@@ -141,9 +157,12 @@ impl Half {
 
     fn leave(&mut self, host: &Text)
         requires few { self.old.count < 2 ^ 62 }
+        requires wants { HasWants self.old }
         ensures state { state_of self.new ≡ after (state_of self.old) (Gone host.now) }
+        ensures wants { HasWants self.new }
     {
         self.tables.presence.clear_host(host);
+        self.wants.clear_host(host);
         self.count += 1;
     }
 
@@ -158,7 +177,9 @@ impl Half {
         requires accepted { accepted (state_of self.old) (Change host.now line moment tree.now) ≡ true }
         requires few { self.old.count < 2 ^ 62 }
         requires counted { AreCounted (state_of self.old) }
+        requires wants { HasWants self.old }
         ensures state { OnOk result (state_of self.new ≡ after (state_of self.old) (Change host.now line moment tree.now)) }
+        ensures wants { OnOk result (HasWants self.new) }
         ensures request { IfOk result (λ r. asked tree.now r ≡ tree_taken host.now self.old.tables.service tree.now) }
     {
         let request = self.request_of(alloc, host, line, moment, tree)?;
@@ -197,8 +218,10 @@ impl Half {
         requires accepted { accepted (state_of self.old) (Change host.now line moment _tree.now) ≡ true }
         requires few { self.old.count < 2 ^ 62 }
         requires counted { AreCounted (state_of self.old) }
+        requires wants { HasWants self.old }
         requires asked { asked _tree.now request.now ≡ tree_taken host.now self.old.tables.service _tree.now }
         ensures state { OnOk result (state_of self.new ≡ after (state_of self.old) (Change host.now line moment _tree.now)) }
+        ensures wants { OnOk result (HasWants self.new) }
     {
         self.take_request(host, line, moment, alloc, request)
     }
@@ -214,7 +237,9 @@ impl Half {
         requires accepted { makes_entry (book_of self.old.tables) request.now ≡ true }
         requires few { self.old.count < 2 ^ 62 }
         requires counted { AreCounted (state_of self.old) }
+        requires wants { HasWants self.old }
         ensures state { OnOk result (state_of self.new ≡ changed_state request.now moment host.now line (state_of self.old)) }
+        ensures wants { OnOk result (HasWants self.new) }
     {
         let row = LineRow {
             host: host.clone()?,
@@ -222,6 +247,7 @@ impl Half {
         };
         self.lines.reserve(1)?;
         change(&mut self.tables, alloc, request, moment)?;
+        follow_request(&mut self.wants, alloc, &self.tables.presence, request)?;
         self.lines.set(row);
         self.count += 1;
         Ok(())

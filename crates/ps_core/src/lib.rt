@@ -3,7 +3,8 @@
 //! [`Service::answer`] is the model's reply and entry of a line at the State. [`Service::accepts`] says whether an entry is accepted
 //! there; [`Service::prepare`] and [`Service::commit`] take it, in two steps, so that nothing fails once the journal has it, and
 //! [`Service::apply`] is both. The second copy is edited while the first one stands, so want of memory changes nothing.
-//! A contract sees a service as its State and the entry that is prepared (`specs/Stages.antt`).
+//! A contract sees a service as its State and the entry that is prepared (`specs/Stages.antt`). Beside the tables stands what each
+//! resource wants by its features (`specs/Wants.antt`), which [`Service::wants`] hands out.
 #![tactic(auto)]
 
 mod accepting;
@@ -13,6 +14,7 @@ mod lines;
 mod plans;
 mod service;
 mod taking;
+mod wanting;
 
 pub use answers::{Answer, WithRequest};
 pub use half::Half;

@@ -9,12 +9,15 @@ ghost use Rattle.ps_core.specs.Counted.{AreCounted};
 ghost use Rattle.ps_core.specs.Requests.{IsRequestOf};
 ghost use Rattle.ps_core.specs.States.{state_of};
 ghost use Rattle.ps_core.specs.Stages.{IsStage, stage_committed};
+ghost use Rattle.ps_core.specs.Wants.{BackHasWants, HasWants};
+ghost use Rattle.ps_filter.specs.Wants.{AreWants};
 
 use crate::accepting::accepts_at;
 use crate::answers::{Answer, WithRequest, answer_at};
 use crate::half::Half;
 use ps_access::Tables;
 use ps_base::Memory;
+use ps_filter::Wants;
 use ps_types::{Arrival, Entry, Request, Text};
 use std::alloc::Global;
 use std::marker::Model;
@@ -72,6 +75,7 @@ impl Drop for Service {
 impl Model for Service {
     ghost use Rattle.ps_core.specs.States.{state_of};
     ghost use Rattle.ps_core.specs.Stages.{Held, IsKept, prepared_in};
+    ghost use Rattle.ps_core.specs.Wants.{HaveWants};
 
     ghost Value = { Held };
 
@@ -82,7 +86,7 @@ impl Model for Service {
 
     ghost view = { λ s. record { state = state_of s.front; prepared = prepared_in s.stage } };
 
-    ghost invariant = { λ s. IsKept s.stage (state_of s.front) (state_of s.back) };
+    ghost invariant = { λ s. IsKept s.stage (state_of s.front) (state_of s.back) × HaveWants s.stage s.front s.back };
 }
 
 impl Service {
@@ -112,6 +116,13 @@ impl Service {
         ensures book { book_of result.now ≡ self.now.state.book }
     {
         &self.front.tables
+    }
+
+    /// What each resource that is present wants by its features.
+    pub fn wants(&self) -> &Wants
+        ensures wants { AreWants result.now.rows self.now.state.book.resources }
+    {
+        &self.front.wants
     }
 
     /// How many entries the State has.
@@ -221,7 +232,10 @@ impl Service {
 fn bring_up(front: &Half, back: &mut Half, alloc: Global, stage: Stage) -> Result<(), Memory>
     requires counted { AreCounted (state_of front.now) }
     requires stage { IsStage stage (state_of front.now) (state_of back.old) }
+    requires front_wants { HasWants front.now }
+    requires back_wants { BackHasWants stage back.old }
     ensures even { OnOk result (state_of back.new ≡ state_of front.now) }
+    ensures wants { OnOk result (HasWants back.new) }
 {
     match stage {
         Stage::Even => Ok(()),

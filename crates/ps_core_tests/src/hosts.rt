@@ -1,6 +1,6 @@
 // A service goes through lines on several hosts.
 use crate::lines::{answered_on, boot, says, take};
-use crate::rows::{Step, access, bookmarks, capabilities, collections, dealt, rosters, streams};
+use crate::rows::{access, bookmarks, capabilities, collections, dealt, rosters, streams};
 use ps_core::Service;
 use ps_types::{Entry, Jid, Text};
 use std::alloc::Global;
@@ -8,33 +8,52 @@ use std::process::Abort;
 use std::test::Fail;
 
 // Each line that makes an entry has a later number than the lines of the entries before.
-fn takes(rt: &impl Abort, alloc: Global, service: &mut Service, step: &Step) -> Result<(), Fail> {
+fn answers(
+    rt: &impl Abort,
+    alloc: Global,
+    service: &mut Service,
+    head: &str,
+    line: &str,
+    reply: &str,
+) -> Result<(), Fail> {
     let before = service.count();
-    match step {
-        Step::Line {
-            host,
-            line,
-            reply,
-            makes,
-        } => {
-            let said = answered_on(rt, alloc, service, host, before, line)?;
-            says(rt, &said, reply);
-            assert_eq!(rt; service.count() != before, *makes);
-            Ok(())
-        }
-        Step::Gone(host) => {
-            let gone = Entry::Gone {
-                host: Text::of(alloc, host)?,
-            };
-            take(rt, service, &gone)
-        }
-        Step::Boot => boot(rt, alloc, service),
+    let (host, makes) = match head.strip_suffix(" makes") {
+        Some(host) => (host, true),
+        None => (head, false),
+    };
+    let said = answered_on(rt, alloc, service, host, before, line)?;
+    says(rt, &said, reply);
+    assert_eq!(rt; service.count() != before, makes);
+    Ok(())
+}
+
+fn leaves(rt: &impl Abort, alloc: Global, service: &mut Service, host: &str) -> Result<(), Fail> {
+    let gone = Entry::Gone {
+        host: Text::of(alloc, host)?,
+    };
+    take(rt, service, &gone)
+}
+
+fn takes(rt: &impl Abort, alloc: Global, service: &mut Service, step: &[&str]) -> Result<(), Fail> {
+    let [head, line, reply] = step else {
+        return Err(Fail::new("no step"));
+    };
+    if *head == "boot" {
+        return boot(rt, alloc, service);
+    }
+    match head.strip_prefix("gone ") {
+        Some(host) => leaves(rt, alloc, service, host),
+        None => answers(rt, alloc, service, head, line, reply),
     }
 }
 
-fn goes(rt: &impl Abort, alloc: Global, service: &mut Service, steps: &[Step]) -> Result<(), Fail> {
+fn goes(rt: &impl Abort, alloc: Global, service: &mut Service, rows: &str) -> Result<(), Fail> {
     boot(rt, alloc, service)?;
-    for step in steps {
+    let mut lines = Vec::new(alloc);
+    for line in rows.lines() {
+        lines.push(line)?;
+    }
+    for step in lines.chunks(3) {
         takes(rt, alloc, service, step)?;
     }
     Ok(())
@@ -43,37 +62,37 @@ fn goes(rt: &impl Abort, alloc: Global, service: &mut Service, steps: &[Step]) -
 #[test]
 fn who_may_do_what_is_asked(rt: HostRuntime) -> Result<(), Fail> {
     let mut service = Service::new(rt.alloc())?;
-    goes(&rt, rt.alloc(), &mut service, &access::STEPS)
+    goes(&rt, rt.alloc(), &mut service, access::ROWS)
 }
 
 #[test]
 fn personal_nodes_are_read_by_rosters(rt: HostRuntime) -> Result<(), Fail> {
     let mut service = Service::new(rt.alloc())?;
-    goes(&rt, rt.alloc(), &mut service, &rosters::STEPS)
+    goes(&rt, rt.alloc(), &mut service, rosters::ROWS)
 }
 
 #[test]
 fn bookmarks_are_kept(rt: HostRuntime) -> Result<(), Fail> {
     let mut service = Service::new(rt.alloc())?;
-    goes(&rt, rt.alloc(), &mut service, &bookmarks::STEPS)
+    goes(&rt, rt.alloc(), &mut service, bookmarks::ROWS)
 }
 
 #[test]
 fn nodes_stay_in_their_collections(rt: HostRuntime) -> Result<(), Fail> {
     let mut service = Service::new(rt.alloc())?;
-    goes(&rt, rt.alloc(), &mut service, &collections::STEPS)
+    goes(&rt, rt.alloc(), &mut service, collections::ROWS)
 }
 
 #[test]
 fn resources_end_with_their_stream(rt: HostRuntime) -> Result<(), Fail> {
     let mut service = Service::new(rt.alloc())?;
-    goes(&rt, rt.alloc(), &mut service, &streams::STEPS)
+    goes(&rt, rt.alloc(), &mut service, streams::ROWS)
 }
 
 #[test]
 fn two_hosts_are_answered(rt: HostRuntime) -> Result<(), Fail> {
     let mut service = Service::new(rt.alloc())?;
-    goes(&rt, rt.alloc(), &mut service, &dealt::STEPS)
+    goes(&rt, rt.alloc(), &mut service, dealt::ROWS)
 }
 
 // How many features are known of the resource, or none where it isn't there.
@@ -87,7 +106,7 @@ fn known(alloc: Global, service: &Service, who: &str) -> Result<Option<usize>, F
 
 // An answer of another hash counts for its sender alone; an exact one counts for all who show the hash.
 fn verifies(rt: &impl Abort, alloc: Global, service: &mut Service) -> Result<(), Fail> {
-    goes(rt, alloc, service, &capabilities::STEPS)?;
+    goes(rt, alloc, service, capabilities::ROWS)?;
     for (who, features) in [
         ("bob@b.example/p", Some(5)),
         ("bob@b.example/q", Some(4)),

@@ -1,15 +1,18 @@
 -- Rows that are listed by their places.
-use Rattle.std.proofs.Common.{◌≡◌, ◌<◌, ◌≤◌, ℕ, zero, suc, Bool, true, false, cond, ◌||◌, List, [], ◌∷◌, ◌++◌, Option, Some, None, refl, ap, sym, ◌∙◌, filter, take, length, append_assoc, append-nil, arith}
+use Rattle.std.proofs.Common.{◌≡◌, ◌+◌, ◌<◌, ◌≤◌, ℕ, zero, suc, Bool, true, false, cond, ◌||◌, List, [], ◌∷◌, ◌++◌, Option, Some, None, refl, ap, sym, subst, ◌∙◌, filter, take, length, get_or, append_assoc, append-nil, arith}
 use Rattle.std.specs.Prelude.{nat_eq, nat_lt, slice_get}
-use Rattle.std.proofs.lemmas.List.{take_all}
+use Rattle.std.proofs.lemmas.List.{take_all, map-append}
 use Rattle.std.proofs.lemmas.Cmp.{ranked}
-use Rattle.std.specs.List.{list_any, AllByRecursion}
+use Rattle.std.specs.List.{AllByRecursion}
 use Rattle.std.specs.List.Sorted.{IsStrictlySortedBy}
 use Rattle.std.specs.Ordering.{nat_cmp}
 use Rattle.std.specs.declared.cmp.Ordering.TheVariants.{Less}
 use Rattle.std.proofs.lemmas.Bool.Decides.{nat_tests}
+use Rattle.ps_types.specs.declared.rows.NodeRow.{NodeRow}
+use Rattle.ps_types.specs.declared.tree.Child.TheVariants as child
 use Rattle.ps_rows.specs.Standing.{passes_at, passing}
-use Rattle.ps_disco.specs.Held.{is_place, ArePlaces, option_list, rows_at}
+use Rattle.ps_disco.specs.Entries.{row_at, row_children}
+use Rattle.ps_disco.specs.Held.{is_place, ArePlaces, children_at, option_list, rows_at}
 use Rattle.ps_disco.proofs.Trees.{filter-more}
 
 lt_true : (a b : ℕ) → a < b → nat_lt a b ≡ true
@@ -130,3 +133,18 @@ module _ {R : Type 0} (test : R → Bool) where
   places-listed rows places s are =
       ap (λ p. rows_at p rows) (sym (all_below (length rows) places (λ p h. within rows p (sym (are p) ∙ h))))
       ∙ (listed rows places s are (length rows) ∙ ap (filter test) (take_all (length rows) rows (omega arith)))
+
+number_at : (xs : List ℕ) (at : ℕ) → at < length xs → slice_get xs at ≡ Some (get_or xs at 0)
+number_at [] at l = absurd (omega (arith, l))
+number_at (x ∷ xs) zero l = refl
+number_at (x ∷ xs) (suc at) l = number_at xs at (omega (arith, l))
+
+-- the entry of the row at one place more
+pub entries-more : (jid : List ℕ) (places : List ℕ) (at : ℕ) (rows : List NodeRow) → at < length places
+    → row_children jid (rows_at (take (at + 1) places) rows) ≡ row_children jid (rows_at (take at places) rows) ++ children_at jid (get_or places at 0) rows
+entries-more jid places at rows l =
+    let e : suc at ≡ at + 1 = omega arith in
+    let place = get_or places at 0 in
+    let before = rows_at (take at places) rows in
+    subst (λ n. row_children jid (rows_at (take n places) rows) ≡ row_children jid before ++ children_at jid place rows) e
+    (ap (row_children jid) (rows_at-more places at place rows (number_at places at l)) ∙ map-append (λ row. child.Tree (row_at jid row)) before (option_list (slice_get rows place)))

@@ -1,7 +1,6 @@
 -- Children that are trees, and lists in steps.
-use Rattle.std.proofs.Common.{◌≡◌, ℕ, zero, suc, Bool, true, false, cond, List, [], ◌∷◌, ◌++◌, Option, Some, None, refl, ap, ◌∙◌, map, filter, take}
+use Rattle.std.proofs.Common.{◌≡◌, ℕ, zero, suc, Bool, true, false, cond, List, [], ◌∷◌, ◌++◌, refl, ap, map, filter, take}
 use Rattle.std.specs.Prelude.{slice_get}
-use Rattle.ps_types.specs.declared.tree.Child.{Child}
 use Rattle.ps_types.specs.declared.tree.Child.TheVariants as child
 use Rattle.ps_types.specs.Elem.{nodes}
 use Rattle.ps_types.specs.Shape.{holding}

@@ -90,24 +90,6 @@ module _ (node collection : NodeKey) where
   named_step x links false e more h = kept x links (is_link_to collection x) (more h)
 
   -- what is under a collection is named by a link to it
-  abbrev under : Option NodeKey → Bool
-  under None = false
-  under (Some at) = same_node collection at
-
-  under_climb : (o : Option NodeKey) (links : List LinkRow) → list_any (same_node collection) (climb 1 o links) ≡ true → under o ≡ true
-  under_climb None links h = h
-  under_climb (Some at) links h = first_or (same_node collection at) h
-
-  kept : (x : LinkRow) (links : List LinkRow) (b : Bool) → is_link_to collection x ≡ b → list_any (λ child. same_node child node) (children_in collection links) ≡ true → list_any (λ child. same_node child node) (children_in collection (x ∷ links)) ≡ true
-  kept x links true e h = rw e (or_later (same_node x.child node) h)
-  kept x links false e h = rw e h
-
-  named_step : (x : LinkRow) (links : List LinkRow) (b : Bool) → is_link_of node x ≡ b → (under (collection_of node links) ≡ true → list_any (λ child. same_node child node) (children_in collection links) ≡ true)
-      → under (option_map (λ (row : LinkRow). row.collection) (cond b (Some x) (find (is_link_of node) links))) ≡ true → list_any (λ child. same_node child node) (children_in collection (x ∷ links)) ≡ true
-  named_step x links true e more h = let s : same_node x.child node ≡ true = same_back node x.child e in rw (h, s) refl
-  named_step x links false e more h = kept x links (is_link_to collection x) refl (more h)
-
-  -- what is under a collection is named by a link to it
   named : (links : List LinkRow) → under (collection_of node links) ≡ true → list_any (λ child. same_node child node) (children_in collection links) ≡ true
   named [] h = absurd (cc)
   named (x ∷ links) h = named_step x links (is_link_of node x) refl (named links) h

@@ -1,5 +1,5 @@
 -- The items that a request asks for are the newest of those that it names.
-use Rattle.std.proofs.Common.{◌≡◌, ℕ, ◌-◌, ◌≤◌, Bool, true, false, ◌&&◌, cond, List, [], ◌∷◌, length, drop, refl, ap, sym, ◌∙◌, arith}
+use Rattle.std.proofs.Common.{rules, ◌≡◌, ℕ, ◌-◌, ◌≤◌, Bool, true, false, ◌&&◌, cond, List, [], ◌∷◌, length, drop, refl, ap, sym, ◌∙◌, arith}
 use Rattle.std.specs.Prelude.{◌==◌, filter, if◌then◌else◌}
 use Rattle.std.specs.Str.Parse.{digits_value}
 use Rattle.std.proofs.lemmas.List.Sums.{length-filter, count_by-le-length}
@@ -17,7 +17,9 @@ most max all = if length max == 0 then all else digits_value 10 max
 
 newest_as : (max : List ℕ) (all : ℕ) (rows : List ItemRow) → length rows ≤ all → newest_of (most max all) rows ≡ newest max rows
 newest_as [] all rows h = newest_all all rows h
-newest_as (x ∷ max) all rows h = refl
+newest_as (x ∷ max) all rows h =
+    let some : (length (x ∷ max) == 0) ≡ false = search rules in
+    ap (λ (b : Bool). newest_of (cond b all (digits_value 10 (x ∷ max))) rows) some
 
 fewer : (test : ItemRow → Bool) (rows : List ItemRow) → length (filter test rows) ≤ length rows
 fewer test rows = omega (arith, length-filter test rows, count_by-le-length test rows)
@@ -25,7 +27,9 @@ fewer test rows = omega (arith, length-filter test rows, count_by-le-length test
 -- the newest of all
 pub all_chosen : (max : List ℕ) (ids : List (List ℕ)) (node : NodeKey) (rows : List ItemRow) → (length ids == 0) ≡ true → newest_of (most max (length rows)) (items_of node rows) ≡ newest max (named_items ids (items_of node rows))
 all_chosen max [] node rows e = newest_as max (length rows) (items_of node rows) (fewer (is_item_at node) rows)
-all_chosen max (id ∷ ids) node rows e = absurd (cc)
+all_chosen max (id ∷ ids) node rows e =
+    let some : (length (id ∷ ids) == 0) ≡ false = search rules in
+    absurd (cc (e, some))
 
 -- to keep some, and then some of these, is to keep those that pass both tests
 both : (p q : ItemRow → Bool) (rows : List ItemRow) → filter (λ row. p row && q row) rows ≡ filter q (filter p rows)

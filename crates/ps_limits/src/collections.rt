@@ -1,7 +1,7 @@
 // Collections that stand: what they don't do, when they go, and what may be put into them.
 use crate::asking::{create, delete, form, publish, purge, read_items, retract};
 use crate::filling::{add_affil, add_node, empty, link};
-use crate::plans::{Outcome, by_entity, by_owner, by_publisher, request};
+use crate::plans::{Ends, Outcome, by_entity, by_owner, by_publisher};
 use ps_access::Tables;
 use ps_affil::Affils;
 use ps_nodes::Nodes;

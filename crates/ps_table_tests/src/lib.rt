@@ -1,4 +1,4 @@
-//! Tests of the tables of rows, of what resources want, and of the queues of notices: each call once, and what stays.
+//! Tests of the tables of nodes, and of what stands on a node: each call once, and what stays.
 //!
 //! They stand in a crate of their own, since a crate with tests is proved twice. Nothing stands on this crate, and it has no public function.
 #![tactic(auto)]
@@ -14,14 +14,6 @@ mod links;
 #[cfg(test)]
 mod nodes;
 #[cfg(test)]
-mod presence;
-#[cfg(test)]
-mod queues;
-#[cfg(test)]
-mod roster;
-#[cfg(test)]
 mod subs;
-#[cfg(test)]
-mod wants;
 #[cfg(test)]
 mod words;

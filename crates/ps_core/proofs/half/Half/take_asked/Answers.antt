@@ -14,7 +14,7 @@ returns c =
     let t = c.args._tree.now in
     let r = c.args.request.now in
     let done = change_after s c.args.host.now c.args.line c.args.moment t t r refl c.requires.asked in
-    record { state = on_ok c.take_request.result (λ (h : state_of c.take_request.new.self ≡ changed_state r c.args.moment c.args.host.now c.args.line s). h ∙ sym done) c.take_request.ensures.state }
+    record { state = on_ok c.take_request.result (λ (h : state_of c.take_request.new.self ≡ changed_state r c.args.moment c.args.host.now c.args.line s). h ∙ sym done) c.take_request.ensures.state; wants = c.take_request.ensures.wants }
 
 pub take_request-requires-clause-accepted : goal.take_request-requires-clause-accepted
 take_request-requires-clause-accepted c =

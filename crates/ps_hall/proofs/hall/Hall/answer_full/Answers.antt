@@ -10,7 +10,7 @@ pub full_reply-requires-clause-lines : goal.full_reply-requires-clause-lines
 full_reply-requires-clause-lines g c = λ row was. row_few c.args.self.now c.args.at row c.requires.standing was c.requires.few
 
 pub full_reply-requires-clause-some : goal.full_reply-requires-clause-some
-full_reply-requires-clause-some g c = λ row was. subst (λ (o : Option Entry). IsSome o) (c.requires.entry row was) tt
+full_reply-requires-clause-some g c = λ row was. subst (λ (o : Option Entry). IsSome o) (c.requires.entry row was) refl
 
 pub answer_plain-requires-clause-unbroken : goal.answer_plain-requires-clause-unbroken
 answer_plain-requires-clause-unbroken g c = unbroken_row c.args.self.now c.args.at c.requires.here c.requires.opened

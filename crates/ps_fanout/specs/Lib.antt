@@ -1,0 +1,4 @@
+pub mod Told
+pub mod Hearing
+pub mod Changed
+pub mod Trees
