@@ -59,40 +59,26 @@ fn goes(rt: &impl Abort, alloc: Global, service: &mut Service, rows: &str) -> Re
     Ok(())
 }
 
-#[test]
-fn who_may_do_what_is_asked(rt: HostRuntime) -> Result<(), Fail> {
-    let mut service = Service::new(rt.alloc())?;
-    goes(&rt, rt.alloc(), &mut service, access::ROWS)
+// A new service goes through a table.
+fn runs(rt: &impl Abort, alloc: Global, rows: &str) -> Result<(), Fail> {
+    let mut service = Service::new(alloc)?;
+    goes(rt, alloc, &mut service, rows)
 }
 
 #[test]
-fn personal_nodes_are_read_by_rosters(rt: HostRuntime) -> Result<(), Fail> {
-    let mut service = Service::new(rt.alloc())?;
-    goes(&rt, rt.alloc(), &mut service, rosters::ROWS)
-}
-
-#[test]
-fn bookmarks_are_kept(rt: HostRuntime) -> Result<(), Fail> {
-    let mut service = Service::new(rt.alloc())?;
-    goes(&rt, rt.alloc(), &mut service, bookmarks::ROWS)
-}
-
-#[test]
-fn nodes_stay_in_their_collections(rt: HostRuntime) -> Result<(), Fail> {
-    let mut service = Service::new(rt.alloc())?;
-    goes(&rt, rt.alloc(), &mut service, collections::ROWS)
-}
-
-#[test]
-fn resources_end_with_their_stream(rt: HostRuntime) -> Result<(), Fail> {
-    let mut service = Service::new(rt.alloc())?;
-    goes(&rt, rt.alloc(), &mut service, streams::ROWS)
-}
-
-#[test]
-fn two_hosts_are_answered(rt: HostRuntime) -> Result<(), Fail> {
-    let mut service = Service::new(rt.alloc())?;
-    goes(&rt, rt.alloc(), &mut service, dealt::ROWS)
+fn lines_on_several_hosts_are_answered(rt: HostRuntime) -> Result<(), Fail> {
+    let tables = [
+        access::ROWS,
+        rosters::ROWS,
+        bookmarks::ROWS,
+        collections::ROWS,
+        streams::ROWS,
+        dealt::ROWS,
+    ];
+    for rows in tables {
+        runs(&rt, rt.alloc(), rows)?;
+    }
+    Ok(())
 }
 
 // How many features are known of the resource, or none where it isn't there.
