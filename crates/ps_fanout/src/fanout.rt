@@ -9,16 +9,17 @@ ghost use Rattle.ps_fanout.specs.Told as model;
 ghost use Rattle.ps_fanout.specs.Told.{AreAddresses, is_early_event, told};
 
 use crate::asked::candidates;
-use crate::hearing::told_among;
 use crate::last::last;
 use crate::news::{Change, News, join_news, node_news};
 use crate::order::in_order;
+use crate::parts::told_beside;
 use crate::single::{approval, question, subscription_told, to_one};
 use ps_access::Tables;
 use ps_base::Memory;
 use ps_filter::Wants;
 use ps_types::{Elem, Event, Jid};
 use std::alloc::Global;
+use std::thread::Threads;
 
 fn is_of_node(event: &Event) -> bool
     ensures { result ≡ model.is_of_node event.now }
@@ -51,7 +52,8 @@ fn news_of<'a>(
 }
 
 // To each address that hears of it, in the order of the octets.
-fn spread(
+fn spread<R: Threads + Sync>(
+    rt: &R,
     alloc: Global,
     tables: &Tables,
     wants: &Wants,
@@ -64,7 +66,7 @@ fn spread(
     match news {
         Some(news) => {
             let whos = in_order(alloc, candidates(alloc, tables, wants, news)?)?;
-            told_among(alloc, tables, wants, news, whos.as_slice())
+            told_beside(rt, alloc, tables, wants, news, whos.as_slice())
         }
         None => Ok(Vec::new(alloc)),
     }
@@ -112,7 +114,8 @@ fn single(
 /// What the event hands to each address, without the ids, in the order of the octets of the addresses' printed form: an event of a node to whoever
 /// has a subscription that reaches it or is a resource that wants it, and may read it (XEP-0060 §7.1.2, XEP-0163 §4.3, XEP-0248 §8), any other to the
 /// one address that it names. The tables are those after the change, and for a node that is deleted those before it.
-pub fn notices(
+pub fn notices<R: Threads + Sync>(
+    rt: &R,
     alloc: Global,
     tables: &Tables,
     wants: &Wants,
@@ -127,5 +130,5 @@ pub fn notices(
         return single(alloc, tables, wants, event);
     }
     let news = news_of(alloc, tables, event)?;
-    spread(alloc, tables, wants, &news)
+    spread(rt, alloc, tables, wants, &news)
 }

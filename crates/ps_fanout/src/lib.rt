@@ -17,6 +17,7 @@ mod laws;
 mod moments;
 mod news;
 mod order;
+mod parts;
 mod reading;
 mod single;
 mod trees;
