@@ -1,0 +1,4 @@
+pub mod Lists
+pub mod States
+pub mod Wanting
+pub mod Asked

@@ -1,0 +1,22 @@
+//! What an accepted request gives rise to.
+//!
+//! [`events`] is the model's list of events (`Events` in ps_model, and the files that it names), in the order in which they are told: of
+//! the Book in which the request is accepted, and of the one that it leaves. It changes nothing, and fails where memory fails alone.
+//! ps_fanout says to whom each of them is told, and by what stanza.
+//!
+//! It asks for the rows of the request's node and of the sender. Where a resource comes to want nodes that it didn't want before, it goes
+//! once through all nodes, since no index finds the nodes of a name at all accounts: only a presence or an answer about capabilities does
+//! that, and only with a feature that the resource didn't have.
+//!
+//! `specs/Kinds.antt` has the groups of kinds by what their events are made of, and `specs/Parts.antt` the parts of the events that are
+//! told of subscriptions.
+#![tactic(auto)]
+
+mod kinds;
+mod node_events;
+mod presence_events;
+mod row_events;
+mod sub_events;
+mod wanted;
+
+pub use kinds::events;
