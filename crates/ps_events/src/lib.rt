@@ -8,8 +8,8 @@
 //! once through all nodes, since no index finds the nodes of a name at all accounts: only a presence or an answer about capabilities does
 //! that, and only with a feature that the resource didn't have.
 //!
-//! `specs/Kinds.antt` has the groups of kinds by what their events are made of, and `specs/Parts.antt` the parts of the events that are
-//! told of subscriptions.
+//! `specs/Kinds.antt` has the groups of kinds by what their events are made of, `specs/Parts.antt` the parts that these are made of, and
+//! `specs/Wanted.antt` which nodes new features ask for.
 #![tactic(auto)]
 
 mod kinds;
