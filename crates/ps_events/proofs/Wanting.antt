@@ -1,5 +1,5 @@
 -- The nodes that new features ask for.
-use Rattle.std.proofs.Common.{◌≡◌, ◌≢◌, ℕ, suc, zero, ◌+◌, Bool, true, false, cond, not, ◌&&◌, ◌==◌, List, [], ◌∷◌, ◌++◌, length, Option, Some, None, refl, sym, take, ap, ◌∙◌}
+use Rattle.std.proofs.Common.{◌≡◌, ◌≢◌, ℕ, suc, zero, ◌+◌, Bool, true, false, cond, not, ◌&&◌, ◌==◌, List, [], ◌∷◌, ◌++◌, length, Option, Some, None, refl, sym, take, ap, arith, ◌∙◌}
 use Rattle.std.specs.Prelude.{bytes_eq, codes, filter, map, slice_get}
 use Rattle.std.specs.List.{list_any}
 use Rattle.std.proofs.lemmas.List.{append_assoc, append_cancel_right}
@@ -46,6 +46,10 @@ swap true false = refl
 swap false true = refl
 swap false false = refl
 
+and-three : (a b c : Bool) → (a && (b && c)) ≡ ((a && b) && c)
+and-three true b c = refl
+and-three false b c = refl
+
 any-new : (feature : List ℕ) (old new : List (List ℕ)) → list_any (bytes_eq feature) (filter (is_new old) new) ≡ (list_any (bytes_eq feature) new && not (list_any (bytes_eq feature) old))
 any-new feature old new =
     any-filter_same (bytes_eq feature) (is_new old) (is_new old feature) (λ f h. ap (is_new old) (sym ((bytes_eq-Decides feature f).0 h))) new
@@ -58,7 +62,8 @@ wanted-new who features before after is =
     let new = features_in (resource_at who after.resources) in
     ap (λ (fs : List (List ℕ)). lasts who fs after after.nodes) is
     ∙ ap (λ (rows : List NodeRow). map (λ row. last_event after row.key who false) rows) (filter-alike (is_asked_for (filter (is_new old) new)) (is_newly_wanted who before after)
-    (λ row. ap (λ (b : Bool). is_account row.key.service && b) (any-new (notify_feature row.key.name) old new)) after.nodes)
+    (λ row. ap (λ (b : Bool). is_account row.key.service && b) (any-new (notify_feature row.key.name) old new)
+    ∙ and-three (is_account row.key.service) (list_any (bytes_eq (notify_feature row.key.name)) new) (not (list_any (bytes_eq (notify_feature row.key.name)) old))) after.nodes)
 
 nothing-asked : (row : NodeRow) → is_asked_for [] row ≡ false
 nothing-asked row = by (is_account row.key.service)
@@ -93,5 +98,6 @@ module _ (who : Jid) (features : List (List ℕ)) (after : Book) where
   pub lasts-more : (rows : List NodeRow) (at : ℕ) (first before now : List Event) → now ≡ before ++ last_in who features after (slice_get rows at) → before ≡ first ++ lasts who features after (take at rows)
       → now ≡ first ++ lasts who features after (take (at + 1) rows)
   lasts-more rows at first before now step stands =
-      step ∙ ap (λ (l : List Event). l ++ last_in who features after (slice_get rows at)) stands
-      ∙ append_assoc first (lasts who features after (take at rows)) (last_in who features after (slice_get rows at)) ∙ ap (λ (l : List Event). first ++ l) (sym (lasts-push rows at))
+      let e : at + 1 ≡ suc at = omega arith in
+      rw e (step ∙ ap (λ (l : List Event). l ++ last_in who features after (slice_get rows at)) stands
+      ∙ append_assoc first (lasts who features after (take at rows)) (last_in who features after (slice_get rows at)) ∙ ap (λ (l : List Event). first ++ l) (sym (lasts-push rows at)))

@@ -25,10 +25,16 @@ fn features_of<'a>(tables: &'a Tables, who: &Jid) -> &'a [Text]
     }
 }
 
+fn has(features: &[Text], feature: &Text) -> bool
+    ensures { result ≡ list_any (bytes_eq feature.now) features.now }
+{
+    features.iter().any(|other| *feature == *other)
+}
+
 fn is_new(old: &[Text], feature: &Text) -> bool
     ensures { result ≡ model.is_new old.now feature.now }
 {
-    !old.iter().any(|other| *feature == *other)
+    !has(old, feature)
 }
 
 fn add_new(found: &mut Vec<Text>, old: &[Text], feature: &Text) -> Result<(), Memory>
