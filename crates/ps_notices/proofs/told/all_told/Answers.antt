@@ -1,0 +1,23 @@
+use Rattle.std.proofs.Common.{◌≡◌, ◌<◌, ◌++◌, length, true, ap, ◌∙◌, arith}
+use Rattle.ps_access.specs.Tables.{book_of}
+use Rattle.ps_fanout.specs.Told.{is_early_event}
+use Rattle.ps_notices.proofs.Due.{each-here, told-more}
+use Rattle.ps_notices.proofs.told.all_told.Goals as goal
+
+pub told_of-requires : goal.told_of-requires
+told_of-requires c =
+    let less : c.loop-event.event-index < length c.args.events.now = omega arith in
+    record {
+      follows_before = c.requires.follows_before;
+      follows_after = c.requires.follows_after;
+      addresses_before = c.requires.addresses_before;
+      addresses_after = c.requires.addresses_after;
+      early = each-here (λ ev. is_early_event ev ≡ true) c.args.events.now c.loop-event.event-index c.event-item.result c.requires.early less c.event-item.is;
+    }
+
+pub loop-event-preserved : goal.loop-event-preserved
+loop-event-preserved c =
+    let less : c.loop-event.event-index < length c.args.events.now = omega arith in
+    c.in_ok-append.ensures.items
+    ∙ told-more (book_of c.args.before.now) (book_of c.args.after.now) c.args.events.now c.loop-event.event-index c.event-item.result less c.event-item.is c.loop-event.all.items c.in_ok-told.told.items
+    c.loop-event.invariant c.in_ok-told.ensures
