@@ -1,4 +1,4 @@
 pub mod Around
 pub mod Due
 pub mod Placed
-pub mod Numbers
+pub mod Counting

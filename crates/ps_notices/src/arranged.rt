@@ -16,7 +16,8 @@ pub(crate) fn arranged(
     ensures { IfOk result (λ m. values m ≡ model.arranged all.items) }
 {
     let mut map = BTreeMap::new(alloc);
-    while let Some((who, tree)) = all.pop() {
+    while let Some(told) = all.pop() {
+        let (who, tree) = told;
         let text = who.text(alloc)?;
         let turn = all.len();
         let _ = map.insert((text, turn), (who, tree))?;

@@ -73,7 +73,8 @@ pub(crate) fn numbered(
 {
     let mut here = Tallies::new(alloc)?;
     let mut notices = Vec::new(alloc);
-    while let Some((_, (to, tree))) = due.pop_first() {
+    while let Some((_, told)) = due.pop_first() {
+        let (to, tree) = told;
         let number = next_number(tallies, &here, &to);
         count(&mut here, &to)?;
         notices.push(notice_of(alloc, place, number, to, tree)?)?;

@@ -4,7 +4,7 @@ use Rattle.std.specs.Map.{values_of}
 use Rattle.ps_types.specs.Tree.{Tree}
 use Rattle.ps_types.specs.declared.entry.Notice.{Notice}
 use Rattle.ps_types.specs.declared.jid.Jid.{Jid}
-use Rattle.ps_notices.proofs.Numbers.{Numbering, number-fits, numbering-begins, numbering-on}
+use Rattle.ps_notices.proofs.Counting.{Numbering, number-fits, numbering-begins, numbering-on}
 use Rattle.ps_notices.proofs.numbers.numbered.Goals as goal
 
 pub loop-to-init : goal.loop-to-init

@@ -1,5 +1,5 @@
 use Rattle.std.specs.BTreeMap.{btree_map_len, values}
-use Rattle.ps_notices.proofs.Numbers.{Numbering}
+use Rattle.ps_notices.proofs.Counting.{Numbering}
 use Rattle.ps_notices.proofs.numbers.numbered.Given as goal
 
 abbrev pub invariant-loop-to : goal.invariant-loop-to
