@@ -382,6 +382,9 @@ def everything(cs, with_edits):
 def main():
     words = sys.argv[1:]
     verb = words[0]
+    if verb == "rt-check":
+        # rt itself, which would ask for the stamp of a crate once for each way that leads to it
+        return rt.main(["check", *words[1:]])
     here = os.getcwd()
     root = root_of(here)
     cs = crates(root)
@@ -419,7 +422,7 @@ def main():
         if not any(f.startswith("--jobs") for f in flags):
             flags = ["--jobs", "1", *flags]
         with Slot():
-            return subprocess.call([RT, "check", *flags])
+            return subprocess.call([sys.executable, os.path.abspath(__file__), "rt-check", *flags])
     if verb in ("rt",):
         if not libs(c) or not lay(c):
             return 1

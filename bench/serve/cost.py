@@ -2,7 +2,7 @@
 
 Usage: cost.py PROGRAM FOLDER. It runs the program under callgrind, which counts instructions and not time, and under memcheck, which counts
 allocations, over the lines that make ready what a kind needs, and once more with LINES (1000) lines of the kind behind them. A row is the
-difference of the two, a line.
+difference of the two, a line. Where VALUES names the program of rust/, which reads the same lines into serde_json's Value and prints them, its instructions stand behind, with the ratio.
 """
 import os
 import pathlib
@@ -49,6 +49,13 @@ def kept_items(most):
     return [corpus.create(0), configure]
 
 
+def heard(count):
+    """So many are subscribed to the first node."""
+    row = '{"a":{"jid":"sub%d@a.example","subscription":"subscribed"},"n":"subscription"}'
+    rows = ",".join(row % n for n in range(count))
+    return [corpus.line(corpus.OWNER, 1, "set", '{"a":{"node":"node-0"},"c":[%s],"n":"subscriptions"}' % rows, "#owner")]
+
+
 def kinds(lines):
     ten = kept_items(10) + [item(k, 10, 200) for k in range(10)]
     hundred = kept_items(100) + [item(k, 100, 200) for k in range(100)]
@@ -56,6 +63,7 @@ def kinds(lines):
         ("create", [], create, lines),
         ("publish, 200 bytes", ten, lambda k: item(k, 10, 200), lines),
         ("publish, 16 KB", ten, lambda k: item(k, 10, 16384), lines // 10),
+        ("publish to 50", ten + heard(50), lambda k: item(k, 10, 200), lines // 10),
         ("retrieve one item", ten, lambda k: retrieve(k, True), lines),
         ("retrieve 100 items", hundred, lambda k: retrieve(k, False), lines // 10),
         ("subscribe", ten, lambda k: corpus.subscribe(k, 1), lines),
@@ -84,13 +92,27 @@ class Run:
         self.last = replies[-1] if replies else ""
 
 
+def values(folder, lines):
+    """The instructions of Rust's serde_json over the same lines, or None where there is no such program."""
+    program = os.environ.get("VALUES")
+    if not program:
+        return None
+    (folder / "in").write_text("".join(lines))
+    words = ["valgrind", "--tool=callgrind", f"--callgrind-out-file={folder / 'callgrind'}", program, folder / "in", folder / "values"]
+    told = subprocess.run(words, check=True, capture_output=True, text=True).stderr
+    return int(re.search(r"Collected : (\d+)", told)[1])
+
+
 def main():
     program, folder = sys.argv[1], pathlib.Path(sys.argv[2])
     for name, before, make, count in kinds(int(os.environ.get("LINES", "1000"))):
         first = Run(program, folder, before)
         whole = Run(program, folder, before + [make(k) for k in range(count)])
         row = [(getattr(whole, what) - getattr(first, what)) / count for what in ("instructions", "allocations", "bytes")]
-        print("%-20s %9.0f instructions %6.1f allocations %8.0f bytes   %s" % (name, *row, whole.last[:120] if os.environ.get("SHOW") else ""), flush=True)
+        made = [make(k) for k in range(count)]
+        plain = values(folder, made)
+        beside = "" if plain is None else " %6.0f of serde_json's Value (%.1f)" % ((plain - values(folder, [])) / count, row[0] * count / (plain - values(folder, [])))
+        print("%-20s %9.0f instructions %6.1f allocations %8.0f bytes%s   %s" % (name, *row, beside, whole.last[:120] if os.environ.get("SHOW") else ""), flush=True)
 
 
 main()

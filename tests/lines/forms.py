@@ -1,4 +1,4 @@
-"""The fields of the forms of configurations and of subscription options (XEP-0060 §16.4), with the defaults of the service host."""
+"""The fields of the forms of configurations, of subscription options and of approvals (XEP-0060 §16.4), with the defaults of the service host."""
 
 NODE_CONFIG = [
     ("title", "text-single", [""]),
@@ -25,7 +25,13 @@ SUBSCRIBE_OPTIONS = [
     ("subscription_depth", "list-single", ["1"]),
 ]
 
-PRINTED = {"node_config": NODE_CONFIG, "subscribe_options": SUBSCRIBE_OPTIONS}
+SUBSCRIBE_AUTHORIZATION = [
+    ("node", "text-single", [""]),
+    ("subscriber_jid", "jid-single", [""]),
+    ("allow", "boolean", ["0"]),
+]
+
+PRINTED = {"node_config": NODE_CONFIG, "subscribe_options": SUBSCRIBE_OPTIONS, "subscribe_authorization": SUBSCRIBE_AUTHORIZATION}
 
 
 def values_of(text):

@@ -3,11 +3,20 @@
     python3 tests/lines/hosts.py            writes crates/ps_core_tests/src/rows/NAME.rt for each hosts/NAME.txt
     python3 tests/lines/hosts.py --check    compares them, and ends with 1 where they differ
 
-A table has three lines for each step: whose stream it is on, the line, and the reply (specified in `src/rows.rt` there).
+A table has three lines for each step, whose stream it is on, the line, and the reply, and below them one for each notice (specified in
+`src/rows.rt` there).
 
 A file begins with a service that was just booted. Its cases are those of make.py, but that WHO is `name@a` or `name@b`, of the host
-`a.example` or `b.example`, and that the reply of a line which makes an entry begins with `* `. A line `gone b` ends the stream of that
-host, and a line `boot` boots the service again.
+`a.example` or `b.example`, and that the reply of a line which makes an entry begins with `* `. `at N ` before a line is its moment, in
+seconds. Indented below the reply stand the notices that the entry makes, all of them and in their order; none where there are none:
+
+    > TO NUMBER [KIND] [from ADDRESS] PARTS
+
+TO is `name@b`, with its resource if it has one, and the stanza's id is `n-NUMBER`. KIND is that of a stanza in make.py, as `message` or
+`iq:get`, and `message:headline` where it is left out; the stanza is from the service host where no address is named.
+
+These lines stand alone. `gone b` ends the stream of that host, `boot` boots the service again, `handed name@b` hands out the first
+notice to that address which wasn't handed out yet, and `not handed name@b` says that there is none.
 """
 import pathlib
 import re
@@ -22,18 +31,34 @@ ROWS = HERE.parent.parent / "crates" / "ps_core_tests" / "src" / "rows"
 
 def whole(who):
     """The address, and its host."""
-    name, _, resource = who.partition("/")
+    name, slash, resource = who.partition("/")
     local, _, host = name.partition("@")
-    return f"{local}@{host}.example/{resource or '1'}", f"{host}.example"
+    host = host if "." in host else f"{host}.example"
+    return f"{local}@{host}{slash}{resource}", host
 
 
 def sent(number, text):
-    """The host, the line that is sent, and the head of its reply."""
+    """The host with the line's moment behind it, the line that is sent, and the head of its reply."""
+    moment = re.match(r"at \d+ ", text)
+    text = text[moment.end() :] if moment else text
     who = text.partition(" ")[0]
-    sender, host = whole(who)
+    sender, host = whole(who if "/" in who else f"{who}/1")
     make.address_of = lambda _: sender
     root, head = make.sent_stanza(number, text)
-    return host, notation.line_of(root), head
+    return f"{host} {moment[0] if moment else ''}".strip(), notation.line_of(root), head
+
+
+def notice(text):
+    """The notice, as the line of the table."""
+    match = re.match(r"> (\S+) (\d+)(?: (message|iq)(?::(\S+))?)?(?: from (\S+))? +(.*)$", text)
+    who, number, name, kind, sender, parts = match.groups()
+    name, kind = (name, kind) if name else ("message", "headline")
+    to = whole(who)[0]
+    attributes = {"from": whole(sender)[0] if sender else make.SERVICE, "id": f"n-{number}", "to": to}
+    if kind:
+        attributes["type"] = kind
+    root = notation.Element(name, None, attributes, make.parts_of(parts))
+    return f"> {to} {number} {notation.line_of(root).decode()}"
 
 
 def record(head, line=b"", reply=b""):
@@ -41,26 +66,44 @@ def record(head, line=b"", reply=b""):
     return [head, line.decode(), (reply or b"").decode()]
 
 
+def alone(text):
+    """The head of a line that stands alone, or None."""
+    match = re.match(r"(boot|gone|handed|not handed)(?: (\S+))?$", text)
+    if match is None:
+        return None
+    word, who = match.groups()
+    if word == "boot":
+        return word
+    return f"{word} {who}.example" if word == "gone" else f"{word} {whole(who)[0]}"
+
+
+def cases(path):
+    """Each line that isn't indented, with the indented ones below it."""
+    found = []
+    for line in path.read_text().splitlines():
+        if line.startswith("#") or not line.strip():
+            continue
+        if line.startswith(" "):
+            found[-1].append(line.strip())
+        else:
+            found.append([line])
+    return found
+
+
 def steps(path):
-    """The steps of a file, each as its three lines."""
-    lines = [line for line in path.read_text().splitlines() if line.strip() and not line.startswith("#")]
-    found, at = [], 0
-    while at < len(lines):
-        text = lines[at]
-        at += 1
-        if text == "boot":
-            found.append(record("boot"))
+    """The steps of a file, each as its lines."""
+    found = []
+    for text, *below in cases(path):
+        head = alone(text)
+        if head is not None:
+            found.append(record(head))
             continue
-        if text.startswith("gone "):
-            found.append(record(f"{text}.example"))
-            continue
-        reply = lines[at].strip()
-        at += 1
-        for one, answer in make.repeated(text, reply):
+        for one, answer, *told in make.repeated(text, *below):
             makes = answer.startswith("* ")
             number = len(found) + 1
             host, line, head = sent(number, one)
-            found.append(record(host + " makes" * makes, line, make.received(number, head, answer.removeprefix("* "))))
+            step = record(host + " makes" * makes, line, make.received(number, head, answer.removeprefix("* ")))
+            found.append(step + [notice(text) for text in told])
     return found
 
 

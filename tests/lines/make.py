@@ -140,15 +140,15 @@ def cases():
             request = None
 
 
-def repeated(request, reply):
-    """The case, as often as it says."""
-    request, reply = notation.long_text(request), notation.long_text(reply)
+def repeated(request, *others):
+    """The case, as often as it says: its request and what stands below it."""
+    request, others = notation.long_text(request), [notation.long_text(other) for other in others]
     match = re.match(r"for (\d+)\.\.(\d+) ", request)
     if match is None:
-        yield request, reply
+        yield request, *others
         return
     for k in range(int(match[1]), int(match[2]) + 1):
-        yield request[match.end() :].replace("$", str(k)), reply.replace("$", str(k))
+        yield request[match.end() :].replace("$", str(k)), *(other.replace("$", str(k)) for other in others)
 
 
 def run_of_cases():

@@ -4,7 +4,8 @@
 out or is a letter of NAMESPACES. A text child, and a value with spaces, stands in double quotes. `<x*513>` anywhere stands for 513
 times `x`. `@name{key=value ..}` is a submitted data form (XEP-0004) whose FORM_TYPE is the pubsub namespace, `#` and the name;
 each key is a field `pubsub#key`, with several values between `|`, and `[]` for none. `@name:kind{..}` is one of another type.
-`%name{..}` is the form that the service prints for a configuration: all its fields, the defaults but for those that are given.
+`%name{..}` is the form that the service prints for a configuration, or to ask for an approval: all its fields, the defaults but for
+those that are given.
 """
 import json
 import re
@@ -15,12 +16,14 @@ PUBSUB = "http://jabber.org/protocol/pubsub"
 NAMESPACES = {
     "P": PUBSUB,
     "O": PUBSUB + "#owner",
+    "E": PUBSUB + "#event",
     "R": PUBSUB + "#errors",
     "X": "jabber:x:data",
     "S": "urn:ietf:params:xml:ns:xmpp-stanzas",
     "DI": "http://jabber.org/protocol/disco#info",
     "DT": "http://jabber.org/protocol/disco#items",
     "K": "http://jabber.org/protocol/caps",
+    "H": "http://jabber.org/protocol/shim",
     "RO": "jabber:iq:roster",
 }
 

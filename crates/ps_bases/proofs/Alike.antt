@@ -6,7 +6,6 @@ use Rattle.ps_types.specs.Tree.{Tree}
 use Rattle.ps_types.specs.declared.entry.Entry.{Entry}
 use Rattle.ps_types.specs.declared.entry.Entry.TheVariants.{Boot, Change, Handed, Gone, Base}
 use Rattle.ps_types.specs.declared.entry.Notice.{Notice}
-use Rattle.ps_types.specs.declared.event.Event.{Event}
 use Rattle.ps_types.specs.declared.jid.Jid.{Jid}
 use Rattle.ps_types.specs.declared.rows.LineRow.{LineRow}
 use Rattle.ps_types.specs.declared.rows.TallyRow.{TallyRow}
@@ -146,61 +145,60 @@ accepted-same (Gone host) s t like = ap (λ (b : Book). nat_lt 0 (length b.servi
 accepted-same (Base row) s t like =
     ap₂ (λ x y. not x && y) (ap (λ (b : Book). nat_lt 0 (length b.service)) like.book) (row-accepts-same (row_of row) s t like)
 
-module _ (telling : Event → Bool) where
-  due-same : (e : Entry) (s t : State) → IsLike s t → SameNumbers (tallied s.tallies (step.handed_out telling s e)) (tallied t.tallies (step.handed_out telling t e))
-  due-same e s t like =
-      subst (λ (due : List (Jid × Tree)). SameNumbers (tallied s.tallies (step.handed_out telling s e)) (tallied t.tallies due))
-      (ap (λ (b : Book). step.handed_out telling (record t { book = b }) e) like.book)
-      (tallied-same (step.handed_out telling s e) s.tallies t.tallies like.numbers)
+due-same : (e : Entry) (s t : State) → IsLike s t → SameNumbers (tallied s.tallies (step.handed_out s e)) (tallied t.tallies (step.handed_out t e))
+due-same e s t like =
+    subst (λ (due : List (Jid × Tree)). SameNumbers (tallied s.tallies (step.handed_out s e)) (tallied t.tallies due))
+    (ap (λ (b : Book). step.handed_out (record t { book = b }) e) like.book)
+    (tallied-same (step.handed_out s e) s.tallies t.tallies like.numbers)
 
-  numbers-after : (e : Entry) (s t : State) → IsLike s t → SameNumbers (step.tallies_after telling s e) (step.tallies_after telling t e)
-  numbers-after (Boot service) s t like = like.numbers
-  numbers-after (Change host line moment tr) s t like = due-same (Change host line moment tr) s t like
-  numbers-after (Handed to) s t like = one-same to s.tallies t.tallies like.numbers
-  numbers-after (Gone host) s t like = like.numbers
-  numbers-after (Base row) s t like = row-same (row_of row) s.tallies t.tallies like.numbers
+numbers-after : (e : Entry) (s t : State) → IsLike s t → SameNumbers (step.tallies_after s e) (step.tallies_after t e)
+numbers-after (Boot service) s t like = like.numbers
+numbers-after (Change host line moment tr) s t like = due-same (Change host line moment tr) s t like
+numbers-after (Handed to) s t like = one-same to s.tallies t.tallies like.numbers
+numbers-after (Gone host) s t like = like.numbers
+numbers-after (Base row) s t like = row-same (row_of row) s.tallies t.tallies like.numbers
 
-  pub like-after : (e : Entry) (s t : State) → IsLike s t → IsLike (step.after telling s e) (step.after telling t e)
-  like-after e s t like = record {
-    book = ap (λ (b : Book). step.book_after b e) like.book;
-    numbers = numbers-after e s t like;
-    lines = ap (λ (ls : List LineRow). step.lines_after e ls) like.lines;
-  }
+pub like-after : (e : Entry) (s t : State) → IsLike s t → IsLike (step.after s e) (step.after t e)
+like-after e s t like = record {
+  book = ap (λ (b : Book). step.book_after b e) like.book;
+  numbers = numbers-after e s t like;
+  lines = ap (λ (ls : List LineRow). step.lines_after e ls) like.lines;
+}
 
-  told-change : (e : Entry) (s t : State) → IsLike s t → map told_of (numbered s.count s.tallies (step.handed_out telling s e)) ≡ map told_of (numbered t.count t.tallies (step.handed_out telling t e))
-  told-change e s t like =
-      numbered-same s.count t.count (step.handed_out telling s e) s.tallies t.tallies like.numbers
-      ∙ ap (λ (b : Book). map told_of (numbered t.count t.tallies (step.handed_out telling (record t { book = b }) e))) like.book
+told-change : (e : Entry) (s t : State) → IsLike s t → map told_of (numbered s.count s.tallies (step.handed_out s e)) ≡ map told_of (numbered t.count t.tallies (step.handed_out t e))
+told-change e s t like =
+    numbered-same s.count t.count (step.handed_out s e) s.tallies t.tallies like.numbers
+    ∙ ap (λ (b : Book). map told_of (numbered t.count t.tallies (step.handed_out (record t { book = b }) e))) like.book
 
-  told-after : (e : Entry) (s t : State) → IsLike s t → map told_of (step.notices_at telling s e) ≡ map told_of (step.notices_at telling t e)
-  told-after (Boot service) s t like = told-change (Boot service) s t like
-  told-after (Change host line moment tr) s t like = told-change (Change host line moment tr) s t like
-  told-after (Handed to) s t like = told-change (Handed to) s t like
-  told-after (Gone host) s t like = told-change (Gone host) s t like
-  told-after (Base row) s t like = row-told s.count t.count (row_of row) s.tallies t.tallies like.numbers
+told-after : (e : Entry) (s t : State) → IsLike s t → map told_of (step.notices_at s e) ≡ map told_of (step.notices_at t e)
+told-after (Boot service) s t like = told-change (Boot service) s t like
+told-after (Change host line moment tr) s t like = told-change (Change host line moment tr) s t like
+told-after (Handed to) s t like = told-change (Handed to) s t like
+told-after (Gone host) s t like = told-change (Gone host) s t like
+told-after (Base row) s t like = row-told s.count t.count (row_of row) s.tallies t.tallies like.numbers
 
-  -- ---- lists of entries
+-- ---- lists of entries
 
-  pub like-replay : (F : List Entry) (s t : State) → IsLike s t → IsLike (replay_from telling s F) (replay_from telling t F)
-  like-replay [] s t like = like
-  like-replay (e ∷ F) s t like = like-replay F (step.after telling s e) (step.after telling t e) (like-after e s t like)
+pub like-replay : (F : List Entry) (s t : State) → IsLike s t → IsLike (replay_from s F) (replay_from t F)
+like-replay [] s t like = like
+like-replay (e ∷ F) s t like = like-replay F (step.after s e) (step.after t e) (like-after e s t like)
 
-  pub like-lawful : (F : List Entry) (s t : State) → IsLike s t → IsLawfulFrom telling s F → IsLawfulFrom telling t F
-  like-lawful [] s t like is = tt
-  like-lawful (e ∷ F) s t like is = (sym (accepted-same e s t like) ∙ is.0, like-lawful F (step.after telling s e) (step.after telling t e) (like-after e s t like) is.1)
+pub like-lawful : (F : List Entry) (s t : State) → IsLike s t → IsLawfulFrom s F → IsLawfulFrom t F
+like-lawful [] s t like is = tt
+like-lawful (e ∷ F) s t like is = (sym (accepted-same e s t like) ∙ is.0, like-lawful F (step.after s e) (step.after t e) (like-after e s t like) is.1)
 
-  pub like-told : (F : List Entry) (s t : State) → IsLike s t → (a : Jid) → map told_of (notices_from telling s F a) ≡ map told_of (notices_from telling t F a)
-  like-told [] s t like a = refl
-  like-told (e ∷ F) s t like a =
-      let ns = step.notices_at telling s e in
-      let ms = step.notices_at telling t e in
-      let later = notices_from telling (step.after telling s e) F a in
-      let later' = notices_from telling (step.after telling t e) F a in
-      map-append told_of (to_address a ns) later
-      ∙ ap₂ (λ (xs ys : List Told). xs ++ ys) (address-told a ns ms (told-after e s t like)) (like-told F (step.after telling s e) (step.after telling t e) (like-after e s t like) a)
-      ∙ sym (map-append told_of (to_address a ms) later')
+pub like-told : (F : List Entry) (s t : State) → IsLike s t → (a : Jid) → map told_of (notices_from s F a) ≡ map told_of (notices_from t F a)
+like-told [] s t like a = refl
+like-told (e ∷ F) s t like a =
+    let ns = step.notices_at s e in
+    let ms = step.notices_at t e in
+    let later = notices_from (step.after s e) F a in
+    let later' = notices_from (step.after t e) F a in
+    map-append told_of (to_address a ns) later
+    ∙ ap₂ (λ (xs ys : List Told). xs ++ ys) (address-told a ns ms (told-after e s t like)) (like-told F (step.after s e) (step.after t e) (like-after e s t like) a)
+    ∙ sym (map-append told_of (to_address a ms) later')
 
-  -- ---- a boot
+-- ---- a boot
 
-  pub woken : (service : List ℕ) (s t : State) → IsAsleep s t → IsLike (step.after telling s (Boot service)) (step.after telling t (Boot service))
-  woken service s t asleep = record { book = ap (λ (b : Book). record b { service = service }) asleep.book; numbers = asleep.numbers; lines = refl }
+pub woken : (service : List ℕ) (s t : State) → IsAsleep s t → IsLike (step.after s (Boot service)) (step.after t (Boot service))
+woken service s t asleep = record { book = ap (λ (b : Book). record b { service = service }) asleep.book; numbers = asleep.numbers; lines = refl }

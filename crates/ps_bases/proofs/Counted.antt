@@ -6,7 +6,6 @@ use Rattle.ps_types.specs.Same.{same_bare, same_jid}
 use Rattle.ps_types.specs.Tree.{Tree}
 use Rattle.ps_types.specs.declared.entry.Entry.{Entry}
 use Rattle.ps_types.specs.declared.entry.Entry.TheVariants.{Boot, Change, Handed, Gone, Base}
-use Rattle.ps_types.specs.declared.event.Event.{Event}
 use Rattle.ps_types.specs.declared.jid.Jid.{Jid}
 use Rattle.ps_types.specs.declared.rows.TallyRow.{TallyRow}
 use Rattle.ps_types.proofs.Same.{same_jid-Decides, same_parts}
@@ -18,7 +17,7 @@ use Rattle.ps_model.specs.Book.{State, empty_state}
 use Rattle.ps_model.specs.Core.{handed}
 use Rattle.ps_model.specs.Numbered.{row_tallies, tallied}
 use Rattle.ps_model.specs.Numbers.{counter_in, counter_of}
-use Rattle.ps_model.specs.Replay.{IsLawfulFrom, accepted_at, is_booted, lawful_by, replay_by, replay_from, row_accepted}
+use Rattle.ps_model.specs.Replay.{IsLawfulFrom, accepted_at, is_booted, lawful_based, replay, replay_from, row_accepted}
 use Rattle.ps_model.specs.Tallies.{handed_to, made_for, more_made, one_handed}
 use Rattle.ps_model.proofs.NumberLaws.{handed-has-one, handed-is-bare}
 use Rattle.ps_model.proofs.TallyLaws.{handed-kept, handed-made, handed-one, handed-set, made-handed, made-kept, made-like, made-more, made-set, same_bare-Decides, same_bare-turned}
@@ -119,88 +118,87 @@ module _ (a : Jid) (bare : a.resource ≡ []) where
   count-one true x n = omega arith
   count-one false x n = omega arith
 
-  module _ (told : Event → Bool) where
-    Some-on : State → List Entry → Type 0
-    Some-on s E = (counter_of E a ≡ 0) × (handed_to a (replay_from told s E).tallies ≡ handed_to a s.tallies + handed E a)
+  Some-on : State → List Entry → Type 0
+  Some-on s E = (counter_of E a ≡ 0) × (handed_to a (replay_from s E).tallies ≡ handed_to a s.tallies + handed E a)
 
-    base-some : (row : Tree) (E : List Entry) (s : State) → 0 < made_for a s.tallies → Kind (row_of row) s.tallies → (0 < made_for a (row_tallies (row_of row) s.tallies) → Some-on (step.after told s (Base row)) E) → Some-on s (Base row ∷ E)
-    unfolding Kind Some-on
-    base-some row E s some (inl is) more = absurd (let z = is.none_before in no-less 0 (omega (arith, some, z)))
-    base-some row E s some (inr is) more =
-        let g = is.grows in
-        let rest = more (omega (arith, some, g)) in
-        (is.skips (counter_of E a) ∙ rest.0, rest.1 ∙ ap (λ n. n + handed E a) is.handed)
+  base-some : (row : Tree) (E : List Entry) (s : State) → 0 < made_for a s.tallies → Kind (row_of row) s.tallies → (0 < made_for a (row_tallies (row_of row) s.tallies) → Some-on (step.after s (Base row)) E) → Some-on s (Base row ∷ E)
+  unfolding Kind Some-on
+  base-some row E s some (inl is) more = absurd (let z = is.none_before in no-less 0 (omega (arith, some, z)))
+  base-some row E s some (inr is) more =
+      let g = is.grows in
+      let rest = more (omega (arith, some, g)) in
+      (is.skips (counter_of E a) ∙ rest.0, rest.1 ∙ ap (λ n. n + handed E a) is.handed)
 
-    -- where it has notices already it gets no counter any more
-    some-on : (E : List Entry) (s : State) → IsLawfulFrom told s E → 0 < made_for a s.tallies → Some-on s E
-    unfolding Some-on
-    some-on [] s is some = (refl, omega arith)
-    some-on (Boot service ∷ E) s is some =
-        let g = tallied-grows (step.handed_out told s (Boot service)) s.tallies in
-        let rest = some-on E (step.after told s (Boot service)) is.1 (omega (arith, some, g)) in
-        (rest.0, rest.1 ∙ ap (λ n. n + handed E a) (tallied-handed (step.handed_out told s (Boot service)) s.tallies))
-    some-on (Change host line m t ∷ E) s is some =
-        let g = tallied-grows (step.handed_out told s (Change host line m t)) s.tallies in
-        let rest = some-on E (step.after told s (Change host line m t)) is.1 (omega (arith, some, g)) in
-        (rest.0, rest.1 ∙ ap (λ n. n + handed E a) (tallied-handed (step.handed_out told s (Change host line m t)) s.tallies))
-    some-on (Gone host ∷ E) s is some =
-        let g = tallied-grows (step.handed_out told s (Gone host)) s.tallies in
-        let rest = some-on E (step.after told s (Gone host)) is.1 (omega (arith, some, g)) in
-        (rest.0, rest.1 ∙ ap (λ n. n + handed E a) (tallied-handed (step.handed_out told s (Gone host)) s.tallies))
-    some-on (Handed b ∷ E) s is some =
-        let g = made-handed a b s.tallies in
-        let rest = some-on E (step.after told s (Handed b)) is.1 (omega (arith, some, g)) in
-        (rest.0, rest.1 ∙ ap (λ n. n + handed E a) (handed-more b s is.0) ∙ count-one (same_jid b a) (handed_to a s.tallies) (handed E a))
-    some-on (Base row ∷ E) s is some =
-        base-some row E s some (row-kind (row_of row) s (and_parts (not (is_booted s)) (row_accepted (row_of row) s) is.0).1) (λ more. some-on E (step.after told s (Base row)) is.1 more)
+  -- where it has notices already it gets no counter any more
+  some-on : (E : List Entry) (s : State) → IsLawfulFrom s E → 0 < made_for a s.tallies → Some-on s E
+  unfolding Some-on
+  some-on [] s is some = (refl, omega arith)
+  some-on (Boot service ∷ E) s is some =
+      let g = tallied-grows (step.handed_out s (Boot service)) s.tallies in
+      let rest = some-on E (step.after s (Boot service)) is.1 (omega (arith, some, g)) in
+      (rest.0, rest.1 ∙ ap (λ n. n + handed E a) (tallied-handed (step.handed_out s (Boot service)) s.tallies))
+  some-on (Change host line m t ∷ E) s is some =
+      let g = tallied-grows (step.handed_out s (Change host line m t)) s.tallies in
+      let rest = some-on E (step.after s (Change host line m t)) is.1 (omega (arith, some, g)) in
+      (rest.0, rest.1 ∙ ap (λ n. n + handed E a) (tallied-handed (step.handed_out s (Change host line m t)) s.tallies))
+  some-on (Gone host ∷ E) s is some =
+      let g = tallied-grows (step.handed_out s (Gone host)) s.tallies in
+      let rest = some-on E (step.after s (Gone host)) is.1 (omega (arith, some, g)) in
+      (rest.0, rest.1 ∙ ap (λ n. n + handed E a) (tallied-handed (step.handed_out s (Gone host)) s.tallies))
+  some-on (Handed b ∷ E) s is some =
+      let g = made-handed a b s.tallies in
+      let rest = some-on E (step.after s (Handed b)) is.1 (omega (arith, some, g)) in
+      (rest.0, rest.1 ∙ ap (λ n. n + handed E a) (handed-more b s is.0) ∙ count-one (same_jid b a) (handed_to a s.tallies) (handed E a))
+  some-on (Base row ∷ E) s is some =
+      base-some row E s some (row-kind (row_of row) s (and_parts (not (is_booted s)) (row_accepted (row_of row) s) is.0).1) (λ more. some-on E (step.after s (Base row)) is.1 more)
 
-    None-on : State → List Entry → Type 0
-    None-on s E = handed_to a (replay_from told s E).tallies ≡ counter_of E a + handed E a
+  None-on : State → List Entry → Type 0
+  None-on s E = handed_to a (replay_from s E).tallies ≡ counter_of E a + handed E a
 
-    -- whether it has notices now or not
-    rest-on : (E : List Entry) (s : State) → IsLawfulFrom told s E → handed_to a s.tallies ≡ 0 → (made_for a s.tallies ≡ 0 → None-on s E) → (n : ℕ) → made_for a s.tallies ≡ n → None-on s E
-    unfolding None-on Some-on
-    rest-on E s is none more zero e = more e
-    rest-on E s is none more (suc n) e = let rest = some-on E s is (omega (arith, e)) in let c = rest.0 in let h = rest.1 in omega (arith, c, h, none)
+  -- whether it has notices now or not
+  rest-on : (E : List Entry) (s : State) → IsLawfulFrom s E → handed_to a s.tallies ≡ 0 → (made_for a s.tallies ≡ 0 → None-on s E) → (n : ℕ) → made_for a s.tallies ≡ n → None-on s E
+  unfolding None-on Some-on
+  rest-on E s is none more zero e = more e
+  rest-on E s is none more (suc n) e = let rest = some-on E s is (omega (arith, e)) in let c = rest.0 in let h = rest.1 in omega (arith, c, h, none)
 
-    base-none : (row : Tree) (E : List Entry) (s : State) → IsLawfulFrom told (step.after told s (Base row)) E → handed_to a s.tallies ≡ 0 → Kind (row_of row) s.tallies
-        → (made_for a (row_tallies (row_of row) s.tallies) ≡ 0 → handed_to a (row_tallies (row_of row) s.tallies) ≡ 0 → None-on (step.after told s (Base row)) E) → None-on s (Base row ∷ E)
-    unfolding Kind None-on Some-on
-    base-none row E s is none (inl c) more =
-        let m = c.made in
-        let some = c.some in
-        let rest = (some-on E (step.after told s (Base row)) is (omega (arith, m, some))).1 in
-        rest ∙ ap (λ n. n + handed E a) (c.handed ∙ sym (c.sets (counter_of E a)))
-    base-none row E s is none (inr p) more =
-        let kept = p.handed ∙ none in
-        rest-on E (step.after told s (Base row)) is kept (λ still. more still kept) (made_for a (row_tallies (row_of row) s.tallies)) refl ∙ ap (λ n. n + handed E a) (sym (p.skips (counter_of E a)))
+  base-none : (row : Tree) (E : List Entry) (s : State) → IsLawfulFrom (step.after s (Base row)) E → handed_to a s.tallies ≡ 0 → Kind (row_of row) s.tallies
+      → (made_for a (row_tallies (row_of row) s.tallies) ≡ 0 → handed_to a (row_tallies (row_of row) s.tallies) ≡ 0 → None-on (step.after s (Base row)) E) → None-on s (Base row ∷ E)
+  unfolding Kind None-on Some-on
+  base-none row E s is none (inl c) more =
+      let m = c.made in
+      let some = c.some in
+      let rest = (some-on E (step.after s (Base row)) is (omega (arith, m, some))).1 in
+      rest ∙ ap (λ n. n + handed E a) (c.handed ∙ sym (c.sets (counter_of E a)))
+  base-none row E s is none (inr p) more =
+      let kept = p.handed ∙ none in
+      rest-on E (step.after s (Base row)) is kept (λ still. more still kept) (made_for a (row_tallies (row_of row) s.tallies)) refl ∙ ap (λ n. n + handed E a) (sym (p.skips (counter_of E a)))
 
-    handed-none : (b : Jid) (E : List Entry) (s : State) → accepted_at s (Handed b) ≡ true → made_for a s.tallies ≡ 0 → handed_to a s.tallies ≡ 0 → (t : Bool) → same_jid b a ≡ t
-        → (made_for a (step.after told s (Handed b)).tallies ≡ 0 → handed_to a (step.after told s (Handed b)).tallies ≡ 0 → None-on (step.after told s (Handed b)) E) → None-on s (Handed b ∷ E)
-    unfolding None-on
-    handed-none b E s ok nought none true e more =
-        let less : handed_to a s.tallies < made_for a s.tallies = subst (λ (j : Jid). handed_to j s.tallies < made_for j s.tallies) ((same_jid-Decides b a).0 e) (handed-has-one s b ok) in
-        absurd (no-less 0 (omega (arith, less, nought)))
-    handed-none b E s ok nought none false e more =
-        let kept : handed_to a (step.after told s (Handed b)).tallies ≡ 0 = handed-more b s ok ∙ ap (λ t. handed_to a s.tallies + cond t 1 0) e ∙ (let z : handed_to a s.tallies + 0 ≡ 0 = omega (arith, none) in z) in
-        more (made-handed a b s.tallies ∙ nought) kept ∙ ap (λ t. counter_of E a + cond t (suc (handed E a)) (handed E a)) (sym e)
+  handed-none : (b : Jid) (E : List Entry) (s : State) → accepted_at s (Handed b) ≡ true → made_for a s.tallies ≡ 0 → handed_to a s.tallies ≡ 0 → (t : Bool) → same_jid b a ≡ t
+      → (made_for a (step.after s (Handed b)).tallies ≡ 0 → handed_to a (step.after s (Handed b)).tallies ≡ 0 → None-on (step.after s (Handed b)) E) → None-on s (Handed b ∷ E)
+  unfolding None-on
+  handed-none b E s ok nought none true e more =
+      let less : handed_to a s.tallies < made_for a s.tallies = subst (λ (j : Jid). handed_to j s.tallies < made_for j s.tallies) ((same_jid-Decides b a).0 e) (handed-has-one s b ok) in
+      absurd (no-less 0 (omega (arith, less, nought)))
+  handed-none b E s ok nought none false e more =
+      let kept : handed_to a (step.after s (Handed b)).tallies ≡ 0 = handed-more b s ok ∙ ap (λ t. handed_to a s.tallies + cond t 1 0) e ∙ (let z : handed_to a s.tallies + 0 ≡ 0 = omega (arith, none) in z) in
+      more (made-handed a b s.tallies ∙ nought) kept ∙ ap (λ t. counter_of E a + cond t (suc (handed E a)) (handed E a)) (sym e)
 
-    none-on : (E : List Entry) (s : State) → IsLawfulFrom told s E → made_for a s.tallies ≡ 0 → handed_to a s.tallies ≡ 0 → None-on s E
-    unfolding None-on
-    none-on [] s is nought none = omega (arith, none)
-    none-on (Boot service ∷ E) s is nought none =
-        let kept = tallied-handed (step.handed_out told s (Boot service)) s.tallies ∙ none in
-        rest-on E (step.after told s (Boot service)) is.1 kept (λ still. none-on E (step.after told s (Boot service)) is.1 still kept) (made_for a (step.after told s (Boot service)).tallies) refl
-    none-on (Change host line m t ∷ E) s is nought none =
-        let kept = tallied-handed (step.handed_out told s (Change host line m t)) s.tallies ∙ none in
-        rest-on E (step.after told s (Change host line m t)) is.1 kept (λ still. none-on E (step.after told s (Change host line m t)) is.1 still kept) (made_for a (step.after told s (Change host line m t)).tallies) refl
-    none-on (Gone host ∷ E) s is nought none =
-        let kept = tallied-handed (step.handed_out told s (Gone host)) s.tallies ∙ none in
-        rest-on E (step.after told s (Gone host)) is.1 kept (λ still. none-on E (step.after told s (Gone host)) is.1 still kept) (made_for a (step.after told s (Gone host)).tallies) refl
-    none-on (Handed b ∷ E) s is nought none = handed-none b E s is.0 nought none (same_jid b a) refl (λ still kept. none-on E (step.after told s (Handed b)) is.1 still kept)
-    none-on (Base row ∷ E) s is nought none =
-        base-none row E s is.1 none (row-kind (row_of row) s (and_parts (not (is_booted s)) (row_accepted (row_of row) s) is.0).1) (λ still kept. none-on E (step.after told s (Base row)) is.1 still kept)
+  none-on : (E : List Entry) (s : State) → IsLawfulFrom s E → made_for a s.tallies ≡ 0 → handed_to a s.tallies ≡ 0 → None-on s E
+  unfolding None-on
+  none-on [] s is nought none = omega (arith, none)
+  none-on (Boot service ∷ E) s is nought none =
+      let kept = tallied-handed (step.handed_out s (Boot service)) s.tallies ∙ none in
+      rest-on E (step.after s (Boot service)) is.1 kept (λ still. none-on E (step.after s (Boot service)) is.1 still kept) (made_for a (step.after s (Boot service)).tallies) refl
+  none-on (Change host line m t ∷ E) s is nought none =
+      let kept = tallied-handed (step.handed_out s (Change host line m t)) s.tallies ∙ none in
+      rest-on E (step.after s (Change host line m t)) is.1 kept (λ still. none-on E (step.after s (Change host line m t)) is.1 still kept) (made_for a (step.after s (Change host line m t)).tallies) refl
+  none-on (Gone host ∷ E) s is nought none =
+      let kept = tallied-handed (step.handed_out s (Gone host)) s.tallies ∙ none in
+      rest-on E (step.after s (Gone host)) is.1 kept (λ still. none-on E (step.after s (Gone host)) is.1 still kept) (made_for a (step.after s (Gone host)).tallies) refl
+  none-on (Handed b ∷ E) s is nought none = handed-none b E s is.0 nought none (same_jid b a) refl (λ still kept. none-on E (step.after s (Handed b)) is.1 still kept)
+  none-on (Base row ∷ E) s is nought none =
+      base-none row E s is.1 none (row-kind (row_of row) s (and_parts (not (is_booted s)) (row_accepted (row_of row) s) is.0).1) (λ still kept. none-on E (step.after s (Base row)) is.1 still kept)
 
-    pub handed-counted : (E : List Entry) → lawful_by told E → handed_to a (replay_by told E).tallies ≡ counter_of E a + handed E a
-    unfolding None-on
-    handed-counted E is = none-on E empty_state is refl refl
+  pub handed-counted : (E : List Entry) → lawful_based E → handed_to a (replay E).tallies ≡ counter_of E a + handed E a
+  unfolding None-on
+  handed-counted E is = none-on E empty_state is refl refl

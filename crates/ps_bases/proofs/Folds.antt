@@ -4,7 +4,6 @@ use Rattle.std.specs.Prelude.{find, is_none, nat_lt}
 use Rattle.std.specs.Option.{option_or}
 use Rattle.std.proofs.lemmas.List.Folds.{find-append}
 use Rattle.ps_types.specs.declared.entry.Entry.TheVariants.{Base}
-use Rattle.ps_types.specs.declared.event.Event.{Event}
 use Rattle.ps_types.specs.declared.rows.AffilRow.{AffilRow}
 use Rattle.ps_types.specs.declared.rows.TallyRow.{TallyRow}
 use Rattle.ps_model.specs.After as step
@@ -35,21 +34,20 @@ service-kept (made r) b = refl
 service-kept (counter who n) b = refl
 service-kept (notice to line) b = refl
 
-module _ (telling : Event → Bool) where
-  after-row : (r : BaseRow) (s : State) → ReadBack r → step.after telling s (Base (row_tree r)) ≡ with_row s r
-  after-row r s reads = ap (λ (o : Option BaseRow). record s { book = step.book_based o s.book; count = s.count + 1; tallies = row_tallies o s.tallies }) reads
+after-row : (r : BaseRow) (s : State) → ReadBack r → step.after s (Base (row_tree r)) ≡ with_row s r
+after-row r s reads = ap (λ (o : Option BaseRow). record s { book = step.book_based o s.book; count = s.count + 1; tallies = row_tallies o s.tallies }) reads
 
-  pub rows-replay : (rows : List BaseRow) (s : State) → Each ReadBack rows → replay_from telling s (base_entries rows) ≡ with_rows s rows
-  rows-replay [] s reads = refl
-  rows-replay (r ∷ rows) s reads =
-      ap (λ (x : State). replay_from telling x (base_entries rows)) (after-row r s reads.0) ∙ rows-replay rows (with_row s r) reads.1
+pub rows-replay : (rows : List BaseRow) (s : State) → Each ReadBack rows → replay_from s (base_entries rows) ≡ with_rows s rows
+rows-replay [] s reads = refl
+rows-replay (r ∷ rows) s reads =
+    ap (λ (x : State). replay_from x (base_entries rows)) (after-row r s reads.0) ∙ rows-replay rows (with_row s r) reads.1
 
-  pub rows-lawful : (rows : List BaseRow) (s : State) → s.book.service ≡ [] → Each ReadBack rows → Each (λ r. is_well_formed r ≡ true) rows → ArePlaced s rows → IsLawfulFrom telling s (base_entries rows)
-  rows-lawful [] s unset reads formed ok = tt
-  rows-lawful (r ∷ rows) s unset reads formed ok = (
-    ap₂ (λ (service : List ℕ) (o : Option BaseRow). not (nat_lt 0 (length service)) && row_accepted o s) unset reads.0 ∙ ap₂ (λ (x y : Bool). x && y) formed.0 ok.0,
-    subst (λ (x : State). IsLawfulFrom telling x (base_entries rows)) (sym (after-row r s reads.0)) (rows-lawful rows (with_row s r) (service-kept r s.book ∙ unset) reads.1 formed.1 ok.1),
-  )
+pub rows-lawful : (rows : List BaseRow) (s : State) → s.book.service ≡ [] → Each ReadBack rows → Each (λ r. is_well_formed r ≡ true) rows → ArePlaced s rows → IsLawfulFrom s (base_entries rows)
+rows-lawful [] s unset reads formed ok = tt
+rows-lawful (r ∷ rows) s unset reads formed ok = (
+  ap₂ (λ (service : List ℕ) (o : Option BaseRow). not (nat_lt 0 (length service)) && row_accepted o s) unset reads.0 ∙ ap₂ (λ (x y : Bool). x && y) formed.0 ok.0,
+  subst (λ (x : State). IsLawfulFrom x (base_entries rows)) (sym (after-row r s reads.0)) (rows-lawful rows (with_row s r) (service-kept r s.book ∙ unset) reads.1 formed.1 ok.1),
+)
 
 pub with-append : (xs ys : List BaseRow) (s : State) → with_rows s (xs ++ ys) ≡ with_rows (with_rows s xs) ys
 with-append [] ys s = refl

@@ -4,7 +4,6 @@ use Rattle.std.specs.List.{AllByRecursion}
 use Rattle.ps_types.specs.declared.config.NodeConfig.{NodeConfig}
 use Rattle.ps_types.specs.declared.entry.Entry.{Entry}
 use Rattle.ps_types.specs.declared.entry.Entry.TheVariants as entry
-use Rattle.ps_types.specs.declared.event.Event.{Event}
 use Rattle.ps_types.specs.declared.rows.CountRow.{CountRow}
 use Rattle.ps_types.specs.declared.rows.ItemRow.{ItemRow}
 use Rattle.ps_types.specs.declared.rows.NodeRow.{NodeRow}
@@ -53,11 +52,10 @@ pub record IsItemRow (nodes : List NodeRow) (r : ItemRow) : Type 0 where
 
 -- ---- a list after another
 
-module _ (telling : Event → Bool) where
-  pub lawful-split : (E F : List Entry) (s : State) → IsLawfulFrom telling s (E ++ F) → IsLawfulFrom telling s E × IsLawfulFrom telling (replay_from telling s E) F
-  lawful-split [] F s is = (tt, is)
-  lawful-split (e ∷ E) F s is = let p = lawful-split E F (step.after telling s e) is.1 in ((is.0, p.0), p.1)
+pub lawful-split : (E F : List Entry) (s : State) → IsLawfulFrom s (E ++ F) → IsLawfulFrom s E × IsLawfulFrom (replay_from s E) F
+lawful-split [] F s is = (tt, is)
+lawful-split (e ∷ E) F s is = let p = lawful-split E F (step.after s e) is.1 in ((is.0, p.0), p.1)
 
-  pub lawful-join : (E F : List Entry) (s : State) → IsLawfulFrom telling s E → IsLawfulFrom telling (replay_from telling s E) F → IsLawfulFrom telling s (E ++ F)
-  lawful-join [] F s is more = more
-  lawful-join (e ∷ E) F s is more = (is.0, lawful-join E F (step.after telling s e) is.1 more)
+pub lawful-join : (E F : List Entry) (s : State) → IsLawfulFrom s E → IsLawfulFrom (replay_from s E) F → IsLawfulFrom s (E ++ F)
+lawful-join [] F s is more = more
+lawful-join (e ∷ E) F s is more = (is.0, lawful-join E F (step.after s e) is.1 more)

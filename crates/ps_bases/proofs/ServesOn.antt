@@ -7,7 +7,6 @@ use Rattle.ps_types.specs.Same.{same_bare, same_jid}
 use Rattle.ps_types.specs.declared.entry.Entry.{Entry}
 use Rattle.ps_types.specs.declared.entry.Entry.TheVariants.{Boot, Change, Handed, Gone, Base}
 use Rattle.ps_types.specs.declared.entry.Notice.{Notice}
-use Rattle.ps_types.specs.declared.event.Event.{Event}
 use Rattle.ps_types.specs.declared.jid.Jid.{Jid}
 use Rattle.ps_types.specs.declared.rows.CountRow.{CountRow}
 use Rattle.ps_types.specs.declared.rows.ItemRow.{ItemRow}
@@ -15,11 +14,11 @@ use Rattle.ps_types.specs.declared.rows.NodeRow.{NodeRow}
 use Rattle.ps_types.specs.declared.rows.TallyRow.{TallyRow}
 use Rattle.ps_types.proofs.Same.{same_jid-Decides, same_parts}
 use Rattle.ps_model.specs.After as step
-use Rattle.ps_model.specs.Base.{base_of, told_addresses, unhanded}
+use Rattle.ps_model.specs.Base.{base, told_addresses, unhanded}
 use Rattle.ps_model.specs.BaseAfter.{is_early, is_shallow}
 use Rattle.ps_model.specs.Book.{State, empty_state}
 use Rattle.ps_model.specs.Core.{handed}
-use Rattle.ps_model.specs.Replay.{IsLawfulFrom, lawful_by, notices_from, of_bare, replay_from, to_address}
+use Rattle.ps_model.specs.Replay.{IsLawfulFrom, lawful_based, notices_from, of_bare, replay_from, to_address}
 use Rattle.ps_model.specs.Tallies.{made_for, made_in}
 use Rattle.ps_model.proofs.TallyLaws.{same_bare-Decides, same_bare-like, same_bare-turned}
 use Rattle.ps_bases.specs.Laws.{IsStored, ServesOn}
@@ -105,51 +104,50 @@ drop-none : (k : ℕ) → drop {A = Notice} k [] ≡ []
 drop-none zero = refl
 drop-none (suc k) = refl
 
-module _ (telling : Event → Bool) where
-  -- an address with a resource is handed nothing
-  handed-full : (a : Jid) (x : ℕ) (resource : List ℕ) → a.resource ≡ x ∷ resource → (E : List Entry) (s : State) → IsLawfulFrom telling s E → handed E a ≡ 0
-  handed-full a x resource full [] s is = refl
-  handed-full a x resource full (Boot service ∷ E) s is = handed-full a x resource full E (step.after telling s (Boot service)) is.1
-  handed-full a x resource full (Change host line moment t ∷ E) s is = handed-full a x resource full E (step.after telling s (Change host line moment t)) is.1
-  handed-full a x resource full (Gone host ∷ E) s is = handed-full a x resource full E (step.after telling s (Gone host)) is.1
-  handed-full a x resource full (Base row ∷ E) s is = handed-full a x resource full E (step.after telling s (Base row)) is.1
-  handed-full a x resource full (Handed to ∷ E) s is = by (same_jid to a) refl (handed-full a x resource full E (step.after telling s (Handed to)) is.1)
-    where
-      by : (b : Bool) → same_jid to a ≡ b → handed E a ≡ 0 → cond b (suc (handed E a)) (handed E a) ≡ 0
-      by false e h = h
-      by true e h = absurd (clash ((same_jid-Decides to a).0 e) (handed-is-bare s to is.0))
-        where
-          clash : to ≡ a → to.resource ≡ [] → ⊥
-          clash one bare = let differ : [] ≡ x ∷ resource = sym bare ∙ ap (λ (j : Jid). j.resource) one ∙ full in cc differ
+-- an address with a resource is handed nothing
+handed-full : (a : Jid) (x : ℕ) (resource : List ℕ) → a.resource ≡ x ∷ resource → (E : List Entry) (s : State) → IsLawfulFrom s E → handed E a ≡ 0
+handed-full a x resource full [] s is = refl
+handed-full a x resource full (Boot service ∷ E) s is = handed-full a x resource full E (step.after s (Boot service)) is.1
+handed-full a x resource full (Change host line moment t ∷ E) s is = handed-full a x resource full E (step.after s (Change host line moment t)) is.1
+handed-full a x resource full (Gone host ∷ E) s is = handed-full a x resource full E (step.after s (Gone host)) is.1
+handed-full a x resource full (Base row ∷ E) s is = handed-full a x resource full E (step.after s (Base row)) is.1
+handed-full a x resource full (Handed to ∷ E) s is = by (same_jid to a) refl (handed-full a x resource full E (step.after s (Handed to)) is.1)
+  where
+    by : (b : Bool) → same_jid to a ≡ b → handed E a ≡ 0 → cond b (suc (handed E a)) (handed E a) ≡ 0
+    by false e h = h
+    by true e h = absurd (clash ((same_jid-Decides to a).0 e) (handed-is-bare s to is.0))
+      where
+        clash : to ≡ a → to.resource ≡ [] → ⊥
+        clash one bare = let differ : [] ≡ x ∷ resource = sym bare ∙ ap (λ (j : Jid). j.resource) one ∙ full in cc differ
 
-  few-by : (E : List Entry) → lawful_by telling E → (a : Jid) (resource : List ℕ) → a.resource ≡ resource → handed E a ≤ length (notices_from telling empty_state E a)
-  few-by E is a [] bare = handed-few telling a bare E is
-  few-by E is a (x ∷ resource) full = let none = handed-full a x resource full E empty_state is in omega (arith, none)
+few-by : (E : List Entry) → lawful_based E → (a : Jid) (resource : List ℕ) → a.resource ≡ resource → handed E a ≤ length (notices_from empty_state E a)
+few-by E is a [] bare = handed-few a bare E is
+few-by E is a (x ∷ resource) full = let none = handed-full a x resource full E empty_state is in omega (arith, none)
 
-  own-by : (E : List Entry) → lawful_by telling E → IsStored telling E → (a : Jid) (resource : List ℕ) → a.resource ≡ resource
-      → to_address a (flat_map (unhanded telling E) (told_addresses (replay_from telling empty_state E).tallies)) ≡ unhanded telling E a
-  own-by E is stored a [] bare =
-      let T = (replay_from telling empty_state E).tallies in
-      let whos = map (λ (r : TallyRow). r.who) T in
-      let A = told_addresses T in
-      ap (λ (r : List ℕ). of_bare r (filter (λ n. same_bare n.to a) (flat_map (unhanded telling E) A))) bare
-      ∙ (own-notices (unhanded telling E) a bare A (each-sorted (λ j. j.resource ≡ []) whos (lawful-bares telling E)) stored.lines (told-apart T (lawful-bares telling E))
-      (λ far. length-none (unhanded telling E a)
-      (let none = none-made a T (unsorted (λ j. same_bare a j ≡ false) whos stored.addresses far) in
-      let whole = made-whole telling a bare E is in
-      omega (arith, none, whole))))
-  own-by E is stored a (x ∷ resource) full = ap (λ (r : List ℕ). of_bare r (filter (λ n. same_bare n.to a) (flat_map (unhanded telling E) (told_addresses (replay_from telling empty_state E).tallies)))) full ∙ (sym (ap (drop (handed E a)) (of-full telling E empty_state a x resource full) ∙ drop-none (handed E a)))
+own-by : (E : List Entry) → lawful_based E → IsStored E → (a : Jid) (resource : List ℕ) → a.resource ≡ resource
+    → to_address a (flat_map (unhanded E) (told_addresses (replay_from empty_state E).tallies)) ≡ unhanded E a
+own-by E is stored a [] bare =
+    let T = (replay_from empty_state E).tallies in
+    let whos = map (λ (r : TallyRow). r.who) T in
+    let A = told_addresses T in
+    ap (λ (r : List ℕ). of_bare r (filter (λ n. same_bare n.to a) (flat_map (unhanded E) A))) bare
+    ∙ (own-notices (unhanded E) a bare A (each-sorted (λ j. j.resource ≡ []) whos (lawful-bares E)) stored.lines (told-apart T (lawful-bares E))
+    (λ far. length-none (unhanded E a)
+    (let none = none-made a T (unsorted (λ j. same_bare a j ≡ false) whos stored.addresses far) in
+    let whole = made-whole a bare E is in
+    omega (arith, none, whole))))
+own-by E is stored a (x ∷ resource) full = ap (λ (r : List ℕ). of_bare r (filter (λ n. same_bare n.to a) (flat_map (unhanded E) (told_addresses (replay_from empty_state E).tallies)))) full ∙ (sym (ap (drop (handed E a)) (of-full E empty_state a x resource full) ∙ drop-none (handed E a)))
 
-  -- the law
-  pub base-serves-on : (E : List Entry) → lawful_by telling E → IsStored telling E → ServesOn telling E (base_of telling E)
-  base-serves-on E is stored =
-      let b = (replay_from telling empty_state E).book in
-      let sound = lawful-sound telling E is in
-      let kept = lawful-kept telling E is in
-      serves-on telling E is
-      (record { keys = sound.keys; affils = sound.affils; subs = sound.subs; items = items-both b.nodes b.items (items-keep b kept) stored.items; room = items-room b kept; links = sound.links; configured = sound.configured; counts = counts-both b.nodes b.counts sound.counts stored.counts })
-      (sound-numbers telling E is (lawful-bares telling E) stored.addresses stored.few stored.lines)
-      stored.reads
-      (rows-formed telling E is)
-      (λ a. few-by E is a a.resource refl)
-      (λ a. own-by E is stored a a.resource refl)
+-- the law
+pub base-serves-on : (E : List Entry) → lawful_based E → IsStored E → ServesOn E (base E)
+base-serves-on E is stored =
+    let b = (replay_from empty_state E).book in
+    let sound = lawful-sound E is in
+    let kept = lawful-kept E is in
+    serves-on E is
+    (record { keys = sound.keys; affils = sound.affils; subs = sound.subs; items = items-both b.nodes b.items (items-keep b kept) stored.items; room = items-room b kept; links = sound.links; configured = sound.configured; counts = counts-both b.nodes b.counts sound.counts stored.counts })
+    (sound-numbers E is (lawful-bares E) stored.addresses stored.few stored.lines)
+    stored.reads
+    (rows-formed E is)
+    (λ a. few-by E is a a.resource refl)
+    (λ a. own-by E is stored a a.resource refl)

@@ -10,7 +10,6 @@ use Rattle.ps_types.specs.Address.{IsAddress, Spells, jid_text}
 use Rattle.ps_types.specs.Same.{same_bare}
 use Rattle.ps_types.specs.declared.entry.Entry.{Entry}
 use Rattle.ps_types.specs.declared.entry.Notice.{Notice}
-use Rattle.ps_types.specs.declared.event.Event.{Event}
 use Rattle.ps_types.specs.declared.jid.Jid.{Jid}
 use Rattle.ps_types.specs.declared.rows.TallyRow.{TallyRow}
 use Rattle.ps_types.proofs.AddressLaws.{spells-one, text-spells}
@@ -18,7 +17,7 @@ use Rattle.ps_types.proofs.Same.{same_parts}
 use Rattle.ps_model.specs.Base.{told_addresses, unhanded}
 use Rattle.ps_model.specs.BaseAfter.{is_bare}
 use Rattle.ps_model.specs.Book.{empty_state}
-use Rattle.ps_model.specs.Replay.{lawful_by, replay_from}
+use Rattle.ps_model.specs.Replay.{lawful_based, replay_from}
 use Rattle.ps_model.specs.Sorted.{put_sorted, sorted}
 use Rattle.ps_model.specs.Tallies.{handed_in, handed_to, is_tally_of, made_for, made_in}
 use Rattle.ps_model.proofs.NumberLaws.{RiseFrom}
@@ -154,41 +153,41 @@ pub not-found : (b : Jid) (T : List TallyRow) → Each (λ (j : Jid). same_bare 
 not-found b [] far = refl
 not-found b (r ∷ T) far = rw far.0 (not-found b T far.1)
 
-module _ (telling : Event → Bool) (E : List Entry) (is : lawful_by telling E) where
+module _ (E : List Entry) (is : lawful_based E) where
   told : List TallyRow
-  told = (replay_from telling empty_state E).tallies
+  told = (replay_from empty_state E).tallies
 
-  module _ (bares : Each (λ (j : Jid). j.resource ≡ []) (map (λ (r : TallyRow). r.who) (replay_from telling empty_state E).tallies)) (addresses : Each IsAddress (map (λ (r : TallyRow). r.who) (replay_from telling empty_state E).tallies)) where
-    made-by : (b : Jid) → IsIn (λ a. handed_to a (replay_from telling empty_state E).tallies) (unhanded telling E) b (told_addresses (replay_from telling empty_state E).tallies) ⊎ IsOut (λ a. handed_to a (replay_from telling empty_state E).tallies) (unhanded telling E) b (told_addresses (replay_from telling empty_state E).tallies)
-        → (made_for b (replay_from telling empty_state E).tallies ≡ number_at (λ a. handed_to a (replay_from telling empty_state E).tallies) b (told_addresses (replay_from telling empty_state E).tallies) 0 + more_at (unhanded telling E) b (told_addresses (replay_from telling empty_state E).tallies))
-        × (handed_to b (replay_from telling empty_state E).tallies ≡ number_at (λ a. handed_to a (replay_from telling empty_state E).tallies) b (told_addresses (replay_from telling empty_state E).tallies) 0)
+  module _ (bares : Each (λ (j : Jid). j.resource ≡ []) (map (λ (r : TallyRow). r.who) (replay_from empty_state E).tallies)) (addresses : Each IsAddress (map (λ (r : TallyRow). r.who) (replay_from empty_state E).tallies)) where
+    made-by : (b : Jid) → IsIn (λ a. handed_to a (replay_from empty_state E).tallies) (unhanded E) b (told_addresses (replay_from empty_state E).tallies) ⊎ IsOut (λ a. handed_to a (replay_from empty_state E).tallies) (unhanded E) b (told_addresses (replay_from empty_state E).tallies)
+        → (made_for b (replay_from empty_state E).tallies ≡ number_at (λ a. handed_to a (replay_from empty_state E).tallies) b (told_addresses (replay_from empty_state E).tallies) 0 + more_at (unhanded E) b (told_addresses (replay_from empty_state E).tallies))
+        × (handed_to b (replay_from empty_state E).tallies ≡ number_at (λ a. handed_to a (replay_from empty_state E).tallies) b (told_addresses (replay_from empty_state E).tallies) 0)
     made-by b (inl at) =
-        let T = (replay_from telling empty_state E).tallies in
-        (made-like b at.one T at.same ∙ made-whole telling at.one at.bare E is ∙ ap₂ (λ x y. x + y) (sym at.number) (sym at.more), handed-like b at.one T at.same ∙ sym at.number)
+        let T = (replay_from empty_state E).tallies in
+        (made-like b at.one T at.same ∙ made-whole at.one at.bare E is ∙ ap₂ (λ x y. x + y) (sym at.number) (sym at.more), handed-like b at.one T at.same ∙ sym at.number)
     made-by b (inr out) =
-        let T = (replay_from telling empty_state E).tallies in
+        let T = (replay_from empty_state E).tallies in
         let none = not-found b T (unsorted (λ j. same_bare b j ≡ false) (map (λ r. r.who) T) addresses out.far) in
         (ap made_in none ∙ ap₂ (λ x y. x + y) (sym out.number) (sym out.more), ap handed_in none ∙ sym out.number)
 
-    lines-all : (A : List Jid) → Each (λ a. a.resource ≡ []) A → Each (λ a. AreLines a (unhanded telling E a)) A → Each (λ a. AreLines a (unhanded telling E a) × RiseFrom (handed_to a (replay_from telling empty_state E).tallies) (unhanded telling E a)) A
+    lines-all : (A : List Jid) → Each (λ a. a.resource ≡ []) A → Each (λ a. AreLines a (unhanded E a)) A → Each (λ a. AreLines a (unhanded E a) × RiseFrom (handed_to a (replay_from empty_state E).tallies) (unhanded E a)) A
     lines-all [] bs ls = tt
-    lines-all (a ∷ A) bs ls = ((ls.0, unhanded-rise telling a bs.0 E is), lines-all A bs.1 ls.1)
+    lines-all (a ∷ A) bs ls = ((ls.0, unhanded-rise a bs.0 E is), lines-all A bs.1 ls.1)
 
-    few-all : (A : List Jid) → Each (λ a. a.resource ≡ []) A → ((a : Jid) → handed_to a (replay_from telling empty_state E).tallies < 2 ^ 62) → Each (λ a. (is_bare a ≡ true) × (handed_to a (replay_from telling empty_state E).tallies < 2 ^ 62)) A
+    few-all : (A : List Jid) → Each (λ a. a.resource ≡ []) A → ((a : Jid) → handed_to a (replay_from empty_state E).tallies < 2 ^ 62) → Each (λ a. (is_bare a ≡ true) × (handed_to a (replay_from empty_state E).tallies < 2 ^ 62)) A
     few-all [] bs few = tt
     few-all (a ∷ A) bs few = ((ap (λ (r : List ℕ). length r == 0) bs.0, few a), few-all A bs.1 few)
 
     -- the numbers of a lawful list are sound
-    pub sound-numbers : ((a : Jid) → handed_to a (replay_from telling empty_state E).tallies < 2 ^ 62) → Each (λ a. AreLines a (unhanded telling E a)) (told_addresses (replay_from telling empty_state E).tallies)
-        → AreSoundNumbers (replay_from telling empty_state E).tallies (unhanded telling E)
+    pub sound-numbers : ((a : Jid) → handed_to a (replay_from empty_state E).tallies < 2 ^ 62) → Each (λ a. AreLines a (unhanded E a)) (told_addresses (replay_from empty_state E).tallies)
+        → AreSoundNumbers (replay_from empty_state E).tallies (unhanded E)
     sound-numbers few lines =
-        let T = (replay_from telling empty_state E).tallies in
+        let T = (replay_from empty_state E).tallies in
         let A = told_addresses T in
         let bs : Each (λ (j : Jid). j.resource ≡ []) A = each-sorted (λ j. j.resource ≡ []) (map (λ r. r.who) T) bares in
         record {
           bare = few-all A bs few;
           apart = told-apart T bares;
           lines = lines-all A bs lines;
-          made = λ b. (made-by b (in-or-out (λ a. handed_to a T) (unhanded telling E) b A bs)).0;
-          handed = λ b. (made-by b (in-or-out (λ a. handed_to a T) (unhanded telling E) b A bs)).1;
+          made = λ b. (made-by b (in-or-out (λ a. handed_to a T) (unhanded E) b A bs)).0;
+          handed = λ b. (made-by b (in-or-out (λ a. handed_to a T) (unhanded E) b A bs)).1;
         }

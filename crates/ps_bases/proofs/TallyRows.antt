@@ -1,9 +1,8 @@
 -- The addresses of the numbers are bare, after each list.
-use Rattle.std.proofs.Common.{◌≡◌, ℕ, ◌+◌, Bool, List, [], ◌∷◌, map, Option, Some, None, refl}
+use Rattle.std.proofs.Common.{◌≡◌, ℕ, ◌+◌, List, [], ◌∷◌, map, Option, Some, None, refl}
 use Rattle.ps_types.specs.Tree.{Tree}
 use Rattle.ps_types.specs.declared.entry.Entry.{Entry}
 use Rattle.ps_types.specs.declared.entry.Entry.TheVariants.{Boot, Change, Handed, Gone, Base}
-use Rattle.ps_types.specs.declared.event.Event.{Event}
 use Rattle.ps_types.specs.declared.jid.Jid.{Jid}
 use Rattle.ps_types.specs.declared.rows.TallyRow.{TallyRow}
 use Rattle.ps_types.specs.Address.{bare}
@@ -40,20 +39,20 @@ row-bare (Some (contact r)) T is = is
 row-bare (Some (ver r)) T is = is
 row-bare (Some (made r)) T is = is
 
-entry-bare : (telling : Event → Bool) (e : Entry) (s : State) → AreBare s.tallies → AreBare (step.tallies_after telling s e)
-entry-bare telling (Boot service) s is = is
-entry-bare telling (Change host line moment t) s is = tallied-bare (step.handed_out telling s (Change host line moment t)) s.tallies is
-entry-bare telling (Handed to) s is = set-bare to (made_for to s.tallies) (handed_to to s.tallies + 1) s.tallies is
-entry-bare telling (Gone host) s is = is
-entry-bare telling (Base row) s is = row-bare (row_of row) s.tallies is
+entry-bare : (e : Entry) (s : State) → AreBare s.tallies → AreBare (step.tallies_after s e)
+entry-bare (Boot service) s is = is
+entry-bare (Change host line moment t) s is = tallied-bare (step.handed_out s (Change host line moment t)) s.tallies is
+entry-bare (Handed to) s is = set-bare to (made_for to s.tallies) (handed_to to s.tallies + 1) s.tallies is
+entry-bare (Gone host) s is = is
+entry-bare (Base row) s is = row-bare (row_of row) s.tallies is
 
-replay-bare : (telling : Event → Bool) (E : List Entry) (s : State) → AreBare s.tallies → AreBare (replay_from telling s E).tallies
-replay-bare telling [] s is = is
-replay-bare telling (e ∷ E) s is = replay-bare telling E (step.after telling s e) (entry-bare telling e s is)
+replay-bare : (E : List Entry) (s : State) → AreBare s.tallies → AreBare (replay_from s E).tallies
+replay-bare [] s is = is
+replay-bare (e ∷ E) s is = replay-bare E (step.after s e) (entry-bare e s is)
 
 whos : (T : List TallyRow) → AreBare T → Each (λ (j : Jid). j.resource ≡ []) (map (λ (r : TallyRow). r.who) T)
 whos [] is = tt
 whos (r ∷ T) is = (is.0, whos T is.1)
 
-pub lawful-bares : (telling : Event → Bool) (E : List Entry) → Each (λ (j : Jid). j.resource ≡ []) (map (λ (r : TallyRow). r.who) (replay_from telling empty_state E).tallies)
-lawful-bares telling E = whos (replay_from telling empty_state E).tallies (replay-bare telling E empty_state tt)
+pub lawful-bares : (E : List Entry) → Each (λ (j : Jid). j.resource ≡ []) (map (λ (r : TallyRow). r.who) (replay_from empty_state E).tallies)
+lawful-bares E = whos (replay_from empty_state E).tallies (replay-bare E empty_state tt)

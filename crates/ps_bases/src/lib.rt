@@ -1,6 +1,6 @@
-//! The law of compaction: the entries that a lawful list is compacted to serve on as the list would, wherever events are told.
+//! The law of compaction: the entries that a lawful list is compacted to serve on as the list would.
 //!
-//! A compacted list begins with rows in the place of the entries that led to them (`ps_model`'s `Base.base_of`): the rows of the Book, the number of handed notices of each address,
+//! A compacted list begins with rows in the place of the entries that led to them (`ps_model`'s `Base.base`): the rows of the Book, the number of handed notices of each address,
 //! and the notices that aren't handed. `specs/Laws.antt` says what it is to the list: `ServesOn` (the same lists are lawful behind a boot, with the same replies and entries, and
 //! the same notices but for those that were handed), and `EachCompactedServesOn` that it is so of each lawful list.
 //!

@@ -7,7 +7,6 @@ use Rattle.ps_types.specs.declared.config.NodeConfig.{NodeConfig}
 use Rattle.ps_types.specs.declared.entry.Entry.{Entry}
 use Rattle.ps_types.specs.declared.entry.Entry.TheVariants.{Boot, Change, Handed, Gone, Base}
 use Rattle.ps_types.specs.declared.entry.Notice.{Notice}
-use Rattle.ps_types.specs.declared.event.Event.{Event}
 use Rattle.ps_types.specs.declared.jid.Jid.{Jid}
 use Rattle.ps_types.specs.declared.request.Ask.{Ask}
 use Rattle.ps_types.specs.declared.request.Ask.TheVariants as ask
@@ -27,7 +26,7 @@ use Rattle.ps_model.specs.BaseRead.{row_of}
 use Rattle.ps_model.specs.BaseRows as base
 use Rattle.ps_model.specs.BaseRows.{BaseRow}
 use Rattle.ps_model.specs.Book.{Book, State, empty_state}
-use Rattle.ps_model.specs.Replay.{IsLawfulFrom, accepted_at, is_booted, lawful_by, replay_from, row_accepted}
+use Rattle.ps_model.specs.Replay.{IsLawfulFrom, accepted_at, is_booted, lawful_based, replay_from, row_accepted}
 use Rattle.ps_model.specs.Spelled.{IsAsk, SpellsRequest}
 use Rattle.ps_model.specs.Stanza.{host_jid, is_served}
 use Rattle.ps_model.specs.Taken.{Taken, silent, refused, denied, asked}
@@ -35,7 +34,7 @@ use Rattle.ps_model.specs.Taking.{request_in, tree_taken}
 use Rattle.ps_model.specs.Tallies.{handed_to}
 use Rattle.ps_model.proofs.AskedStanza.{taken-spelled}
 use Rattle.ps_books.proofs.FormedKinds.{AreFormed, IsFormed, IsNamedAsk, changed-formed, nodes-formed}
-use Rattle.ps_books.proofs.Keys.{each-push}
+use Rattle.ps_books.proofs.Keys.{each-both, each-map, each-push}
 
 -- ---- a request that a tree spells
 
@@ -114,25 +113,17 @@ entry-formed s (Handed to) ok is = is
 entry-formed s (Gone host) ok is = record { nodes = is.nodes; items = is.items; links = is.links; rosters = is.rosters; counts = is.counts }
 entry-formed s (Base row) ok is = base-formed (row_of row) s (and_parts (not (is_booted s)) (row_accepted (row_of row) s) ok).1 is
 
-replay-formed : (telling : Event → Bool) (E : List Entry) (s : State) → IsLawfulFrom telling s E → IsFormed s.book → IsFormed (replay_from telling s E).book
-replay-formed telling [] s ok is = is
-replay-formed telling (e ∷ E) s ok is = replay-formed telling E (step.after telling s e) ok.1 (entry-formed s e ok.0 is)
+replay-formed : (E : List Entry) (s : State) → IsLawfulFrom s E → IsFormed s.book → IsFormed (replay_from s E).book
+replay-formed [] s ok is = is
+replay-formed (e ∷ E) s ok is = replay-formed E (step.after s e) ok.1 (entry-formed s e ok.0 is)
 
-pub lawful-formed : (telling : Event → Bool) (E : List Entry) → lawful_by telling E → IsFormed (replay_from telling empty_state E).book
-lawful-formed telling E h = replay-formed telling E empty_state h (record { nodes = tt; items = tt; links = tt; rosters = tt; counts = tt })
+pub lawful-formed : (E : List Entry) → lawful_based E → IsFormed (replay_from empty_state E).book
+lawful-formed E h = replay-formed E empty_state h (record { nodes = tt; items = tt; links = tt; rosters = tt; counts = tt })
 
 -- ---- the rows that a compacted store is written with
 
 Good : BaseRow → Type 0
 Good r = is_well_formed r ≡ true
-
-each-both : {R : Type 0} (P : R → Type 0) (xs ys : List R) → Each P xs → Each P ys → Each P (xs ++ ys)
-each-both P [] ys ps qs = qs
-each-both P (x ∷ xs) ys ps qs = (ps.0, each-both P xs ys ps.1 qs)
-
-each-map : {R T : Type 0} (P : T → Type 0) (f : R → T) (rows : List R) → Each (λ r. P (f r)) rows → Each P (map f rows)
-each-map P f [] is = tt
-each-map P f (r ∷ rows) is = (is.0, each-map P f rows is.1)
 
 any-row : {R : Type 0} (put : R → BaseRow) → ((r : R) → is_well_formed (put r) ≡ true) → (rows : List R) → Each Good (map put rows)
 unfolding Good
@@ -164,12 +155,12 @@ book-formed b is =
     (each-both Good (map base.contact b.rosters) _ (each-map Good base.contact b.rosters is.rosters)
     (each-both Good (map base.ver b.vers) _ (any-row base.ver (λ r. refl) b.vers) (each-map Good base.made b.counts is.counts)))))))
 
-all-formed : (telling : Event → Bool) (E : List Entry) → IsFormed (replay_from telling empty_state E).book → Each Good (rows_of telling E)
-all-formed telling E is =
-    let s = replay_from telling empty_state E in
-    each-both Good (book_rows s.book) (counter_rows s.tallies ++ notice_rows telling E s.tallies) (book-formed s.book is)
-    (each-both Good (counter_rows s.tallies) (notice_rows telling E s.tallies) (counters-formed s.tallies (told_addresses s.tallies)) (notices-formed (flat_map (unhanded telling E) (told_addresses s.tallies))))
+all-formed : (E : List Entry) → IsFormed (replay_from empty_state E).book → Each Good (rows_of E)
+all-formed E is =
+    let s = replay_from empty_state E in
+    each-both Good (book_rows s.book) (counter_rows s.tallies ++ notice_rows E s.tallies) (book-formed s.book is)
+    (each-both Good (counter_rows s.tallies) (notice_rows E s.tallies) (counters-formed s.tallies (told_addresses s.tallies)) (notices-formed (flat_map (unhanded E) (told_addresses s.tallies))))
 
-pub rows-formed : (telling : Event → Bool) (E : List Entry) → lawful_by telling E → Each (λ r. is_well_formed r ≡ true) (rows_of telling E)
+pub rows-formed : (E : List Entry) → lawful_based E → Each (λ r. is_well_formed r ≡ true) (rows_of E)
 unfolding Good
-rows-formed telling E h = all-formed telling E (lawful-formed telling E h)
+rows-formed E h = all-formed E (lawful-formed E h)

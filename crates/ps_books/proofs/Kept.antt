@@ -9,7 +9,6 @@ use Rattle.ps_base.proofs.Rows.{count_by-push}
 use Rattle.ps_types.specs.declared.config.NodeConfig.{NodeConfig}
 use Rattle.ps_types.specs.declared.entry.Entry.{Entry}
 use Rattle.ps_types.specs.declared.entry.Entry.TheVariants.{Boot, Change, Handed, Gone, Base}
-use Rattle.ps_types.specs.declared.event.Event.{Event}
 use Rattle.ps_types.specs.declared.node.NodeKey.{NodeKey}
 use Rattle.ps_types.specs.declared.request.Request.{Request}
 use Rattle.ps_types.specs.declared.rows.ItemRow.{ItemRow}
@@ -27,7 +26,7 @@ use Rattle.ps_model.specs.BaseRows.{BaseRow, node, affiliation, subscription, it
 use Rattle.ps_model.specs.Book.{Book, State, empty_book, empty_state}
 use Rattle.ps_model.specs.Bounds.{IsBounded, item_bound}
 use Rattle.ps_model.specs.CheckForms.{is_collection}
-use Rattle.ps_model.specs.Replay.{IsLawfulFrom, accepted_at, is_booted, lawful_by, request_accepted, row_accepted, replay_from}
+use Rattle.ps_model.specs.Replay.{IsLawfulFrom, accepted_at, is_booted, lawful_based, request_accepted, row_accepted, replay_from}
 use Rattle.ps_model.specs.Taking.{request_in, tree_taken}
 use Rattle.ps_model.specs.Tallies.{is_next_line}
 use Rattle.ps_model.proofs.ChangedBounded.{changed-bounded}
@@ -139,12 +138,12 @@ entry-kept s (Handed to) h reach is = is
 entry-kept s (Gone host) h reach is = record { leaves = is.leaves; bounded = is.bounded }
 entry-kept s (Base row) h reach is = base-kept (row_of row) s (and_parts (not (is_booted s)) (row_accepted (row_of row) s) h).1 reach is
 
-replay-kept : (telling : Event → Bool) (E : List Entry) (s : State) → IsLawfulFrom telling s E → IsReachable s.book → HoldsItems s.book → HoldsItems (replay_from telling s E).book
-replay-kept telling [] s h reach is = is
-replay-kept telling (e ∷ E) s h reach is = replay-kept telling E (step.after telling s e) h.1 (entry-reachable s e h.0 reach) (entry-kept s e h.0 reach is)
+replay-kept : (E : List Entry) (s : State) → IsLawfulFrom s E → IsReachable s.book → HoldsItems s.book → HoldsItems (replay_from s E).book
+replay-kept [] s h reach is = is
+replay-kept (e ∷ E) s h reach is = replay-kept E (step.after s e) h.1 (entry-reachable s e h.0 reach) (entry-kept s e h.0 reach is)
 
 empty-kept : HoldsItems empty_book
 empty-kept = record { leaves = tt; bounded = λ n. omega arith }
 
-pub lawful-kept : (telling : Event → Bool) (E : List Entry) → lawful_by telling E → HoldsItems (replay_from telling empty_state E).book
-lawful-kept telling E h = replay-kept telling E empty_state h empty-reachable empty-kept
+pub lawful-kept : (E : List Entry) → lawful_based E → HoldsItems (replay_from empty_state E).book
+lawful-kept E h = replay-kept E empty_state h empty-reachable empty-kept

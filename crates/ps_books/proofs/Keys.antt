@@ -1,5 +1,5 @@
 -- Rows whose keys are their own stay so where rows are put, go, are changed in place, or are pushed.
-use Rattle.std.proofs.Common.{◌≡◌, ℕ, Bool, true, false, cond, ◌&&◌, not, List, [], ◌∷◌, ◌++◌, Some, refl, sym, ap, ap₂, ◌∙◌, filter}
+use Rattle.std.proofs.Common.{◌≡◌, ℕ, Bool, true, false, cond, ◌&&◌, not, List, [], ◌∷◌, ◌++◌, map, Some, refl, sym, ap, ap₂, ◌∙◌, filter}
 use Rattle.std.specs.Prelude.{find, is_none, nat_le, count_by, bytes_eq, Decides}
 use Rattle.std.proofs.lemmas.Bool.{and_parts, true≢false}
 use Rattle.std.proofs.lemmas.Slice.Eq.{bytes_eq-Decides}
@@ -97,6 +97,26 @@ module _ {R : Type 0} (P : R → Type 0) where
   pub each-by : (Q : R → Type 0) (xs : List R) → ((x : R) → Q x → P x) → Each Q xs → Each P xs
   each-by Q [] f qs = tt
   each-by Q (x ∷ xs) f qs = (f x qs.0, each-by Q xs f qs.1)
+
+  pub each-all : ((x : R) → P x) → (xs : List R) → Each P xs
+  each-all ps [] = tt
+  each-all ps (x ∷ xs) = (ps x, each-all ps xs)
+
+  pub each-both : (xs ys : List R) → Each P xs → Each P ys → Each P (xs ++ ys)
+  each-both [] ys ps qs = qs
+  each-both (x ∷ xs) ys ps qs = (ps.0, each-both xs ys ps.1 qs)
+
+  pub each-cond : (b : Bool) (xs ys : List R) → Each P xs → Each P ys → Each P (cond b xs ys)
+  each-cond true xs ys ps qs = ps
+  each-cond false xs ys ps qs = qs
+
+  pub each-map : {T : Type 0} (f : T → R) (rows : List T) → Each (λ t. P (f t)) rows → Each P (map f rows)
+  each-map f [] ps = tt
+  each-map f (t ∷ rows) ps = (ps.0, each-map f rows ps.1)
+
+  pub each-mapped : {T : Type 0} (f : T → R) (rows : List T) → Each P (map f rows) → Each (λ t. P (f t)) rows
+  each-mapped f [] ps = tt
+  each-mapped f (t ∷ rows) ps = (ps.0, each-mapped f rows ps.1)
 
 module _ {R : Type 0} (same : R → R → Bool) where
   Far : R → R → Type 0

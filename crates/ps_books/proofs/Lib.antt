@@ -10,3 +10,7 @@ pub mod Reached
 pub mod Kept
 pub mod FormedKinds
 pub mod Formed
+pub mod AddressedKinds
+pub mod AddressedTaken
+pub mod EarlyKinds
+pub mod Addressed

@@ -7,7 +7,6 @@ use Rattle.ps_types.specs.declared.config.NodeConfig.{NodeConfig}
 use Rattle.ps_types.specs.declared.denial.Condition.{Condition}
 use Rattle.ps_types.specs.declared.entry.Entry.{Entry}
 use Rattle.ps_types.specs.declared.entry.Entry.TheVariants.{Boot, Change, Handed, Gone, Base}
-use Rattle.ps_types.specs.declared.event.Event.{Event}
 use Rattle.ps_types.specs.declared.node.NodeKey.{NodeKey}
 use Rattle.ps_types.specs.declared.request.Request.{Request}
 use Rattle.ps_types.specs.declared.rows.LinkRow.{LinkRow}
@@ -27,8 +26,7 @@ use Rattle.ps_model.specs.BaseRows.{BaseRow, node, affiliation, subscription, it
 use Rattle.ps_model.specs.Book.{Book, State, empty_book, empty_state}
 use Rattle.ps_model.specs.CheckForms.{is_collection}
 use Rattle.ps_model.specs.Check.{check, child_of, steps_of}
-use Rattle.ps_model.specs.Commits.{commits, commits_by, makes_entry}
-use Rattle.ps_model.specs.Changes.{changed}
+use Rattle.ps_model.specs.Commits.{commits, makes_entry}
 use Rattle.ps_model.specs.Outcome.{is_accepted, outcome}
 use Rattle.ps_model.specs.Steps.{first_denial}
 use Rattle.ps_model.specs.Tallies.{is_next_line}
@@ -36,7 +34,7 @@ use Rattle.ps_model.specs.Taking.{request_in, tree_taken}
 use Rattle.ps_types.specs.Tree.{Tree}
 use Rattle.ps_types.specs.Resources.{resources_off}
 use Rattle.ps_types.specs.declared.rows.ResourceRow.{ResourceRow}
-use Rattle.ps_model.specs.Replay.{IsLawfulFrom, accepted_at, is_booted, lawful_by, request_accepted, row_accepted, replay_from}
+use Rattle.ps_model.specs.Replay.{IsLawfulFrom, accepted_at, is_booted, lawful_based, request_accepted, row_accepted, replay_from}
 use Rattle.std.specs.List.{AllByRecursion as Each}
 use Rattle.ps_books.proofs.Parts.{IsKeyed, IsLinked, IsRowed}
 use Rattle.ps_books.specs.Keys.{affil_key, count_key, item_key, link_key, node_key, roster_key, sub_key, ver_key}
@@ -289,15 +287,15 @@ entry-reachable s (Base row) h is = base-reachable (row_of row) s (and_parts (no
 
 -- ---- a list
 
-pub replay-reachable : (telling : Event → Bool) (E : List Entry) (s : State) → IsLawfulFrom telling s E → IsReachable s.book → IsReachable (replay_from telling s E).book
-replay-reachable telling [] s h is = is
-replay-reachable telling (e ∷ E) s h is = replay-reachable telling E (step.after telling s e) h.1 (entry-reachable s e h.0 is)
+pub replay-reachable : (E : List Entry) (s : State) → IsLawfulFrom s E → IsReachable s.book → IsReachable (replay_from s E).book
+replay-reachable [] s h is = is
+replay-reachable (e ∷ E) s h is = replay-reachable E (step.after s e) h.1 (entry-reachable s e h.0 is)
 
 -- the Book of each lawful list, uncut
-pub lawful-reachable : (telling : Event → Bool) (E : List Entry) → lawful_by telling E → IsReachable (replay_from telling empty_state E).book
-lawful-reachable telling E h = replay-reachable telling E empty_state h empty-reachable
+pub lawful-reachable : (E : List Entry) → lawful_based E → IsReachable (replay_from empty_state E).book
+lawful-reachable E h = replay-reachable E empty_state h empty-reachable
 
-pub lawful-sound : (telling : Event → Bool) (E : List Entry) → lawful_by telling E → IsSound (replay_from telling empty_state E).book
-lawful-sound telling E h =
-    let is = lawful-reachable telling E h in
+pub lawful-sound : (E : List Entry) → lawful_based E → IsSound (replay_from empty_state E).book
+lawful-sound E h =
+    let is = lawful-reachable E h in
     record { keys = is.keyed.keys; links = is.linked.links; configured = is.linked.configured; affils = is.rowed.affils; subs = is.rowed.subs; counts = is.rowed.counts }

@@ -1,3 +1,4 @@
+pub mod Addressed
 pub mod Keys
 pub mod Laws
 pub mod Linked

@@ -34,26 +34,26 @@ use Rattle.ps_model.specs.Book.{State, empty_state}
 use Rattle.ps_model.specs.Core.{handed}
 use Rattle.ps_model.specs.Heard.{placeless}
 use Rattle.ps_model.specs.Stanza.{host_jid}
-use Rattle.ps_model.specs.Replay.{AreAcceptedFrom, accepted_at, notices_from, of_bare, replay_from, to_address}
+use Rattle.ps_model.specs.Replay.{AreAcceptedFrom, accepted_at, lawful_based, notices, notices_from, of_bare, replay, to_address}
 use Rattle.ps_cases.proofs.Parts.{all_from, part-of}
+use Rattle.ps_model.specs.Base.{base}
 use Rattle.ps_cases.specs.AccessCases.{q}
-use Rattle.ps_cases.specs.Compacted.{base_by}
 use Rattle.ps_cases.specs.HomeCases.{t}
 use Rattle.ps_cases.specs.PresenceCases.{ver}
-use Rattle.ps_cases.specs.Running.{Line, entry_in, every, handed_by, lawful_in, left_by, reply_in, taken_in}
+use Rattle.ps_cases.specs.Running.{entry_in, reply_in, taken_in}
 use Rattle.ps_cases.specs.Words.{payload, to_ann, to_bob}
 use Rattle.ps_bytes.proofs.GoingOn.{behind, from-on, joined, lawful-on, tails-alike, uncounted}
 use Rattle.ps_bytes.specs.Bases as it
 
 -- ---- computed
 
-pub rows-stand : base_by it.whole ≡ it.rows
+pub rows-stand : base it.whole ≡ it.rows
 unfolding same.same_jid same.same_bare same.same_node text.escape_byte fmt.digits str.is_utf8 str.chars utf8.encode json.value lex.punctuate lex.lex content.content b64.encode_symbols sha.sha1 sha.digest_bytes sha.hash_after sha.compress sha.rounds sha.schedule sha.first_words
 rows-stand = refl
 
 abbrev all_accepted : State → List Entry → Bool
 all_accepted s [] = true
-all_accepted s (e ∷ E) = accepted_at s e && all_accepted (after every s e) E
+all_accepted s (e ∷ E) = accepted_at s e && all_accepted (after s e) E
 
 whole-accepted : all_accepted empty_state it.whole ≡ true
 unfolding same.same_jid same.same_bare same.same_node text.escape_byte fmt.digits str.is_utf8 str.chars utf8.encode json.value lex.punctuate lex.lex content.content b64.encode_symbols sha.sha1 sha.digest_bytes sha.hash_after sha.compress sha.rounds sha.schedule sha.first_words
@@ -92,15 +92,15 @@ left service = record {
   lines = [];
 }
 
-whole-leaves : (service : List ℕ) → uncounted (after every (left_by it.whole) (Boot service)) ≡ left service
+whole-leaves : (service : List ℕ) → uncounted (after (replay it.whole) (Boot service)) ≡ left service
 unfolding same.same_jid same.same_bare same.same_node text.escape_byte fmt.digits str.is_utf8 str.chars utf8.encode json.value lex.punctuate lex.lex content.content b64.encode_symbols sha.sha1 sha.digest_bytes sha.hash_after sha.compress sha.rounds sha.schedule sha.first_words
 whole-leaves service = refl
 
-rows-leave : (service : List ℕ) → uncounted (after every (left_by it.rows) (Boot service)) ≡ left service
+rows-leave : (service : List ℕ) → uncounted (after (replay it.rows) (Boot service)) ≡ left service
 unfolding same.same_jid same.same_bare same.same_node text.escape_byte fmt.digits str.is_utf8 str.chars utf8.encode json.value lex.punctuate lex.lex content.content b64.encode_symbols sha.sha1 sha.digest_bytes sha.hash_after sha.compress sha.rounds sha.schedule sha.first_words
 rows-leave service = refl
 
-booted-alike : (service : List ℕ) → uncounted (after every (left_by it.whole) (Boot service)) ≡ uncounted (after every (left_by it.rows) (Boot service))
+booted-alike : (service : List ℕ) → uncounted (after (replay it.whole) (Boot service)) ≡ uncounted (after (replay it.rows) (Boot service))
 booted-alike service = whole-leaves service ∙ sym (rows-leave service)
 
 told-is : all_from empty_state it.whole ≡ it.told
@@ -113,31 +113,31 @@ told-again = refl
 
 -- ---- lawful
 
-lawful-from : (s : State) (E : List Entry) → all_accepted s E ≡ true → AreAcceptedFrom every accepted_at s E
+lawful-from : (s : State) (E : List Entry) → all_accepted s E ≡ true → AreAcceptedFrom accepted_at s E
 lawful-from s [] e = tt
-lawful-from s (x ∷ E) e = let p = and_parts (accepted_at s x) (all_accepted (after every s x) E) e in (p.0, lawful-from (after every s x) E p.1)
+lawful-from s (x ∷ E) e = let p = and_parts (accepted_at s x) (all_accepted (after s x) E) e in (p.0, lawful-from (after s x) E p.1)
 
-pub whole-lawful : lawful_in it.whole
+pub whole-lawful : lawful_based it.whole
 whole-lawful = lawful-from empty_state it.whole whole-accepted
 
-pub rows-lawful : lawful_in it.rows
+pub rows-lawful : lawful_based it.rows
 rows-lawful = lawful-from empty_state it.rows rows-accepted
 
 -- lists whose States after a boot are alike
-module _ (E B : List Entry) (service : List ℕ) (F : List Entry) (alike : uncounted (after every (left_by E) (Boot service)) ≡ uncounted (after every (left_by B) (Boot service))) where
-  same-boot : accepted_at (left_by E) (Boot service) ≡ accepted_at (left_by B) (Boot service)
+module _ (E B : List Entry) (service : List ℕ) (F : List Entry) (alike : uncounted (after (replay E) (Boot service)) ≡ uncounted (after (replay B) (Boot service))) where
+  same-boot : accepted_at (replay E) (Boot service) ≡ accepted_at (replay B) (Boot service)
   same-boot = refl
 
-  goes-on : lawful_in B → lawful_in (E ++ Boot service ∷ F) → lawful_in (B ++ Boot service ∷ F)
+  goes-on : lawful_based B → lawful_based (E ++ Boot service ∷ F) → lawful_based (B ++ Boot service ∷ F)
   goes-on first is =
       let p = behind E (Boot service ∷ F) empty_state is in
-      joined B (Boot service ∷ F) empty_state first (p.0, lawful-on F (after every (left_by E) (Boot service)) (after every (left_by B) (Boot service)) alike p.1)
+      joined B (Boot service ∷ F) empty_state first (p.0, lawful-on F (after (replay E) (Boot service)) (after (replay B) (Boot service)) alike p.1)
 
-  books : uncounted (left_by (E ++ Boot service ∷ F)) ≡ uncounted (left_by (B ++ Boot service ∷ F))
+  books : uncounted (replay (E ++ Boot service ∷ F)) ≡ uncounted (replay (B ++ Boot service ∷ F))
   books =
-      ap uncounted (replay-append every E (Boot service ∷ F) empty_state)
-      ∙ from-on F (after every (left_by E) (Boot service)) (after every (left_by B) (Boot service)) alike
-      ∙ sym (ap uncounted (replay-append every B (Boot service ∷ F) empty_state))
+      ap uncounted (replay-append E (Boot service ∷ F) empty_state)
+      ∙ from-on F (after (replay E) (Boot service)) (after (replay B) (Boot service)) alike
+      ∙ sym (ap uncounted (replay-append B (Boot service ∷ F) empty_state))
 
 -- ---- the notices of each address
 
@@ -211,17 +211,17 @@ by-address a false false p q = other-told a p q
 told-to : (a : Jid) → Told a
 told-to a = by-address a (same_jid to_bob a) (same_jid to_ann a) refl refl
 
-whole-told : (a : Jid) → notices_from every empty_state it.whole a ≡ to_address a it.told
+whole-told : (a : Jid) → notices_from empty_state it.whole a ≡ to_address a it.told
 whole-told a = part-of empty_state it.whole a ∙ ap (λ (l : List Notice). to_address a l) told-is
 
-rows-told : (a : Jid) → notices_from every empty_state it.rows a ≡ to_address a it.told_again
+rows-told : (a : Jid) → notices_from empty_state it.rows a ≡ to_address a it.told_again
 rows-told a = part-of empty_state it.rows a ∙ ap (λ (l : List Notice). to_address a l) told-again
 
 -- a boot tells nobody
-boot-tells : (s : State) (service : List ℕ) (F : List Entry) (a : Jid) → notices_from every s (Boot service ∷ F) a ≡ notices_from every (after every s (Boot service)) F a
-boot-tells s service F a = ap (λ (l : List Notice). l ++ notices_from every (after every s (Boot service)) F a) (of-none a.resource)
+boot-tells : (s : State) (service : List ℕ) (F : List Entry) (a : Jid) → notices_from s (Boot service ∷ F) a ≡ notices_from (after s (Boot service)) F a
+boot-tells s service F a = ap (λ (l : List Notice). l ++ notices_from (after s (Boot service)) F a) (of-none a.resource)
 
-notices-on : (service : List ℕ) (F : List Entry) (a : Jid) → map placeless (handed_by (it.rows ++ Boot service ∷ F) a) ≡ map placeless (drop (handed it.whole a) (handed_by (it.whole ++ Boot service ∷ F) a))
+notices-on : (service : List ℕ) (F : List Entry) (a : Jid) → map placeless (notices (it.rows ++ Boot service ∷ F) a) ≡ map placeless (drop (handed it.whole a) (notices (it.whole ++ Boot service ∷ F) a))
 notices-on service F a =
     ap (λ (l : List Notice). map placeless l) rows-split
     ∙ map-append placeless (to_address a it.told_again) there
@@ -231,22 +231,22 @@ notices-on service F a =
     ∙ sym (ap (λ (l : List Notice). map placeless (drop (handed it.whole a) l)) whole-split)
   where
     here : List Notice
-    here = notices_from every (left_by it.whole) (Boot service ∷ F) a
+    here = notices_from (replay it.whole) (Boot service ∷ F) a
 
     there : List Notice
-    there = notices_from every (left_by it.rows) (Boot service ∷ F) a
+    there = notices_from (replay it.rows) (Boot service ∷ F) a
 
-    rows-split : handed_by (it.rows ++ Boot service ∷ F) a ≡ to_address a it.told_again ++ there
-    rows-split = notices-append every it.rows (Boot service ∷ F) empty_state a ∙ ap (λ (l : List Notice). l ++ there) (rows-told a)
+    rows-split : notices (it.rows ++ Boot service ∷ F) a ≡ to_address a it.told_again ++ there
+    rows-split = notices-append it.rows (Boot service ∷ F) empty_state a ∙ ap (λ (l : List Notice). l ++ there) (rows-told a)
 
-    whole-split : handed_by (it.whole ++ Boot service ∷ F) a ≡ to_address a it.told ++ here
-    whole-split = notices-append every it.whole (Boot service ∷ F) empty_state a ∙ ap (λ (l : List Notice). l ++ here) (whole-told a)
+    whole-split : notices (it.whole ++ Boot service ∷ F) a ≡ to_address a it.told ++ here
+    whole-split = notices-append it.whole (Boot service ∷ F) empty_state a ∙ ap (λ (l : List Notice). l ++ here) (whole-told a)
 
     tails : map placeless there ≡ map placeless here
     tails =
-        ap (λ (l : List Notice). map placeless l) (boot-tells (left_by it.rows) service F a)
-        ∙ tails-alike F (after every (left_by it.rows) (Boot service)) (after every (left_by it.whole) (Boot service)) a (sym (booted-alike service))
-        ∙ sym (ap (λ (l : List Notice). map placeless l) (boot-tells (left_by it.whole) service F a))
+        ap (λ (l : List Notice). map placeless l) (boot-tells (replay it.rows) service F a)
+        ∙ tails-alike F (after (replay it.rows) (Boot service)) (after (replay it.whole) (Boot service)) a (sym (booted-alike service))
+        ∙ sym (ap (λ (l : List Notice). map placeless l) (boot-tells (replay it.whole) service F a))
 
 pub serves-on : it.ServesOn it.whole it.rows
 serves-on = record {

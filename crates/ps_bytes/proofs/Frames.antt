@@ -1,13 +1,12 @@
 -- A frame has one body, and what it takes to say that a store spells a list.
-use Rattle.std.proofs.Common.{◌≡◌, ◌≢◌, ℕ, ◌<◌, ◌^◌, List, [], ◌∷◌, ◌++◌, length, take, drop, refl, sym, ap, ◌∙◌, append_assoc, arith, true, Bool}
+use Rattle.std.proofs.Common.{◌≡◌, ◌≢◌, ℕ, ◌<◌, ◌^◌, List, [], ◌∷◌, ◌++◌, length, take, drop, refl, sym, ap, ◌∙◌, append_assoc, arith, true}
 use Rattle.std.specs.Int.{w32, from_be_bytes, to_be_bytes}
 use Rattle.std.proofs.lemmas.List.{take_at, drop_at}
 use Rattle.std.proofs.lemmas.Nat.{from_be_bytes-to_be_bytes_4}
 use Rattle.std.proofs.lemmas.Str.{IsUtf8-from_is_utf8}
 use Rattle.std.specs.Prelude.{IsUtf8, codes}
 use Rattle.std.specs.Str.{is_utf8}
-use Rattle.ps_types.specs.Address.{IsHost}
-use Rattle.ps_model.specs.Entries.{IsHostName, of_host}
+use Rattle.ps_model.specs.Entries.{IsHostName}
 use Rattle.ps_model.specs.Store.{IsBody, frame}
 
 -- two fronts of one length

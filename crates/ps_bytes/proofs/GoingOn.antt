@@ -17,7 +17,6 @@ use Rattle.ps_model.specs.Heard.{placeless}
 use Rattle.ps_model.specs.Numbered.{numbered, row_notices}
 use Rattle.ps_model.specs.Replay.{AreAcceptedFrom, accepted_at, is_booted, notices_from, of_bare, replay_from, row_accepted, to_address}
 use Rattle.ps_model.specs.Tallies.{more_made}
-use Rattle.ps_cases.specs.Running.{every}
 
 abbrev pub uncounted : State → State
 uncounted s = record s { count = 0 }
@@ -49,33 +48,33 @@ accepts s u e same = forget s e ∙ ap (λ (v : State). accepted_at v e) same �
 
 -- ---- one entry more
 
-shown : (s : State) (e : Entry) → uncounted (after every s e) ≡ uncounted (after every (uncounted s) e)
+shown : (s : State) (e : Entry) → uncounted (after s e) ≡ uncounted (after (uncounted s) e)
 shown s (Boot service) = refl
 shown s (Change host line moment t) = refl
 shown s (Handed to) = refl
 shown s (Gone host) = refl
 shown s (Base row) = refl
 
-step : (s u : State) (e : Entry) → uncounted s ≡ uncounted u → uncounted (after every s e) ≡ uncounted (after every u e)
-step s u e same = shown s e ∙ ap (λ (v : State). uncounted (after every v e)) same ∙ sym (shown u e)
+step : (s u : State) (e : Entry) → uncounted s ≡ uncounted u → uncounted (after s e) ≡ uncounted (after u e)
+step s u e same = shown s e ∙ ap (λ (v : State). uncounted (after v e)) same ∙ sym (shown u e)
 
-pub from-on : (F : List Entry) (s u : State) → uncounted s ≡ uncounted u → uncounted (replay_from every s F) ≡ uncounted (replay_from every u F)
+pub from-on : (F : List Entry) (s u : State) → uncounted s ≡ uncounted u → uncounted (replay_from s F) ≡ uncounted (replay_from u F)
 from-on [] s u same = same
-from-on (e ∷ F) s u same = from-on F (after every s e) (after every u e) (step s u e same)
+from-on (e ∷ F) s u same = from-on F (after s e) (after u e) (step s u e same)
 
-pub lawful-on : (F : List Entry) (s u : State) → uncounted s ≡ uncounted u → AreAcceptedFrom every accepted_at s F → AreAcceptedFrom every accepted_at u F
+pub lawful-on : (F : List Entry) (s u : State) → uncounted s ≡ uncounted u → AreAcceptedFrom accepted_at s F → AreAcceptedFrom accepted_at u F
 lawful-on [] s u same is = tt
-lawful-on (e ∷ F) s u same is = (sym (accepts s u e same) ∙ is.0, lawful-on F (after every s e) (after every u e) (step s u e same) is.1)
+lawful-on (e ∷ F) s u same is = (sym (accepts s u e same) ∙ is.0, lawful-on F (after s e) (after u e) (step s u e same) is.1)
 
 -- ---- lists in two parts
 
-pub behind : (E F : List Entry) (s : State) → AreAcceptedFrom every accepted_at s (E ++ F) → AreAcceptedFrom every accepted_at (replay_from every s E) F
+pub behind : (E F : List Entry) (s : State) → AreAcceptedFrom accepted_at s (E ++ F) → AreAcceptedFrom accepted_at (replay_from s E) F
 behind [] F s is = is
-behind (e ∷ E) F s is = behind E F (after every s e) is.1
+behind (e ∷ E) F s is = behind E F (after s e) is.1
 
-pub joined : (E F : List Entry) (s : State) → AreAcceptedFrom every accepted_at s E → AreAcceptedFrom every accepted_at (replay_from every s E) F → AreAcceptedFrom every accepted_at s (E ++ F)
+pub joined : (E F : List Entry) (s : State) → AreAcceptedFrom accepted_at s E → AreAcceptedFrom accepted_at (replay_from s E) F → AreAcceptedFrom accepted_at s (E ++ F)
 joined [] F s is more = more
-joined (e ∷ E) F s is more = (is.0, joined E F (after every s e) is.1 more)
+joined (e ∷ E) F s is more = (is.0, joined E F (after s e) is.1 more)
 
 -- ---- notices without their places
 
@@ -96,15 +95,15 @@ row-at place tallies (Some (BaseRow.made r)) = refl
 row-at place tallies (Some (counter who handed)) = refl
 row-at place tallies (Some (notice to line)) = refl
 
-told-at : (s : State) (e : Entry) → map placeless (notices_at every s e) ≡ notices_at every (uncounted s) e
+told-at : (s : State) (e : Entry) → map placeless (notices_at s e) ≡ notices_at (uncounted s) e
 told-at s (Base row) = row-at s.count s.tallies (row_of row)
-told-at s (Boot service) = numbered-at s.count s.tallies (handed_out every s (Boot service))
-told-at s (Change host line moment t) = numbered-at s.count s.tallies (handed_out every s (Change host line moment t))
-told-at s (Handed to) = numbered-at s.count s.tallies (handed_out every s (Handed to))
-told-at s (Gone host) = numbered-at s.count s.tallies (handed_out every s (Gone host))
+told-at s (Boot service) = numbered-at s.count s.tallies (handed_out s (Boot service))
+told-at s (Change host line moment t) = numbered-at s.count s.tallies (handed_out s (Change host line moment t))
+told-at s (Handed to) = numbered-at s.count s.tallies (handed_out s (Handed to))
+told-at s (Gone host) = numbered-at s.count s.tallies (handed_out s (Gone host))
 
-told-alike : (s u : State) (e : Entry) → uncounted s ≡ uncounted u → map placeless (notices_at every s e) ≡ map placeless (notices_at every u e)
-told-alike s u e same = told-at s e ∙ ap (λ (v : State). notices_at every v e) same ∙ sym (told-at u e)
+told-alike : (s u : State) (e : Entry) → uncounted s ≡ uncounted u → map placeless (notices_at s e) ≡ map placeless (notices_at u e)
+told-alike s u e same = told-at s e ∙ ap (λ (v : State). notices_at v e) same ∙ sym (told-at u e)
 
 kept-test : (a : Jid) (b : Bool) (n : Notice) (ns : List Notice) → map placeless (cond b (n ∷ ns) ns) ≡ cond b (placeless n ∷ map placeless ns) (map placeless ns)
 kept-test a true n ns = refl
@@ -122,12 +121,12 @@ bare-placeless (x ∷ resource) ns = refl
 to-placeless : (a : Jid) (ns : List Notice) → map placeless (to_address a ns) ≡ to_address a (map placeless ns)
 to-placeless a ns = bare-placeless a.resource (filter (λ n. same_bare n.to a) ns) ∙ ap (λ (l : List Notice). of_bare a.resource l) (filter-placeless a ns)
 
-to-alike : (s u : State) (e : Entry) (a : Jid) → uncounted s ≡ uncounted u → map placeless (to_address a (notices_at every s e)) ≡ map placeless (to_address a (notices_at every u e))
-to-alike s u e a same = to-placeless a (notices_at every s e) ∙ ap (λ (l : List Notice). to_address a l) (told-alike s u e same) ∙ sym (to-placeless a (notices_at every u e))
+to-alike : (s u : State) (e : Entry) (a : Jid) → uncounted s ≡ uncounted u → map placeless (to_address a (notices_at s e)) ≡ map placeless (to_address a (notices_at u e))
+to-alike s u e a same = to-placeless a (notices_at s e) ∙ ap (λ (l : List Notice). to_address a l) (told-alike s u e same) ∙ sym (to-placeless a (notices_at u e))
 
-pub tails-alike : (F : List Entry) (s u : State) (a : Jid) → uncounted s ≡ uncounted u → map placeless (notices_from every s F a) ≡ map placeless (notices_from every u F a)
+pub tails-alike : (F : List Entry) (s u : State) (a : Jid) → uncounted s ≡ uncounted u → map placeless (notices_from s F a) ≡ map placeless (notices_from u F a)
 tails-alike [] s u a same = refl
 tails-alike (e ∷ F) s u a same =
-    map-append placeless (to_address a (notices_at every s e)) (notices_from every (after every s e) F a)
-    ∙ (λ i. to-alike s u e a same i ++ tails-alike F (after every s e) (after every u e) a (step s u e same) i)
-    ∙ sym (map-append placeless (to_address a (notices_at every u e)) (notices_from every (after every u e) F a))
+    map-append placeless (to_address a (notices_at s e)) (notices_from (after s e) F a)
+    ∙ (λ i. to-alike s u e a same i ++ tails-alike F (after s e) (after u e) a (step s u e same) i)
+    ∙ sym (map-append placeless (to_address a (notices_at u e)) (notices_from (after u e) F a))

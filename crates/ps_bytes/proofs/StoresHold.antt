@@ -1,21 +1,18 @@
 -- Small stores: what they spell, and where they are damaged.
-use Rattle.std.proofs.Common.{◌≡◌, ◌≢◌, ◌⊎◌, ◌&&◌, ◌||◌, inl, inr, ℕ, Bool, true, false, List, [], ◌∷◌, ◌++◌, length, take, drop, Some, None, refl, arith}
+use Rattle.std.proofs.Common.{◌≡◌, ◌≢◌, ◌&&◌, ◌||◌, inl, inr, ℕ, Bool, true, false, List, [], ◌∷◌, ◌++◌, length, take, drop, Some, None, refl, arith}
 use Rattle.std.specs.Prelude.{codes, ◌==◌}
 use lib.Utf8 as utf8
-use Rattle.json.specs.Json as json
-use Rattle.json.specs.Lex as lex
 use Rattle.json.specs.Print as text
-use Rattle.json.specs.Text as content
 use Rattle.std.specs.Str as str
 use Rattle.std.specs.Fmt as fmt
-use Rattle.ps_types.specs.Form.{HasForm, IsTree}
+use Rattle.ps_types.specs.Form.{HasForm}
 use Rattle.ps_types.specs.Same as same
 use Rattle.ps_types.specs.declared.entry.Entry.{Entry}
-use Rattle.ps_types.specs.declared.entry.Entry.TheVariants.{Boot, Change, Gone, Handed}
+use Rattle.ps_types.specs.declared.entry.Entry.TheVariants.{Boot, Change, Handed}
 use Rattle.ps_model.specs.At.{IsDamagedAt, IsStore}
 use Rattle.ps_model.specs.Damage.{NoEntry}
 use Rattle.ps_model.specs.Entries.{IsBare, IsEntryIn, IsWritten, spelling}
-use Rattle.ps_model.specs.Store.{Begun, IsBody, is_unbegun, spelled}
+use Rattle.ps_model.specs.Store.{Begun, IsBody, is_unbegun}
 use Rattle.ps_cases.specs.LineCases.{first_tree}
 use Rattle.ps_bytes.proofs.Frames.{a-host, not-empty, not-whole, pubsub-host, is-text}
 use Rattle.ps_bytes.specs.Stores as it

@@ -8,6 +8,7 @@ use Rattle.ps_types.specs.declared.entry.Notice.{Notice}
 use Rattle.ps_types.specs.declared.jid.Jid.{Jid}
 use Rattle.ps_model.specs.Core.{handed}
 use Rattle.ps_model.specs.Heard.{placeless}
+use Rattle.ps_model.specs.Replay.{lawful_based, notices, replay}
 use Rattle.ps_cases.specs.AccessCases.{pending, q, question}
 use Rattle.ps_cases.specs.Case.{Exchange, kept, list_of, own}
 use Rattle.ps_cases.specs.Compacted.{row}
@@ -15,7 +16,7 @@ use Rattle.ps_cases.specs.Forms.{account_form, form_with}
 use Rattle.ps_cases.specs.Handed.{event_of, message, notice}
 use Rattle.ps_cases.specs.HomeCases.{answer, asked, delay, has_bob, info, second, t}
 use Rattle.ps_cases.specs.PresenceCases.{is_present, resource, test_client, ver}
-use Rattle.ps_cases.specs.Running.{Line, entry_in, handed_by, lawful_in, left_by, reply_in, taken_in}
+use Rattle.ps_cases.specs.Running.{Line, entry_in, reply_in, taken_in}
 use Rattle.ps_cases.specs.Words.{User, ann, bob, bare_bob, service, to_b, to_bob, at_home, at_time, create_with, done, field, payload, publish, published, sends, sets, subscribe}
 
 -- ---- the list
@@ -94,16 +95,16 @@ told_again = question 9 1 ∷ notice bob_p 10 2 last_line ∷ []
 -- ---- how both go on
 
 abbrev pub reply_after : List Entry → Line → Option Tree
-reply_after E line = reply_in (taken_in line (left_by E).book) (left_by E).book line
+reply_after E line = reply_in (taken_in line (replay E).book) (replay E).book line
 
 abbrev pub entry_after : List Entry → Line → Option Entry
-entry_after E line = entry_in (taken_in line (left_by E).book) (left_by E).book line
+entry_after E line = entry_in (taken_in line (replay E).book) (replay E).book line
 
 -- whatever follows from the next boot on is lawful behind one where it is behind the other, each line gets the same reply and makes the same entry, and the
 -- notices are those of the first without the handed ones
 pub record ServesOn (E B : List Entry) : Type 0 where
-  pub forth : (service : List ℕ) (F : List Entry) → lawful_in (E ++ Boot service ∷ F) → lawful_in (B ++ Boot service ∷ F)
-  pub back : (service : List ℕ) (F : List Entry) → lawful_in (B ++ Boot service ∷ F) → lawful_in (E ++ Boot service ∷ F)
+  pub forth : (service : List ℕ) (F : List Entry) → lawful_based (E ++ Boot service ∷ F) → lawful_based (B ++ Boot service ∷ F)
+  pub back : (service : List ℕ) (F : List Entry) → lawful_based (B ++ Boot service ∷ F) → lawful_based (E ++ Boot service ∷ F)
   pub replies : (service : List ℕ) (F : List Entry) (line : Line) → reply_after (E ++ Boot service ∷ F) line ≡ reply_after (B ++ Boot service ∷ F) line
   pub entries : (service : List ℕ) (F : List Entry) (line : Line) → entry_after (E ++ Boot service ∷ F) line ≡ entry_after (B ++ Boot service ∷ F) line
-  pub notices : (service : List ℕ) (F : List Entry) (a : Jid) → map placeless (handed_by (B ++ Boot service ∷ F) a) ≡ map placeless (drop (handed E a) (handed_by (E ++ Boot service ∷ F) a))
+  pub notices : (service : List ℕ) (F : List Entry) (a : Jid) → map placeless (notices (B ++ Boot service ∷ F) a) ≡ map placeless (drop (handed E a) (notices (E ++ Boot service ∷ F) a))

@@ -1,7 +1,7 @@
 -- The bytes of small stores: which list they have, or where they are damaged.
 use Rattle.std.specs.Prelude.{ℕ, List, [], ◌∷◌, ◌++◌, Some, drop, take, codes}
 use Rattle.ps_types.specs.declared.entry.Entry.{Entry}
-use Rattle.ps_types.specs.declared.entry.Entry.TheVariants.{Change, Gone, Handed}
+use Rattle.ps_types.specs.declared.entry.Entry.TheVariants.{Change, Gone}
 use Rattle.ps_types.specs.declared.jid.Jid.{Jid}
 use Rattle.ps_cases.specs.Case.{boot}
 use Rattle.ps_cases.specs.LineCases.{first_bytes, first_tree}

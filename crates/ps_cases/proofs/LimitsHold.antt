@@ -1,5 +1,5 @@
 -- The limits, computed over any rows of these numbers.
-use Rattle.std.proofs.Common.{◌≡◌, refl, ap, ◌∙◌, ℕ, Bool, false, ◌&&◌, List, [], ◌∷◌, Option, None, Some}
+use Rattle.std.proofs.Common.{◌≡◌, refl, ap, ◌∙◌, ℕ, false, ◌&&◌, List, [], ◌∷◌, None, Some}
 use Rattle.std.proofs.Math.Bool.{and-false}
 use Rattle.std.specs.Prelude.{codes}
 use lib.Utf8 as utf8
@@ -11,7 +11,6 @@ use Rattle.std.specs.Str as str
 use Rattle.std.specs.Fmt as fmt
 use Rattle.ps_types.specs.Same as same
 use Rattle.ps_types.specs.Tree.{Tree}
-use Rattle.ps_types.specs.declared.denial.Condition.{Condition}
 use Rattle.ps_types.specs.declared.denial.Condition.TheVariants.{C23, C24}
 use Rattle.ps_types.specs.declared.request.Ask.{Ask}
 use Rattle.ps_types.specs.declared.request.Ask.TheVariants as ask

@@ -8,14 +8,13 @@ use Rattle.ps_types.specs.declared.entry.Notice.{Notice}
 use Rattle.ps_types.specs.declared.jid.Jid.{Jid}
 use Rattle.ps_model.specs.After.{after, notices_at}
 use Rattle.ps_model.specs.Book.{State, empty_state}
-use Rattle.ps_model.specs.Replay.{notices_from, of_bare, to_address}
+use Rattle.ps_model.specs.Replay.{notices, notices_from, of_bare, to_address}
 use Rattle.ps_cases.specs.Case.{Exchange, list_of}
-use Rattle.ps_cases.specs.Running.{every, handed_by}
 
 -- all that the entries hand out, in order
 abbrev pub all_from : State → List Entry → List Notice
 all_from s [] = []
-all_from s (e ∷ E) = notices_at every s e ++ all_from (after every s e) E
+all_from s (e ∷ E) = notices_at s e ++ all_from (after s e) E
 
 of-bare-append : (resource : List ℕ) (xs ys : List Notice) → of_bare resource xs ++ of_bare resource ys ≡ of_bare resource (xs ++ ys)
 of-bare-append [] xs ys = refl
@@ -29,9 +28,9 @@ nothing : (resource : List ℕ) → [] ≡ of_bare resource []
 nothing [] = refl
 nothing (x ∷ resource) = refl
 
-pub part-of : (s : State) (E : List Entry) (a : Jid) → notices_from every s E a ≡ to_address a (all_from s E)
+pub part-of : (s : State) (E : List Entry) (a : Jid) → notices_from s E a ≡ to_address a (all_from s E)
 part-of s [] a = nothing a.resource
-part-of s (e ∷ E) a = rw (part-of (after every s e) E a) (part-append a (notices_at every s e) (all_from (after every s e) E))
+part-of s (e ∷ E) a = rw (part-of (after s e) E a) (part-append a (notices_at s e) (all_from (after s e) E))
 
-pub each-part : (given : List Exchange) (told : List Notice) → all_from empty_state (list_of given) ≡ told → (a : Jid) → handed_by (list_of given) a ≡ to_address a told
+pub each-part : (given : List Exchange) (told : List Notice) → all_from empty_state (list_of given) ≡ told → (a : Jid) → notices (list_of given) a ≡ to_address a told
 each-part given told e a = rw (part-of empty_state (list_of given) a) (ap (λ all. to_address a all) e)

@@ -1,5 +1,5 @@
 -- Cases of resources, computed.
-use Rattle.std.specs.Prelude.{refl, []}
+use Rattle.std.specs.Prelude.{refl}
 use Rattle.base64.specs.Rfc4648 as b64
 use Rattle.sha1.specs.Sha1 as sha
 use lib.Utf8 as utf8

@@ -10,14 +10,15 @@ use Rattle.sha1.specs.Sha1 as sha
 use Rattle.std.specs.Fmt as fmt
 use Rattle.std.specs.Str as str
 use Rattle.ps_types.specs.Same as same
+use Rattle.ps_model.specs.Base.{base}
 use Rattle.ps_cases.specs.Compacted as compacted
 use Rattle.ps_cases.specs.NoticeCases.{item_line}
 
-pub base-unhanded : compacted.base_by compacted.unhanded ≡ compacted.unhanded_rows
+pub base-unhanded : base compacted.unhanded ≡ compacted.unhanded_rows
 unfolding same.same_jid same.same_bare same.same_node text.escape_byte fmt.digits
 base-unhanded = refl
 
-pub base-handed : compacted.base_by compacted.handed ≡ compacted.handed_rows
+pub base-handed : base compacted.handed ≡ compacted.handed_rows
 unfolding same.same_jid same.same_bare same.same_node text.escape_byte fmt.digits
 base-handed = refl
 

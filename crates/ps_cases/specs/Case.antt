@@ -8,8 +8,8 @@ use Rattle.ps_types.specs.declared.entry.Entry.TheVariants.{Boot, Change}
 use Rattle.ps_types.specs.declared.entry.Notice.{Notice}
 use Rattle.ps_types.specs.declared.jid.Jid.{Jid}
 use Rattle.ps_model.specs.Book.{State}
-use Rattle.ps_model.specs.Replay.{to_address}
-use Rattle.ps_cases.specs.Running.{Line, Step, comes, makes, entries, handed_by, left_by, replies}
+use Rattle.ps_model.specs.Replay.{notices, replay, to_address}
+use Rattle.ps_cases.specs.Running.{Line, Step, comes, makes, entries, replies}
 
 -- a stanza: the host of its stream, the number of its line, its moment if there is a clock, whether the journal is full, and its tree
 pub record Sent : Type 0 where
@@ -57,7 +57,7 @@ abbrev pub boot : Entry
 boot = Boot (codes "pubsub.example")
 
 abbrev pub booted : State
-booted = left_by (boot ∷ [])
+booted = replay (boot ∷ [])
 
 abbrev pub list_of : List Exchange → List Entry
 list_of given = boot ∷ made given
@@ -66,4 +66,4 @@ list_of given = boot ∷ made given
 pub record Holds (given : List Exchange) (told : List Notice) : Type 0 where
   pub replies : replies booted (steps given) ≡ said given
   pub entries : entries booted (steps given) ≡ made given
-  pub notices : (a : Jid) → handed_by (list_of given) a ≡ to_address a told
+  pub notices : (a : Jid) → notices (list_of given) a ≡ to_address a told

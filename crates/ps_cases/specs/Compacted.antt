@@ -5,10 +5,10 @@ use Rattle.ps_types.specs.Tree.{Tree, tree, none, words}
 use Rattle.ps_types.specs.declared.entry.Entry.{Entry}
 use Rattle.ps_types.specs.declared.entry.Entry.TheVariants.{Base, Handed}
 use Rattle.ps_model.specs.After.{after}
-use Rattle.ps_model.specs.Base as base
+use Rattle.ps_model.specs.Base.{base}
 use Rattle.ps_model.specs.Book.{State, empty_state}
 use Rattle.ps_model.specs.Entries.{body}
-use Rattle.ps_model.specs.Replay.{accepted_at}
+use Rattle.ps_model.specs.Replay.{accepted_at, notices}
 use Rattle.ps_cases.specs.Case.{boot, change_of, list_of}
 use Rattle.ps_cases.specs.CollectionCases.{deep}
 use Rattle.ps_cases.specs.Forms.{form_shown}
@@ -16,11 +16,7 @@ use Rattle.ps_cases.specs.Handed.{event_of, message}
 use Rattle.ps_cases.specs.HomeCases.{t, wanting}
 use Rattle.ps_cases.specs.NodeCases.{unnamed}
 use Rattle.ps_cases.specs.NoticeCases.{i2, item_line, published_item}
-use Rattle.ps_cases.specs.Running.{every, handed_by}
 use Rattle.ps_cases.specs.Words.{Iq, ann, at_home, sent_by, news, publish, service, sets, to_bob}
-
-abbrev pub base_by : List Entry → List Entry
-base_by E = base.base_of every E
 
 abbrev pub made_by : Iq → Entry
 made_by q = change_of (sent_by q)
@@ -74,7 +70,7 @@ more = boot ∷ made_by (sets ann 1 (publish news i2)) ∷ []
 
 -- the numbers and lines of the notices, without their places
 abbrev pub told_by : List Entry → List (ℕ × List ℕ)
-told_by E = map (λ n. (n.number, n.line)) (handed_by E to_bob)
+told_by E = map (λ n. (n.number, n.line)) (notices E to_bob)
 
 abbrev pub second : ℕ × List ℕ
 second = (2, message service to_bob 2 (codes "headline") (event_of news i2 ∷ []))
@@ -89,12 +85,12 @@ with_contacts = list_of wanting ++ made_by (at_home (sets ann 7 (unnamed t))) �
 
 -- a compacted store that is compacted again stays byte for byte the same
 abbrev pub is_settled : List Entry → Bool
-is_settled E = bytes_eq (body (base_by (base_by E))) (body (base_by E))
+is_settled E = bytes_eq (body (base (base E))) (body (base E))
 
 -- each entry is accepted at its place
 abbrev pub are_accepted : State → List Entry → Bool
 are_accepted s [] = true
-are_accepted s (e ∷ E) = accepted_at s e && are_accepted (after every s e) E
+are_accepted s (e ∷ E) = accepted_at s e && are_accepted (after s e) E
 
 abbrev pub is_base : List Entry → Bool
-is_base E = are_accepted empty_state (base_by E ++ boot ∷ [])
+is_base E = are_accepted empty_state (base E ++ boot ∷ [])

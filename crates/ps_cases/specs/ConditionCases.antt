@@ -1,5 +1,5 @@
 -- Requests that are denied for how they are written or addressed, and what a collection doesn't have.
-use Rattle.std.specs.Prelude.{ℕ, List, [], ◌∷◌, ◌++◌, codes}
+use Rattle.std.specs.Prelude.{ℕ, List, [], ◌∷◌, codes}
 use Rattle.ps_types.specs.Namespaces.{owner_ns, roster_ns}
 use Rattle.ps_types.specs.Print.{client}
 use Rattle.ps_types.specs.Shape.{element}

@@ -1,5 +1,5 @@
 -- Where the journal has no room for an entry: who would make one is told so, by a stanza of the same kind, and all else is as ever.
-use Rattle.std.specs.Prelude.{ℕ, List, [], ◌∷◌, None, true, codes}
+use Rattle.std.specs.Prelude.{List, [], ◌∷◌, None, true, codes}
 use Rattle.ps_types.specs.Print.{client}
 use Rattle.ps_types.specs.Shape.{element}
 use Rattle.ps_types.specs.declared.entry.Notice.{Notice}

@@ -1,9 +1,7 @@
 -- The greatest numbers of subscriptions at a node, of nodes by one creator, and of contacts in a roster: in any Book with so many, one more is denied; with one fewer, it isn't.
-use Rattle.std.specs.Prelude.{◌≡◌, ℕ, Bool, false, List, [], ◌∷◌, Option, Some, None, codes}
-use Rattle.ps_types.specs.Namespaces.{roster_ns}
+use Rattle.std.specs.Prelude.{◌≡◌, ℕ, List, [], ◌∷◌, Option, Some, None, codes}
 use Rattle.ps_types.specs.Nodes.{made_by, node_at}
 use Rattle.ps_types.specs.Rosters.{contact_at, contact_count}
-use Rattle.ps_types.specs.Shape.{element}
 use Rattle.ps_types.specs.Subs.{sub_count, sub_row}
 use Rattle.ps_types.specs.Tree.{Tree}
 use Rattle.ps_types.specs.declared.node.NodeKey.{NodeKey}
@@ -12,10 +10,11 @@ use Rattle.ps_types.specs.declared.rows.RosterRow.{RosterRow}
 use Rattle.ps_types.specs.declared.rows.SubRow.{SubRow}
 use Rattle.ps_model.specs.Book.{Book}
 use Rattle.ps_model.specs.Stanza.{host_jid}
+use Rattle.ps_model.specs.Replay.{replay}
 use Rattle.ps_cases.specs.Case.{boot, line_of, list_of}
 use Rattle.ps_cases.specs.Denials.{no_room, too_many_subscriptions}
 use Rattle.ps_cases.specs.HomeCases.{contact}
-use Rattle.ps_cases.specs.Running.{Line, entry_in, left_by, reply_in, taken_in}
+use Rattle.ps_cases.specs.Running.{Line, entry_in, reply_in, taken_in}
 use Rattle.ps_cases.specs.Words.{Denial, Iq, ann, bob, bare_bob, error_of, news, reply, service, sent_by, to_ann, to_bob, at_home, sets, done, create, subscribe, subscribed}
 
 -- ---- one request at a Book
@@ -38,7 +37,7 @@ abbrev pub at_service : NodeKey
 at_service = record { service = host_jid service; name = news }
 
 abbrev pub with_news : Book
-with_news = (left_by (list_of (done (sets ann 1 (create news)) [] ∷ []))).book
+with_news = (replay (list_of (done (sets ann 1 (create news)) [] ∷ []))).book
 
 abbrev pub subscribing : Iq
 subscribing = sets bob 1 (subscribe bare_bob news)
@@ -55,7 +54,7 @@ pub record SubLimit : Type 0 where
 -- ---- nodes that ann made
 
 abbrev pub empty : Book
-empty = (left_by (boot ∷ [])).book
+empty = (replay (boot ∷ [])).book
 
 abbrev pub creating : Iq
 creating = sets ann 1 (create news)

@@ -1,12 +1,12 @@
 -- The options of a subscription: how they are shown and set, and which are invalid.
-use Rattle.std.specs.Prelude.{ℕ, List, [], ◌∷◌, ◌++◌, codes}
+use Rattle.std.specs.Prelude.{ℕ, List, [], ◌∷◌, codes}
 use Rattle.ps_types.specs.Namespaces.{data_ns}
 use Rattle.ps_types.specs.Shape.{element}
 use Rattle.ps_types.specs.Tree.{Tree}
 use Rattle.ps_cases.specs.Case.{Exchange}
 use Rattle.ps_cases.specs.Denials.{bad, forbidden, nothing_to_end}
 use Rattle.ps_cases.specs.Forms.{choice}
-use Rattle.ps_cases.specs.Words.{ann, bob, cid, bare_bob, news, sets, gets, done, shown, denied, pubsub, part, of_subscriber, field, form, value, create, subscribe, subscribed, subscription}
+use Rattle.ps_cases.specs.Words.{ann, bob, cid, bare_bob, news, sets, gets, done, shown, denied, pubsub, part, of_subscriber, field, form, value, create, subscribe, subscribed}
 
 -- what is asked for, and what is shown
 abbrev pub get_options : Tree

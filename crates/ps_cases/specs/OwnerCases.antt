@@ -1,5 +1,5 @@
 -- What an owner sees and sets of affiliations and subscriptions, what each address sees of its own, and a configuration that is cancelled.
-use Rattle.std.specs.Prelude.{ℕ, List, [], ◌∷◌, ◌++◌, codes}
+use Rattle.std.specs.Prelude.{ℕ, List, [], ◌∷◌, codes}
 use Rattle.ps_types.specs.Namespaces.{data_ns}
 use Rattle.ps_types.specs.Shape.{element}
 use Rattle.ps_types.specs.Tree.{Tree}

@@ -1,28 +1,13 @@
--- What the service does with lines, where every event is told.
-use Rattle.std.specs.Prelude.{ℕ, Bool, true, List, [], ◌∷◌, ◌++◌, Option, Some, None}
+-- What the service does with lines.
+use Rattle.std.specs.Prelude.{ℕ, Bool, List, [], ◌∷◌, ◌++◌, Option, Some, None}
 use Rattle.ps_types.specs.Tree.{Tree}
 use Rattle.ps_types.specs.declared.entry.Arrival.{Arrival}
 use Rattle.ps_types.specs.declared.entry.Entry.{Entry}
-use Rattle.ps_types.specs.declared.entry.Notice.{Notice}
-use Rattle.ps_types.specs.declared.event.Event.{Event}
-use Rattle.ps_types.specs.declared.jid.Jid.{Jid}
-use Rattle.ps_model.specs.Book.{Book, State, empty_state}
-use Rattle.ps_model.specs.Replay.{lawful_by, replay_from, notices_from}
+use Rattle.ps_model.specs.Book.{Book, State}
+use Rattle.ps_model.specs.Replay.{replay_from}
 use Rattle.ps_model.specs.Replies.{entry_by, moment_of, reply_by}
 use Rattle.ps_model.specs.Taken.{Taken}
 use Rattle.ps_model.specs.Taking.{taken}
-
--- ---- every event is told
-
-abbrev pub every : Event → Bool
-every event = true
-
--- the State that a list of entries leaves, and the notices that it makes for a bare address
-abbrev pub left_by : List Entry → State
-left_by E = replay_from every empty_state E
-
-abbrev pub handed_by : List Entry → Jid → List Notice
-handed_by E a = notices_from every empty_state E a
 
 -- ---- one line
 
@@ -41,10 +26,6 @@ reply_in k book line = reply_by k book line.number line.full
 
 abbrev pub entry_in : Taken → Book → Line → Option Entry
 entry_in k book line = entry_by k line.host book line.number (moment_of line.arrival) line.full
-
--- each entry of a list is accepted at its place
-abbrev pub lawful_in : List Entry → Type 0
-lawful_in E = lawful_by every E
 
 -- ---- one after the other
 
@@ -66,7 +47,7 @@ entries_of (comes line) book = in_list (entry_in (taken_in line book) book line)
 entries_of (makes e) book = e ∷ []
 
 abbrev pub after_step : State → Step → State
-after_step s step = replay_from every s (entries_of step s.book)
+after_step s step = replay_from s (entries_of step s.book)
 
 -- the replies to the lines, in their order, and the entries that the steps make
 abbrev pub replies : State → List Step → List (Option Tree)

@@ -5,7 +5,8 @@
 //!
 //! The words of `specs/`: `Case.Holds given told` says of a list of stanzas, whose printed lines come one after the other from the first boot on, that they get
 //! exactly the replies that `given` names and make exactly the entries that it marks, and that of these entries each address is handed exactly its part of
-//! `told`. `Running` is the service in it: the model's own steps, where every event is told. `Words`, `Denials`, `Forms` and `Handed` are stanzas, replies and notices in short; the stanzas of each case stand in the files `..Cases`.
+//! `told`. `Running` is the service in it: the model's own steps. `Words`, `Denials`, `Forms` and `Handed` are stanzas, replies and notices in short; the stanzas of each
+//! case stand in the files `..Cases`.
 //! `Compacted` and `Crashed` go on from entries of these.
 #![tactic(auto)]
 

@@ -1,5 +1,6 @@
 // Stores, crashes and moments. Each function is its contract.
 ghost use Rattle.std.specs.Prelude.{◌≡◌, [], ◌∷◌, ◌++◌, codes, true};
+ghost use Rattle.ps_model.specs.Base.{base};
 ghost use Rattle.ps_model.specs.Stamp.{stamp};
 ghost use Rattle.ps_cases.specs.Compacted as compacted;
 ghost use Rattle.ps_cases.specs.Crashed as crashed;
@@ -21,8 +22,8 @@ pub fn stamps()
 
 /// The rows that stand for a list, before its notice was handed and after, and how the store goes on.
 pub fn compacted_store()
-    ensures unhanded { compacted.base_by compacted.unhanded ≡ compacted.unhanded_rows }
-    ensures handed { compacted.base_by compacted.handed ≡ compacted.handed_rows }
+    ensures unhanded { base compacted.unhanded ≡ compacted.unhanded_rows }
+    ensures handed { base compacted.handed ≡ compacted.handed_rows }
     ensures goes_on { compacted.told_by (compacted.unhanded_rows ++ compacted.more) ≡ (1, item_line) ∷ compacted.second ∷ [] }
     ensures goes_on_later { compacted.told_by (compacted.handed_rows ++ compacted.more) ≡ compacted.second ∷ [] }
 {}

@@ -27,13 +27,13 @@ use Rattle.ps_model.specs.CheckForms.{node_of}
 use Rattle.ps_types.specs.Counts.{counts_without, is_count_at, is_count_of, made_at, made_in}
 use Rattle.ps_types.specs.Tree.{Tree}
 use Rattle.ps_model.specs.After.{book_after, book_changed, request_on}
-use Rattle.ps_model.specs.Book.{Book, State}
+use Rattle.ps_model.specs.Book.{Book}
 use Rattle.ps_model.specs.ChangePublish.{count_row, counted, published, published_by, published_new, retract_change}
 use Rattle.ps_model.specs.Changes.{changed, changed_by}
 use Rattle.ps_model.specs.ItemIds.{next_made}
-use Rattle.ps_model.specs.Replay.{accepted, after}
 use Rattle.ps_model.specs.Words.{RosterAsk, set, remove}
 use Rattle.ps_core.specs.Counted.{AllBelow, AreCounted}
+use Rattle.ps_core.specs.States.{Part, fits_book, part_after}
 
 below_more : (n m : ℕ) (rows : List CountRow) → n ≤ m → AllBelow n rows → AllBelow m rows
 below_more n m [] le b = tt
@@ -160,9 +160,9 @@ asked_below n None moment book b = below_more n (n + 1) book.counts (omega arith
 asked_below n (Some r) moment book b = changed_below n r moment book b
 
 -- an entry makes one id at most
-pub after_counted : (s : State) (e : Entry) → accepted s e ≡ true → AreCounted s → AreCounted (after s e)
-after_counted s (Boot service) is b = kept s.count s.book (book_after s.book (Boot service)) refl b
-after_counted s (Change host line moment t) is b = asked_below s.count (request_on host s.book t) moment s.book b
-after_counted s (Handed to) is b = kept s.count s.book s.book refl b
-after_counted s (Gone host) is b = kept s.count s.book (book_after s.book (Gone host)) refl b
-after_counted s (Base row) is b = absurd (cc is)
+pub after_counted : (p : Part) (e : Entry) → fits_book p.book e ≡ true → AreCounted p → AreCounted (part_after p e)
+after_counted p (Boot service) is b = kept p.count p.book (book_after p.book (Boot service)) refl b
+after_counted p (Change host line moment t) is b = asked_below p.count (request_on host p.book t) moment p.book b
+after_counted p (Handed to) is b = kept p.count p.book p.book refl b
+after_counted p (Gone host) is b = kept p.count p.book (book_after p.book (Gone host)) refl b
+after_counted p (Base row) is b = absurd (cc is)

@@ -9,15 +9,15 @@ use Rattle.ps_types.specs.declared.rows.ResourceRow.{ResourceRow}
 use Rattle.ps_types.specs.Resources.{features_in, notify_feature, resource_at, wants}
 use Rattle.ps_types.specs.Same.{same_jid}
 use Rattle.ps_types.proofs.Same.{same_jid-Decides}
-use Rattle.ps_model.specs.Book.{State}
 use Rattle.ps_filter.specs.declared.want.Want.{Want}
 use Rattle.ps_filter.specs.Wants.{AreWants, SetsWants, asks_for, is_want_of, is_wanted}
 use Rattle.ps_filter.proofs.Following.{wanted-without}
 use Rattle.ps_core.specs.declared.half.Half.{Half}
+use Rattle.ps_core.specs.declared.numbers.Numbers.{Numbers}
+use Rattle.ps_core.specs.declared.service.Kept.{Kept}
 use Rattle.ps_core.specs.declared.service.Stage.{Stage}
 use Rattle.ps_core.specs.declared.service.Stage.TheVariants.{Even, Prepared, Behind, Stale}
-use Rattle.ps_core.specs.Stages.{prepared_in, stage_committed}
-use Rattle.ps_core.specs.States.{state_of}
+use Rattle.ps_core.specs.States.{Part, part_of}
 use Rattle.ps_core.specs.Wants.{BackHasWants, DiffersAt, FollowsRequest, FollowsRow, HasWants, is_of_resource}
 use Rattle.ps_core.proofs.Resources.{resources-differ, resources-stay}
 
@@ -51,13 +51,11 @@ request-stays r after old new h same = λ moment book e are.
 
 -- ---- the two copies
 
-pub copied-wants : (front back : Half) → state_of back ≡ state_of front → back.wants.rows ≡ front.wants.rows → HasWants front → HasWants back
+pub copied-wants : (front back : Half) → part_of back ≡ part_of front → back.wants.rows ≡ front.wants.rows → HasWants front → HasWants back
 copied-wants front back e w h =
-    let p : back.tables.presence.rows ≡ front.tables.presence.rows = ap (λ (s : State). s.book.resources) e in
+    let p : back.tables.presence.rows ≡ front.tables.presence.rows = ap (λ (p : Part). p.book.resources) e in
     subst (λ rows. AreWants rows back.tables.presence.rows) (sym w) (subst (λ rows. AreWants front.wants.rows rows) (sym p) h)
 
-pub committed-wants : (stage : Stage) (front back : Half) → IsSome (prepared_in stage) → HasWants front → BackHasWants stage back → HasWants back × BackHasWants (stage_committed stage) front
-committed-wants Even front back is f b = absurd (cc is)
-committed-wants (Prepared kept) front back is f b = (b, f)
-committed-wants (Behind kept) front back is f b = absurd (cc is)
-committed-wants Stale front back is f b = absurd (cc is)
+-- of a prepared entry both copies have their wants
+pub prepared-wants : (at : Stage) (kept : Kept) (numbers : Numbers) (back : Half) → at ≡ Prepared kept numbers → BackHasWants at back → HasWants back
+prepared-wants at kept numbers back is wants = subst (λ (s : Stage). BackHasWants s back) is wants

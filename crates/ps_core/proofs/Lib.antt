@@ -1,10 +1,12 @@
 pub mod Answered
 pub mod Both
 pub mod Counted
+pub mod Holding
 pub mod Known
 pub mod Named
 pub mod Staged
 pub mod Taken
+pub mod Tallied
 pub mod Requests
 pub mod Resources
 pub mod Followed

@@ -1,7 +1,9 @@
 pub mod Counted
+pub mod Numbers
 pub mod States
 pub mod Stages
 pub mod Answers
 pub mod Lines
 pub mod Requests
 pub mod Wants
+pub mod Told

@@ -22,7 +22,7 @@ HasWants h = AreWants h.wants.rows h.tables.presence.rows
 -- of the second copy it is said unless that is to be made anew
 abbrev pub BackHasWants : Stage → Half → Type 0
 BackHasWants Even back = HasWants back
-BackHasWants (Prepared kept) back = HasWants back
+BackHasWants (Prepared kept numbers) back = HasWants back
 BackHasWants (Behind kept) back = HasWants back
 BackHasWants Stale back = Unit {0}
 

@@ -11,6 +11,7 @@ use crate::plans::plan;
 use ps_access::Tables;
 use ps_base::Memory;
 use ps_request::{TakenTree, take_tree};
+use ps_tallies::Tallies;
 use ps_types::{Elem, Entry, PlanRefusal, Request, Text};
 use std::alloc::Global;
 
@@ -42,8 +43,13 @@ fn is_accepted_tree(
 }
 
 /// Whether the entry is accepted at the State.
-pub fn accepts_at(alloc: Global, half: &Half, entry: &Entry) -> Result<bool, Memory>
-    ensures { IfOk result (λ b. b ≡ accepted (state_of half.now) entry.now) }
+pub fn accepts_at(
+    alloc: Global,
+    half: &Half,
+    tallies: &Tallies,
+    entry: &Entry,
+) -> Result<bool, Memory>
+    ensures { IfOk result (λ b. b ≡ accepted (state_of half.now tallies.now.rows) entry.now) }
 {
     match entry {
         Entry::Boot { service } => Ok(!service.is_empty()),
@@ -57,7 +63,10 @@ pub fn accepts_at(alloc: Global, half: &Half, entry: &Entry) -> Result<bool, Mem
             let booted = !half.tables.service.is_empty();
             Ok(booted && asked && half.lines.is_next(host, *line))
         }
-        Entry::Handed { .. } => Ok(false),
+        Entry::Handed { to } => {
+            let booted = !half.tables.service.is_empty();
+            Ok(booted && to.resource.is_empty() && tallies.handed(to) < tallies.made(to))
+        }
         Entry::Gone { .. } => Ok(!half.tables.service.is_empty()),
         Entry::Base { .. } => Ok(false),
     }

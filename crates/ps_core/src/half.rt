@@ -1,15 +1,14 @@
-// One copy of the State, edited in place.
-ghost use Rattle.std.specs.Prelude.{◌≡◌, ◌<◌, ◌^◌, true, IfOk, OnOk};
+// One copy of the State but for the numbers of notices, edited in place.
+ghost use Rattle.std.specs.Prelude.{◌≡◌, ◌<◌, ◌^◌, [], true, IfOk, OnOk};
 ghost use Rattle.ps_types.specs.declared.entry.Entry.TheVariants.{Boot, Change, Gone};
 ghost use Rattle.ps_model.specs.Book.{empty_state};
-ghost use Rattle.ps_model.specs.Replay.{after, accepted};
 ghost use Rattle.ps_model.specs.Commits.{makes_entry};
 ghost use Rattle.ps_model.specs.Taken.{asked};
 ghost use Rattle.ps_model.specs.Taking.{tree_taken};
 ghost use Rattle.ps_access.specs.Tables.{book_of};
 ghost use Rattle.ps_core.specs.Counted.{AreCounted};
 ghost use Rattle.ps_core.specs.Requests.{IsRequestOf};
-ghost use Rattle.ps_core.specs.States.{state_of, changed_state};
+ghost use Rattle.ps_core.specs.States.{changed_part, fits_book, part_after, part_of, state_of};
 ghost use Rattle.ps_core.specs.Wants.{HasWants};
 
 use crate::lines::Lines;
@@ -23,7 +22,7 @@ use ps_request::{TakenTree, take_tree};
 use ps_types::{Elem, Entry, LineRow, Request, Text};
 use std::alloc::Global;
 
-/// A copy of the State.
+/// A copy of the State, but for the numbers of notices.
 pub struct Half {
     pub tables: Tables,
     pub count: u64,
@@ -50,7 +49,7 @@ impl Drop for Half {
 impl Half {
     /// The empty State, of which the tables' digests go by a seed.
     pub fn seeded(alloc: Global, seed: u64) -> Result<Half, Memory>
-        ensures state { IfOk result (λ h. state_of h ≡ empty_state) }
+        ensures state { IfOk result (λ h. state_of h [] ≡ empty_state) }
         ensures wants { IfOk result HasWants }
     {
         Ok(Half {
@@ -64,7 +63,7 @@ impl Half {
 
     /// A copy with the same State.
     pub fn copy(&self) -> Result<Half, Memory>
-        ensures state { IfOk result (λ h. state_of h ≡ state_of self.now) }
+        ensures state { IfOk result (λ h. part_of h ≡ part_of self.now) }
         ensures wants { IfOk result (λ h. h.wants.rows ≡ self.now.wants.rows) }
     {
         Ok(Half {
@@ -78,11 +77,11 @@ impl Half {
 
     /// Takes an entry that is accepted here, and gives the request that its tree is taken as.
     pub fn take(&mut self, alloc: Global, entry: &Entry) -> Result<Option<Request>, Memory>
-        requires accepted { accepted (state_of self.old) entry.now ≡ true }
+        requires accepted { fits_book (book_of self.old.tables) entry.now ≡ true }
         requires few { self.old.count < 2 ^ 62 }
-        requires counted { AreCounted (state_of self.old) }
+        requires counted { AreCounted (part_of self.old) }
         requires wants { HasWants self.old }
-        ensures state { OnOk result (state_of self.new ≡ after (state_of self.old) entry.now) }
+        ensures state { OnOk result (part_of self.new ≡ part_after (part_of self.old) entry.now) }
         ensures wants { OnOk result (HasWants self.new) }
         ensures request { IfOk result (λ r. IsRequestOf self.old.tables.service entry.now r) }
     {
@@ -104,7 +103,11 @@ impl Half {
                 self.leave(host);
                 Ok(None)
             }
-            _ => unreachable!(),
+            Entry::Handed { .. } => {
+                self.count += 1;
+                Ok(None)
+            }
+            Entry::Base { .. } => unreachable!(),
         }
     }
 
@@ -115,12 +118,12 @@ impl Half {
         entry: &Entry,
         request: &Option<Request>,
     ) -> Result<(), Memory>
-        requires accepted { accepted (state_of self.old) entry.now ≡ true }
+        requires accepted { fits_book (book_of self.old.tables) entry.now ≡ true }
         requires few { self.old.count < 2 ^ 62 }
-        requires counted { AreCounted (state_of self.old) }
+        requires counted { AreCounted (part_of self.old) }
         requires wants { HasWants self.old }
         requires request { IsRequestOf self.old.tables.service entry.now request.now }
-        ensures state { OnOk result (state_of self.new ≡ after (state_of self.old) entry.now) }
+        ensures state { OnOk result (part_of self.new ≡ part_after (part_of self.old) entry.now) }
         ensures wants { OnOk result (HasWants self.new) }
     {
         match entry {
@@ -138,13 +141,17 @@ impl Half {
                 self.leave(host);
                 Ok(())
             }
-            _ => unreachable!(),
+            Entry::Handed { .. } => {
+                self.count += 1;
+                Ok(())
+            }
+            Entry::Base { .. } => unreachable!(),
         }
     }
 
     fn boot(&mut self, alloc: Global, service: &Text) -> Result<(), Memory>
         requires few { self.old.count < 2 ^ 62 }
-        ensures state { OnOk result (state_of self.new ≡ after (state_of self.old) (Boot service.now)) }
+        ensures state { OnOk result (part_of self.new ≡ part_after (part_of self.old) (Boot service.now)) }
         ensures wants { OnOk result (HasWants self.new) }
     {
         self.tables.service = service.clone()?;
@@ -158,7 +165,7 @@ impl Half {
     fn leave(&mut self, host: &Text)
         requires few { self.old.count < 2 ^ 62 }
         requires wants { HasWants self.old }
-        ensures state { state_of self.new ≡ after (state_of self.old) (Gone host.now) }
+        ensures state { part_of self.new ≡ part_after (part_of self.old) (Gone host.now) }
         ensures wants { HasWants self.new }
     {
         self.tables.presence.clear_host(host);
@@ -174,11 +181,11 @@ impl Half {
         moment: Option<u64>,
         tree: &Elem,
     ) -> Result<Request, Memory>
-        requires accepted { accepted (state_of self.old) (Change host.now line moment tree.now) ≡ true }
+        requires accepted { fits_book (book_of self.old.tables) (Change host.now line moment tree.now) ≡ true }
         requires few { self.old.count < 2 ^ 62 }
-        requires counted { AreCounted (state_of self.old) }
+        requires counted { AreCounted (part_of self.old) }
         requires wants { HasWants self.old }
-        ensures state { OnOk result (state_of self.new ≡ after (state_of self.old) (Change host.now line moment tree.now)) }
+        ensures state { OnOk result (part_of self.new ≡ part_after (part_of self.old) (Change host.now line moment tree.now)) }
         ensures wants { OnOk result (HasWants self.new) }
         ensures request { IfOk result (λ r. asked tree.now r ≡ tree_taken host.now self.old.tables.service tree.now) }
     {
@@ -196,7 +203,7 @@ impl Half {
         _moment: Option<u64>,
         tree: &Elem,
     ) -> Result<Request, Memory>
-        requires accepted { accepted (state_of self.now) (Change host.now _line _moment tree.now) ≡ true }
+        requires accepted { fits_book (book_of self.now.tables) (Change host.now _line _moment tree.now) ≡ true }
         ensures { IfOk result (λ r. asked tree.now r ≡ tree_taken host.now self.now.tables.service tree.now) }
     {
         match take_tree(alloc, tree, host, &self.tables.service)? {
@@ -215,12 +222,12 @@ impl Half {
         _tree: &Elem,
         request: &Request,
     ) -> Result<(), Memory>
-        requires accepted { accepted (state_of self.old) (Change host.now line moment _tree.now) ≡ true }
+        requires accepted { fits_book (book_of self.old.tables) (Change host.now line moment _tree.now) ≡ true }
         requires few { self.old.count < 2 ^ 62 }
-        requires counted { AreCounted (state_of self.old) }
+        requires counted { AreCounted (part_of self.old) }
         requires wants { HasWants self.old }
         requires asked { asked _tree.now request.now ≡ tree_taken host.now self.old.tables.service _tree.now }
-        ensures state { OnOk result (state_of self.new ≡ after (state_of self.old) (Change host.now line moment _tree.now)) }
+        ensures state { OnOk result (part_of self.new ≡ part_after (part_of self.old) (Change host.now line moment _tree.now)) }
         ensures wants { OnOk result (HasWants self.new) }
     {
         self.take_request(host, line, moment, alloc, request)
@@ -236,9 +243,9 @@ impl Half {
     ) -> Result<(), Memory>
         requires accepted { makes_entry (book_of self.old.tables) request.now ≡ true }
         requires few { self.old.count < 2 ^ 62 }
-        requires counted { AreCounted (state_of self.old) }
+        requires counted { AreCounted (part_of self.old) }
         requires wants { HasWants self.old }
-        ensures state { OnOk result (state_of self.new ≡ changed_state request.now moment host.now line (state_of self.old)) }
+        ensures state { OnOk result (part_of self.new ≡ changed_part request.now moment host.now line (part_of self.old)) }
         ensures wants { OnOk result (HasWants self.new) }
     {
         let row = LineRow {

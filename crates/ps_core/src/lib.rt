@@ -2,7 +2,8 @@
 //!
 //! [`Service::answer`] is the model's reply and entry of a line at the State. [`Service::accepts`] says whether an entry is accepted
 //! there; [`Service::prepare`] and [`Service::commit`] take it, in two steps, so that nothing fails once the journal has it, and
-//! [`Service::apply`] is both. The second copy is edited while the first one stands, so want of memory changes nothing.
+//! [`Service::apply`] is both. [`Service::prepare`] gives the notices that the entry makes (`notices_at`). The second copy is edited while
+//! the first one stands, so want of memory changes nothing; the numbers of notices are set as the entry is taken (`specs/Numbers.antt`).
 //! A contract sees a service as its State and the entry that is prepared (`specs/Stages.antt`). Beside the tables stands what each
 //! resource wants by its features (`specs/Wants.antt`), which [`Service::wants`] hands out.
 #![tactic(auto)]
@@ -11,12 +12,15 @@ mod accepting;
 mod answers;
 mod half;
 mod lines;
+mod numbers;
 mod plans;
 mod service;
 mod taking;
+mod telling;
 mod wanting;
 
 pub use answers::{Answer, WithRequest};
 pub use half::Half;
 pub use lines::Lines;
+pub use numbers::Numbers;
 pub use service::{Service, Stage};

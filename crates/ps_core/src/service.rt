@@ -1,27 +1,34 @@
 // The service: what it answers, and the entry that it prepares and commits.
-ghost use Rattle.std.specs.Prelude.{◌≡◌, ◌<◌, ◌^◌, true, false, IfOk, OnOk, OnErr, IfSome, IsSome, Some, None};
+ghost use Rattle.std.specs.Prelude.{◌≡◌, ◌<◌, ◌^◌, [], true, false, IfOk, OnOk, OnErr, IfSome, IsSome, Some, None};
+ghost use Rattle.ps_model.specs.After.{after, notices_at};
 ghost use Rattle.ps_model.specs.Book.{empty_state};
-ghost use Rattle.ps_model.specs.Replay.{after, accepted};
+ghost use Rattle.ps_model.specs.Replay.{accepted};
 ghost use Rattle.ps_model.specs.Replies.{reply_to, entry_of};
 ghost use Rattle.ps_access.specs.Tables.{book_of};
+ghost use Rattle.ps_books.specs.Addressed.{IsTimely};
 ghost use Rattle.ps_core.specs.Answers.{full_by};
-ghost use Rattle.ps_core.specs.Counted.{AreCounted};
+ghost use Rattle.ps_core.specs.Counted.{AreFewMade};
 ghost use Rattle.ps_core.specs.Requests.{IsRequestOf};
-ghost use Rattle.ps_core.specs.States.{state_of};
-ghost use Rattle.ps_core.specs.Stages.{IsStage, stage_committed};
+ghost use Rattle.ps_core.specs.States.{part_of, state_of};
+ghost use Rattle.ps_core.specs.Stages.{Follows, IsBack, IsStage};
+ghost use Rattle.ps_core.specs.declared.service.Stage.TheVariants.{Prepared};
 ghost use Rattle.ps_core.specs.Wants.{BackHasWants, HasWants};
 ghost use Rattle.ps_filter.specs.Wants.{AreWants};
 
 use crate::accepting::accepts_at;
 use crate::answers::{Answer, WithRequest, answer_at};
 use crate::half::Half;
+use crate::numbers::{Numbers, numbers_of, reserve_for};
+use crate::telling::told_by;
 use ps_access::Tables;
 use ps_base::Memory;
 use ps_filter::Wants;
-use ps_types::{Arrival, Entry, Request, Text};
+use ps_tallies::Tallies;
+use ps_types::{Arrival, Entry, Notice, Request, Text};
 use std::alloc::Global;
 use std::marker::Model;
 use std::mem;
+use std::thread::Threads;
 
 /// An entry that is kept, with the request that its tree was taken as. It is let go by one call, so that its cases are met nowhere
 /// else.
@@ -44,18 +51,20 @@ fn let_go(_entry: Entry) {}
 pub enum Stage {
     /// It is equal.
     Even,
-    /// It is one entry ahead.
-    Prepared(Kept),
+    /// It is one entry ahead, and this is what the entry does to the numbers of notices.
+    Prepared(Kept, Numbers),
     /// It is one entry behind.
     Behind(Kept),
     /// It is to be made anew.
     Stale,
 }
 
-/// A State, kept twice: the second copy is edited, and then takes the place of the first.
+/// A State, kept twice: the second copy is edited, and then takes the place of the first. The numbers of notices stand beside both, since an
+/// entry's are set without memory.
 pub struct Service {
     front: Half,
     back: Half,
+    tallies: Tallies,
     stage: Stage,
     alloc: Global,
 }
@@ -66,6 +75,7 @@ impl Drop for Service {
         let Service {
             front: _,
             back: _,
+            tallies: _,
             stage: _,
             alloc: _,
         } = self;
@@ -73,7 +83,7 @@ impl Drop for Service {
 }
 
 impl Model for Service {
-    ghost use Rattle.ps_core.specs.States.{state_of};
+    ghost use Rattle.ps_core.specs.States.{part_of, state_of};
     ghost use Rattle.ps_core.specs.Stages.{Held, IsKept, prepared_in};
     ghost use Rattle.ps_core.specs.Wants.{HaveWants};
 
@@ -84,9 +94,9 @@ impl Model for Service {
 
     ghost coded = { Prim.hlevel (codes, tree_code) };
 
-    ghost view = { λ s. record { state = state_of s.front; prepared = prepared_in s.stage } };
+    ghost view = { λ s. record { state = state_of s.front s.tallies.rows; prepared = prepared_in s.stage } };
 
-    ghost invariant = { λ s. IsKept s.stage (state_of s.front) (state_of s.back) × HaveWants s.stage s.front s.back };
+    ghost invariant = { λ s. IsKept s.stage (part_of s.front) (part_of s.back) s.tallies × HaveWants s.stage s.front s.back };
 }
 
 impl Service {
@@ -106,6 +116,7 @@ impl Service {
         Ok(Service {
             front: Half::seeded(alloc, seed)?,
             back: Half::seeded(alloc, seed)?,
+            tallies: Tallies::seeded(alloc, seed)?,
             stage: Stage::Even,
             alloc,
         })
@@ -160,14 +171,20 @@ impl Service {
     pub fn accepts(&self, entry: &Entry) -> Result<bool, Memory>
         ensures accepted { IfOk result (λ b. b ≡ accepted self.now.state entry.now) }
     {
-        accepts_at(self.alloc, &self.front, entry)
+        accepts_at(self.alloc, &self.front, &self.tallies, entry)
     }
 
-    /// Prepares an entry that is accepted here. The State stays. After an error nothing is prepared.
-    pub fn prepare(&mut self, entry: &Entry) -> Result<(), Memory>
+    /// Prepares an entry that is accepted here, and gives the notices that it will make. The State stays. After an error nothing is prepared.
+    pub fn prepare<R: Threads + Sync>(
+        &mut self,
+        rt: &R,
+        entry: &Entry,
+    ) -> Result<Vec<Notice>, Memory>
         requires accepted { accepted self.old.state entry.now ≡ true }
+        requires timely { IsTimely entry.now }
         requires few { self.old.state.count < 2 ^ 62 }
         ensures state { self.new.state ≡ self.old.state }
+        ensures notices { IfOk result (λ v. v.items ≡ notices_at self.old.state entry.now) }
         ensures ok { OnOk result (self.new.prepared ≡ Some entry.now) }
         ensures err { OnErr result (self.new.prepared ≡ None) }
     {
@@ -179,16 +196,31 @@ impl Service {
             entry: kept,
             request,
         };
-        put_stage(&mut self.stage, Stage::Prepared(kept));
-        Ok(())
+        let (notices, numbers) = told_and_counted(
+            rt,
+            self.alloc,
+            &self.front,
+            &self.back,
+            &mut self.tallies,
+            &kept,
+        )?;
+        put_stage(&mut self.stage, Stage::Prepared(kept, numbers));
+        Ok(notices)
     }
 
     /// The same where the request of the entry is known, as [`Service::answer_with_room`] gives it.
-    pub fn prepare_known(&mut self, entry: &Entry, request: Option<Request>) -> Result<(), Memory>
+    pub fn prepare_known<R: Threads + Sync>(
+        &mut self,
+        rt: &R,
+        entry: &Entry,
+        request: Option<Request>,
+    ) -> Result<Vec<Notice>, Memory>
         requires accepted { accepted self.old.state entry.now ≡ true }
+        requires timely { IsTimely entry.now }
         requires few { self.old.state.count < 2 ^ 62 }
         requires request { IsRequestOf self.old.state.book.service entry.now request }
         ensures state { self.new.state ≡ self.old.state }
+        ensures notices { IfOk result (λ v. v.items ≡ notices_at self.old.state entry.now) }
         ensures ok { OnOk result (self.new.prepared ≡ Some entry.now) }
         ensures err { OnErr result (self.new.prepared ≡ None) }
     {
@@ -200,8 +232,16 @@ impl Service {
             entry: kept,
             request,
         };
-        put_stage(&mut self.stage, Stage::Prepared(kept));
-        Ok(())
+        let (notices, numbers) = told_and_counted(
+            rt,
+            self.alloc,
+            &self.front,
+            &self.back,
+            &mut self.tallies,
+            &kept,
+        )?;
+        put_stage(&mut self.stage, Stage::Prepared(kept, numbers));
+        Ok(notices)
     }
 
     /// Takes the prepared entry. It takes no memory.
@@ -211,50 +251,78 @@ impl Service {
         ensures none { self.new.prepared ≡ None }
     {
         mem::swap(&mut self.front, &mut self.back);
-        self.stage = committed(mem::replace(&mut self.stage, Stage::Stale));
+        match mem::replace(&mut self.stage, Stage::Stale) {
+            Stage::Prepared(kept, numbers) => {
+                numbers.count_in(&mut self.tallies);
+                put_stage(&mut self.stage, Stage::Behind(kept));
+            }
+            Stage::Even | Stage::Behind(_) | Stage::Stale => unreachable!(),
+        }
     }
 
-    /// Prepares an entry and takes it. After an error the State is as before.
-    pub fn apply(&mut self, entry: &Entry) -> Result<(), Memory>
+    /// Prepares an entry and takes it, and gives the notices that it makes. After an error the State is as before.
+    pub fn apply<R: Threads + Sync>(&mut self, rt: &R, entry: &Entry) -> Result<Vec<Notice>, Memory>
         requires accepted { accepted self.old.state entry.now ≡ true }
+        requires timely { IsTimely entry.now }
         requires few { self.old.state.count < 2 ^ 62 }
+        ensures notices { IfOk result (λ v. v.items ≡ notices_at self.old.state entry.now) }
         ensures ok { OnOk result (self.new.state ≡ after self.old.state entry.now) }
         ensures err { OnErr result (self.new.state ≡ self.old.state) }
         ensures none { self.new.prepared ≡ None }
     {
-        self.prepare(entry)?;
+        let notices = self.prepare(rt, entry)?;
         self.commit();
-        Ok(())
+        Ok(notices)
     }
 }
 
 // Makes the second copy equal to the first.
 fn bring_up(front: &Half, back: &mut Half, alloc: Global, stage: Stage) -> Result<(), Memory>
-    requires counted { AreCounted (state_of front.now) }
-    requires stage { IsStage stage (state_of front.now) (state_of back.old) }
+    requires stage { IsBack stage (part_of front.now) (part_of back.old) }
     requires front_wants { HasWants front.now }
     requires back_wants { BackHasWants stage back.old }
-    ensures even { OnOk result (state_of back.new ≡ state_of front.now) }
+    ensures even { OnOk result (part_of back.new ≡ part_of front.now) }
     ensures wants { OnOk result (HasWants back.new) }
 {
     match stage {
         Stage::Even => Ok(()),
         Stage::Behind(last) => back.take_known(alloc, &last.entry, &last.request),
-        Stage::Prepared(_) | Stage::Stale => {
-            *back = front.copy()?;
-            Ok(())
-        }
+        Stage::Prepared(_, _) | Stage::Stale => renew(front, back),
     }
 }
 
-// The stage after the copies changed places.
-fn committed(stage: Stage) -> Stage
-    ensures { result ≡ stage_committed stage }
+// Makes it anew. It stands alone, since the copy that it holds would else be held wherever the copies are brought together.
+fn renew(front: &Half, back: &mut Half) -> Result<(), Memory>
+    requires wants { HasWants front.now }
+    ensures even { OnOk result (part_of back.new ≡ part_of front.now) }
+    ensures wants { OnOk result (HasWants back.new) }
 {
-    match stage {
-        Stage::Prepared(entry) => Stage::Behind(entry),
-        Stage::Even | Stage::Behind(_) | Stage::Stale => Stage::Stale,
-    }
+    *back = front.copy()?;
+    Ok(())
+}
+
+// The notices of an entry that the second copy has taken, and what they do to the numbers, for which there is room then.
+fn told_and_counted<R: Threads + Sync>(
+    rt: &R,
+    alloc: Global,
+    front: &Half,
+    back: &Half,
+    tallies: &mut Tallies,
+    kept: &Kept,
+) -> Result<(Vec<Notice>, Numbers), Memory>
+    requires follows { Follows (part_of front.now) kept.now (part_of back.now) }
+    requires accepted { accepted (state_of front.now tallies.old.rows) kept.now.entry ≡ true }
+    requires few { AreFewMade front.now.count tallies.old.rows }
+    requires front_wants { HasWants front.now }
+    requires back_wants { HasWants back.now }
+    ensures notices { IfOk result (λ r. r.0.items ≡ notices_at (state_of front.now tallies.old.rows) kept.now.entry) }
+    ensures rows { tallies.new.rows ≡ tallies.old.rows }
+    ensures staged { IfOk result (λ r. IsStage (Prepared kept.now r.1) (part_of front.now) (part_of back.now) tallies.new) }
+{
+    let notices = told_by(rt, alloc, front, back, tallies, kept)?;
+    let numbers = numbers_of(alloc, &kept.entry, notices.as_slice())?;
+    reserve_for(tallies, &numbers)?;
+    Ok((notices, numbers))
 }
 
 // An entry that equals the given one.

@@ -4,6 +4,7 @@ use ps_core::Service;
 use std::alloc::Global;
 use std::process::Abort;
 use std::test::Fail;
+use std::thread::Threads;
 
 const PUBSUB: &str = "http://jabber.org/protocol/pubsub";
 
@@ -13,7 +14,7 @@ const ENTRY: &str = r#"{"c":[{"n":"entry","ns":"urn:t"}],"n":"item"}"#;
 
 // Ann asks for the part.
 fn ask(
-    rt: &impl Abort,
+    rt: &(impl Abort + Threads + Sync),
     alloc: Global,
     service: &mut Service,
     ns: &str,
@@ -28,12 +29,21 @@ fn ask(
     Ok(())
 }
 
-fn create(rt: &impl Abort, alloc: Global, service: &mut Service) -> Result<(), Fail> {
+fn create(
+    rt: &(impl Abort + Threads + Sync),
+    alloc: Global,
+    service: &mut Service,
+) -> Result<(), Fail> {
     let part = r#"{"a":{"node":"news"},"n":"create"}"#;
     ask(rt, alloc, service, PUBSUB, part)
 }
 
-fn publish(rt: &impl Abort, alloc: Global, service: &mut Service, item: &str) -> Result<(), Fail> {
+fn publish(
+    rt: &(impl Abort + Threads + Sync),
+    alloc: Global,
+    service: &mut Service,
+    item: &str,
+) -> Result<(), Fail> {
     let part = format!(in alloc;
         "{{\"a\":{{\"node\":\"news\"}},\"c\":[{item}],\"n\":\"publish\"}}"
     )?;
@@ -47,7 +57,12 @@ fn item(alloc: Global, id: &str) -> Result<String, Fail> {
 }
 
 // The node has these items, in this order.
-fn holds(rt: &impl Abort, alloc: Global, service: &mut Service, items: &str) -> Result<(), Fail> {
+fn holds(
+    rt: &(impl Abort + Threads + Sync),
+    alloc: Global,
+    service: &mut Service,
+    items: &str,
+) -> Result<(), Fail> {
     let line =
         r#"{"a":{"from":"ann@a.example/1","id":"1","to":"pubsub.example","type":"get"},"c":[{"c":[{"a":{"node":"news"},"n":"items"}],"n":"pubsub","ns":"http://jabber.org/protocol/pubsub"}],"n":"iq"}"#;
     let number = service.count();
@@ -60,7 +75,11 @@ fn holds(rt: &impl Abort, alloc: Global, service: &mut Service, items: &str) -> 
 }
 
 // Items without an id get one, and a node that is made again begins anew.
-fn makes_ids(rt: &impl Abort, alloc: Global, service: &mut Service) -> Result<(), Fail> {
+fn makes_ids(
+    rt: &(impl Abort + Threads + Sync),
+    alloc: Global,
+    service: &mut Service,
+) -> Result<(), Fail> {
     boot(rt, alloc, service)?;
     create(rt, alloc, service)?;
     publish(rt, alloc, service, ENTRY)?;
@@ -87,7 +106,11 @@ fn ids_are_made_until_the_node_goes(rt: HostRuntime) -> Result<(), Fail> {
 }
 
 // Of eleven items the oldest goes.
-fn keeps_ten(rt: &impl Abort, alloc: Global, service: &mut Service) -> Result<(), Fail> {
+fn keeps_ten(
+    rt: &(impl Abort + Threads + Sync),
+    alloc: Global,
+    service: &mut Service,
+) -> Result<(), Fail> {
     boot(rt, alloc, service)?;
     create(rt, alloc, service)?;
     let mut wanted = String::new(alloc);

@@ -10,6 +10,8 @@ mod hosts;
 #[cfg(test)]
 mod lines;
 #[cfg(test)]
+mod many;
+#[cfg(test)]
 mod preparing;
 #[cfg(test)]
 mod rows;

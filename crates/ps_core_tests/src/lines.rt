@@ -1,77 +1,145 @@
 // Lines over a service in memory.
+ghost use Rattle.std.specs.Prelude.{◌≡◌, true};
+ghost use Rattle.ps_books.specs.Addressed.{IsTimely};
+
 use ps_core::{Answer, Service};
-use ps_types::{Arrival, Bytes, Entry, Text};
+use ps_types::{Arrival, Bytes, Entry, Notice, Text};
 use ps_wire::print_tree;
 use std::alloc::Global;
 use std::process::Abort;
 use std::test::Fail;
+use std::thread::Threads;
 
-fn arrived(alloc: Global, line: &str) -> Result<Arrival, Fail> {
+/// A line on the stream of a host, with its number and its moment.
+#[derive(Drop)]
+pub struct Line<'a> {
+    pub host: &'a str,
+    pub number: u64,
+    pub moment: Option<u64>,
+    pub text: &'a str,
+}
+
+/// The reply to a line, and the notices that its entry makes.
+#[derive(Drop)]
+pub struct Said {
+    pub reply: Bytes,
+    pub notices: Vec<Notice>,
+}
+
+fn arrived(alloc: Global, line: &str, moment: Option<u64>) -> Result<Arrival, Fail> {
     let bytes = line.as_bytes().to_vec(alloc)?;
     Ok(Arrival::Line {
         bytes: Bytes::from_vec(bytes),
-        moment: None,
+        moment,
     })
 }
 
-/// Takes an entry that is accepted.
-pub fn take(rt: &impl Abort, service: &mut Service, entry: &Entry) -> Result<(), Fail> {
+/// The moment of a change is before the year 9999.
+pub fn is_timely(entry: &Entry) -> bool
+    ensures { result ≡ true → IsTimely entry.now }
+{
+    match entry {
+        Entry::Change { moment, .. } => match moment {
+            Some(moment) => *moment < 253_370_764_800,
+            None => true,
+        },
+        _ => true,
+    }
+}
+
+/// Takes an entry that is accepted, and gives the notices that it makes.
+pub fn take(
+    rt: &(impl Abort + Threads + Sync),
+    service: &mut Service,
+    entry: &Entry,
+) -> Result<Vec<Notice>, Fail> {
     let accepted = service.accepts(entry)?;
     assert!(rt; accepted);
-    assert!(rt; service.count() < 1000);
-    service.apply(entry)?;
+    let timely = is_timely(entry);
+    assert!(rt; timely);
+    assert!(rt; service.count() < 10_000);
+    Ok(service.apply(rt, entry)?)
+}
+
+/// Takes an entry that is accepted and makes no notice.
+pub fn take_silently(
+    rt: &(impl Abort + Threads + Sync),
+    service: &mut Service,
+    entry: &Entry,
+) -> Result<(), Fail> {
+    let notices = take(rt, service, entry)?;
+    assert!(rt; notices.is_empty());
     Ok(())
 }
 
 /// Boots the service.
-pub fn boot(rt: &impl Abort, alloc: Global, service: &mut Service) -> Result<(), Fail> {
+pub fn boot(
+    rt: &(impl Abort + Threads + Sync),
+    alloc: Global,
+    service: &mut Service,
+) -> Result<(), Fail> {
     let boot = Entry::Boot {
         service: Text::of(alloc, "pubsub.example")?,
     };
-    take(rt, service, &boot)
+    take_silently(rt, service, &boot)
+}
+
+fn answer_of(alloc: Global, service: &Service, line: &Line<'_>) -> Result<Answer, Fail> {
+    let host = Text::of(alloc, line.host)?;
+    let arrival = arrived(alloc, line.text, line.moment)?;
+    Ok(service.answer(&host, line.number, &arrival)?)
+}
+
+/// Answers the line and takes the entry that it makes.
+pub fn serve_line(
+    rt: &(impl Abort + Threads + Sync),
+    alloc: Global,
+    service: &mut Service,
+    line: &Line<'_>,
+) -> Result<Said, Fail> {
+    let answer = answer_of(alloc, service, line)?;
+    let notices = match &answer.entry {
+        Some(entry) => take(rt, service, entry)?,
+        None => Vec::new(alloc),
+    };
+    let reply = match &answer.reply {
+        Some(reply) => print_tree(alloc, reply)?,
+        None => Bytes::from_vec(Vec::new(alloc)),
+    };
+    Ok(Said { reply, notices })
 }
 
 /// Answers the line of `a.example` and takes the entry that it makes.
 pub fn answered(
-    rt: &impl Abort,
+    rt: &(impl Abort + Threads + Sync),
     alloc: Global,
     service: &mut Service,
     line: u64,
     text: &str,
 ) -> Result<Bytes, Fail> {
-    answered_on(rt, alloc, service, "a.example", line, text)
-}
-
-/// Answers the line of the host and takes the entry that it makes.
-pub fn answered_on(
-    rt: &impl Abort,
-    alloc: Global,
-    service: &mut Service,
-    host: &str,
-    line: u64,
-    text: &str,
-) -> Result<Bytes, Fail> {
-    let host = Text::of(alloc, host)?;
-    let arrival = arrived(alloc, text)?;
-    let answer = service.answer(&host, line, &arrival)?;
-    if let Some(entry) = &answer.entry {
-        take(rt, service, entry)?;
-    }
-    match &answer.reply {
-        Some(reply) => Ok(print_tree(alloc, reply)?),
-        None => Ok(Bytes::from_vec(Vec::new(alloc))),
-    }
+    let line = Line {
+        host: "a.example",
+        number: line,
+        moment: None,
+        text,
+    };
+    let said = serve_line(rt, alloc, service, &line)?;
+    Ok(said.reply)
 }
 
 /// The entry that the line of `a.example` makes.
 pub fn entry_at(alloc: Global, service: &Service, line: u64, text: &str) -> Result<Entry, Fail> {
-    let host = Text::of(alloc, "a.example")?;
-    let arrival = arrived(alloc, text)?;
+    let line = Line {
+        host: "a.example",
+        number: line,
+        moment: None,
+        text,
+    };
     let Answer {
         reply: _,
         entry,
         full: _,
-    } = service.answer(&host, line, &arrival)?;
+    } = answer_of(alloc, service, &line)?;
     match entry {
         Some(entry) => Ok(entry),
         None => Err(Fail::new("no entry")),
@@ -80,5 +148,5 @@ pub fn entry_at(alloc: Global, service: &Service, line: u64, text: &str) -> Resu
 
 /// The reply is this text.
 pub fn says(rt: &impl Abort, bytes: &Bytes, text: &str) {
-    assert!(rt; bytes.as_slice() == text.as_bytes());
+    assert!(rt; bytes.as_slice() == text.as_bytes(), "{text}");
 }

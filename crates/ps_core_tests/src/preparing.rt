@@ -1,13 +1,15 @@
 // An entry that is prepared in the place of another, and one that is prepared once more after memory was refused.
 ghost use Rattle.std.specs.Prelude.{◌≡◌, ◌<◌, ◌^◌, true, OnOk, Some};
 ghost use Rattle.ps_model.specs.Replay.{accepted};
+ghost use Rattle.ps_books.specs.Addressed.{IsTimely};
 
-use crate::lines::{answered, boot, entry_at, says};
+use crate::lines::{answered, boot, entry_at, is_timely, says};
 use ps_core::Service;
 use ps_types::{Entry, Text};
 use std::alloc::Global;
 use std::process::Abort;
 use std::test::Fail;
+use std::thread::Threads;
 
 const NEWS: &str =
     r#"{"a":{"from":"ann@a.example/1","id":"1","to":"pubsub.example","type":"set"},"c":[{"c":[{"a":{"node":"news"},"n":"create"}],"n":"pubsub","ns":"http://jabber.org/protocol/pubsub"}],"n":"iq"}"#;
@@ -22,7 +24,11 @@ const CONFLICT: &str =
     r#"{"a":{"from":"pubsub.example","id":"1","to":"ann@a.example/1","type":"error"},"c":[{"a":{"type":"cancel"},"c":[{"n":"conflict","ns":"urn:ietf:params:xml:ns:xmpp-stanzas"}],"n":"error"}],"n":"iq"}"#;
 
 // The second entry takes the place of the first, so the node of the first can still be made, by the copy that is committed then.
-fn replaces(rt: &impl Abort, alloc: Global, service: &mut Service) -> Result<(), Fail> {
+fn replaces(
+    rt: &(impl Abort + Threads + Sync),
+    alloc: Global,
+    service: &mut Service,
+) -> Result<(), Fail> {
     boot(rt, alloc, service)?;
     let news = entry_at(alloc, service, 1, NEWS)?;
     let other = entry_at(alloc, service, 1, OTHER)?;
@@ -30,9 +36,11 @@ fn replaces(rt: &impl Abort, alloc: Global, service: &mut Service) -> Result<(),
     assert!(rt; first);
     let second = service.accepts(&other)?;
     assert!(rt; second);
+    let timely = is_timely(&news) && is_timely(&other);
+    assert!(rt; timely);
     assert!(rt; service.count() < 1000);
-    service.prepare(&news)?;
-    service.prepare(&other)?;
+    service.prepare(rt, &news)?;
+    service.prepare(rt, &other)?;
     service.commit();
     assert_eq!(rt; service.count(), 2);
     for (line, text, wanted) in [(2, OTHER, CONFLICT), (3, NEWS, MADE), (4, NEWS, CONFLICT)] {
@@ -50,31 +58,46 @@ fn a_second_entry_takes_the_place_of_the_first(rt: HostRuntime) -> Result<(), Fa
 }
 
 // Once more after memory was refused: nothing was prepared, and the second copy is made anew.
-fn prepare_at_last(service: &mut Service, entry: &Entry) -> Result<(), Fail>
+fn prepare_at_last(
+    rt: &(impl Threads + Sync),
+    service: &mut Service,
+    entry: &Entry,
+) -> Result<(), Fail>
     requires fits { accepted service.old.state entry.now ≡ true }
+    requires timely { IsTimely entry.now }
     requires few { service.old.state.count < 2 ^ 62 }
     ensures prepared { OnOk result (service.new.prepared ≡ Some entry.now) }
 {
-    match service.prepare(entry) {
-        Ok(()) => Ok(()),
+    match service.prepare(rt, entry) {
+        Ok(_) => Ok(()),
         Err(_) => {
-            service.prepare(entry)?;
+            service.prepare(rt, entry)?;
             Ok(())
         }
     }
 }
 
-fn takes(rt: &impl Abort, service: &mut Service, entry: &Entry) -> Result<(), Fail> {
+fn takes(
+    rt: &(impl Abort + Threads + Sync),
+    service: &mut Service,
+    entry: &Entry,
+) -> Result<(), Fail> {
     let accepted = service.accepts(entry)?;
     assert!(rt; accepted);
+    let timely = is_timely(entry);
+    assert!(rt; timely);
     assert!(rt; service.count() < 1000);
-    prepare_at_last(service, entry)?;
+    prepare_at_last(rt, service, entry)?;
     service.commit();
     Ok(())
 }
 
 // `rt try --test --fail-alloc N` refuses the N-th growth: wherever that is in a preparation, what follows is answered all the same.
-fn goes_on(rt: &impl Abort, alloc: Global, service: &mut Service) -> Result<(), Fail> {
+fn goes_on(
+    rt: &(impl Abort + Threads + Sync),
+    alloc: Global,
+    service: &mut Service,
+) -> Result<(), Fail> {
     let boot = Entry::Boot {
         service: Text::of(alloc, "pubsub.example")?,
     };

@@ -4,6 +4,7 @@ use ps_core::Service;
 use std::alloc::Global;
 use std::process::Abort;
 use std::test::Fail;
+use std::thread::Threads;
 
 const FIRST: &str =
     r#"{"a":{"from":"ann@a.example/1","id":"1","to":"pubsub.example","type":"set"},"c":[{"c":[{"a":{"node":"news"},"n":"create"}],"n":"pubsub","ns":"http://jabber.org/protocol/pubsub"}],"n":"iq"}"#;
@@ -35,7 +36,11 @@ const CONFLICT: &str =
     r#"{"a":{"from":"pubsub.example","id":"2","to":"ann@a.example/1","type":"error"},"c":[{"a":{"type":"cancel"},"c":[{"n":"conflict","ns":"urn:ietf:params:xml:ns:xmpp-stanzas"}],"n":"error"}],"n":"iq"}"#;
 
 // A test owns its service and no more: what is asked of it is lent it.
-fn makes_once(rt: &impl Abort, alloc: Global, service: &mut Service) -> Result<(), Fail> {
+fn makes_once(
+    rt: &(impl Abort + Threads + Sync),
+    alloc: Global,
+    service: &mut Service,
+) -> Result<(), Fail> {
     boot(rt, alloc, service)?;
     let reply = answered(rt, alloc, service, 1, FIRST)?;
     says(rt, &reply, MADE);
@@ -52,7 +57,11 @@ fn a_node_is_made_once(rt: HostRuntime) -> Result<(), Fail> {
     makes_once(&rt, rt.alloc(), &mut service)
 }
 
-fn retrieves(rt: &impl Abort, alloc: Global, service: &mut Service) -> Result<(), Fail> {
+fn retrieves(
+    rt: &(impl Abort + Threads + Sync),
+    alloc: Global,
+    service: &mut Service,
+) -> Result<(), Fail> {
     boot(rt, alloc, service)?;
     for (line, text, wanted) in [
         (1, FIRST, MADE),
@@ -73,7 +82,11 @@ fn what_is_published_is_retrieved(rt: HostRuntime) -> Result<(), Fail> {
     retrieves(&rt, rt.alloc(), &mut service)
 }
 
-fn refuses(rt: &impl Abort, alloc: Global, service: &mut Service) -> Result<(), Fail> {
+fn refuses(
+    rt: &(impl Abort + Threads + Sync),
+    alloc: Global,
+    service: &mut Service,
+) -> Result<(), Fail> {
     boot(rt, alloc, service)?;
     for (line, why) in [
         ("{", "not-json"),

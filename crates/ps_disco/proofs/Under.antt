@@ -1,12 +1,7 @@
 -- The nodes under a collection by the links to it.
-use Rattle.std.proofs.Common.{◌≡◌, ℕ, Bool, true, false, cond, ◌&&◌, ◌||◌, List, [], ◌∷◌, Option, Some, None, refl, ap, sym, subst, ◌∙◌, map, filter}
-use Rattle.std.specs.Prelude.{nat_eq, find, option_map}
+use Rattle.std.proofs.Common.{◌≡◌, Bool, true, false, cond, ◌&&◌, ◌||◌, List, [], ◌∷◌, Option, Some, None, refl, ap, sym, ◌∙◌, map, filter}
+use Rattle.std.specs.Prelude.{find, option_map}
 use Rattle.std.specs.List.{list_any}
-use Rattle.std.specs.BTreeSet.{insert_key}
-use Rattle.std.specs.Ordering.{nat_cmp, match_ordering}
-use Rattle.std.specs.declared.cmp.Ordering.{Ordering}
-use Rattle.std.proofs.lemmas.Cmp.{ranked}
-use Rattle.std.specs.declared.cmp.Ordering.TheVariants.{Less, Equal, Greater}
 use Rattle.ps_types.specs.declared.node.NodeKey.{NodeKey}
 use Rattle.ps_types.specs.declared.rows.LinkRow.{LinkRow}
 use Rattle.ps_types.specs.declared.rows.NodeRow.{NodeRow}
@@ -16,36 +11,6 @@ use Rattle.ps_types.proofs.Same.{same_node-Decides}
 use Rattle.ps_rows.specs.Standing.{passes_at}
 use Rattle.ps_coll.specs.Children.{children_in}
 use Rattle.ps_nodes.specs.NodeRows.{is_there}
-use Rattle.ps_disco.specs.Held.{is_place}
-
--- ---- a place that is put among places
-
-or_swap : (a b c : Bool) → (a || (b || c)) ≡ (b || (a || c))
-or_swap true true c = refl
-or_swap true false c = refl
-or_swap false true c = refl
-or_swap false false c = refl
-
-same_number : (k x : ℕ) → nat_cmp k x ≡ Equal → k ≡ x
-same_number k x h = ranked k x Equal (sym h)
-
-inserted : (at k x : ℕ) (ks : List ℕ) (o : Ordering) → nat_cmp k x ≡ o → is_place at (insert_key nat_cmp ks k) ≡ (nat_eq at k || is_place at ks)
-    → is_place at (match_ordering o (k ∷ x ∷ ks) (x ∷ ks) (x ∷ insert_key nat_cmp ks k)) ≡ (nat_eq at k || is_place at (x ∷ ks))
-inserted at k x ks Less e more = refl
-inserted at k x ks Equal e more =
-    let s : k ≡ x = same_number k x e in
-    subst (λ y. is_place at (x ∷ ks) ≡ (nat_eq at y || is_place at (x ∷ ks))) (sym s) (twice (nat_eq at x) (is_place at ks))
-  where
-    twice : (a b : Bool) → (a || b) ≡ (a || (a || b))
-    twice true b = refl
-    twice false b = refl
-inserted at k x ks Greater e more = ap (λ b. nat_eq at x || b) more ∙ or_swap (nat_eq at x) (nat_eq at k) (is_place at ks)
-
-pub is_place-inserted : (at k : ℕ) (ks : List ℕ) → is_place at (insert_key nat_cmp ks k) ≡ (nat_eq at k || is_place at ks)
-is_place-inserted at k [] = refl
-is_place-inserted at k (x ∷ ks) = inserted at k x ks (nat_cmp k x) refl (is_place-inserted at k ks)
-
--- ---- the children that the links name
 
 same_back : (a b : NodeKey) → same_node a b ≡ true → same_node b a ≡ true
 same_back a b h = (same_node-Decides b a).1 (sym ((same_node-Decides a b).0 h))

@@ -1,5 +1,5 @@
 -- The nodes that a collection holds, by their places.
-use Rattle.std.specs.Prelude.{◌≡◌, ℕ, Bool, false, ◌&&◌, nat_eq, List, [], ◌∷◌, ◌++◌, Option, Some, None, slice_get}
+use Rattle.std.specs.Prelude.{◌≡◌, ℕ, Bool, false, ◌&&◌, nat_eq, List, Option, Some, None, slice_get}
 use Rattle.std.specs.List.{list_any}
 use Rattle.ps_types.specs.declared.node.NodeKey.{NodeKey}
 use Rattle.ps_types.specs.Links.{is_under}
@@ -9,30 +9,12 @@ use Rattle.ps_disco.specs.Entries.{row_children}
 use Rattle.ps_model.specs.Book.{Book}
 use Rattle.ps_model.specs.Discovery.{is_held_by}
 use Rattle.ps_nodes.specs.NodeRows.{is_there}
-use Rattle.ps_rows.specs.Standing.{passes_at}
+use Rattle.ps_nodes.specs.Places.{is_place, ArePlaces, option_list}
 
 -- the place is the one, if there is one
 abbrev pub is_at_place : ℕ → Option ℕ → Bool
 is_at_place at None = false
 is_at_place at (Some place) = nat_eq at place
-
--- among these places
-abbrev pub is_place : ℕ → List ℕ → Bool
-is_place at places = list_any (nat_eq at) places
-
-module _ {R : Type 0} where
-  -- the places are those of the rows that pass
-  abbrev pub ArePlaces : (R → Bool) → List R → List ℕ → Type 0
-  ArePlaces test rows places = (at : ℕ) → is_place at places ≡ passes_at test (slice_get rows at)
-
-  abbrev pub option_list : Option R → List R
-  option_list None = []
-  option_list (Some row) = row ∷ []
-
-  -- the rows at the places
-  abbrev pub rows_at : List ℕ → List R → List R
-  rows_at [] rows = []
-  rows_at (place ∷ places) rows = option_list (slice_get rows place) ++ rows_at places rows
 
 -- the node is at the place, and the collection holds it
 abbrev pub is_held_at : Book → NodeKey → NodeKey → ℕ → Bool

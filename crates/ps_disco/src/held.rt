@@ -2,7 +2,8 @@
 ghost use Rattle.std.specs.Prelude.{◌≡◌, ◌++◌, IfOk, OnOk, map};
 ghost use Rattle.ps_access.specs.Tables.{book_of};
 ghost use Rattle.ps_disco.specs.Entries.{Hold, held_rows, row_children, row_at};
-ghost use Rattle.ps_disco.specs.Held.{AreFound, AreHeld, IsPlaceIn, children_at, rows_at};
+ghost use Rattle.ps_disco.specs.Held.{AreFound, AreHeld, IsPlaceIn, children_at};
+ghost use Rattle.ps_nodes.specs.Places.{rows_at};
 
 use crate::entries::add_node;
 use ps_access::Tables;

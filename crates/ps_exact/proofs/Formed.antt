@@ -1,5 +1,5 @@
 -- Whether a tree has its form.
-use Rattle.std.proofs.Common.{◌≡◌, ◌≢◌, ◌⊎◌, inl, inr, ℕ, ◌<◌, ◌≤◌, List, [], ◌∷◌, IsUtf8, refl, arith}
+use Rattle.std.proofs.Common.{◌≡◌, ◌≢◌, inl, inr, ℕ, ◌<◌, List, [], ◌∷◌, IsUtf8, refl, arith}
 use Rattle.std.specs.Ordering.{nat_cmp}
 use Rattle.std.specs.Cmp.Lexicographic.{slice_cmp}
 use Rattle.std.specs.Str.{is_utf8}
@@ -8,7 +8,7 @@ use Rattle.std.specs.declared.cmp.Ordering.TheVariants.{Less, Equal, Greater}
 use Rattle.std.proofs.lemmas.Str.{IsUtf8-from_is_utf8, is_utf8-from_IsUtf8}
 use Rattle.ps_types.specs.declared.attrs.Attr.{Attr}
 use Rattle.ps_types.specs.Attrs.{IsBelow, IsSorted}
-use Rattle.ps_types.specs.Form.{AreTexts, HasForm, HaveForm, IsHead, IsTree, max_levels}
+use Rattle.ps_types.specs.Form.{AreTexts, HasForm, HaveForm, IsHead, IsTree}
 use Rattle.ps_types.specs.Tree.{Tree, tree, levels, Nodes, none, branch, words}
 use Rattle.ps_exact.proofs.Decided.{Decided, both, by-test, either-way, is-below, some-bytes}
 

@@ -3,7 +3,7 @@ use Rattle.std.proofs.Common.{◌≡◌, ℕ, zero, suc, List, [], ◌∷◌, le
 use Rattle.std.specs.Prelude.{⊤}
 use Rattle.json.specs.Token.{Token}
 use Rattle.json.specs.Json.{Json, null, boolean, number, string, array, object, Items, no_items, item, Members, no_members, member, Parse, parse_map, after_end_array, read_key, items_step, members_step, items, members, value_with, value, if_last}
-use Rattle.json.proofs.Grammar.{closed_array, key_token, read_key_is}
+use Rattle.json.proofs.Grammar.{closed_array, read_key_is}
 use Rattle.ps_exact.proofs.Lexemes.{AreTexts}
 use Rattle.ps_exact.proofs.When.{When}
 

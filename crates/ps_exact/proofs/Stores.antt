@@ -1,14 +1,12 @@
 -- Each store's bytes have a list of entries or a place of damage.
-use Rattle.std.proofs.Common.{◌≡◌, ◌≢◌, ◌⊎◌, inl, inr, ℕ, zero, suc, ◌+◌, ◌<◌, ◌≤◌, ◌^◌, Bool, true, false, List, [], ◌∷◌, ◌++◌, length, take, drop, map, Option, Some, None, refl, sym, ap, subst, ◌∙◌, append_assoc, append-nil, take-append-drop, arith, length-append}
-use Rattle.std.specs.Prelude.{◌==◌, not}
+use Rattle.std.proofs.Common.{◌≡◌, ◌≢◌, ◌⊎◌, inl, inr, ℕ, zero, suc, ◌+◌, ◌<◌, ◌≤◌, ◌^◌, Bool, true, false, List, [], ◌∷◌, ◌++◌, length, take, drop, map, Option, Some, refl, sym, ap, subst, ◌∙◌, append_assoc, append-nil, take-append-drop, arith, length-append}
+use Rattle.std.specs.Prelude.{◌==◌}
 use Rattle.std.specs.Int.{w32}
 use Rattle.std.specs.List.{AllByRecursion}
 use Rattle.std.proofs.lemmas.Bool.{eq-eqb, eqb-true, true≢false}
 use Rattle.std.proofs.lemmas.List.{drop_at}
 use Rattle.ps_types.specs.declared.entry.Entry.{Entry}
-use Rattle.ps_model.specs.At.{IsDamagedAt, IsStore}
 use Rattle.ps_model.specs.Book.{empty_state}
-use Rattle.ps_model.specs.Built.{is_built_event}
 use Rattle.ps_model.specs.Entries.{AreEntriesIn, IsEntryIn, body, spelling}
 use Rattle.ps_model.specs.Replay.{accepted, lawful, replay}
 use Rattle.ps_model.specs.Store.{AreBodies, AreParts, Begun, IsBody, IsShut, frame, frames, gate_at, is_header, is_second, is_unbegun, joined}
@@ -138,7 +136,7 @@ module _ (bytes : List ℕ) (header : is_header (take 8 bytes) ≡ true) where
   next-entry ps es x others h f ok = record {
     parts = h.parts;
     entries = each-more (IsEntryIn (is_second bytes)) es f.entry h.entries f.is;
-    each = subst lawful (append_assoc (joined ps) es (f.entry ∷ [])) (accepted-more is_built_event accepted (joined ps ++ es) f.entry empty_state h.each ok);
+    each = subst lawful (append_assoc (joined ps) es (f.entry ∷ [])) (accepted-more accepted (joined ps ++ es) f.entry empty_state h.each ok);
     begun = subst (Begun bytes) (ap (λ (l : List ℕ). map body ps ++ l ∷ others) (ap (λ (l : List ℕ). body es ++ l) f.split ∙ sym (append_assoc (body es) (spelling f.entry) f.rest) ∙ ap (λ (l : List ℕ). l ++ f.rest) (sym (body-more es f.entry)))) h.begun;
   }
 

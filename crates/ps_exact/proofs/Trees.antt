@@ -1,6 +1,6 @@
 -- A tree that is read of a value with texts of UTF-8 has its form.
 use Rattle.std.proofs.Common.{◌≡◌, ◌≢◌, ℕ, List, [], ◌∷◌, Option, Some, None, IsUtf8, Ok, option_map, option_and_then, refl, subst}
-use Rattle.std.specs.Prelude.{⊤, codes}
+use Rattle.std.specs.Prelude.{codes}
 use Rattle.std.specs.Ordering.{nat_cmp, match_ordering}
 use Rattle.std.specs.Cmp.Lexicographic.{slice_cmp}
 use Rattle.std.specs.declared.cmp.Ordering.{Ordering}
@@ -15,7 +15,7 @@ use Rattle.ps_types.specs.Form.{AreTexts, IsHead, HasForm, HaveForm}
 use Rattle.ps_types.specs.LineTree.{line_tree}
 use Rattle.ps_types.specs.Print.{client}
 use Rattle.ps_types.specs.Reading.{Reads, has_known, text_of, unless_empty, name_in, ns_from, ns_in, attrs_of_members, attrs_of_data, attrs_from, attrs_in, element, tree_of, kids_in, kids_of, nodes_of_items, kid_then}
-use Rattle.ps_types.specs.Tree.{Tree, tree, Nodes, none, branch, words}
+use Rattle.ps_types.specs.Tree.{Tree, tree, Nodes, branch, words}
 use Rattle.ps_model.specs.ReadFrom.{IsReadFrom}
 use Rattle.ps_model.proofs.LineLaws.{line-read}
 use Rattle.ps_exact.proofs.Values.{AllAfter, IsSound, AreSound, HaveSound, read-sound}

@@ -1,23 +1,25 @@
 -- The news of an event tells each address what the event does.
 use Rattle.std.proofs.Common.{◌≡◌, Bool, true, false, cond, List, [], ◌∷◌, Option, Some, None, refl, sym, ap, subst, ◌∙◌}
 use Rattle.std.specs.Prelude.{◌&&◌, ◌||◌, not, option_map, codes, Result, IfOk}
+use Rattle.std.specs.Arc.{arc_value}
 use Rattle.ps_base.specs.declared.refusals.Memory.{Memory}
 use Rattle.ps_types.specs.declared.event.Event.{Event}
 use Rattle.ps_types.specs.Links.{above}
 use Rattle.ps_types.specs.Namespaces.{event_ns}
 use Rattle.ps_types.specs.Nodes.{config_at}
 use Rattle.ps_types.specs.Resources.{is_present}
-use Rattle.ps_types.specs.Tree.{Tree, tree, none, branch}
+use Rattle.ps_types.specs.Tree.{Tree, tree, Nodes, none, branch}
 use Rattle.ps_types.specs.declared.config.NodeConfig.{NodeConfig}
 use Rattle.ps_types.specs.declared.jid.Jid.{Jid}
 use Rattle.ps_types.specs.declared.node.NodeKey.{NodeKey}
 use Rattle.ps_model.specs.Book.{Book}
 use Rattle.ps_model.specs.Due.{About, about_new, about_node, may_pass, may_read, node_notice, one_way, told_about}
 use Rattle.ps_model.specs.Given.{given}
-use Rattle.ps_model.specs.NoticeTrees.{associate_tree, kind_attr, message}
+use Rattle.ps_model.specs.NoticeTrees.{associate_tree, header_nodes, kind_attr, message}
 use Rattle.ps_model.specs.Ways as ways
 use Rattle.ps_model.specs.Ways.{is_interested, way_above, way_to, way_to_new}
-use Rattle.ps_fanout.specs.Hearing.{Tells, behind, heard_by, hears, way_by}
+use Rattle.ps_drafts.specs.Parts as drafts
+use Rattle.ps_fanout.specs.Hearing.{Tells, heard, heard_by, heard_tree, hears, named, way_by}
 use Rattle.ps_fanout.specs.declared.news.News.{News}
 
 -- what the news of a node is made of
@@ -28,7 +30,11 @@ pub record IsNews (at : NodeKey) (put kind : Bool) (up : List NodeKey) (rules : 
   pub above : n.above.items ≡ up
   pub config : n.config.now ≡ rules
   pub is_on : n.is_on ≡ on
-  pub event : n.event ≡ tree (codes "event") event_ns [] (branch inside none)
+  pub event : arc_value n.event ≡ tree (codes "event") event_ns [] (branch inside none)
+
+-- what follows the event
+abbrev behind : Bool → ways.Way → Nodes
+behind joins way = cond joins none (header_nodes way)
 
 -- what is heard, by the parts of the news
 abbrev may_hear : Book → NodeKey → NodeConfig → Bool → Jid → Bool
@@ -42,16 +48,30 @@ parts_hear book node joins items up config is_on event who =
     option_map (parts_tree node joins config event who)
     (cond (may_hear book node config is_on who) (heard_by (may_pass book who (way_by book (not joins) items node up who)) (not joins && is_interested book node who) (way_by book (not joins) items node up who)) None)
 
+-- a header names the collection
+header-is : (joins : Bool) (way : ways.Way) → drafts.behind (named joins way) ≡ behind joins way
+header-is true way = refl
+header-is false ways.NoWay = refl
+header-is false ways.OwnRow = refl
+header-is false (ways.Through collection) = refl
+
+header-heard : (n : News) (who : Jid) (o : Option ways.Way)
+    → option_map (heard_tree n who) o ≡ option_map (parts_tree n.node.now n.joins n.config.now (arc_value n.event) who) o
+header-heard n who None = refl
+header-heard n who (Some way) =
+    ap (λ (kids : Nodes). Some (message n.node.now.service who (kind_attr n.config.now.notification_type) (branch (arc_value n.event) kids))) (header-is n.joins way)
+
 -- the parts of the news are these
 parts-are : (book : Book) (node : NodeKey) (joins items : Bool) (up : List NodeKey) (config : NodeConfig) (is_on : Bool) (inside : Tree) (n : News) → IsNews node joins items up config is_on inside n → (who : Jid)
     → hears book n who ≡ parts_hear book node joins items up config is_on (tree (codes "event") event_ns [] (branch inside none)) who
 parts-are book node joins items up config is_on inside n is who =
-    ap (λ (x : NodeKey). parts_hear book x n.joins n.items n.above.items n.config.now n.is_on n.event who) is.node
-    ∙ ap (λ (x : Bool). parts_hear book node x n.items n.above.items n.config.now n.is_on n.event who) is.joins
-    ∙ ap (λ (x : Bool). parts_hear book node joins x n.above.items n.config.now n.is_on n.event who) is.items
-    ∙ ap (λ (x : List NodeKey). parts_hear book node joins items x n.config.now n.is_on n.event who) is.above
-    ∙ ap (λ (x : NodeConfig). parts_hear book node joins items up x n.is_on n.event who) is.config
-    ∙ ap (λ (x : Bool). parts_hear book node joins items up config x n.event who) is.is_on
+    header-heard n who (heard book n who)
+    ∙ ap (λ (x : NodeKey). parts_hear book x n.joins n.items n.above.items n.config.now n.is_on (arc_value n.event) who) is.node
+    ∙ ap (λ (x : Bool). parts_hear book node x n.items n.above.items n.config.now n.is_on (arc_value n.event) who) is.joins
+    ∙ ap (λ (x : Bool). parts_hear book node joins x n.above.items n.config.now n.is_on (arc_value n.event) who) is.items
+    ∙ ap (λ (x : List NodeKey). parts_hear book node joins items x n.config.now n.is_on (arc_value n.event) who) is.above
+    ∙ ap (λ (x : NodeConfig). parts_hear book node joins items up x n.is_on (arc_value n.event) who) is.config
+    ∙ ap (λ (x : Bool). parts_hear book node joins items up config x (arc_value n.event) who) is.is_on
     ∙ ap (λ (x : Tree). parts_hear book node joins items up config is_on x who) is.event
 
 one-of : (may pass wanted : Bool) (way : ways.Way) (f : ways.Way → Tree) → option_map f (cond may (heard_by pass wanted way) None) ≡ cond may (one_way pass wanted (f way) (f ways.NoWay)) None

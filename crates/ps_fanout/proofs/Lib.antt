@@ -1,4 +1,6 @@
 pub mod Ordered
+pub mod Pieces
+pub mod Shared
 pub mod Placed
 pub mod Narrowed
 pub mod Due
@@ -6,4 +8,3 @@ pub mod Reached
 pub mod Heard
 pub mod Spread
 pub mod More
-pub mod Kids

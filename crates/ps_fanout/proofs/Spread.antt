@@ -1,7 +1,8 @@
 -- What the news gives those that are asked is what the event gives all.
 use Rattle.std.proofs.Common.{◌≡◌, ℕ, Bool, true, cond, List, [], ◌∷◌, ◌++◌, Option, Some, None, map, refl, sym, ap, subst, ◌∙◌}
-use Rattle.std.specs.Prelude.{is_some, option_map}
 use Rattle.std.specs.List.{AllByRecursion as Each, cons_option}
+use Rattle.std.specs.Prelude.{is_some, option_map}
+use Rattle.std.specs.List.{cons_option}
 use Rattle.ps_types.specs.Address.{IsAddress}
 use Rattle.ps_types.specs.Tree.{Tree}
 use Rattle.ps_types.specs.declared.event.Event.{Event}
@@ -23,7 +24,8 @@ use Rattle.ps_model.proofs.Asked.{is-among-asked}
 use Rattle.ps_filter.specs.Wants.{AreWants}
 use Rattle.ps_filter.specs.declared.want.Want.{Want}
 use Rattle.ps_fanout.specs.Hearing.{Tells, candidates, hears, spread, wanting}
-use Rattle.ps_fanout.specs.Told.{AreAddresses, given_to, is_of_node, to_one, told}
+use Rattle.ps_model.specs.Addressed.{AreAddresses}
+use Rattle.ps_fanout.specs.Told.{given_to, is_of_node, to_one, told}
 use Rattle.ps_fanout.specs.Trees.{approval, last_for, sub_tree}
 use Rattle.ps_fanout.specs.declared.news.News.{News}
 use Rattle.ps_fanout.proofs.Narrowed.{given-alike, none-given, same-given}

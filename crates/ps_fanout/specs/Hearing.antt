@@ -1,19 +1,21 @@
 -- An event of a node as it is worked: who hears of it, by which way, and by what tree.
-use Rattle.std.specs.Prelude.{◌≡◌, Bool, true, false, not, ◌&&◌, ◌||◌, cond, List, [], ◌++◌, map, flat_map, Option, Some, None, option_map, if◌then◌else◌}
+use Rattle.std.specs.Prelude.{◌≡◌, ℕ, Bool, true, false, not, ◌&&◌, ◌||◌, cond, List, [], ◌++◌, map, flat_map, Option, Some, None, option_map, if◌then◌else◌}
+use Rattle.std.specs.Arc.{arc_value}
+use Rattle.ps_types.specs.Address.{jid_text}
 use Rattle.ps_types.specs.Resources.{is_present}
 use Rattle.ps_types.specs.Subs.{is_subscribed, sub_at, subs_of}
-use Rattle.ps_types.specs.Tree.{Tree, Nodes, none, branch}
+use Rattle.ps_types.specs.Tree.{Tree}
 use Rattle.ps_types.specs.declared.jid.Jid.{Jid}
 use Rattle.ps_types.specs.declared.node.NodeKey.{NodeKey}
 use Rattle.ps_model.specs.Access.{is_account}
 use Rattle.ps_model.specs.Book.{Book}
 use Rattle.ps_model.specs.Due.{may_pass, may_read}
-use Rattle.ps_model.specs.NoticeTrees.{header_nodes, kind_attr, message}
 use Rattle.ps_model.specs.Ways as ways
 use Rattle.ps_model.specs.Ways.{is_interested, way_above}
 use Rattle.ps_model.specs.Sorted.{sorted}
 use Rattle.ps_filter.specs.Wants.{who_want}
 use Rattle.ps_filter.specs.declared.want.Want.{Want}
+use Rattle.ps_drafts.specs.Parts.{Shape, message_of}
 use Rattle.ps_fanout.specs.Told.{given_to}
 use Rattle.ps_fanout.specs.declared.news.News.{News}
 use Rattle.ps_fanout.specs.declared.ways.Way.{Way}
@@ -52,11 +54,20 @@ heard book n who =
 
 -- ---- the tree
 
-abbrev pub behind : Bool → ways.Way → Nodes
-behind joins way = if joins then none else header_nodes way
+abbrev pub form_of : News → Shape
+form_of n = record { from = jid_text n.node.now.service; kind = n.config.now.notification_type; event = arc_value n.event }
+
+-- the collection that the tree names
+abbrev pub way_named : ways.Way → Option (List ℕ)
+way_named ways.NoWay = None
+way_named ways.OwnRow = None
+way_named (ways.Through collection) = Some collection.name
+
+abbrev pub named : Bool → ways.Way → Option (List ℕ)
+named joins way = if joins then None else way_named way
 
 abbrev pub heard_tree : News → Jid → ways.Way → Tree
-heard_tree n who way = message n.node.now.service who (kind_attr n.config.now.notification_type) (branch n.event (behind n.joins way))
+heard_tree n who way = message_of (form_of n) (jid_text who) (named n.joins way)
 
 abbrev pub hears : Book → News → Jid → Option Tree
 hears book n who = option_map (heard_tree n who) (heard book n who)

@@ -1,12 +1,9 @@
 -- What an event gives all addresses, and what is asked of the tables for it.
-use Rattle.std.specs.Prelude.{Bool, true, false, List, [], ◌∷◌, map, filter_map, Option, Some, None, option_map}
-use Rattle.std.specs.List.{AllByRecursion}
-use Rattle.ps_types.specs.Address.{IsAddress}
+use Rattle.std.specs.Prelude.{Bool, true, false, List, [], ◌∷◌, filter_map, Option, Some, None, option_map}
 use Rattle.ps_types.specs.Tree.{Tree}
 use Rattle.ps_types.specs.declared.event.Event.{Event}
 use Rattle.ps_types.specs.declared.event.Event.TheVariants.{Approval, Told, Last, Question}
 use Rattle.ps_types.specs.declared.jid.Jid.{Jid}
-use Rattle.ps_model.specs.BaseAfter.{is_early}
 use Rattle.ps_model.specs.Book.{Book}
 use Rattle.ps_model.specs.Given.{asked, given}
 use Rattle.ps_model.specs.Sorted.{sorted}
@@ -18,16 +15,6 @@ given_to gives whos = filter_map (λ who. option_map (λ t. (who, t)) (gives who
 -- what the event gives, in the order of the octets of the addresses
 abbrev pub told : Book → Event → List (Jid × Tree)
 told book event = given_to (given book event) (sorted (asked book event))
-
--- the addresses with subscriptions and those that are present are addresses (RFC 7622)
-pub record AreAddresses (book : Book) : Type 0 where
-  pub subs : AllByRecursion IsAddress (map (λ row. row.who) book.subs)
-  pub resources : AllByRecursion IsAddress (map (λ row. row.who) book.resources)
-
--- the moment of a last item is one that a stamp can tell
-abbrev pub is_early_event : Event → Bool
-is_early_event (Last node to by_subscription moment) = is_early moment
-is_early_event _ = true
 
 -- a tree to the one address, if there is one
 abbrev pub to_one : Jid → Option Tree → List (Jid × Tree)

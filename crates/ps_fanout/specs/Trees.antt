@@ -3,9 +3,9 @@ use Rattle.std.specs.Prelude.{ℕ, Bool, List, [], ◌∷◌, Option, Some, code
 use Rattle.ps_types.specs.Attrs.{attr}
 use Rattle.ps_types.specs.Forms.{form_tree}
 use Rattle.ps_types.specs.Items.{last_item}
-use Rattle.ps_types.specs.Namespaces.{event_ns, headers_ns}
+use Rattle.ps_types.specs.Namespaces.{event_ns}
 use Rattle.ps_types.specs.Nodes.{config_at}
-use Rattle.ps_types.specs.Tree.{Tree, tree, none, words}
+use Rattle.ps_types.specs.Tree.{Tree, tree}
 use Rattle.ps_types.specs.declared.attrs.Attr.{Attr}
 use Rattle.ps_types.specs.declared.config.NodeConfig.{NodeConfig}
 use Rattle.ps_types.specs.declared.form.Field.{Field}
@@ -25,9 +25,6 @@ event_tree inside = tree (codes "event") event_ns [] (only inside)
 
 abbrev pub item_tree : NodeConfig → ItemRow → Tree
 item_tree config row = tree (codes "item") event_ns (one (codes "id") row.id) (delivered config row.payload)
-
-abbrev pub header : List ℕ → Tree
-header name = tree (codes "header") headers_ns (one (codes "name") (codes "Collection")) (words name none)
 
 -- ---- of a last item
 

@@ -6,19 +6,22 @@ ghost use Rattle.ps_filter.specs.Wants.{AreWants};
 ghost use Rattle.ps_fanout.specs.Hearing as hearing;
 ghost use Rattle.ps_fanout.specs.Hearing.{Tells};
 ghost use Rattle.ps_fanout.specs.Told as model;
-ghost use Rattle.ps_fanout.specs.Told.{AreAddresses, is_early_event, told};
+ghost use Rattle.ps_model.specs.Addressed.{AreAddresses, is_early_event};
+ghost use Rattle.ps_fanout.specs.Told.{told};
 
 use crate::asked::candidates;
-use crate::hearing::told_among;
 use crate::last::last;
 use crate::news::{Change, News, join_news, node_news};
 use crate::order::in_order;
+use crate::parts::told_beside;
 use crate::single::{approval, question, subscription_told, to_one};
 use ps_access::Tables;
 use ps_base::Memory;
+use ps_drafts::Draft;
 use ps_filter::Wants;
 use ps_types::{Elem, Event, Jid};
 use std::alloc::Global;
+use std::thread::Threads;
 
 fn is_of_node(event: &Event) -> bool
     ensures { result ≡ model.is_of_node event.now }
@@ -51,12 +54,13 @@ fn news_of<'a>(
 }
 
 // To each address that hears of it, in the order of the octets.
-fn spread(
+fn spread<R: Threads + Sync>(
+    rt: &R,
     alloc: Global,
     tables: &Tables,
     wants: &Wants,
     news: &Option<News<'_>>,
-) -> Result<Vec<(Jid, Elem)>, Memory>
+) -> Result<Vec<(Jid, Draft)>, Memory>
     requires addresses { AreAddresses (book_of tables.now) }
     requires follows { AreWants wants.now.rows tables.now.presence.rows }
     ensures { IfOk result (λ v. v.items ≡ hearing.spread (book_of tables.now) wants.now.rows news.now) }
@@ -64,7 +68,7 @@ fn spread(
     match news {
         Some(news) => {
             let whos = in_order(alloc, candidates(alloc, tables, wants, news)?)?;
-            told_among(alloc, tables, wants, news, whos.as_slice())
+            told_beside(rt, alloc, tables, wants, news, whos.as_slice())
         }
         None => Ok(Vec::new(alloc)),
     }
@@ -76,7 +80,7 @@ fn single(
     tables: &Tables,
     wants: &Wants,
     event: &Event,
-) -> Result<Vec<(Jid, Elem)>, Memory>
+) -> Result<Vec<(Jid, Draft)>, Memory>
     requires follows { AreWants wants.now.rows tables.now.presence.rows }
     requires of_one { model.is_of_node event.now ≡ false }
     requires early { is_early_event event.now ≡ true }
@@ -112,7 +116,41 @@ fn single(
 /// What the event hands to each address, without the ids, in the order of the octets of the addresses' printed form: an event of a node to whoever
 /// has a subscription that reaches it or is a resource that wants it, and may read it (XEP-0060 §7.1.2, XEP-0163 §4.3, XEP-0248 §8), any other to the
 /// one address that it names. The tables are those after the change, and for a node that is deleted those before it.
-pub fn notices(
+pub fn drafts<R: Threads + Sync>(
+    rt: &R,
+    alloc: Global,
+    tables: &Tables,
+    wants: &Wants,
+    event: &Event,
+) -> Result<Vec<(Jid, Draft)>, Memory>
+    requires follows { AreWants wants.now.rows tables.now.presence.rows }
+    requires addresses { AreAddresses (book_of tables.now) }
+    requires early { is_early_event event.now ≡ true }
+    ensures told { IfOk result (λ v. v.items ≡ told (book_of tables.now) event.now) }
+{
+    if !is_of_node(event) {
+        return single(alloc, tables, wants, event);
+    }
+    let news = news_of(alloc, tables, event)?;
+    spread(rt, alloc, tables, wants, &news)
+}
+
+// Each with its tree.
+fn with_trees(alloc: Global, drafts: Vec<(Jid, Draft)>) -> Result<Vec<(Jid, Elem)>, Memory>
+    ensures { IfOk result (λ v. v.items ≡ drafts.items) }
+{
+    let mut trees = Vec::new(alloc);
+    for told in drafts {
+        let (who, draft) = told;
+        let tree = draft.into_tree(alloc)?;
+        trees.push((who, tree))?;
+    }
+    Ok(trees)
+}
+
+/// The same as trees: what [`drafts`] gives, each as a tree of its own.
+pub fn notices<R: Threads + Sync>(
+    rt: &R,
     alloc: Global,
     tables: &Tables,
     wants: &Wants,
@@ -123,9 +161,5 @@ pub fn notices(
     requires early { is_early_event event.now ≡ true }
     ensures told { IfOk result (λ v. v.items ≡ told (book_of tables.now) event.now) }
 {
-    if !is_of_node(event) {
-        return single(alloc, tables, wants, event);
-    }
-    let news = news_of(alloc, tables, event)?;
-    spread(alloc, tables, wants, &news)
+    with_trees(alloc, drafts(rt, alloc, tables, wants, event)?)
 }

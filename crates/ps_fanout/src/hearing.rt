@@ -1,7 +1,6 @@
 // Who hears of an event of a node, and by what stanza.
 ghost use Rattle.std.specs.Prelude.{◌≡◌, IfOk, option_map};
-ghost use Rattle.ps_types.specs.Elem.{nodes};
-ghost use Rattle.ps_types.specs.Tree.{branch};
+ghost use Rattle.std.specs.Arc.{arc_value};
 ghost use Rattle.ps_access.specs.Tables.{book_of};
 ghost use Rattle.ps_filter.specs.Wants.{AreWants};
 ghost use Rattle.ps_fanout.specs.Hearing as model;
@@ -10,15 +9,15 @@ ghost use Rattle.ps_fanout.specs.Told.{given_to};
 
 use crate::news::News;
 use crate::reading::may_read;
-use crate::trees::{headers, message};
 use crate::wanting::is_interested;
 use crate::ways::{Way, may_pass, way_by};
 use ps_access::Tables;
 use ps_base::Memory;
+use ps_drafts::{Draft, Form};
 use ps_filter::Wants;
-use ps_names::only;
-use ps_types::{Child, Elem, Jid, Kids};
+use ps_types::{Jid, Text};
 use std::alloc::Global;
+use std::sync::Arc;
 
 fn is_delivered(tables: &Tables, news: &News<'_>, who: &Jid) -> bool
     ensures { result ≡ model.is_delivered (book_of tables.now) news.now who.now }
@@ -73,26 +72,40 @@ fn heard<'a>(
     Ok(None)
 }
 
-fn heard_kids(alloc: Global, news: &News<'_>, way: &Way<'_>) -> Result<Kids, Memory>
-    ensures { IfOk result (λ k. nodes k ≡ branch news.now.event (model.behind news.now.joins (way_seen way.now))) }
+/// What the stanzas of the news have in common.
+pub(crate) fn form_of(alloc: Global, news: &News<'_>) -> Result<Arc<Form>, Memory>
+    ensures { IfOk result (λ f. arc_value f ≡ model.form_of news.now) }
 {
-    let mut kids = only(alloc, news.event.clone()?)?;
-    if news.joins {
-        return Ok(kids);
-    }
-    if let Way::Through(collection) = way {
-        kids.push(Child::Tree(headers(alloc, &collection.name)?))?;
-        return Ok(kids);
-    }
-    Ok(kids)
+    let kind = news.config.notification_type;
+    let form = Form::new(alloc, &news.node.service, kind, &news.event)?;
+    Ok(Arc::new(alloc, form)?)
 }
 
-fn heard_tree(alloc: Global, news: &News<'_>, who: &Jid, way: &Way<'_>) -> Result<Elem, Memory>
-    ensures { IfOk result (λ t. t ≡ model.heard_tree news.now who.now (way_seen way.now)) }
+// The collection that the stanza names.
+fn named(news: &News<'_>, way: &Way<'_>) -> Result<Option<Text>, Memory>
+    ensures { IfOk result (λ name. name ≡ model.named news.now.joins (way_seen way.now)) }
 {
-    let kids = heard_kids(alloc, news, way)?;
-    let kind = news.config.notification_type;
-    message(alloc, &news.node.service, who, kind, kids)
+    if news.joins {
+        return Ok(None);
+    }
+    match way {
+        Way::Through(collection) => Ok(Some(collection.name.clone()?)),
+        _ => Ok(None),
+    }
+}
+
+fn heard_draft(
+    alloc: Global,
+    news: &News<'_>,
+    form: &Arc<Form>,
+    who: &Jid,
+    way: &Way<'_>,
+) -> Result<Draft, Memory>
+    requires form { arc_value form.now ≡ model.form_of news.now }
+    ensures { IfOk result (λ d. d ≡ model.heard_tree news.now who.now (way_seen way.now)) }
+{
+    let to = who.text(alloc)?;
+    Draft::of_form(form, to, named(news, way)?)
 }
 
 // The stanza by which the address hears of it, if it does.
@@ -101,13 +114,15 @@ fn hears(
     tables: &Tables,
     wants: &Wants,
     news: &News<'_>,
+    form: &Arc<Form>,
     who: &Jid,
-) -> Result<Option<Elem>, Memory>
+) -> Result<Option<Draft>, Memory>
     requires follows { AreWants wants.now.rows tables.now.presence.rows }
+    requires form { arc_value form.now ≡ model.form_of news.now }
     ensures { IfOk result (λ t. t ≡ model.hears (book_of tables.now) news.now who.now) }
 {
     match heard(alloc, tables, wants, news, who)? {
-        Some(way) => Ok(Some(heard_tree(alloc, news, who, &way)?)),
+        Some(way) => Ok(Some(heard_draft(alloc, news, form, who, &way)?)),
         None => Ok(None),
     }
 }
@@ -118,17 +133,19 @@ pub(crate) fn told_among(
     tables: &Tables,
     wants: &Wants,
     news: &News<'_>,
+    form: &Arc<Form>,
     whos: &[Jid],
-) -> Result<Vec<(Jid, Elem)>, Memory>
+) -> Result<Vec<(Jid, Draft)>, Memory>
     requires follows { AreWants wants.now.rows tables.now.presence.rows }
+    requires form { arc_value form.now ≡ model.form_of news.now }
     ensures { IfOk result (λ told. told.items ≡ given_to (model.hears (book_of tables.now) news.now) whos.now) }
 {
     let mut told = Vec::new(alloc);
     for who in whos {
-        let Some(tree) = hears(alloc, tables, wants, news, who)? else {
+        let Some(draft) = hears(alloc, tables, wants, news, form, who)? else {
             continue;
         };
-        told.push((who.clone()?, tree))?;
+        told.push((who.clone()?, draft))?;
     }
     Ok(told)
 }

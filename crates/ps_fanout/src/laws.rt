@@ -7,7 +7,8 @@ ghost use Rattle.ps_model.specs.Given.{given};
 ghost use Rattle.ps_filter.specs.Wants.{AreWants};
 ghost use Rattle.ps_filter.specs.declared.want.Want.{Want};
 ghost use Rattle.ps_fanout.specs.Hearing.{Tells, spread};
-ghost use Rattle.ps_fanout.specs.Told.{AreAddresses, is_of_node, told};
+ghost use Rattle.ps_model.specs.Addressed.{AreAddresses};
+ghost use Rattle.ps_fanout.specs.Told.{is_of_node, told};
 ghost use Rattle.ps_fanout.specs.declared.news.News.{News};
 
 /// What an entry with one event gives all addresses is what that event gives them, in the Book in which it is asked: that before the entry for a node
@@ -19,6 +20,7 @@ pub fn one_event_is_told()
 /// Of an event of a node nobody is told but those with a row on the node or on a collection above it and the resources that want it: what the news of
 /// the event gives them, in order, is what the event gives all.
 pub fn those_asked_suffice()
-    ensures { (book : Book) (wants : List Want) (e : Event) (o : Option News) → AreAddresses book → AreWants wants book.resources
-        → is_of_node e ≡ true → Tells book (given book e) o → spread book wants o ≡ told book e }
+    ensures { (book : Book) (wants : List Want) (e : Event) (o : Option News)
+        → AreAddresses book → AreWants wants book.resources → is_of_node e ≡ true → Tells book (given book e) o
+        → spread book wants o ≡ told book e }
 {}

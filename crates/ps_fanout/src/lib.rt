@@ -17,13 +17,14 @@ mod laws;
 mod moments;
 mod news;
 mod order;
+mod parts;
 mod reading;
 mod single;
 mod trees;
 mod wanting;
 mod ways;
 
-pub use fanout::notices;
+pub use fanout::{drafts, notices};
 pub use laws::{one_event_is_told, those_asked_suffice};
 pub use moments::stamp;
 pub use order::in_order;

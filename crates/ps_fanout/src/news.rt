@@ -10,6 +10,7 @@ use ps_access::Tables;
 use ps_base::Memory;
 use ps_types::{Elem, ItemRow, NodeConfig, NodeKey, Text};
 use std::alloc::Global;
+use std::sync::Arc;
 
 /// What became of a node, or of its items.
 #[derive(Drop)]
@@ -38,7 +39,7 @@ pub(crate) struct News<'a> {
     /// That configuration has events of this kind delivered.
     pub(crate) is_on: bool,
     /// The `event` of its stanzas.
-    pub(crate) event: Elem,
+    pub(crate) event: Arc<Elem>,
 }
 
 fn is_of_items(change: &Change<'_>) -> bool
@@ -98,7 +99,7 @@ pub(crate) fn node_news<'a>(
     };
     let above = tables.links.ancestors(alloc, node)?;
     let inside = inside(alloc, config, node, change)?;
-    let event = event_tree(alloc, inside)?;
+    let event = Arc::new(alloc, event_tree(alloc, inside)?)?;
     let is_on = is_on(config, change);
     let items = is_of_items(change);
     Ok(Some(News {
@@ -139,7 +140,7 @@ pub(crate) fn join_news<'a>(
     };
     let above = from_collection(alloc, tables, collection)?;
     let inside = associate_inside(alloc, node, collection)?;
-    let event = event_tree(alloc, inside)?;
+    let event = Arc::new(alloc, event_tree(alloc, inside)?)?;
     Ok(Some(News {
         node,
         joins: true,

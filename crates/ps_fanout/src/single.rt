@@ -8,6 +8,7 @@ ghost use Rattle.ps_fanout.specs.Trees as trees;
 use crate::trees::message;
 use ps_access::sub_text;
 use ps_base::Memory;
+use ps_drafts::Draft;
 use ps_forms::form_tree;
 use ps_names::{element, only, put};
 use ps_types::{
@@ -29,14 +30,14 @@ pub(crate) fn to_one(
     alloc: Global,
     who: &Jid,
     tree: Option<Elem>,
-) -> Result<Vec<(Jid, Elem)>, Memory>
+) -> Result<Vec<(Jid, Draft)>, Memory>
     ensures { IfOk result (λ v. v.items ≡ told.to_one who.now tree) }
 {
     let mut told = Vec::new(alloc);
     let Some(tree) = tree else {
         return Ok(told);
     };
-    told.push((who.clone()?, tree))?;
+    told.push((who.clone()?, Draft::of_tree(tree)))?;
     Ok(told)
 }
 

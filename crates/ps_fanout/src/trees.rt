@@ -12,11 +12,7 @@ use ps_names::{element, only, put};
 use ps_types::{Attrs, Child, Elem, ItemRow, Jid, Kids, NodeConfig, NodeKey, NoticeKind, Text};
 use std::alloc::Global;
 
-const CLIENT: &str = "jabber:client";
-
 const EVENT: &str = "http://jabber.org/protocol/pubsub#event";
-
-const HEADERS: &str = "http://jabber.org/protocol/shim";
 
 const DELAY: &str = "urn:xmpp:delay";
 
@@ -26,15 +22,6 @@ fn one(alloc: Global, name: &str, value: &str) -> Result<Attrs, Memory>
     let mut attrs = Attrs::new(alloc);
     put(alloc, &mut attrs, name, value)?;
     Ok(attrs)
-}
-
-fn kind_attrs(alloc: Global, kind: NoticeKind) -> Result<Attrs, Memory>
-    ensures { IfOk result (λ a. a ≡ model.kind_attr kind) }
-{
-    match kind {
-        NoticeKind::Normal => Ok(Attrs::new(alloc)),
-        NoticeKind::Headline => one(alloc, "type", "headline"),
-    }
 }
 
 /// A message of this kind, without its id.
@@ -47,10 +34,9 @@ pub(crate) fn message(
 ) -> Result<Elem, Memory>
     ensures { IfOk result (λ t. t ≡ model.message from.now to.now (model.kind_attr kind) (nodes kids)) }
 {
-    let mut attrs = kind_attrs(alloc, kind)?;
-    put(alloc, &mut attrs, "to", to.text(alloc)?.as_str())?;
-    put(alloc, &mut attrs, "from", from.text(alloc)?.as_str())?;
-    element(alloc, "message", CLIENT, attrs, kids)
+    let from = from.text(alloc)?;
+    let to = to.text(alloc)?;
+    ps_drafts::message(alloc, from.as_str(), to.as_str(), kind, kids)
 }
 
 fn payload_kids(alloc: Global, payload: &Option<Elem>) -> Result<Kids, Memory>
@@ -162,23 +148,6 @@ pub(crate) fn event_tree(alloc: Global, inside: Elem) -> Result<Elem, Memory>
 {
     let kids = only(alloc, inside)?;
     element(alloc, "event", EVENT, Attrs::new(alloc), kids)
-}
-
-fn header(alloc: Global, name: &Text) -> Result<Elem, Memory>
-    ensures { IfOk result (λ t. t ≡ trees.header name.now) }
-{
-    let mut kids = Kids::new(alloc);
-    kids.push(Child::Words(name.clone()?))?;
-    let attrs = one(alloc, "name", "Collection")?;
-    element(alloc, "header", HEADERS, attrs, kids)
-}
-
-/// The header that names a collection (XEP-0131).
-pub(crate) fn headers(alloc: Global, name: &Text) -> Result<Elem, Memory>
-    ensures { IfOk result (λ t. t ≡ model.headers name.now) }
-{
-    let kids = only(alloc, header(alloc, name)?)?;
-    element(alloc, "headers", HEADERS, Attrs::new(alloc), kids)
 }
 
 /// When an item was published (XEP-0203).

@@ -2,16 +2,16 @@
 ghost use Rattle.std.specs.Prelude.{◌≡◌, IfOk};
 ghost use Rattle.ps_types.specs.Resources as resources;
 ghost use Rattle.ps_types.specs.Rosters.{gets_presence, is_presence_contact};
-ghost use Rattle.ps_types.specs.Subs as subs;
 ghost use Rattle.ps_model.specs.Ways as model;
 ghost use Rattle.ps_access.specs.Tables.{book_of};
 ghost use Rattle.ps_filter.specs.Wants.{AreWants};
 
+use crate::ways::is_subscribed;
 use ps_access::{Tables, is_account_address};
 use ps_base::Memory;
 use ps_filter::Wants;
 use ps_roster::Roster;
-use ps_types::{Jid, NodeKey, RosterState, SubState, Text};
+use ps_types::{Jid, NodeKey, RosterState, Text};
 use std::alloc::Global;
 
 fn is_wish(tables: &Tables, wants: &Wants, who: &Jid, name: &Text) -> bool
@@ -41,12 +41,6 @@ fn is_entitled(tables: &Tables, node: &NodeKey, who: &Jid) -> bool
     ensures { result ≡ model.is_entitled (book_of tables.now) node.now who.now }
 {
     node.service.same_bare(who) || is_contact(&tables.roster, &node.service, who)
-}
-
-fn is_subscribed(state: SubState) -> bool
-    ensures { result ≡ subs.is_subscribed state }
-{
-    matches!(state, SubState::Subscribed)
 }
 
 // Whether the address or its bare address is subscribed to the node.

@@ -20,7 +20,8 @@ pub(crate) enum Way<'a> {
     Through(&'a NodeKey),
 }
 
-fn is_subscribed(state: SubState) -> bool
+/// Whether it is subscribed, and not pending.
+pub(crate) fn is_subscribed(state: SubState) -> bool
     ensures { result ≡ subs.is_subscribed state }
 {
     matches!(state, SubState::Subscribed)

@@ -8,9 +8,9 @@ use Rattle.ps_types.specs.declared.entry.Entry.{Entry}
 use Rattle.ps_types.specs.declared.entry.Entry.TheVariants.{Gone as GoneEntry}
 use Rattle.ps_model.specs.Book as model
 use Rattle.ps_model.specs.Book.{empty_state}
-use Rattle.ps_model.specs.Built.{is_built_event}
 use Rattle.ps_model.specs.Machine.{answered, counted, ends_role, happens, took}
-use Rattle.ps_model.specs.Replay.{after, replay, replay_from}
+use Rattle.ps_model.specs.After.{after}
+use Rattle.ps_model.specs.Replay.{replay, replay_from}
 use Rattle.ps_model.specs.Replies.{entry_of, reply_to}
 use Rattle.ps_model.specs.TheCore.{the_core}
 use Rattle.ps_model.specs.World.{Said, HostPart, World, at_host, durable, ends, more_entries, more_made, with_entry}
@@ -43,7 +43,7 @@ more-few E None = omega arith
 more-few E (Some e) = let l = length-append E (e ∷ []) in omega (arith, l)
 
 -- the State counts the entries
-count-from : (E : List Entry) (s : model.State) → (replay_from is_built_event s E).count ≡ s.count + length E
+count-from : (E : List Entry) (s : model.State) → (replay_from s E).count ≡ s.count + length E
 count-from [] s = omega arith
 count-from (e ∷ E) s = let r = count-from E (after s e) in omega (arith, r)
 
@@ -52,7 +52,7 @@ count-is E = let r = count-from E empty_state in omega (arith, r)
 
 pub replay-more : (E : List Entry) (more : Option Entry) → replay (more_entries E more) ≡ state_with (replay E) more
 replay-more E None = refl
-replay-more E (Some e) = replay-append is_built_event E (e ∷ []) empty_state
+replay-more E (Some e) = replay-append E (e ∷ []) empty_state
 
 -- the world after a step that makes an entry or none
 abbrev pub goes_on : World → Option Entry → (List ℕ → HostPart) → World

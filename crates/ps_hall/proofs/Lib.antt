@@ -12,3 +12,4 @@ pub mod Openings
 pub mod Histories
 pub mod Readies
 pub mod Refusals
+pub mod Timely

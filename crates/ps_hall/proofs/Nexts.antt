@@ -14,6 +14,7 @@ use Rattle.ps_model.specs.World.{Said, World, durable, more_entries}
 use Rattle.ps_model.specs.declared.steps.Role.TheVariants.{Reader}
 use Rattle.ps_model.specs.declared.steps.Step.TheVariants.{Broken, Ended, Flush, Gone, Take}
 use Rattle.ps_model.proofs.TheLaws.{the-laws}
+use Rattle.ps_books.specs.Addressed.{IsTimely}
 use Rattle.ps_hall.specs.declared.answers.HandedRefusal.{HandedRefusal}
 use Rattle.ps_hall.specs.declared.answers.HandedRefusal.TheVariants.{Store, Full, Memory}
 use Rattle.ps_hall.specs.declared.hall.Hall.{Hall}
@@ -163,6 +164,9 @@ pub whole_if : {D : Type 0} {g : Ghosts D} (hall : Hall D g) (b : Bool) → b �
 whole_if hall b e f = none_of (broken_of hall.journal) b e f
 
 -- the Gone of a row can be written
+pub gone_timely : (e : Entry) → (host : List ℕ) × (e ≡ GoneEntry host) → IsTimely e
+gone_timely e is = subst IsTimely (sym is.1) tt
+
 pub gone_sketch : (e : Entry) → (host : List ℕ) × (e ≡ GoneEntry host) × IsHostName host → IsSketch e
 gone_sketch e is = subst IsSketch (sym is.1) is.2
 

@@ -7,11 +7,11 @@ use Rattle.ps_types.specs.declared.entry.Entry.{Entry}
 use Rattle.ps_types.specs.declared.entry.Entry.TheVariants.{Boot}
 use Rattle.ps_model.specs.At.{IsDamagedAt, IsStore}
 use Rattle.ps_model.specs.Book.{State, empty_state}
-use Rattle.ps_model.specs.Built.{is_built_event}
 use Rattle.ps_model.specs.CoreLaws.{IsLawful}
 use Rattle.ps_model.specs.Damage.{ReadUpTo}
 use Rattle.ps_model.specs.Entries.{IsHostName, spelling}
-use Rattle.ps_model.specs.Replay.{accepted, after, lawful, replay}
+use Rattle.ps_model.specs.After.{after}
+use Rattle.ps_model.specs.Replay.{accepted, lawful, replay}
 use Rattle.ps_model.specs.Store.{spelled}
 use Rattle.ps_model.specs.TheCore.{the_core}
 use Rattle.ps_model.proofs.Going.{accepted-more, replay-append}
@@ -32,7 +32,7 @@ pub lawful-core : (E : List Entry) → lawful E → IsLawful the_core E
 lawful-core E l = of-todays-places E l
 
 pub replay-snoc : (E : List Entry) (e : Entry) → replay (E ++ e ∷ []) ≡ after (replay E) e
-replay-snoc E e = replay-append is_built_event E (e ∷ []) empty_state
+replay-snoc E e = replay-append E (e ∷ []) empty_state
 
 -- a Boot is accepted
 boot-ok : (E : List Entry) (name : List ℕ) → name ≢ [] → accepted (replay E) (Boot name) ≡ true
@@ -67,7 +67,7 @@ replayed_more placed i one old new within is so_far taken =
     let E = entries_in (take i placed) in
     let more = entries_more placed i one within is in
     record {
-      each = subst lawful (sym more) (accepted-more is_built_event accepted E one.entry empty_state so_far.each (subst (λ (t : State). accepted t one.entry ≡ true) so_far.state taken.0));
+      each = subst lawful (sym more) (accepted-more accepted E one.entry empty_state so_far.each (subst (λ (t : State). accepted t one.entry ≡ true) so_far.state taken.0));
       state = taken.1 ∙ (ap (λ (t : State). after t one.entry) so_far.state ∙ (sym (replay-snoc E one.entry) ∙ ap replay (sym more)));
     }
 

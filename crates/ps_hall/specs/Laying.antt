@@ -2,7 +2,7 @@
 use Rattle.std.specs.Prelude.{◌≡◌, ◌+◌, Bool, true, false, Option, Some, None}
 use Rattle.ps_types.specs.declared.entry.Entry.{Entry}
 use Rattle.ps_model.specs.Book as model
-use Rattle.ps_model.specs.Replay.{after}
+use Rattle.ps_model.specs.After.{after}
 use Rattle.ps_hall.specs.declared.state.State.{State}
 
 abbrev pub entry_if : Bool → Option Entry → Option Entry

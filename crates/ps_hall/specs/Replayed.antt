@@ -2,7 +2,8 @@
 use Rattle.std.specs.Prelude.{◌≡◌, ℕ, Bool, true, false, List, take, Some, slice_get}
 use Rattle.ps_model.specs.At.{IsDamagedAt}
 use Rattle.ps_model.specs.Book.{State}
-use Rattle.ps_model.specs.Replay.{accepted, after, lawful, replay}
+use Rattle.ps_model.specs.After.{after}
+use Rattle.ps_model.specs.Replay.{accepted, lawful, replay}
 use Rattle.ps_types.specs.declared.entry.Entry.{Entry}
 use Rattle.ps_journal.specs.Places.{entries_in}
 use Rattle.ps_journal.specs.declared.judging.Placed.{Placed}

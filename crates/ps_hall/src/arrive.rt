@@ -27,6 +27,7 @@ use ps_base::{Bytes, Failed, Memory};
 use ps_disk::Disk;
 use ps_record::Batch;
 use ps_types::{Arrival, Entry, Request};
+use std::thread::Threads;
 
 // What came of a line that makes no entry.
 fn plain_outcome(reply: &Option<Bytes>) -> Outcome
@@ -129,8 +130,9 @@ impl<D: Disk> Hall<D> {
     }
 
     // A line whose entry fits.
-    fn commit_entry(
+    fn commit_entry<R: Threads + Sync>(
         &mut self,
+        rt: &R,
         at: usize,
         arrival: &Arrival,
         reply: Option<Bytes>,
@@ -145,6 +147,7 @@ impl<D: Disk> Hall<D> {
         requires reply { (row : HostRow) → slice_get self.old.state.rows.items at ≡ Some row → reply ≡ option_map print (reply_to row.host self.old.state.service.state.book (row.line + 1) arrival.now false) }
         requires entry { (row : HostRow) → slice_get self.old.state.rows.items at ≡ Some row → Some entry.now ≡ entry_of row.host self.old.state.service.state.book (row.line + 1) arrival.now false }
         requires request { IsRequestOf self.old.state.service.state.book.service entry.now request }
+        requires sketch { IsSketch entry.now }
         requires batch { batch.now ≡ entry.now ∷ [] }
         requires room { length_of self.old.journal + frame_of entry.now ≤ self.old.limits.changes }
         ensures ok { (row : HostRow) → slice_get self.old.state.rows.items at ≡ Some row → IfOk result (λ r. Arrived self.old self.new row.host arrival.now r) }
@@ -154,9 +157,9 @@ impl<D: Disk> Hall<D> {
         ensures later { D.faults (disk_of self.old.journal) ≤ D.faults (disk_of self.new.journal) }
     {
         let place = self.state.service.count();
-        match self.state.service.prepare_known(entry, request) {
+        match self.state.service.prepare_known(rt, entry, request) {
             Err(Memory) => Err(ArriveRefusal::Memory),
-            Ok(()) => match self.commit_line(at, arrival, reply, entry, batch) {
+            Ok(_) => match self.commit_line(at, arrival, reply, entry, batch) {
                 Ok(()) => Ok(Receipt {
                     place,
                     outcome: Outcome::Committed,
@@ -215,8 +218,9 @@ impl<D: Disk> Hall<D> {
     }
 
     // A line that makes an entry.
-    fn answer_entry(
+    fn answer_entry<R: Threads + Sync>(
         &mut self,
+        rt: &R,
         at: usize,
         arrival: &Arrival,
         reply: Option<Bytes>,
@@ -240,7 +244,7 @@ impl<D: Disk> Hall<D> {
         let limit = self.limits.changes;
         match self.batch_within(entry, limit) {
             Err(Memory) => Err(ArriveRefusal::Memory),
-            Ok(Some(batch)) => { self.commit_entry(at, arrival, reply, entry, request, &batch) }
+            Ok(Some(batch)) => { self.commit_entry(rt, at, arrival, reply, entry, request, &batch) }
             Ok(None) => self.answer_full(at, arrival, entry),
         }
     }
@@ -271,8 +275,9 @@ impl<D: Disk> Hall<D> {
     }
 
     // What the service has for the line is done.
-    fn answer_line(
+    fn answer_line<R: Threads + Sync>(
         &mut self,
+        rt: &R,
         at: usize,
         arrival: &Arrival,
         replies: Replies,
@@ -298,7 +303,7 @@ impl<D: Disk> Hall<D> {
         } = replies;
         match entry {
             None => self.answer_none(at, arrival, reply),
-            Some(entry) => self.answer_entry(at, arrival, reply, &entry, request),
+            Some(entry) => self.answer_entry(rt, at, arrival, reply, &entry, request),
         }
     }
 
@@ -320,7 +325,12 @@ impl<D: Disk> Hall<D> {
     }
 
     // The line is looked at.
-    fn arrive_open(&mut self, at: usize, arrival: &Arrival) -> Result<Receipt, ArriveRefusal>
+    fn arrive_open<R: Threads + Sync>(
+        &mut self,
+        rt: &R,
+        at: usize,
+        arrival: &Arrival,
+    ) -> Result<Receipt, ArriveRefusal>
         requires here { at < length self.old.state.rows.items }
         requires few { self.old.state.steps < 2 ^ 61 }
         requires standing { IsStanding self.old }
@@ -334,12 +344,17 @@ impl<D: Disk> Hall<D> {
     {
         match self.replies(at, arrival) {
             Err(Memory) => Err(ArriveRefusal::Memory),
-            Ok(replies) => self.answer_line(at, arrival, replies),
+            Ok(replies) => self.answer_line(rt, at, arrival, replies),
         }
     }
 
     // The line of the row at a place.
-    fn arrive_at(&mut self, at: usize, arrival: &Arrival) -> Result<Receipt, ArriveRefusal>
+    fn arrive_at<R: Threads + Sync>(
+        &mut self,
+        rt: &R,
+        at: usize,
+        arrival: &Arrival,
+    ) -> Result<Receipt, ArriveRefusal>
         requires here { at < length self.old.state.rows.items }
         requires few { self.old.state.steps < 2 ^ 61 }
         requires standing { IsStanding self.old }
@@ -352,14 +367,19 @@ impl<D: Disk> Hall<D> {
     {
         match self.turned_away(at) {
             Some(refusal) => Err(refusal),
-            None => self.arrive_open(at, arrival),
+            None => self.arrive_open(rt, at, arrival),
         }
     }
 
     /// Takes the next line of the host whose reader's pass it is. The reply waits until the entry that the line makes is durable; then
     /// [`Hall::next`] hands it out. After `Memory`, `Again` and `Closed` the hall is as before, and after `Store` nothing of what
     /// is not durable is ever handed out.
-    pub fn arrive(&mut self, pass: &mut Pass, arrival: &Arrival) -> Result<Receipt, ArriveRefusal>
+    pub fn arrive<R: Threads + Sync>(
+        &mut self,
+        rt: &R,
+        pass: &mut Pass,
+        arrival: &Arrival,
+    ) -> Result<Receipt, ArriveRefusal>
         requires own { IsPassOf self.old Role.Reader pass.old }
         requires standing { IsStanding self.old }
         requires few { steps_of self.old < 2 ^ 61 }
@@ -371,7 +391,7 @@ impl<D: Disk> Hall<D> {
         ensures later { D.faults (disk_of self.old.journal) ≤ D.faults (disk_of self.new.journal) }
         ensures sees { Sees pass.old pass.new (steps_of self.new) }
     {
-        let outcome = self.arrive_at(pass.at, arrival);
+        let outcome = self.arrive_at(rt, pass.at, arrival);
         pass.seen = self.state.steps;
         outcome
     }

@@ -1,6 +1,7 @@
 // The Boot with which a hall begins.
 ghost use Rattle.std.specs.Prelude.{◌≡◌, ◌∷◌, ◌++◌, ◌+◌, ◌<◌, ◌≤◌, ◌^◌, [], List, ℕ, None, Some, true, IfErr, OnOk};
-ghost use Rattle.ps_model.specs.Replay.{accepted, after};
+ghost use Rattle.ps_model.specs.After.{after};
+ghost use Rattle.ps_model.specs.Replay.{accepted};
 ghost use Rattle.ps_model.specs.Store.{spelled};
 ghost use Rattle.ps_disk.specs.Disk.{LeavesOnly};
 ghost use Rattle.ps_journal.specs.Journal.{broken_of, disk_of, length_of};
@@ -20,6 +21,7 @@ use ps_journal::{AppendRefusal, Journal};
 use ps_record::Batch;
 use ps_types::Entry;
 use std::alloc::Global;
+use std::thread::Threads;
 
 // Appends the batch of the prepared entry, and takes the entry.
 fn append_boot<D: Disk>(
@@ -55,7 +57,8 @@ fn append_boot<D: Disk>(
 }
 
 /// Appends the Boot, if it fits, and takes it.
-pub(crate) fn begin<D: Disk>(
+pub(crate) fn begin<R: Threads + Sync, D: Disk>(
+    rt: &R,
     alloc: Global,
     journal: &mut Journal<D>,
     service: &mut Service,
@@ -85,9 +88,9 @@ pub(crate) fn begin<D: Disk>(
     match batch_of(alloc, boot) {
         Err(Memory) => Err(HallWhy::Memory),
         Ok(None) => Err(HallWhy::Full),
-        Ok(Some(batch)) => match service.prepare(boot) {
+        Ok(Some(batch)) => match service.prepare(rt, boot) {
             Err(Memory) => Err(HallWhy::Memory),
-            Ok(()) => append_boot(journal, service, boot, &batch, whole),
+            Ok(_) => append_boot(journal, service, boot, &batch, whole),
         },
     }
 }

@@ -23,6 +23,7 @@ use ps_base::{Failed, Memory};
 use ps_disk::Disk;
 use ps_record::Batch;
 use ps_types::{Entry, Text};
+use std::thread::Threads;
 
 // The entry that says that a host's reader has gone.
 fn gone_of(host: &Text) -> Result<Entry, Memory>
@@ -72,7 +73,12 @@ impl<D: Disk> Hall<D> {
     }
 
     // A Gone that fits.
-    fn prepare_gone(&mut self, entry: &Entry, batch: &Batch) -> Result<(), HandedRefusal>
+    fn prepare_gone<R: Threads + Sync>(
+        &mut self,
+        rt: &R,
+        entry: &Entry,
+        batch: &Batch,
+    ) -> Result<(), HandedRefusal>
         requires few { self.old.state.steps < 2 ^ 61 }
         requires standing { IsStanding self.old }
         requires unbroken { broken_of self.old.journal ≡ None }
@@ -86,9 +92,9 @@ impl<D: Disk> Hall<D> {
         ensures limits { self.new.limits ≡ self.old.limits }
         ensures later { D.faults (disk_of self.old.journal) ≤ D.faults (disk_of self.new.journal) }
     {
-        match self.state.service.prepare(entry) {
+        match self.state.service.prepare(rt, entry) {
             Err(Memory) => Err(HandedRefusal::Memory),
-            Ok(()) => match self.commit_gone(entry, batch) {
+            Ok(_) => match self.commit_gone(entry, batch) {
                 Ok(()) => Ok(()),
                 Err(Failed) => Err(HandedRefusal::Store),
             },
@@ -96,7 +102,7 @@ impl<D: Disk> Hall<D> {
     }
 
     // A Gone is written, if it fits.
-    fn append_gone(&mut self, entry: &Entry) -> Result<(), HandedRefusal>
+    fn append_gone<R: Threads + Sync>(&mut self, rt: &R, entry: &Entry) -> Result<(), HandedRefusal>
         requires few { self.old.state.steps < 2 ^ 61 }
         requires standing { IsStanding self.old }
         requires unbroken { broken_of self.old.journal ≡ None }
@@ -112,12 +118,12 @@ impl<D: Disk> Hall<D> {
         match self.batch_within(entry, limit) {
             Err(Memory) => Err(HandedRefusal::Memory),
             Ok(None) => Err(HandedRefusal::Full),
-            Ok(Some(batch)) => self.prepare_gone(entry, &batch),
+            Ok(Some(batch)) => self.prepare_gone(rt, entry, &batch),
         }
     }
 
     // The Gone of the row at a place is recorded.
-    fn record_gone(&mut self, at: usize) -> Result<(), HandedRefusal>
+    fn record_gone<R: Threads + Sync>(&mut self, rt: &R, at: usize) -> Result<(), HandedRefusal>
         requires here { at < length self.old.state.rows.items }
         requires few { self.old.state.steps < 2 ^ 61 }
         requires standing { IsStanding self.old }
@@ -133,12 +139,12 @@ impl<D: Disk> Hall<D> {
         }
         match self.gone_entry(at) {
             Err(Memory) => Err(HandedRefusal::Memory),
-            Ok(entry) => self.append_gone(&entry),
+            Ok(entry) => self.append_gone(rt, &entry),
         }
     }
 
     // The same, and its reader has ended.
-    fn gone_at(&mut self, at: usize) -> Result<(), HandedRefusal>
+    fn gone_at<R: Threads + Sync>(&mut self, rt: &R, at: usize) -> Result<(), HandedRefusal>
         requires here { at < length self.old.state.rows.items }
         requires few { self.old.state.steps < 2 ^ 61 }
         requires standing { IsStanding self.old }
@@ -148,14 +154,14 @@ impl<D: Disk> Hall<D> {
         ensures limits { self.new.limits ≡ self.old.limits }
         ensures later { D.faults (disk_of self.old.journal) ≤ D.faults (disk_of self.new.journal) }
     {
-        let outcome = self.record_gone(at);
+        let outcome = self.record_gone(rt, at);
         self.state.reader_ended(at);
         outcome
     }
 
     /// The reader whose pass it is has ended, and a Gone of its host is recorded. After a refusal it has ended all the same; after `Full` and
     /// `Memory` no Gone is made.
-    pub fn gone(&mut self, pass: &mut Pass) -> Result<(), HandedRefusal>
+    pub fn gone<R: Threads + Sync>(&mut self, rt: &R, pass: &mut Pass) -> Result<(), HandedRefusal>
         requires own { IsPassOf self.old Role.Reader pass.old }
         requires standing { IsStanding self.old }
         requires few { steps_of self.old < 2 ^ 61 }
@@ -166,7 +172,7 @@ impl<D: Disk> Hall<D> {
         ensures later { D.faults (disk_of self.old.journal) ≤ D.faults (disk_of self.new.journal) }
         ensures sees { Sees pass.old pass.new (steps_of self.new) }
     {
-        let outcome = self.gone_at(pass.at);
+        let outcome = self.gone_at(rt, pass.at);
         pass.seen = self.state.steps;
         outcome
     }

@@ -1,7 +1,7 @@
 // Steps of the state: a line is laid, and what was laid is flushed.
 ghost use Rattle.std.specs.Prelude.{◌≡◌, ℕ, List, ◌+◌, ◌<◌, ◌^◌, Some, None, true, option_map, IsSome, length, slice_get, vec_len, vec_capacity};
 ghost use Rattle.ps_types.specs.Print.{print};
-ghost use Rattle.ps_model.specs.Replay.{after};
+ghost use Rattle.ps_model.specs.After.{after};
 ghost use Rattle.ps_model.specs.Replies.{entry_of, reply_to};
 ghost use Rattle.ps_model.specs.declared.steps.Step.{Step};
 ghost use Rattle.ps_model.specs.declared.steps.Role.{Role};

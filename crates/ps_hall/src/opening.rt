@@ -2,7 +2,7 @@
 ghost use Rattle.std.specs.Prelude.{◌≡◌, ◌≤◌, ◌^◌, [], List, ℕ, true, IfErr, IfOk, MatchResult, length};
 ghost use Rattle.ps_disk.specs.Disk.{LeavesOnly};
 ghost use Rattle.ps_model.specs.Book.{empty_state};
-ghost use Rattle.ps_model.specs.Entries.{IsHostName};
+ghost use Rattle.ps_model.specs.Entries.{AreEntries, IsHostName};
 ghost use Rattle.ps_model.specs.Store.{is_unbegun, spelled};
 ghost use Rattle.ps_types.specs.declared.entry.Entry.{Entry};
 ghost use Rattle.ps_hall.specs.Begun.{IsOpenLeft};
@@ -11,6 +11,8 @@ ghost use Rattle.ps_hall.specs.Left.{Fronts};
 ghost use Rattle.ps_hall.specs.OpenHall.{disk_under, HallNot, IsOpenHall};
 ghost use Rattle.ps_hall.specs.Shape.{AreHosts};
 ghost use Rattle.ps_hall.specs.Refused.{IfHallDamaged, IsDamagedThere, IsWhy};
+ghost use Rattle.ps_journal.specs.Opened.{IfWhyDamaged};
+ghost use Rattle.ps_journal.specs.Places.{entries_in};
 
 use crate::answers::Limits;
 use crate::hall::{Hall, HostPasses};
@@ -26,18 +28,25 @@ use ps_journal::{Journal, JournalRefusal, JournalWhy, Placed};
 use ps_types::Text;
 use std::alloc::Global;
 use std::random::RandomSource;
+use std::thread::Threads;
 
 const MOST: usize = 1 << 61;
 
 // Where a damaged store is damaged: at an entry that isn't accepted, if one stands before the one that isn't spelled.
-fn damage(service: &mut Service, at: u64, before: &Vec<Placed>) -> HallWhy
+fn damage<R: Threads + Sync>(
+    rt: &R,
+    service: &mut Service,
+    at: u64,
+    before: &Vec<Placed>,
+) -> HallWhy
+    requires entries { AreEntries (entries_in before.now.items) }
     requires fresh { service.old.state ≡ empty_state }
     ensures { IfHallDamaged result (IsDamagedThere at before.now.items) }
 {
     if before.len() >= MOST {
         return HallWhy::Memory;
     }
-    match replay(service, before) {
+    match replay(rt, service, before) {
         Replayed::All => HallWhy::Damaged { at },
         Replayed::Bad(first) => HallWhy::Damaged { at: first },
         Replayed::Memory => HallWhy::Memory,
@@ -45,20 +54,22 @@ fn damage(service: &mut Service, at: u64, before: &Vec<Placed>) -> HallWhy
 }
 
 // Why a hall is not opened where its journal isn't.
-fn why_not(service: &mut Service, why: JournalWhy) -> HallWhy
+fn why_not<R: Threads + Sync>(rt: &R, service: &mut Service, why: JournalWhy) -> HallWhy
+    requires before { IfWhyDamaged why (λ at before. AreEntries (entries_in before)) }
     requires fresh { service.old.state ≡ empty_state }
     ensures { IsWhy why result }
 {
     match why {
         JournalWhy::Store => HallWhy::Store,
         JournalWhy::Memory => HallWhy::Memory,
-        JournalWhy::Damaged { at, before } => damage(service, at, &before),
+        JournalWhy::Damaged { at, before } => damage(rt, service, at, &before),
     }
 }
 
 impl<D: Disk> Hall<D> {
     // Opens the store, for which all else is ready.
-    fn open_ready(
+    fn open_ready<R: Threads + Sync>(
+        rt: &R,
         alloc: Global,
         disk: D,
         ready: Ready,
@@ -88,12 +99,13 @@ impl<D: Disk> Hall<D> {
         match Journal::open(alloc, disk) {
             Err(refusal) => {
                 let JournalRefusal { disk, why } = refusal;
-                let why = why_not(&mut service, why);
+                let why = why_not(rt, &mut service, why);
                 Err(HallRefusal { disk, why })
             }
             Ok((journal, placed)) => {
                 let mut journal = journal;
                 match restore(
+                    rt,
                     alloc,
                     &mut journal,
                     &mut service,
@@ -131,7 +143,7 @@ impl<D: Disk> Hall<D> {
 
     /// Opens the store on a disk, takes its entries, and appends a Boot of the service. It answers the hall and the passes of the hosts, in
     /// their order. The runtime gives the secret by which rows are found; no answer rests on it.
-    pub fn open<R: RandomSource>(
+    pub fn open<R: RandomSource + Threads + Sync>(
         rt: &R,
         alloc: Global,
         disk: D,
@@ -159,7 +171,7 @@ impl<D: Disk> Hall<D> {
                 disk,
                 why: HallWhy::Memory,
             }),
-            Ok(ready) => Hall::open_ready(alloc, disk, ready, limits),
+            Ok(ready) => Hall::open_ready(rt, alloc, disk, ready, limits),
         }
     }
 }

@@ -1,7 +1,7 @@
 // A store that was read is replayed, and a Boot appended.
 ghost use Rattle.std.specs.Prelude.{◌≡◌, ◌∷◌, ◌++◌, ◌+◌, ◌≤◌, ◌^◌, [], List, ℕ, None, IfErr, OnOk};
 ghost use Rattle.ps_model.specs.Book.{empty_state};
-ghost use Rattle.ps_model.specs.Entries.{IsHostName};
+ghost use Rattle.ps_model.specs.Entries.{AreEntries, IsHostName};
 ghost use Rattle.ps_model.specs.Store.{spelled};
 ghost use Rattle.ps_disk.specs.Disk.{LeavesOnly};
 ghost use Rattle.ps_journal.specs.Journal.{broken_of, disk_of, length_of};
@@ -20,12 +20,14 @@ use ps_disk::Disk;
 use ps_journal::{Journal, Placed};
 use ps_types::Entry;
 use std::alloc::Global;
+use std::thread::Threads;
 
 // No more entries than this are taken; the numbers of a hall count on it.
 const MOST: usize = 1 << 61;
 
 /// Takes the entries of a store, and then a Boot, which is appended.
-pub(crate) fn restore<D: Disk>(
+pub(crate) fn restore<R: Threads + Sync, D: Disk>(
+    rt: &R,
     alloc: Global,
     journal: &mut Journal<D>,
     service: &mut Service,
@@ -35,6 +37,7 @@ pub(crate) fn restore<D: Disk>(
 ) -> Result<(), HallWhy>
     requires fresh { service.old.state ≡ empty_state }
     requires boot { (name : List ℕ) × (boot.now ≡ Entry.Boot name) × IsHostName name }
+    requires entries { AreEntries (entries_in placed.now.items) }
     requires bounded { whole ≤ 2 ^ 30 }
     requires unbroken { broken_of journal.old ≡ None }
     ensures restored { OnOk result (IsRestored (entries_in placed.now.items) boot.now service.new.state) }
@@ -56,8 +59,8 @@ pub(crate) fn restore<D: Disk>(
     if placed.len() >= MOST {
         return Err(HallWhy::Memory);
     }
-    match replay(service, placed) {
-        Replayed::All => begin(alloc, journal, service, boot, whole),
+    match replay(rt, service, placed) {
+        Replayed::All => begin(rt, alloc, journal, service, boot, whole),
         Replayed::Bad(at) => Err(HallWhy::Damaged { at }),
         Replayed::Memory => Err(HallWhy::Memory),
     }

@@ -9,10 +9,10 @@ use ps_base::Bytes;
 use ps_disk::MemDisk;
 use ps_types::{Arrival, Text};
 use std::alloc::Global;
-use std::io;
 use std::process::Abort;
 use std::random::RandomSource;
 use std::test::Fail;
+use std::thread::Threads;
 
 fn service_name(alloc: Global) -> Option<Text>
     ensures { IfSome result (λ t. t ≡ codes "pubsub.example") }
@@ -35,7 +35,12 @@ fn is_denied(next: &Next) -> bool {
 }
 
 // How many entries the list has once the line of a create was answered, if its reply says that there is no room for it.
-fn full(alloc: Global, hall: &mut Hall<MemDisk>, passes: &mut HostPasses) -> Option<usize>
+fn full<R: Threads + Sync>(
+    rt: &R,
+    alloc: Global,
+    hall: &mut Hall<MemDisk>,
+    passes: &mut HostPasses,
+) -> Option<usize>
     requires reads { IsPassOf hall.old Role.Reader passes.old.reader }
     requires writes { IsPassOf hall.old Role.Writer passes.old.writer }
     requires standing { IsStanding hall.old }
@@ -45,7 +50,7 @@ fn full(alloc: Global, hall: &mut Hall<MemDisk>, passes: &mut HostPasses) -> Opt
         bytes: Bytes::from_vec(CREATE.to_vec(alloc).ok()?),
         moment: None,
     };
-    let receipt = hall.arrive(&mut passes.reader, &arrival).ok()?;
+    let receipt = hall.arrive(rt, &mut passes.reader, &arrival).ok()?;
     if hall.seen(&passes.reader) > 1000 {
         return None;
     }
@@ -61,33 +66,28 @@ fn full(alloc: Global, hall: &mut Hall<MemDisk>, passes: &mut HostPasses) -> Opt
     }
 }
 
-// A source of noughts in the place of the system's secrets.
-struct Noughts;
-
-impl RandomSource for Noughts {
-    fn fill_bytes(&self, buf: &mut [u8]) -> io::Result<()> {
-        buf.fill(0);
-        Ok(())
-    }
-}
-
 // How many entries and bytes the store has once it was opened, with that limit, and a line was answered for whose entry there is no room; or
 // why it wasn't opened.
-fn opens(alloc: Global, disk: MemDisk, whole: u64) -> Option<Result<(usize, usize), HallWhy>> {
+fn opens<R: RandomSource + Threads + Sync>(
+    rt: &R,
+    alloc: Global,
+    disk: MemDisk,
+    whole: u64,
+) -> Option<Result<(usize, usize), HallWhy>> {
     if whole > 1000 {
         return None;
     }
     let service = service_name(alloc)?;
     let host = host_name(alloc)?;
     let limits = Limits { changes: 48, whole };
-    match Hall::open(&Noughts, alloc, disk, &service, &[host], limits) {
+    match Hall::open(rt, alloc, disk, &service, &[host], limits) {
         Ok((hall, passes)) => {
             let mut hall = hall;
             let mut passes = passes;
             let entries = if passes.is_empty() {
                 None
             } else {
-                full(alloc, &mut hall, &mut passes[0])
+                full(rt, alloc, &mut hall, &mut passes[0])
             };
             let disk = hall.close(passes);
             Some(Ok((entries?, disk.bytes().len())))
@@ -129,7 +129,7 @@ fn a_store_is_opened_or_refused(rt: HostRuntime) -> Result<(), Fail> {
     ];
     for (bytes, failing, whole, want) in rows {
         let disk = MemDisk::new(rt.alloc(), bytes, failing)?;
-        assert!(rt; opens(rt.alloc(), disk, whole) == Some(want));
+        assert!(rt; opens(&rt, rt.alloc(), disk, whole) == Some(want));
     }
     Ok(())
 }

@@ -4,10 +4,10 @@ use Rattle.std.specs.List.{AllByRecursion}
 use Rattle.std.proofs.lemmas.List.{map-append}
 use Rattle.ps_disk.specs.Disk.{MayLeave}
 use Rattle.ps_types.specs.declared.entry.Entry.{Entry}
-use Rattle.ps_model.specs.Entries.{IsEntry, AreEntriesIn, spelling, body}
+use Rattle.ps_model.specs.Entries.{IsEntry, AreEntries, AreEntriesIn, spelling, body}
 use Rattle.ps_model.specs.Store.{is_header, is_second, is_unbegun, gate_at, Begun, Lists, spelled, joined, AreBodies, AreParts}
 use Rattle.ps_journal.specs.Settled.{IsSettledAt, IsSettled, IsUpgrading}
-use Rattle.ps_journal.specs.Judged.{IsFound, FramesRead, BadEntry}
+use Rattle.ps_journal.specs.Judged.{IsDamaged, IsFound, FramesRead, BadEntry}
 use Rattle.ps_journal.specs.Opened.{ArePlaced, HasLength}
 use Rattle.ps_journal.specs.Places.{places_in, places, entries_in}
 use Rattle.ps_journal.specs.declared.judging.Placed.{Placed}
@@ -121,3 +121,20 @@ found_placed bytes placed gate found =
 
 pub found_length : (bytes : List ℕ) (placed : List Placed) (gate : ℕ) → IsFound bytes placed gate → HasLength bytes (gate + 1)
 found_length bytes placed gate found = inl (found.bodies, found.begun, ap (λ (n : ℕ). n + 1) found.stands)
+
+-- the entries before a damage are such as a store may hold
+in_body : (second : Bool) (es : List Entry) → AreEntriesIn second es → AreEntries es
+in_body second [] each = tt
+in_body second (e ∷ es) each = (each.0.entry, in_body second es each.1)
+
+in_parts : (second : Bool) (fs : List (List Entry)) → AreParts second fs → AreEntries (joined fs)
+in_parts second [] each = tt
+in_parts second (f ∷ fs) each = all_append IsEntry f (joined fs) (in_body second f each.0) (in_parts second fs each.1)
+
+pub found_before : (bytes : List ℕ) (at : ℕ) (before : List Placed) → IsDamaged bytes at before → AreEntries (entries_in before)
+found_before bytes at before (inl header) = subst (λ (placed : List Placed). AreEntries (entries_in placed)) (sym header.1) tt
+found_before bytes at before (inr (inl frame)) = subst (λ (placed : List Placed). AreEntries (entries_in placed)) (sym frame.1) tt
+found_before bytes at before (inr (inr bad)) =
+    let read = bad.read in
+    let second = is_second bytes in
+    subst AreEntries (sym read.are) (all_append IsEntry (joined read.parts) read.entries (in_parts second read.parts read.each) (in_body second read.entries read.each_entry))

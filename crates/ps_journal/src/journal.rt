@@ -55,7 +55,8 @@ impl<D: Disk> Journal<D> {
     ghost use Rattle.ps_disk.specs.Disk.{LeavesOnly};
     ghost use Rattle.ps_model.specs.Store.{is_second, spelled};
     ghost use Rattle.ps_journal.specs.Places.{entries_in};
-    ghost use Rattle.ps_journal.specs.Opened.{IsOpened, ArePlaced, HasLength, HasHeader, HasNoHeader, Upgrades};
+    ghost use Rattle.ps_journal.specs.Opened.{IsOpened, ArePlaced, HasLength, HasHeader, HasNoHeader, Upgrades, IfWhyDamaged};
+    ghost use Rattle.ps_model.specs.Entries.{AreEntries};
     ghost use Rattle.ps_journal.specs.Opened.{IsWhyDamaged, StaysIfDamaged, IsShortIfUnbegun, LeftOrHas};
     ghost use Rattle.ps_journal.specs.Journal.{disk_of, length_of, broken_of, seen_in, synced_in, written_in, faults_in};
     ghost use Rattle.ps_journal.specs.Journal.{IsBroken, IsWhole, Has, StaysBroken, IsUntouched, HasFault, KeepsFirstFault};
@@ -82,6 +83,8 @@ impl<D: Disk> Journal<D> {
         ensures whole { IfOk result (λ r. IsWhole r.0) }
         // A damaged store is as before. The law `damaged_spells_nothing` says that it spells no list.
         ensures damaged { D.tells → IfErr result (λ e. IsWhyDamaged (D.seen disk) e.why) }
+        // The entries before the damage are such as a store may hold.
+        ensures before { IfErr result (λ e. IfWhyDamaged e.why (λ at before. AreEntries (entries_in before))) }
         ensures untouched { D.tells → IfErr result (λ e. StaysIfDamaged e.why (D.seen disk) (D.seen e.disk)) }
         ensures store { IfErr result (λ e. e.why ≡ JournalWhy.Store → Rose (D.faults disk) (D.faults e.disk)) }
         ensures later { MatchResult result (λ r. D.faults disk ≤ faults_in r.0) (λ e. D.faults disk ≤ D.faults e.disk) }

@@ -3,6 +3,7 @@ ghost use Rattle.std.specs.Prelude.{◌≡◌, ◌⊎◌, ◌∷◌, ◌≤◌, 
 ghost use Rattle.ps_types.specs.declared.entry.Entry.{Entry};
 ghost use Rattle.ps_base.specs.Causes.{Rose};
 ghost use Rattle.ps_disk.specs.Disk.{Holds, LeavesOnly, MayLeave};
+ghost use Rattle.ps_model.specs.Entries.{AreEntries};
 ghost use Rattle.ps_model.specs.Store.{is_header, is_second, is_unbegun, spelled};
 ghost use Rattle.ps_journal.specs.Places.{entries_in};
 ghost use Rattle.ps_journal.specs.Settled.{IsSettled, IsQuiet};
@@ -60,6 +61,7 @@ pub(crate) fn open_store<D: Disk>(alloc: Global, disk: &mut D) -> Opening
     ensures settled { D.tells → IfOpened result (λ placed len. IsSettled (D.seen disk.new) (D.synced disk.new) (D.written disk.new) len) }
     ensures some { IfOpened result (λ placed len. 1 ≤ len) }
     ensures damaged { D.tells → IfDamaged result (λ at before. IsDamaged (D.seen disk.old) at before) }
+    ensures before { IfDamaged result (λ at before. AreEntries (entries_in before)) }
     ensures untouched { D.tells → IfDamaged result (λ at before. D.seen disk.new ≡ D.seen disk.old) }
     ensures store { IsStoreFault result → Rose (D.faults disk.old) (D.faults disk.new) }
     ensures later { D.faults disk.old ≤ D.faults disk.new }

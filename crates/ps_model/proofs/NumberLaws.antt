@@ -17,9 +17,8 @@ use Rattle.ps_model.specs.BaseRows.{BaseRow, node, affiliation, subscription, it
 use Rattle.ps_model.specs.Book.{State, empty_state}
 use Rattle.ps_model.specs.Core.{handed}
 use Rattle.ps_model.specs.Numbers.{counter_in, counter_of}
-use Rattle.ps_model.specs.Replay.{IsLawfulFrom, replay_from, accepted_at, is_booted, lawful_by, notices_by, row_accepted}
+use Rattle.ps_model.specs.Replay.{IsLawfulFrom, replay_from, accepted_at, is_booted, lawful_based, notices, row_accepted}
 use Rattle.ps_model.specs.Replay as replay
-use Rattle.ps_types.specs.declared.event.Event.{Event}
 use Rattle.ps_model.specs.Tallies.{handed_to, made_for, more_made}
 use Rattle.ps_types.proofs.Same.{same_jid-Decides, same_parts}
 use Rattle.ps_model.proofs.TallyLaws.{handed-kept, handed-made, handed-one, handed-set, same_bare-Decides, made-handed, made-kept, made-like, made-more, made-set, same_bare-turned}
@@ -28,23 +27,23 @@ use Rattle.ps_model.proofs.TallyLaws.{handed-kept, handed-made, handed-one, hand
 abbrev pub to_address : Jid → List Notice → List Notice
 to_address a notices = filter (λ n. same_bare n.to a) notices
 
-abbrev pub notices_from : (Event → Bool) → State → List Entry → Jid → List Notice
-notices_from told s [] a = []
-notices_from told s (e ∷ E) a = to_address a (step.notices_at told s e) ++ notices_from told (step.after told s e) E a
+abbrev pub notices_from : State → List Entry → Jid → List Notice
+notices_from s [] a = []
+notices_from s (e ∷ E) a = to_address a (step.notices_at s e) ++ notices_from (step.after s e) E a
 
-pub of-bare : (told : Event → Bool) (E : List Entry) (s : State) (a : Jid) → a.resource ≡ [] → replay.notices_from told s E a ≡ notices_from told s E a
-of-bare told [] s a bare = refl
-of-bare told (e ∷ E) s a bare =
-    let ns = to_address a (step.notices_at told s e) in
-    let later = replay.notices_from told (step.after told s e) E a in
-    ap (λ (r : List ℕ). replay.of_bare r ns ++ later) bare ∙ ap (λ (more : List Notice). ns ++ more) (of-bare told E (step.after told s e) a bare)
+pub of-bare : (E : List Entry) (s : State) (a : Jid) → a.resource ≡ [] → replay.notices_from s E a ≡ notices_from s E a
+of-bare [] s a bare = refl
+of-bare (e ∷ E) s a bare =
+    let ns = to_address a (step.notices_at s e) in
+    let later = replay.notices_from (step.after s e) E a in
+    ap (λ (r : List ℕ). replay.of_bare r ns ++ later) bare ∙ ap (λ (more : List Notice). ns ++ more) (of-bare E (step.after s e) a bare)
 
-pub of-full : (told : Event → Bool) (E : List Entry) (s : State) (a : Jid) (x : ℕ) (resource : List ℕ) → a.resource ≡ x ∷ resource → replay.notices_from told s E a ≡ []
-of-full told [] s a x resource full = refl
-of-full told (e ∷ E) s a x resource full =
-    let ns = to_address a (step.notices_at told s e) in
-    let later = replay.notices_from told (step.after told s e) E a in
-    ap (λ (r : List ℕ). replay.of_bare r ns ++ later) full ∙ of-full told E (step.after told s e) a x resource full
+pub of-full : (E : List Entry) (s : State) (a : Jid) (x : ℕ) (resource : List ℕ) → a.resource ≡ x ∷ resource → replay.notices_from s E a ≡ []
+of-full [] s a x resource full = refl
+of-full (e ∷ E) s a x resource full =
+    let ns = to_address a (step.notices_at s e) in
+    let later = replay.notices_from (step.after s e) E a in
+    ap (λ (r : List ℕ). replay.of_bare r ns ++ later) full ∙ of-full E (step.after s e) a x resource full
 
 -- each has the number after the one before it, the first the one after m
 abbrev pub RiseFrom : ℕ → List Notice → Type 0
@@ -189,113 +188,112 @@ start-is (Handed to ∷ E) a = start-is E a
 start-is (Gone host ∷ E) a = start-is E a
 start-is (Base row ∷ E) a = ap (counter_in (row_of row) a) (start-is E a)
 
-module _ (told : Event → Bool) where
-  handed-stepped : (a : Jid) (s : State) (to : Jid) → Stepped a s.tallies (step.after told s (Handed to)).tallies [] (λ x. x)
-  unfolding Stepped
-  handed-stepped a s to = inl (record { gives = nothing a s.tallies (step.after told s (Handed to)).tallies (made-handed a to s.tallies); skips = λ x. refl })
+handed-stepped : (a : Jid) (s : State) (to : Jid) → Stepped a s.tallies (step.after s (Handed to)).tallies [] (λ x. x)
+unfolding Stepped
+handed-stepped a s to = inl (record { gives = nothing a s.tallies (step.after s (Handed to)).tallies (made-handed a to s.tallies); skips = λ x. refl })
 
-  entry-stepped : (a : Jid) (s : State) (e : Entry) → accepted_at s e ≡ true → Stepped a s.tallies (step.after told s e).tallies (step.notices_at told s e) (ahead e a)
-  entry-stepped a s (Boot service) is = due-stepped a s.count s.tallies (step.handed_out told s (Boot service))
-  entry-stepped a s (Change host line moment t) is = due-stepped a s.count s.tallies (step.handed_out told s (Change host line moment t))
-  entry-stepped a s (Gone host) is = due-stepped a s.count s.tallies (step.handed_out told s (Gone host))
-  entry-stepped a s (Handed to) is = handed-stepped a s to
-  entry-stepped a s (Base row) is = row-stepped a s (row_of row) (and_parts (not (is_booted s)) (row_accepted (row_of row) s) is).1
+entry-stepped : (a : Jid) (s : State) (e : Entry) → accepted_at s e ≡ true → Stepped a s.tallies (step.after s e).tallies (step.notices_at s e) (ahead e a)
+entry-stepped a s (Boot service) is = due-stepped a s.count s.tallies (step.handed_out s (Boot service))
+entry-stepped a s (Change host line moment t) is = due-stepped a s.count s.tallies (step.handed_out s (Change host line moment t))
+entry-stepped a s (Gone host) is = due-stepped a s.count s.tallies (step.handed_out s (Gone host))
+entry-stepped a s (Handed to) is = handed-stepped a s to
+entry-stepped a s (Base row) is = row-stepped a s (row_of row) (and_parts (not (is_booted s)) (row_accepted (row_of row) s) is).1
 
-  -- ---- whole lists
+-- ---- whole lists
 
-  no-counter : (a : Jid) (E : List Entry) (s : State) → IsLawfulFrom told s E → 0 < made_for a s.tallies → (m : ℕ) → start m E a ≡ m
-  unfolding start
-  no-counter a [] s is some m = refl
-  no-counter a (e ∷ E) s is some m =
-      let p = past-some a s.tallies (step.after told s e).tallies (step.notices_at told s e) (ahead e a) some (entry-stepped a s e is.0) in
-      p.1 (start m E a) ∙ no-counter a E (step.after told s e) is.1 p.0 m
+no-counter : (a : Jid) (E : List Entry) (s : State) → IsLawfulFrom s E → 0 < made_for a s.tallies → (m : ℕ) → start m E a ≡ m
+unfolding start
+no-counter a [] s is some m = refl
+no-counter a (e ∷ E) s is some m =
+    let p = past-some a s.tallies (step.after s e).tallies (step.notices_at s e) (ahead e a) some (entry-stepped a s e is.0) in
+    p.1 (start m E a) ∙ no-counter a E (step.after s e) is.1 p.0 m
 
-  -- whether the entry makes a notice for the address, or none
-  some-or-none : (a : Jid) (s : State) (e : Entry) (E : List Entry) → IsLawfulFrom told (step.after told s e) E → RiseFrom (start (made_for a (step.after told s e).tallies) E a) (notices_from told (step.after told s e) E a)
-      → (ns : List Notice) → RiseFrom (made_for a s.tallies) ns → made_for a (step.after told s e).tallies ≡ made_for a s.tallies + length ns
-      → RiseFrom (start (made_for a s.tallies) E a) (ns ++ notices_from told (step.after told s e) E a)
-  some-or-none a s e E is later [] rise makes =
-      let rest = notices_from told (step.after told s e) E a in
-      let same : made_for a (step.after told s e).tallies ≡ made_for a s.tallies = omega (arith, makes) in
-      subst (λ k. RiseFrom (start k E a) rest) same later
-  some-or-none a s e E is later (n ∷ ns) rise makes =
-      let rest = notices_from told (step.after told s e) E a in
-      let some : 0 < made_for a (step.after told s e).tallies = omega (arith, makes) in
-      let later-from : start (made_for a (step.after told s e).tallies) E a ≡ made_for a s.tallies + length (n ∷ ns) = no-counter a E (step.after told s e) is some (made_for a (step.after told s e).tallies) ∙ makes in
-      let from : start (made_for a s.tallies) E a ≡ made_for a s.tallies = no-counter a E (step.after told s e) is some (made_for a s.tallies) in
-      rw from (rise-append (made_for a s.tallies) (n ∷ ns) rest rise (subst (λ k. RiseFrom k rest) later-from later))
+-- whether the entry makes a notice for the address, or none
+some-or-none : (a : Jid) (s : State) (e : Entry) (E : List Entry) → IsLawfulFrom (step.after s e) E → RiseFrom (start (made_for a (step.after s e).tallies) E a) (notices_from (step.after s e) E a)
+    → (ns : List Notice) → RiseFrom (made_for a s.tallies) ns → made_for a (step.after s e).tallies ≡ made_for a s.tallies + length ns
+    → RiseFrom (start (made_for a s.tallies) E a) (ns ++ notices_from (step.after s e) E a)
+some-or-none a s e E is later [] rise makes =
+    let rest = notices_from (step.after s e) E a in
+    let same : made_for a (step.after s e).tallies ≡ made_for a s.tallies = omega (arith, makes) in
+    subst (λ k. RiseFrom (start k E a) rest) same later
+some-or-none a s e E is later (n ∷ ns) rise makes =
+    let rest = notices_from (step.after s e) E a in
+    let some : 0 < made_for a (step.after s e).tallies = omega (arith, makes) in
+    let later-from : start (made_for a (step.after s e).tallies) E a ≡ made_for a s.tallies + length (n ∷ ns) = no-counter a E (step.after s e) is some (made_for a (step.after s e).tallies) ∙ makes in
+    let from : start (made_for a s.tallies) E a ≡ made_for a s.tallies = no-counter a E (step.after s e) is some (made_for a s.tallies) in
+    rw from (rise-append (made_for a s.tallies) (n ∷ ns) rest rise (subst (λ k. RiseFrom k rest) later-from later))
 
-  -- the notices of an entry, before those of the entries after it
-  goes-on : (a : Jid) (s : State) (e : Entry) (E : List Entry) → IsLawfulFrom told (step.after told s e) E → RiseFrom (start (made_for a (step.after told s e).tallies) E a) (notices_from told (step.after told s e) E a)
-      → Stepped a s.tallies (step.after told s e).tallies (step.notices_at told s e) (ahead e a)
-      → RiseFrom (ahead e a (start (made_for a s.tallies) E a)) (to_address a (step.notices_at told s e) ++ notices_from told (step.after told s e) E a)
-  unfolding Stepped
-  goes-on a s e E is later (inr counted) =
-      let rest = notices_from told (step.after told s e) E a in
-      let some : 0 < made_for a (step.after told s e).tallies = rw counted.now counted.some in
-      let from : start (made_for a (step.after told s e).tallies) E a ≡ counted.number = no-counter a E (step.after told s e) is some (made_for a (step.after told s e).tallies) ∙ counted.now in
-      rw (counted.no_notices, counted.takes (start (made_for a s.tallies) E a)) (subst (λ k. RiseFrom k rest) from later)
-  goes-on a s e E is later (inl plain) =
-      let ns = to_address a (step.notices_at told s e) in
-      let rest = notices_from told (step.after told s e) E a in
-      subst (λ k. RiseFrom k (ns ++ rest)) (sym (plain.skips (start (made_for a s.tallies) E a)))
-      (some-or-none a s e E is later ns plain.gives.rise plain.gives.makes)
+-- the notices of an entry, before those of the entries after it
+goes-on : (a : Jid) (s : State) (e : Entry) (E : List Entry) → IsLawfulFrom (step.after s e) E → RiseFrom (start (made_for a (step.after s e).tallies) E a) (notices_from (step.after s e) E a)
+    → Stepped a s.tallies (step.after s e).tallies (step.notices_at s e) (ahead e a)
+    → RiseFrom (ahead e a (start (made_for a s.tallies) E a)) (to_address a (step.notices_at s e) ++ notices_from (step.after s e) E a)
+unfolding Stepped
+goes-on a s e E is later (inr counted) =
+    let rest = notices_from (step.after s e) E a in
+    let some : 0 < made_for a (step.after s e).tallies = rw counted.now counted.some in
+    let from : start (made_for a (step.after s e).tallies) E a ≡ counted.number = no-counter a E (step.after s e) is some (made_for a (step.after s e).tallies) ∙ counted.now in
+    rw (counted.no_notices, counted.takes (start (made_for a s.tallies) E a)) (subst (λ k. RiseFrom k rest) from later)
+goes-on a s e E is later (inl plain) =
+    let ns = to_address a (step.notices_at s e) in
+    let rest = notices_from (step.after s e) E a in
+    subst (λ k. RiseFrom k (ns ++ rest)) (sym (plain.skips (start (made_for a s.tallies) E a)))
+    (some-or-none a s e E is later ns plain.gives.rise plain.gives.makes)
 
-  lawful-rise : (a : Jid) (E : List Entry) (s : State) → IsLawfulFrom told s E → RiseFrom (start (made_for a s.tallies) E a) (notices_from told s E a)
-  unfolding start
-  lawful-rise a [] s is = tt
-  lawful-rise a (e ∷ E) s is = goes-on a s e E is.1 (lawful-rise a E (step.after told s e) is.1) (entry-stepped a s e is.0)
+lawful-rise : (a : Jid) (E : List Entry) (s : State) → IsLawfulFrom s E → RiseFrom (start (made_for a s.tallies) E a) (notices_from s E a)
+unfolding start
+lawful-rise a [] s is = tt
+lawful-rise a (e ∷ E) s is = goes-on a s e E is.1 (lawful-rise a E (step.after s e) is.1) (entry-stepped a s e is.0)
 
-  numbers-by : (E : List Entry) (a : Jid) → lawful_by told E → (resource : List ℕ) → a.resource ≡ resource → (k : ℕ) (n : Notice) → slice_get (notices_by told E a) k ≡ Some n → n.number ≡ counter_of E a + (k + 1)
-  numbers-by E a is [] bare k n at =
-      let same = of-bare told E empty_state a bare in
-      rise-at (counter_of E a) (notices_from told empty_state E a) (subst (λ m. RiseFrom m (notices_from told empty_state E a)) (start-is E a) (lawful-rise a E empty_state is)) k n
-      (sym (ap (λ ns. slice_get ns k) same) ∙ at)
-  numbers-by E a is (x ∷ resource) full k n at =
-      let same = of-full told E empty_state a x resource full in
-      absurd (let no : None ≡ Some n = sym (ap (λ ns. slice_get ns k) same) ∙ at in cc no)
+numbers-by : (E : List Entry) (a : Jid) → lawful_based E → (resource : List ℕ) → a.resource ≡ resource → (k : ℕ) (n : Notice) → slice_get (notices E a) k ≡ Some n → n.number ≡ counter_of E a + (k + 1)
+numbers-by E a is [] bare k n at =
+    let same = of-bare E empty_state a bare in
+    rise-at (counter_of E a) (notices_from empty_state E a) (subst (λ m. RiseFrom m (notices_from empty_state E a)) (start-is E a) (lawful-rise a E empty_state is)) k n
+    (sym (ap (λ ns. slice_get ns k) same) ∙ at)
+numbers-by E a is (x ∷ resource) full k n at =
+    let same = of-full E empty_state a x resource full in
+    absurd (let no : None ≡ Some n = sym (ap (λ ns. slice_get ns k) same) ∙ at in cc no)
 
-  pub numbers-rise : (E : List Entry) (a : Jid) → lawful_by told E → (k : ℕ) (n : Notice) → slice_get (notices_by told E a) k ≡ Some n → n.number ≡ counter_of E a + (k + 1)
-  numbers-rise E a is k n at = numbers-by E a is a.resource refl k n at
+pub numbers-rise : (E : List Entry) (a : Jid) → lawful_based E → (k : ℕ) (n : Notice) → slice_get (notices E a) k ≡ Some n → n.number ≡ counter_of E a + (k + 1)
+numbers-rise E a is k n at = numbers-by E a is a.resource refl k n at
 
-  -- ---- how many were made and handed in all
+-- ---- how many were made and handed in all
 
-  some-made : (a : Jid) (s : State) (e : Entry) (E : List Entry) → IsLawfulFrom told (step.after told s e) E
-      → made_for a (replay_from told (step.after told s e) E).tallies ≡ start (made_for a (step.after told s e).tallies) E a + length (notices_from told (step.after told s e) E a)
-      → (ns : List Notice) → made_for a (step.after told s e).tallies ≡ made_for a s.tallies + length ns
-      → made_for a (replay_from told (step.after told s e) E).tallies ≡ start (made_for a s.tallies) E a + length (ns ++ notices_from told (step.after told s e) E a)
-  some-made a s e E is later [] makes =
-      let rest = notices_from told (step.after told s e) E a in
-      let same : made_for a (step.after told s e).tallies ≡ made_for a s.tallies = omega (arith, makes) in
-      later ∙ ap (λ k. start k E a + length rest) same
-  some-made a s e E is later (n ∷ ns) makes =
-      let rest = notices_from told (step.after told s e) E a in
-      let some : 0 < made_for a (step.after told s e).tallies = omega (arith, makes) in
-      let one = no-counter a E (step.after told s e) is some (made_for a (step.after told s e).tallies) in
-      let two = no-counter a E (step.after told s e) is some (made_for a s.tallies) in
-      omega (arith, later, one, two, makes, length-append (n ∷ ns) rest)
+some-made : (a : Jid) (s : State) (e : Entry) (E : List Entry) → IsLawfulFrom (step.after s e) E
+    → made_for a (replay_from (step.after s e) E).tallies ≡ start (made_for a (step.after s e).tallies) E a + length (notices_from (step.after s e) E a)
+    → (ns : List Notice) → made_for a (step.after s e).tallies ≡ made_for a s.tallies + length ns
+    → made_for a (replay_from (step.after s e) E).tallies ≡ start (made_for a s.tallies) E a + length (ns ++ notices_from (step.after s e) E a)
+some-made a s e E is later [] makes =
+    let rest = notices_from (step.after s e) E a in
+    let same : made_for a (step.after s e).tallies ≡ made_for a s.tallies = omega (arith, makes) in
+    later ∙ ap (λ k. start k E a + length rest) same
+some-made a s e E is later (n ∷ ns) makes =
+    let rest = notices_from (step.after s e) E a in
+    let some : 0 < made_for a (step.after s e).tallies = omega (arith, makes) in
+    let one = no-counter a E (step.after s e) is some (made_for a (step.after s e).tallies) in
+    let two = no-counter a E (step.after s e) is some (made_for a s.tallies) in
+    omega (arith, later, one, two, makes, length-append (n ∷ ns) rest)
 
-  made-total-by : (a : Jid) (s : State) (e : Entry) (E : List Entry) → IsLawfulFrom told (step.after told s e) E
-      → made_for a (replay_from told (step.after told s e) E).tallies ≡ start (made_for a (step.after told s e).tallies) E a + length (notices_from told (step.after told s e) E a)
-      → Stepped a s.tallies (step.after told s e).tallies (step.notices_at told s e) (ahead e a)
-      → made_for a (replay_from told (step.after told s e) E).tallies ≡ ahead e a (start (made_for a s.tallies) E a) + length (to_address a (step.notices_at told s e) ++ notices_from told (step.after told s e) E a)
-  unfolding Stepped
-  made-total-by a s e E is later (inr counted) =
-      let m = made_for a (step.after told s e).tallies in
-      let rest = notices_from told (step.after told s e) E a in
-      let some : 0 < m = rw counted.now counted.some in
-      let from : start m E a ≡ counted.number = no-counter a E (step.after told s e) is some m ∙ counted.now in
-      later ∙ ap (λ k. k + length rest) (from ∙ sym (counted.takes (start (made_for a s.tallies) E a)))
-      ∙ ap (λ (ns : List Notice). ahead e a (start (made_for a s.tallies) E a) + length (ns ++ rest)) (sym counted.no_notices)
-  made-total-by a s e E is later (inl plain) =
-      let ns = to_address a (step.notices_at told s e) in
-      let rest = notices_from told (step.after told s e) E a in
-      some-made a s e E is later ns plain.gives.makes ∙ ap (λ k. k + length (ns ++ rest)) (sym (plain.skips (start (made_for a s.tallies) E a)))
+made-total-by : (a : Jid) (s : State) (e : Entry) (E : List Entry) → IsLawfulFrom (step.after s e) E
+    → made_for a (replay_from (step.after s e) E).tallies ≡ start (made_for a (step.after s e).tallies) E a + length (notices_from (step.after s e) E a)
+    → Stepped a s.tallies (step.after s e).tallies (step.notices_at s e) (ahead e a)
+    → made_for a (replay_from (step.after s e) E).tallies ≡ ahead e a (start (made_for a s.tallies) E a) + length (to_address a (step.notices_at s e) ++ notices_from (step.after s e) E a)
+unfolding Stepped
+made-total-by a s e E is later (inr counted) =
+    let m = made_for a (step.after s e).tallies in
+    let rest = notices_from (step.after s e) E a in
+    let some : 0 < m = rw counted.now counted.some in
+    let from : start m E a ≡ counted.number = no-counter a E (step.after s e) is some m ∙ counted.now in
+    later ∙ ap (λ k. k + length rest) (from ∙ sym (counted.takes (start (made_for a s.tallies) E a)))
+    ∙ ap (λ (ns : List Notice). ahead e a (start (made_for a s.tallies) E a) + length (ns ++ rest)) (sym counted.no_notices)
+made-total-by a s e E is later (inl plain) =
+    let ns = to_address a (step.notices_at s e) in
+    let rest = notices_from (step.after s e) E a in
+    some-made a s e E is later ns plain.gives.makes ∙ ap (λ k. k + length (ns ++ rest)) (sym (plain.skips (start (made_for a s.tallies) E a)))
 
-  pub made-total : (a : Jid) (E : List Entry) (s : State) → IsLawfulFrom told s E → made_for a (replay_from told s E).tallies ≡ start (made_for a s.tallies) E a + length (notices_from told s E a)
-  unfolding start
-  made-total a [] s is = (let e : made_for a s.tallies ≡ made_for a s.tallies + 0 = omega arith in e)
-  made-total a (e ∷ E) s is = made-total-by a s e E is.1 (made-total a E (step.after told s e) is.1) (entry-stepped a s e is.0)
+pub made-total : (a : Jid) (E : List Entry) (s : State) → IsLawfulFrom s E → made_for a (replay_from s E).tallies ≡ start (made_for a s.tallies) E a + length (notices_from s E a)
+unfolding start
+made-total a [] s is = (let e : made_for a s.tallies ≡ made_for a s.tallies + 0 = omega arith in e)
+made-total a (e ∷ E) s is = made-total-by a s e E is.1 (made-total a E (step.after s e) is.1) (entry-stepped a s e is.0)
 
 -- ---- the same of what was handed
 
@@ -398,55 +396,54 @@ handed-more (Handed to) E a = by (same_jid to a)
     by true = (let z : suc (handed E a) ≡ 1 + handed E a = omega arith in z)
     by false = (let z : handed E a ≡ 0 + handed E a = omega arith in z)
 
-module _ (told : Event → Bool) where
-  entry-handed : (a : Jid) → a.resource ≡ [] → (s : State) (e : Entry) → accepted_at s e ≡ true → HandedStep a s.tallies (step.after told s e).tallies (one e a) (ahead e a)
-  unfolding HandedStep
-  entry-handed a bare s (Boot service) is = kept-handed a s.tallies (step.after told s (Boot service)).tallies (tallied-handed a (step.handed_out told s (Boot service)) s.tallies)
-  entry-handed a bare s (Change host line moment t) is = kept-handed a s.tallies (step.after told s (Change host line moment t)).tallies (tallied-handed a (step.handed_out told s (Change host line moment t)) s.tallies)
-  entry-handed a bare s (Gone host) is = kept-handed a s.tallies (step.after told s (Gone host)).tallies (tallied-handed a (step.handed_out told s (Gone host)) s.tallies)
-  entry-handed a bare s (Handed to) is =
-      let same = bare-tests a to bare (handed-is-bare s to is) (same_bare a to) (same_jid to a) refl refl in
-      inl (record { keeps = handed-one a to s.tallies (same_bare a to) refl ∙ ap (λ b. handed_to a s.tallies + cond b 1 0) same; skips = λ x. refl })
-  entry-handed a bare s (Base row) is = row-handed a s (row_of row) (and_parts (not (is_booted s)) (row_accepted (row_of row) s) is).1
+entry-handed : (a : Jid) → a.resource ≡ [] → (s : State) (e : Entry) → accepted_at s e ≡ true → HandedStep a s.tallies (step.after s e).tallies (one e a) (ahead e a)
+unfolding HandedStep
+entry-handed a bare s (Boot service) is = kept-handed a s.tallies (step.after s (Boot service)).tallies (tallied-handed a (step.handed_out s (Boot service)) s.tallies)
+entry-handed a bare s (Change host line moment t) is = kept-handed a s.tallies (step.after s (Change host line moment t)).tallies (tallied-handed a (step.handed_out s (Change host line moment t)) s.tallies)
+entry-handed a bare s (Gone host) is = kept-handed a s.tallies (step.after s (Gone host)).tallies (tallied-handed a (step.handed_out s (Gone host)) s.tallies)
+entry-handed a bare s (Handed to) is =
+    let same = bare-tests a to bare (handed-is-bare s to is) (same_bare a to) (same_jid to a) refl refl in
+    inl (record { keeps = handed-one a to s.tallies (same_bare a to) refl ∙ ap (λ b. handed_to a s.tallies + cond b 1 0) same; skips = λ x. refl })
+entry-handed a bare s (Base row) is = row-handed a s (row_of row) (and_parts (not (is_booted s)) (row_accepted (row_of row) s) is).1
 
-  handed-by : (a : Jid) → a.resource ≡ [] → (s : State) (e : Entry) (E : List Entry) → accepted_at s e ≡ true → IsLawfulFrom told (step.after told s e) E
-      → handed_to a (replay_from told (step.after told s e) E).tallies ≡ start (handed_to a (step.after told s e).tallies) E a + handed E a
-      → HandedStep a s.tallies (step.after told s e).tallies (one e a) (ahead e a) → (0 < made_for a s.tallies → 0 < made_for a (step.after told s e).tallies)
-      → handed_to a (replay_from told (step.after told s e) E).tallies ≡ ahead e a (start (handed_to a s.tallies) E a) + (one e a + handed E a)
-  unfolding HandedStep
-  handed-by a bare s e E ok is later (inr sets) grows =
-      let n = handed_to a (step.after told s e).tallies in
-      let some : 0 < made_for a (step.after told s e).tallies = rw sets.made_now sets.some in
-      let from : start n E a ≡ sets.number = no-counter told a E (step.after told s e) is some n ∙ sets.now in
-      let takes = sets.takes (start (handed_to a s.tallies) E a) in
-      let none = sets.none_more in
-      omega (arith, later, from, takes, none)
-  handed-by a bare s e E ok is later (inl keeps) grows = at (one e a) refl
-    where
-      skips : ahead e a (start (handed_to a s.tallies) E a) ≡ start (handed_to a s.tallies) E a
-      skips = keeps.skips (start (handed_to a s.tallies) E a)
+handed-by : (a : Jid) → a.resource ≡ [] → (s : State) (e : Entry) (E : List Entry) → accepted_at s e ≡ true → IsLawfulFrom (step.after s e) E
+    → handed_to a (replay_from (step.after s e) E).tallies ≡ start (handed_to a (step.after s e).tallies) E a + handed E a
+    → HandedStep a s.tallies (step.after s e).tallies (one e a) (ahead e a) → (0 < made_for a s.tallies → 0 < made_for a (step.after s e).tallies)
+    → handed_to a (replay_from (step.after s e) E).tallies ≡ ahead e a (start (handed_to a s.tallies) E a) + (one e a + handed E a)
+unfolding HandedStep
+handed-by a bare s e E ok is later (inr sets) grows =
+    let n = handed_to a (step.after s e).tallies in
+    let some : 0 < made_for a (step.after s e).tallies = rw sets.made_now sets.some in
+    let from : start n E a ≡ sets.number = no-counter a E (step.after s e) is some n ∙ sets.now in
+    let takes = sets.takes (start (handed_to a s.tallies) E a) in
+    let none = sets.none_more in
+    omega (arith, later, from, takes, none)
+handed-by a bare s e E ok is later (inl keeps) grows = at (one e a) refl
+  where
+    skips : ahead e a (start (handed_to a s.tallies) E a) ≡ start (handed_to a s.tallies) E a
+    skips = keeps.skips (start (handed_to a s.tallies) E a)
 
-      at : (k : ℕ) → one e a ≡ k → handed_to a (replay_from told (step.after told s e) E).tallies ≡ ahead e a (start (handed_to a s.tallies) E a) + (one e a + handed E a)
-      at zero none =
-          let same : handed_to a (step.after told s e).tallies ≡ handed_to a s.tallies = omega (arith, keeps.keeps, none) in
-          omega (arith, later, ap (λ k. start k E a) same, skips, none)
-      at (suc k) more =
-          let some : 0 < made_for a (step.after told s e).tallies = grows (one-made a bare s e ok (omega (arith, more))) in
-          omega (arith, later, no-counter told a E (step.after told s e) is some (handed_to a (step.after told s e).tallies), no-counter told a E (step.after told s e) is some (handed_to a s.tallies), keeps.keeps, skips)
+    at : (k : ℕ) → one e a ≡ k → handed_to a (replay_from (step.after s e) E).tallies ≡ ahead e a (start (handed_to a s.tallies) E a) + (one e a + handed E a)
+    at zero none =
+        let same : handed_to a (step.after s e).tallies ≡ handed_to a s.tallies = omega (arith, keeps.keeps, none) in
+        omega (arith, later, ap (λ k. start k E a) same, skips, none)
+    at (suc k) more =
+        let some : 0 < made_for a (step.after s e).tallies = grows (one-made a bare s e ok (omega (arith, more))) in
+        omega (arith, later, no-counter a E (step.after s e) is some (handed_to a (step.after s e).tallies), no-counter a E (step.after s e) is some (handed_to a s.tallies), keeps.keeps, skips)
 
-  pub handed-total : (a : Jid) → a.resource ≡ [] → (E : List Entry) (s : State) → IsLawfulFrom told s E → handed_to a (replay_from told s E).tallies ≡ start (handed_to a s.tallies) E a + handed E a
-  unfolding start
-  handed-total a bare [] s is = (let e : handed_to a s.tallies ≡ handed_to a s.tallies + 0 = omega arith in e)
-  handed-total a bare (e ∷ E) s is =
-      handed-by a bare s e E is.0 is.1 (handed-total a bare E (step.after told s e) is.1) (entry-handed a bare s e is.0)
-      (λ some. (past-some a s.tallies (step.after told s e).tallies (step.notices_at told s e) (ahead e a) some (entry-stepped told a s e is.0)).0)
-      ∙ ap (λ k. ahead e a (start (handed_to a s.tallies) E a) + k) (sym (handed-more e E a))
+pub handed-total : (a : Jid) → a.resource ≡ [] → (E : List Entry) (s : State) → IsLawfulFrom s E → handed_to a (replay_from s E).tallies ≡ start (handed_to a s.tallies) E a + handed E a
+unfolding start
+handed-total a bare [] s is = (let e : handed_to a s.tallies ≡ handed_to a s.tallies + 0 = omega arith in e)
+handed-total a bare (e ∷ E) s is =
+    handed-by a bare s e E is.0 is.1 (handed-total a bare E (step.after s e) is.1) (entry-handed a bare s e is.0)
+    (λ some. (past-some a s.tallies (step.after s e).tallies (step.notices_at s e) (ahead e a) some (entry-stepped a s e is.0)).0)
+    ∙ ap (λ k. ahead e a (start (handed_to a s.tallies) E a) + k) (sym (handed-more e E a))
 
-  -- so the two numbers of the State compare as the notices and the records of the list do
-  pub totals : (a : Jid) → a.resource ≡ [] → (E : List Entry) → lawful_by told E
-      → (m : ℕ) × (made_for a (replay.replay_by told E).tallies ≡ m + length (notices_by told E a)) × (handed_to a (replay.replay_by told E).tallies ≡ m + handed E a)
-  totals a bare E is = (
-    start 0 E a,
-    made-total told a E empty_state is ∙ ap (λ (ns : List Notice). start 0 E a + length ns) (sym (of-bare told E empty_state a bare)),
-    handed-total a bare E empty_state is,
-  )
+-- so the two numbers of the State compare as the notices and the records of the list do
+pub totals : (a : Jid) → a.resource ≡ [] → (E : List Entry) → lawful_based E
+    → (m : ℕ) × (made_for a (replay.replay E).tallies ≡ m + length (notices E a)) × (handed_to a (replay.replay E).tallies ≡ m + handed E a)
+totals a bare E is = (
+  start 0 E a,
+  made-total a E empty_state is ∙ ap (λ (ns : List Notice). start 0 E a + length ns) (sym (of-bare E empty_state a bare)),
+  handed-total a bare E empty_state is,
+)

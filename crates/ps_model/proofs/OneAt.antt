@@ -4,10 +4,10 @@ use Rattle.std.proofs.lemmas.Bool.{true≢false}
 use Rattle.ps_types.specs.declared.entry.Entry.{Entry}
 use Rattle.ps_model.specs.At.{BadEntry, IsBadNext, IsDamagedAt, IsStore}
 use Rattle.ps_model.specs.Book.{State, empty_state}
-use Rattle.ps_model.specs.Built.{is_built_event}
 use Rattle.ps_model.specs.Damage.{BadFrame, NoEntry}
 use Rattle.ps_model.specs.Entries.{AreEntriesIn, IsEntryIn, body, spelling}
-use Rattle.ps_model.specs.Replay.{AreAcceptedFrom, accepted, after, lawful, replay_from}
+use Rattle.ps_model.specs.After.{after}
+use Rattle.ps_model.specs.Replay.{AreAcceptedFrom, accepted, lawful, replay_from}
 use Rattle.ps_model.specs.Store.{AreParts, Begun, IsShut, gate_at, is_second, joined, spelled}
 use Rattle.ps_model.proofs.Going.{replay-append}
 use Rattle.ps_model.proofs.OneList.{behind_header, body_one, entry_one, frames_one, one_frames, shut_no_frame, shut_some, starts}
@@ -15,15 +15,15 @@ use Rattle.ps_model.proofs.OneList.{behind_header, body_one, entry_one, frames_o
 -- ---- lawful lists
 
 abbrev IsLawfulFrom : State → List Entry → Type 0
-IsLawfulFrom s E = AreAcceptedFrom is_built_event accepted s E
+IsLawfulFrom s E = AreAcceptedFrom accepted s E
 
-lawful-rest : (E F : List Entry) (s : State) → IsLawfulFrom s (E ++ F) → IsLawfulFrom (replay_from is_built_event s E) F
+lawful-rest : (E F : List Entry) (s : State) → IsLawfulFrom s (E ++ F) → IsLawfulFrom (replay_from s E) F
 lawful-rest [] F s is = is
 lawful-rest (e ∷ E) F s is = lawful-rest E F (after s e) is.1
 
 -- what comes after these entries from this State on isn't spelled, or isn't accepted
 IsBad : Bool → State → List Entry → List ℕ → Type 0
-IsBad second s es behind = NoEntry second behind ⊎ ((e : Entry) × (rest : List ℕ) × IsEntryIn second e × (behind ≡ spelling e ++ rest) × (accepted (replay_from is_built_event s es) e ≡ false))
+IsBad second s es behind = NoEntry second behind ⊎ ((e : Entry) × (rest : List ℕ) × IsEntryIn second e × (behind ≡ spelling e ++ rest) × (accepted (replay_from s es) e ≡ false))
 
 bad-some : (second : Bool) (s : State) (es : List Entry) (behind : List ℕ) → IsBad second s es behind → behind ≡ [] → ⊥
 unfolding IsBad
@@ -36,8 +36,8 @@ unfolding IsBad
 bad-stops second s es more d behind rest (inl none) is split lawful = none.none d rest is split
 bad-stops second s es more d behind rest (inr next) is split lawful =
     let same = entry_one next.0 d next.1 rest next.2.entry is.entry (sym next.3 ∙ split) in
-    let yes : accepted (replay_from is_built_event s es) d ≡ true = (lawful-rest es (d ∷ more) s lawful).0 in
-    true≢false (sym yes ∙ ap (accepted (replay_from is_built_event s es)) (sym same.0) ∙ next.4)
+    let yes : accepted (replay_from s es) d ≡ true = (lawful-rest es (d ∷ more) s lawful).0 in
+    true≢false (sym yes ∙ ap (accepted (replay_from s es)) (sym same.0) ∙ next.4)
 
 -- ---- two lists of entries, with what follows them, over the same bytes
 
@@ -93,11 +93,11 @@ no-damage second (p ∷ ps) (q ∷ qs) es behind others s are are' each bad lawf
     let first : body p ≡ body q = cc same in
     let rest : map body ps ++ (body es ++ behind) ∷ others ≡ map body qs = cc same in
     let one : q ≡ p = body_one second q p are'.0 are.0 (sym first) in
-    let t = replay_from is_built_event s p in
+    let t = replay_from s p in
     let lawful-p : IsLawfulFrom s (p ++ joined qs) = subst (λ (l : List Entry). IsLawfulFrom s (l ++ joined qs)) one lawful in
     let lawful-t : IsLawfulFrom t (joined qs) = lawful-rest p (joined qs) s lawful-p in
-    let moved : replay_from is_built_event s ((p ++ joined ps) ++ es) ≡ replay_from is_built_event t (joined ps ++ es) =
-    ap (replay_from is_built_event s) (append_assoc p (joined ps) es) ∙ replay-append is_built_event p (joined ps ++ es) s in
+    let moved : replay_from s ((p ++ joined ps) ++ es) ≡ replay_from t (joined ps ++ es) =
+    ap (replay_from s) (append_assoc p (joined ps) es) ∙ replay-append p (joined ps ++ es) s in
     no-damage second ps qs es behind others t are.1 are'.1 each (subst (λ (r : State). NoEntry second behind ⊎ ((e : Entry) × (rest : List ℕ) × IsEntryIn second e × (behind ≡ spelling e ++ rest) × (accepted r e ≡ false))) moved bad) lawful-t rest
 
 -- two damaged entries are one
@@ -133,11 +133,11 @@ one-damage second (p ∷ ps) (q ∷ qs) es ds behind tail others more s are are'
     let first : body p ≡ body q = cc same in
     let rest : map body ps ++ (body es ++ behind) ∷ others ≡ map body qs ++ (body ds ++ tail) ∷ more = cc same in
     let one : q ≡ p = body_one second q p are'.0 are.0 (sym first) in
-    let t = replay_from is_built_event s p in
+    let t = replay_from s p in
     let Next = λ (left : List ℕ) (r : State). NoEntry second left ⊎ ((e : Entry) × (rest : List ℕ) × IsEntryIn second e × (left ≡ spelling e ++ rest) × (accepted r e ≡ false)) in
-    let moved : replay_from is_built_event s ((p ++ joined ps) ++ es) ≡ replay_from is_built_event t (joined ps ++ es) = ap (replay_from is_built_event s) (append_assoc p (joined ps) es) ∙ replay-append is_built_event p (joined ps ++ es) s in
-    let moved' : replay_from is_built_event s ((q ++ joined qs) ++ ds) ≡ replay_from is_built_event t (joined qs ++ ds) =
-    ap (replay_from is_built_event s) (append_assoc q (joined qs) ds ∙ ap (λ (l : List Entry). l ++ (joined qs ++ ds)) one) ∙ replay-append is_built_event p (joined qs ++ ds) s in
+    let moved : replay_from s ((p ++ joined ps) ++ es) ≡ replay_from t (joined ps ++ es) = ap (replay_from s) (append_assoc p (joined ps) es) ∙ replay-append p (joined ps ++ es) s in
+    let moved' : replay_from s ((q ++ joined qs) ++ ds) ≡ replay_from t (joined qs ++ ds) =
+    ap (replay_from s) (append_assoc q (joined qs) ds ∙ ap (λ (l : List Entry). l ++ (joined qs ++ ds)) one) ∙ replay-append p (joined qs ++ ds) s in
     let lawful-t : IsLawfulFrom t (joined ps ++ es) = lawful-rest p (joined ps ++ es) s (subst (IsLawfulFrom s) (append_assoc p (joined ps) es) lawful) in
     let lawful-t' : IsLawfulFrom t (joined qs ++ ds) = lawful-rest p (joined qs ++ ds) s (subst (IsLawfulFrom s) (append_assoc q (joined qs) ds ∙ ap (λ (l : List Entry). l ++ (joined qs ++ ds)) one) lawful') in
     let found = one-damage second ps qs es ds behind tail others more t are.1 are'.1 each each' (subst (Next behind) moved bad) (subst (Next tail) moved' bad') lawful-t lawful-t' rest in

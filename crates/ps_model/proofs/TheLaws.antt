@@ -13,7 +13,6 @@ use Rattle.ps_types.specs.declared.entry.Arrival.TheVariants as arrival
 use Rattle.ps_types.specs.declared.entry.Entry.{Entry}
 use Rattle.ps_types.specs.declared.entry.Entry.TheVariants.{Boot, Change, Handed, Gone, Base}
 use Rattle.ps_types.specs.declared.entry.Notice.{Notice}
-use Rattle.ps_types.specs.declared.event.Event.{Event}
 use Rattle.ps_types.specs.declared.jid.Jid.{Jid}
 use Rattle.ps_types.specs.declared.request.Request.{Request}
 use Rattle.ps_types.specs.declared.rows.LineRow.{LineRow}
@@ -24,11 +23,10 @@ use Rattle.ps_model.specs.BaseRead.{row_of}
 use Rattle.ps_model.specs.BaseRows.{BaseRow}
 use Rattle.ps_model.specs.BaseRows as base
 use Rattle.ps_model.specs.Book.{Book, State, empty_state}
-use Rattle.ps_model.specs.Built.{is_built_entry, is_built_event}
 use Rattle.ps_model.specs.Core.{Core, handed}
 use Rattle.ps_model.specs.CoreLaws.{Gains, HasBoot, IsLawful, Laws}
 use Rattle.ps_model.specs.Numbered.{numbered, row_notices}
-use Rattle.ps_model.specs.Replay.{AreAcceptedFrom, IsLawfulFrom, accepted, accepted_at, is_booted, lawful, lawful_by, notices_by, of_bare, replay_by, replay_from, row_accepted, to_address}
+use Rattle.ps_model.specs.Replay.{AreAcceptedFrom, IsLawfulFrom, accepted, accepted_at, is_booted, is_row, lawful, lawful_based, notices, of_bare, replay, replay_from, row_accepted, to_address}
 use Rattle.ps_types.specs.LineTree.{line_tree}
 use Rattle.ps_types.specs.Shape.{attr_text}
 use Rattle.ps_types.specs.declared.denial.Condition.{Condition}
@@ -48,7 +46,7 @@ use Rattle.ps_model.specs.Taken as taken
 use Rattle.ps_model.specs.Taking as taking
 use Rattle.ps_model.specs.Taking.{ask_taken, head_of, is_white, request_in, result_taken, sender_taken, target_taken, tree_taken}
 use Rattle.ps_model.specs.Tallies.{is_after_row, is_next_line, greatest_line, handed_to, is_line_of, line_in, made_for, more_made}
-use Rattle.ps_model.specs.TheCore.{core_of, the_core}
+use Rattle.ps_model.specs.TheCore.{based_core, the_core}
 use Rattle.ps_model.proofs.Going.{notices-append, replay-append}
 use Rattle.ps_model.proofs.NumberLaws.{handed-has-one, handed-is-bare, of-full, totals}
 use Rattle.ps_model.proofs.ServiceStays.{service-stays}
@@ -194,186 +192,178 @@ some-text : (text : List ℕ) → text ≢ [] → nat_lt 0 (length text) ≡ tru
 some-text [] some = absurd (some refl)
 some-text (x ∷ text) some = lt-ltb 0 (length (x ∷ text)) (omega arith)
 
--- the service where these events are told and an entry is accepted by this test
-unfoldable core_by : (Event → Bool) → (State → Entry → Bool) → Core
-core_by told accepts = record {
-  accepted = λ E e. accepts (replay_by told E) e;
-  reply = λ E host line arrival full. option_map print (reply_to host (replay_by told E).book line arrival full);
-  entry = λ E host line arrival full. entry_of host (replay_by told E).book line arrival full;
-  greatest = λ E host. greatest_line host (replay_by told E).lines;
-  notices = notices_by told;
+-- the service where an entry is accepted by this test
+unfoldable core_by : (State → Entry → Bool) → Core
+core_by accepts = record {
+  accepted = λ E e. accepts (replay E) e;
+  reply = λ E host line arrival full. option_map print (reply_to host (replay E).book line arrival full);
+  entry = λ E host line arrival full. entry_of host (replay E).book line arrival full;
+  greatest = λ E host. greatest_line host (replay E).lines;
+  notices = notices;
 }
 
-module _ (told : Event → Bool) where
-  -- ---- lawful lists
+-- ---- lawful lists
 
-  replay-push : (E : List Entry) (e : Entry) → replay_by told (E ++ e ∷ []) ≡ step.after told (replay_by told E) e
-  replay-push E e = replay-append told E (e ∷ []) empty_state
+replay-push : (E : List Entry) (e : Entry) → replay (E ++ e ∷ []) ≡ step.after (replay E) e
+replay-push E e = replay-append E (e ∷ []) empty_state
 
-  -- ---- the first boot
+-- ---- the first boot
 
-  booted-after : (s : State) (e : Entry) → accepted_at s e ≡ true → is_booted s ≡ true → is_booted (step.after told s e) ≡ true
-  booted-after s (Boot service) is booted = is
-  booted-after s (Change host line moment t) is booted = ap (λ (l : List ℕ). nat_lt 0 (length l)) (book-stays (request_on host s.book t) moment s.book) ∙ booted
-  booted-after s (Handed to) is booted = booted
-  booted-after s (Gone host) is booted = booted
-  booted-after s (Base row) is booted =
-      let q = (and_parts (not (is_booted s)) (row_accepted (row_of row) s) is).0 in
-      absurd (true≢false (sym q ∙ ap not booted))
+booted-after : (s : State) (e : Entry) → accepted_at s e ≡ true → is_booted s ≡ true → is_booted (step.after s e) ≡ true
+booted-after s (Boot service) is booted = is
+booted-after s (Change host line moment t) is booted = ap (λ (l : List ℕ). nat_lt 0 (length l)) (book-stays (request_on host s.book t) moment s.book) ∙ booted
+booted-after s (Handed to) is booted = booted
+booted-after s (Gone host) is booted = booted
+booted-after s (Base row) is booted =
+    let q = (and_parts (not (is_booted s)) (row_accepted (row_of row) s) is).0 in
+    absurd (true≢false (sym q ∙ ap not booted))
 
-  booted-on : (E : List Entry) (s : State) → IsLawfulFrom told s E → is_booted s ≡ true → is_booted (replay_from told s E) ≡ true
-  booted-on [] s is booted = booted
-  booted-on (e ∷ E) s is booted = booted-on E (step.after told s e) is.1 (booted-after s e is.0 booted)
+booted-on : (E : List Entry) (s : State) → IsLawfulFrom s E → is_booted s ≡ true → is_booted (replay_from s E) ≡ true
+booted-on [] s is booted = booted
+booted-on (e ∷ E) s is booted = booted-on E (step.after s e) is.1 (booted-after s e is.0 booted)
 
-  booted-from : (E : List Entry) (s : State) → IsLawfulFrom told s E → HasBoot E → is_booted (replay_from told s E) ≡ true
-  booted-from [] s is has = absurd has
-  booted-from (Boot service ∷ E) s is has = booted-on E (step.after told s (Boot service)) is.1 is.0
-  booted-from (Change host line moment t ∷ E) s is has = booted-from E (step.after told s (Change host line moment t)) is.1 has
-  booted-from (Handed to ∷ E) s is has = booted-from E (step.after told s (Handed to)) is.1 has
-  booted-from (Gone host ∷ E) s is has = booted-from E (step.after told s (Gone host)) is.1 has
-  booted-from (Base row ∷ E) s is has = booted-from E (step.after told s (Base row)) is.1 has
+booted-from : (E : List Entry) (s : State) → IsLawfulFrom s E → HasBoot E → is_booted (replay_from s E) ≡ true
+booted-from [] s is has = absurd has
+booted-from (Boot service ∷ E) s is has = booted-on E (step.after s (Boot service)) is.1 is.0
+booted-from (Change host line moment t ∷ E) s is has = booted-from E (step.after s (Change host line moment t)) is.1 has
+booted-from (Handed to ∷ E) s is has = booted-from E (step.after s (Handed to)) is.1 has
+booted-from (Gone host ∷ E) s is has = booted-from E (step.after s (Gone host)) is.1 has
+booted-from (Base row ∷ E) s is has = booted-from E (step.after s (Base row)) is.1 has
 
-  is-booted : (E : List Entry) → lawful_by told E → HasBoot E → is_booted (replay_by told E) ≡ true
-  is-booted E is has = booted-from E empty_state is has
+is-booted : (E : List Entry) → lawful_based E → HasBoot E → is_booted (replay E) ≡ true
+is-booted E is has = booted-from E empty_state is has
 
-  -- ---- lines
+-- ---- lines
 
-  greatest-boot : (E : List Entry) (service h : List ℕ) → greatest_line h (replay_by told (E ++ Boot service ∷ [])).lines ≡ 0
-  greatest-boot E service h = ap (λ (s : State). greatest_line h s.lines) (replay-push E (Boot service))
+greatest-boot : (E : List Entry) (service h : List ℕ) → greatest_line h (replay (E ++ Boot service ∷ [])).lines ≡ 0
+greatest-boot E service h = ap (λ (s : State). greatest_line h s.lines) (replay-push E (Boot service))
 
-  greatest-same : (E : List Entry) (host : List ℕ) (line : ℕ) (moment : Option ℕ) (t : Tree) → greatest_line host (replay_by told (E ++ Change host line moment t ∷ [])).lines ≡ line
-  greatest-same E host line moment t =
-      ap (λ (s : State). greatest_line host s.lines) (replay-push E (Change host line moment t))
-      ∙ ap line_in (found (is_line_of host) (is_line_of host) (record { host = host; line = line }) (same-host host) (replay_by told E).lines)
+greatest-same : (E : List Entry) (host : List ℕ) (line : ℕ) (moment : Option ℕ) (t : Tree) → greatest_line host (replay (E ++ Change host line moment t ∷ [])).lines ≡ line
+greatest-same E host line moment t =
+    ap (λ (s : State). greatest_line host s.lines) (replay-push E (Change host line moment t))
+    ∙ ap line_in (found (is_line_of host) (is_line_of host) (record { host = host; line = line }) (same-host host) (replay E).lines)
 
-  greatest-else : (E : List Entry) (host : List ℕ) (line : ℕ) (moment : Option ℕ) (t : Tree) (h : List ℕ) → h ≢ host → greatest_line h (replay_by told (E ++ Change host line moment t ∷ [])).lines ≡ greatest_line h (replay_by told E).lines
-  greatest-else E host line moment t h differ =
-      let row : LineRow = record { host = host; line = line } in
-      let is : is_line_of h row ≡ false = let b = bytes_eq h host in other-host h host differ b refl in
-      let apart = λ (x : LineRow) (e : is_line_of host x ≡ true). let same : host ≡ x.host = (bytes_eq-Decides host x.host).0 e in let b = bytes_eq h x.host in other-host h x.host (λ q. differ (q ∙ sym same)) b refl in
-      ap (λ (s : State). greatest_line h s.lines) (replay-push E (Change host line moment t))
-      ∙ ap line_in (kept (is_line_of host) (is_line_of h) row is apart (replay_by told E).lines)
+greatest-else : (E : List Entry) (host : List ℕ) (line : ℕ) (moment : Option ℕ) (t : Tree) (h : List ℕ) → h ≢ host → greatest_line h (replay (E ++ Change host line moment t ∷ [])).lines ≡ greatest_line h (replay E).lines
+greatest-else E host line moment t h differ =
+    let row : LineRow = record { host = host; line = line } in
+    let is : is_line_of h row ≡ false = let b = bytes_eq h host in other-host h host differ b refl in
+    let apart = λ (x : LineRow) (e : is_line_of host x ≡ true). let same : host ≡ x.host = (bytes_eq-Decides host x.host).0 e in let b = bytes_eq h x.host in other-host h x.host (λ q. differ (q ∙ sym same)) b refl in
+    ap (λ (s : State). greatest_line h s.lines) (replay-push E (Change host line moment t))
+    ∙ ap line_in (kept (is_line_of host) (is_line_of h) row is apart (replay E).lines)
 
-  -- ---- notices
+-- ---- notices
 
-  entry-at : (s : State) (e : Entry) → AllAt s.count (step.notices_at told s e)
-  entry-at s (Boot service) = numbered-at s.count (step.handed_out told s (Boot service)) s.tallies
-  entry-at s (Change host line moment t) = numbered-at s.count (step.handed_out told s (Change host line moment t)) s.tallies
-  entry-at s (Handed to) = numbered-at s.count (step.handed_out told s (Handed to)) s.tallies
-  entry-at s (Gone host) = numbered-at s.count (step.handed_out told s (Gone host)) s.tallies
-  entry-at s (Base row) = row-at s.count s.tallies (row_of row)
+entry-at : (s : State) (e : Entry) → AllAt s.count (step.notices_at s e)
+entry-at s (Boot service) = numbered-at s.count (step.handed_out s (Boot service)) s.tallies
+entry-at s (Change host line moment t) = numbered-at s.count (step.handed_out s (Change host line moment t)) s.tallies
+entry-at s (Handed to) = numbered-at s.count (step.handed_out s (Handed to)) s.tallies
+entry-at s (Gone host) = numbered-at s.count (step.handed_out s (Gone host)) s.tallies
+entry-at s (Base row) = row-at s.count s.tallies (row_of row)
 
-  count-is : (E : List Entry) (s : State) → (replay_from told s E).count ≡ s.count + length E
-  count-is [] s = (let e : s.count ≡ s.count + 0 = omega arith in e)
-  count-is (e ∷ E) s = count-is E (step.after told s e) ∙ (let z : s.count + 1 + length E ≡ s.count + suc (length E) = omega arith in z)
+count-is : (E : List Entry) (s : State) → (replay_from s E).count ≡ s.count + length E
+count-is [] s = (let e : s.count ≡ s.count + 0 = omega arith in e)
+count-is (e ∷ E) s = count-is E (step.after s e) ∙ (let z : s.count + 1 + length E ≡ s.count + suc (length E) = omega arith in z)
 
-  gained : (accepts : State → Entry → Bool) (E : List Entry) (e : Entry) (a : Jid) → Gains (core_by told accepts) E e a
-  unfolding core_by
-  gained accepts E e a =
-      let s = replay_by told E in
-      let ns = to_address a (step.notices_at told s e) in
-      let each = bare-at s.count a.resource (filter (λ n. same_bare n.to a) (step.notices_at told s e)) (filter-at s.count (λ n. same_bare n.to a) (step.notices_at told s e) (entry-at s e)) in
-      record {
-        more = ns;
-        after = notices-append told E (e ∷ []) empty_state a ∙ ap (λ (l : List Notice). notices_by told E a ++ l) (append-nil ns);
-        places = λ k n at. at-get s.count ns each k n at ∙ count-is E empty_state ∙ (let z : 0 + length E ≡ length E = omega arith in z);
-      }
+gained : (accepts : State → Entry → Bool) (E : List Entry) (e : Entry) (a : Jid) → Gains (core_by accepts) E e a
+unfolding core_by
+gained accepts E e a =
+    let s = replay E in
+    let ns = to_address a (step.notices_at s e) in
+    let each = bare-at s.count a.resource (filter (λ n. same_bare n.to a) (step.notices_at s e)) (filter-at s.count (λ n. same_bare n.to a) (step.notices_at s e) (entry-at s e)) in
+    record {
+      more = ns;
+      after = notices-append E (e ∷ []) empty_state a ∙ ap (λ (l : List Notice). notices E a ++ l) (append-nil ns);
+      places = λ k n at. at-get s.count ns each k n at ∙ count-is E empty_state ∙ (let z : 0 + length E ≡ length E = omega arith in z);
+    }
 
-  -- ---- records of notices
+-- ---- records of notices
 
-  handed-accepted : (E : List Entry) (a : Jid) → lawful_by told E → HasBoot E → handed E a < length (notices_by told E a) → accepted_at (replay_by told E) (Handed a) ≡ true
-  handed-accepted E a is has less = by a.resource refl
-    where
-      by : (resource : List ℕ) → a.resource ≡ resource → accepted_at (replay_by told E) (Handed a) ≡ true
-      by [] bare =
-          let t = totals told a bare E is in
-          let more : handed_to a (replay_by told E).tallies < made_for a (replay_by told E).tallies = omega (arith, t.1, t.2, less) in
-          all-true (is_booted (replay_by told E)) (length a.resource == 0) (nat_lt (handed_to a (replay_by told E).tallies) (made_for a (replay_by told E).tallies)) (is-booted E is has)
-          (ap (λ (r : List ℕ). length r == 0) bare) (lt-ltb (handed_to a (replay_by told E).tallies) (made_for a (replay_by told E).tallies) more)
-      by (x ∷ resource) full =
-          let none : notices_by told E a ≡ [] = of-full told E empty_state a x resource full in
-          absurd (let no : handed E a < 0 = rw (← ap length none) less in omega (arith, no))
+handed-accepted : (E : List Entry) (a : Jid) → lawful_based E → HasBoot E → handed E a < length (notices E a) → accepted_at (replay E) (Handed a) ≡ true
+handed-accepted E a is has less = by a.resource refl
+  where
+    by : (resource : List ℕ) → a.resource ≡ resource → accepted_at (replay E) (Handed a) ≡ true
+    by [] bare =
+        let t = totals a bare E is in
+        let more : handed_to a (replay E).tallies < made_for a (replay E).tallies = omega (arith, t.1, t.2, less) in
+        all-true (is_booted (replay E)) (length a.resource == 0) (nat_lt (handed_to a (replay E).tallies) (made_for a (replay E).tallies)) (is-booted E is has)
+        (ap (λ (r : List ℕ). length r == 0) bare) (lt-ltb (handed_to a (replay E).tallies) (made_for a (replay E).tallies) more)
+    by (x ∷ resource) full =
+        let none : notices E a ≡ [] = of-full E empty_state a x resource full in
+        absurd (let no : handed E a < 0 = rw (← ap length none) less in omega (arith, no))
 
-  handed-only : (E : List Entry) (a : Jid) → lawful_by told E → accepted_at (replay_by told E) (Handed a) ≡ true → handed E a < length (notices_by told E a)
-  handed-only E a is ok =
-      let bare = handed-is-bare (replay_by told E) a ok in
-      let has = handed-has-one (replay_by told E) a ok in
-      let t = totals told a bare E is in
-      omega (arith, has, t.1, t.2)
+handed-only : (E : List Entry) (a : Jid) → lawful_based E → accepted_at (replay E) (Handed a) ≡ true → handed E a < length (notices E a)
+handed-only E a is ok =
+    let bare = handed-is-bare (replay E) a ok in
+    let has = handed-has-one (replay E) a ok in
+    let t = totals a bare E is in
+    omega (arith, has, t.1, t.2)
 
-  change-accepted : (E : List Entry) (host : List ℕ) (line : ℕ) (a : Arrival) (full : Bool) (e : Entry) → lawful_by told E → HasBoot E → entry_of host (replay_by told E).book line a full ≡ Some e → greatest_line host (replay_by told E).lines < line → accepted_at (replay_by told E) e ≡ true
-  change-accepted E host line a full e is has at less =
-      let s = replay_by told E in
-      let m = made-entry host s.book line (moment_of a) full (taking.taken host s.book.service a) e at in
-      let read : tree_taken host s.book.service m.tree ≡ taken.asked m.tree m.request = arrival-tree host s.book.service a m.tree m.request m.is in
-      let asks : request_accepted (request_in (tree_taken host s.book.service m.tree)) s.book ≡ true =
-      ap (λ (x : Taken). request_accepted (request_in x) s.book) read ∙ both (is_accepted (check s.book m.request)) (commits s.book m.request) m.accepted_is m.commits_is in
-      let ok : accepted_at s (Change host line (moment_of a) m.tree) ≡ true =
-      all-true (is_booted s) (request_accepted (request_in (tree_taken host s.book.service m.tree)) s.book) (is_next_line host line s.lines) (is-booted E is has) asks (next-line line (find (is_line_of host) s.lines) less) in
-      ap (accepted_at s) m.entry_is ∙ ok
+change-accepted : (E : List Entry) (host : List ℕ) (line : ℕ) (a : Arrival) (full : Bool) (e : Entry) → lawful_based E → HasBoot E → entry_of host (replay E).book line a full ≡ Some e → greatest_line host (replay E).lines < line → accepted_at (replay E) e ≡ true
+change-accepted E host line a full e is has at less =
+    let s = replay E in
+    let m = made-entry host s.book line (moment_of a) full (taking.taken host s.book.service a) e at in
+    let read : tree_taken host s.book.service m.tree ≡ taken.asked m.tree m.request = arrival-tree host s.book.service a m.tree m.request m.is in
+    let asks : request_accepted (request_in (tree_taken host s.book.service m.tree)) s.book ≡ true =
+    ap (λ (x : Taken). request_accepted (request_in x) s.book) read ∙ both (is_accepted (check s.book m.request)) (commits s.book m.request) m.accepted_is m.commits_is in
+    let ok : accepted_at s (Change host line (moment_of a) m.tree) ≡ true =
+    all-true (is_booted s) (request_accepted (request_in (tree_taken host s.book.service m.tree)) s.book) (is_next_line host line s.lines) (is-booted E is has) asks (next-line line (find (is_line_of host) s.lines) less) in
+    ap (accepted_at s) m.entry_is ∙ ok
 
 -- ---- the laws, by a test that tells from the acceptance of an entry at most that no row may stand
-
-abbrev is_row : Entry → Bool
-is_row (Boot service) = false
-is_row (Change host line moment t) = false
-is_row (Handed to) = false
-is_row (Gone host) = false
-is_row (Base row) = true
 
 -- how a test of entries stands to their acceptance
 record Tests (accepts : State → Entry → Bool) : Type 0 where
   only : (s : State) (e : Entry) → accepts s e ≡ true → accepted_at s e ≡ true
   all : (s : State) (e : Entry) → is_row e ≡ false → accepted_at s e ≡ true → accepts s e ≡ true
 
-module _ (told : Event → Bool) (accepts : State → Entry → Bool) (tests : Tests accepts) where
+module _ (accepts : State → Entry → Bool) (tests : Tests accepts) where
   -- a list that is accepted place by place, from its first entry on and at each place
-  from-places : (P E : List Entry) → ((p : ℕ) (e : Entry) → slice_get E p ≡ Some e → accepts (replay_by told (P ++ take p E)) e ≡ true) → AreAcceptedFrom told accepts (replay_by told P) E
+  from-places : (P E : List Entry) → ((p : ℕ) (e : Entry) → slice_get E p ≡ Some e → accepts (replay (P ++ take p E)) e ≡ true) → AreAcceptedFrom accepts (replay P) E
   from-places P [] each = tt
   from-places P (e ∷ E) each = (
-    ap (λ (l : List Entry). accepts (replay_by told l) e) (sym (append-nil P)) ∙ each 0 e refl,
-    subst (λ (s : State). AreAcceptedFrom told accepts s E) (replay-push told P e)
-        (from-places (P ++ e ∷ []) E (λ p f at. ap (λ (l : List Entry). accepts (replay_by told l) f) (append_assoc P (e ∷ []) (take p E)) ∙ each (suc p) f at)),
+    ap (λ (l : List Entry). accepts (replay l) e) (sym (append-nil P)) ∙ each 0 e refl,
+    subst (λ (s : State). AreAcceptedFrom accepts s E) (replay-push P e)
+        (from-places (P ++ e ∷ []) E (λ p f at. ap (λ (l : List Entry). accepts (replay l) f) (append_assoc P (e ∷ []) (take p E)) ∙ each (suc p) f at)),
   )
 
-  each-at : (E : List Entry) (s : State) → AreAcceptedFrom told accepts s E → (p : ℕ) (e : Entry) → slice_get E p ≡ Some e → accepts (replay_from told s (take p E)) e ≡ true
+  each-at : (E : List Entry) (s : State) → AreAcceptedFrom accepts s E → (p : ℕ) (e : Entry) → slice_get E p ≡ Some e → accepts (replay_from s (take p E)) e ≡ true
   each-at [] s is p e at = absurd (let no : None ≡ Some e = at in cc no)
   each-at (x ∷ E) s is zero e at = let same : x ≡ e = cc at in subst (λ (y : Entry). accepts s y ≡ true) same is.0
-  each-at (x ∷ E) s is (suc p) e at = each-at E (step.after told s x) is.1 p e at
+  each-at (x ∷ E) s is (suc p) e at = each-at E (step.after s x) is.1 p e at
 
-  are-lawful : (E : List Entry) (s : State) → AreAcceptedFrom told accepts s E → IsLawfulFrom told s E
+  are-lawful : (E : List Entry) (s : State) → AreAcceptedFrom accepts s E → IsLawfulFrom s E
   are-lawful [] s is = tt
-  are-lawful (e ∷ E) s is = (tests.only s e is.0, are-lawful E (step.after told s e) is.1)
+  are-lawful (e ∷ E) s is = (tests.only s e is.0, are-lawful E (step.after s e) is.1)
 
-  lawful-places : (E : List Entry) → IsLawful (core_by told accepts) E → AreAcceptedFrom told accepts empty_state E
+  lawful-places : (E : List Entry) → IsLawful (core_by accepts) E → AreAcceptedFrom accepts empty_state E
   unfolding core_by
   lawful-places E each = from-places [] E each
 
-  places-lawful : (E : List Entry) → AreAcceptedFrom told accepts empty_state E → IsLawful (core_by told accepts) E
+  places-lawful : (E : List Entry) → AreAcceptedFrom accepts empty_state E → IsLawful (core_by accepts) E
   unfolding core_by
   places-lawful E is p e at = each-at E empty_state is p e at
 
-  is-lawful : (E : List Entry) → IsLawful (core_by told accepts) E → lawful_by told E
+  is-lawful : (E : List Entry) → IsLawful (core_by accepts) E → lawful_based E
   is-lawful E each = are-lawful E empty_state (lawful-places E each)
 
-  laws-by : Laws (core_by told accepts)
+  laws-by : Laws (core_by accepts)
   unfolding core_by
   laws-by = record {
-    change = λ E host line a full e at. (let m = made-entry host (replay_by told E).book line (moment_of a) full (taking.taken host (replay_by told E).book.service a) e at in (moment_of a, m.tree, m.entry_is));
+    change = λ E host line a full e at. (let m = made-entry host (replay E).book line (moment_of a) full (taking.taken host (replay E).book.service a) e at in (moment_of a, m.tree, m.entry_is));
     change_ok = λ E host line a full e is has at less. (
-        let m = made-entry host (replay_by told E).book line (moment_of a) full (taking.taken host (replay_by told E).book.service a) e at in
-        tests.all (replay_by told E) e (ap is_row m.entry_is) (change-accepted told E host line a full e (is-lawful E is) has at less));
-    full_none = λ E host line a. full-none host (replay_by told E).book line (moment_of a) (taking.taken host (replay_by told E).book.service a) (entry_of host (replay_by told E).book line a true) refl;
-    boot_ok = λ E service some. tests.all (replay_by told E) (Boot service) refl (some-text service some);
-    gone_ok = λ E host is has. tests.all (replay_by told E) (Gone host) refl (is-booted told E (is-lawful E is) has);
-    handed_ok = λ E a is has less. tests.all (replay_by told E) (Handed a) refl (handed-accepted told E a (is-lawful E is) has less);
-    handed_only = λ E a is ok. handed-only told E a (is-lawful E is) (tests.only (replay_by told E) (Handed a) ok);
-    greatest_boot = greatest-boot told;
-    greatest_same = greatest-same told;
-    greatest_else = greatest-else told;
-    greatest_handed = λ E a h. ap (λ (s : State). greatest_line h s.lines) (replay-push told E (Handed a));
-    greatest_gone = λ E host h. ap (λ (s : State). greatest_line h s.lines) (replay-push told E (Gone host));
-    gains = gained told accepts;
+        let m = made-entry host (replay E).book line (moment_of a) full (taking.taken host (replay E).book.service a) e at in
+        tests.all (replay E) e (ap is_row m.entry_is) (change-accepted E host line a full e (is-lawful E is) has at less));
+    full_none = λ E host line a. full-none host (replay E).book line (moment_of a) (taking.taken host (replay E).book.service a) (entry_of host (replay E).book line a true) refl;
+    boot_ok = λ E service some. tests.all (replay E) (Boot service) refl (some-text service some);
+    gone_ok = λ E host is has. tests.all (replay E) (Gone host) refl (is-booted E (is-lawful E is) has);
+    handed_ok = λ E a is has less. tests.all (replay E) (Handed a) refl (handed-accepted E a (is-lawful E is) has less);
+    handed_only = λ E a is ok. handed-only E a (is-lawful E is) (tests.only (replay E) (Handed a) ok);
+    greatest_boot = greatest-boot;
+    greatest_same = greatest-same;
+    greatest_else = greatest-else;
+    greatest_handed = λ E a h. ap (λ (s : State). greatest_line h s.lines) (replay-push E (Handed a));
+    greatest_gone = λ E host h. ap (λ (s : State). greatest_line h s.lines) (replay-push E (Gone host));
+    gains = gained accepts;
     none = λ a. refl;
   }
 
@@ -390,33 +380,33 @@ built-all s (Gone host) plain is = is
 built-all s (Base row) plain is = absurd (true≢false plain)
 
 todays-tests : Tests accepted
-todays-tests = record { only = λ s e is. (and_parts (is_built_entry e) (accepted_at s e) is).1; all = built-all }
+todays-tests = record { only = λ s e is. (and_parts (not (is_row e)) (accepted_at s e) is).1; all = built-all }
 
-pub laws-of : (told : Event → Bool) → Laws (core_of told)
-unfolding core_of core_by
-laws-of told = laws-by told accepted_at full-tests
+pub laws-of : Laws based_core
+unfolding based_core core_by
+laws-of = laws-by accepted_at full-tests
 
 pub the-laws : Laws the_core
 unfolding the_core core_by
-the-laws = laws-by is_built_event accepted todays-tests
+the-laws = laws-by accepted todays-tests
 
 -- the two ways to say that a list is lawful
-pub places-of : (told : Event → Bool) (E : List Entry) → IsLawful (core_of told) E → lawful_by told E
-unfolding core_of core_by
-places-of told E each = lawful-places told accepted_at full-tests E each
+pub places-of : (E : List Entry) → IsLawful based_core E → lawful_based E
+unfolding based_core core_by
+places-of E each = lawful-places accepted_at full-tests E each
 
-pub of-places : (told : Event → Bool) (E : List Entry) → lawful_by told E → IsLawful (core_of told) E
-unfolding core_of core_by
-of-places told E is = places-lawful told accepted_at full-tests E is
+pub of-places : (E : List Entry) → lawful_based E → IsLawful based_core E
+unfolding based_core core_by
+of-places E is = places-lawful accepted_at full-tests E is
 
 pub todays-places : (E : List Entry) → IsLawful the_core E → lawful E
 unfolding the_core core_by
-todays-places E each = lawful-places is_built_event accepted todays-tests E each
+todays-places E each = lawful-places accepted todays-tests E each
 
 pub of-todays-places : (E : List Entry) → lawful E → IsLawful the_core E
 unfolding the_core core_by
-of-todays-places E is = places-lawful is_built_event accepted todays-tests E is
+of-todays-places E is = places-lawful accepted todays-tests E is
 
 -- a list that is lawful today is lawful
-pub todays-lawful : (E : List Entry) → lawful E → lawful_by is_built_event E
-todays-lawful E is = are-lawful is_built_event accepted todays-tests E empty_state is
+pub todays-lawful : (E : List Entry) → lawful E → lawful_based E
+todays-lawful E is = are-lawful accepted todays-tests E empty_state is

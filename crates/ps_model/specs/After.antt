@@ -1,5 +1,5 @@
 -- What an entry leaves: the Book, the events that it gives rise to, the notices that they make, and the numbers beside the Book.
-use Rattle.std.specs.Prelude.{ℕ, ◌+◌, Bool, List, [], Option, Some, None, filter, map, codes}
+use Rattle.std.specs.Prelude.{ℕ, ◌+◌, List, [], Option, Some, None, map, codes}
 use Rattle.std.specs.List.{filter_map, flat_map}
 use Rattle.ps_types.specs.Resources.{resources_off}
 use Rattle.ps_types.specs.Shape.{attr_text}
@@ -77,25 +77,25 @@ lines_after (Boot service) lines = []
 lines_after (Change host line moment t) lines = lines_with host line lines
 lines_after _ lines = lines
 
--- ---- where these events are told
-module _ (told : Event → Bool) where
-  -- what the entry gives the address, without the ids
-  abbrev pub due : State → Entry → Jid → List Tree
-  due s e who = due_of s.book (book_after s.book e) (filter told (events s.book e)) who
+-- ---- the notices, and the State after
 
-  -- what it gives all addresses
-  abbrev pub handed_out : State → Entry → List (Jid × Tree)
-  handed_out s e = all_due s.book (book_after s.book e) (filter told (events s.book e))
+-- what the entry gives the address, without the ids
+abbrev pub due : State → Entry → Jid → List Tree
+due s e who = due_of s.book (book_after s.book e) (events s.book e) who
 
-  -- the notices that the entry makes at its place
-  abbrev pub notices_at : State → Entry → List Notice
-  notices_at s (Base row) = row_notices s.count s.tallies (row_of row)
-  notices_at s e = numbered s.count s.tallies (handed_out s e)
+-- what it gives all addresses
+abbrev pub handed_out : State → Entry → List (Jid × Tree)
+handed_out s e = all_due s.book (book_after s.book e) (events s.book e)
 
-  abbrev pub tallies_after : State → Entry → List TallyRow
-  tallies_after s (Base row) = row_tallies (row_of row) s.tallies
-  tallies_after s (Handed to) = one_handed to s.tallies
-  tallies_after s e = tallied s.tallies (handed_out s e)
+-- the notices that the entry makes at its place
+abbrev pub notices_at : State → Entry → List Notice
+notices_at s (Base row) = row_notices s.count s.tallies (row_of row)
+notices_at s e = numbered s.count s.tallies (handed_out s e)
 
-  abbrev pub after : State → Entry → State
-  after s e = record { book = book_after s.book e; count = s.count + 1; tallies = tallies_after s e; lines = lines_after e s.lines }
+abbrev pub tallies_after : State → Entry → List TallyRow
+tallies_after s (Base row) = row_tallies (row_of row) s.tallies
+tallies_after s (Handed to) = one_handed to s.tallies
+tallies_after s e = tallied s.tallies (handed_out s e)
+
+abbrev pub after : State → Entry → State
+after s e = record { book = book_after s.book e; count = s.count + 1; tallies = tallies_after s e; lines = lines_after e s.lines }

@@ -1,17 +1,15 @@
 -- The entries that a compacted store begins with in the place of a list: the rows of its State, the numbers of handed notices, and the notices that aren't handed.
-use Rattle.std.specs.Prelude.{Bool, ℕ, ◌==◌, List, [], ◌++◌, Option, Some, None, drop, map, if◌then◌else◌}
+use Rattle.std.specs.Prelude.{ℕ, ◌==◌, List, [], ◌++◌, Option, Some, None, drop, map, if◌then◌else◌}
 use Rattle.std.specs.List.{filter_map, flat_map}
 use Rattle.ps_types.specs.declared.entry.Entry.{Entry}
 use Rattle.ps_types.specs.declared.entry.Entry.TheVariants as entry
 use Rattle.ps_types.specs.declared.entry.Notice.{Notice}
-use Rattle.ps_types.specs.declared.event.Event.{Event}
 use Rattle.ps_types.specs.declared.jid.Jid.{Jid}
 use Rattle.ps_types.specs.declared.rows.NodeRow.{NodeRow}
 use Rattle.ps_types.specs.declared.rows.TallyRow.{TallyRow}
 use Rattle.ps_model.specs.BaseRows.{BaseRow, node, affiliation, subscription, item, link, contact, ver, made, counter, notice, row_tree}
 use Rattle.ps_model.specs.Book.{Book, empty_state}
 use Rattle.ps_model.specs.Core.{handed}
-use Rattle.ps_model.specs.Built.{is_built_event}
 use Rattle.ps_model.specs.Replay.{notices_from, replay_from}
 use Rattle.ps_model.specs.Sorted.{sorted}
 use Rattle.ps_model.specs.Tallies.{handed_to}
@@ -36,22 +34,19 @@ counter_by number who = if number == 0 then None else Some (counter who number)
 abbrev pub counter_rows : List TallyRow → List BaseRow
 counter_rows tallies = filter_map (λ who. counter_by (handed_to who tallies) who) (told_addresses tallies)
 
--- ---- where these events are told
-module _ (told : Event → Bool) where
-  -- the notices that no Handed of the list counts
-  abbrev pub unhanded : List Entry → Jid → List Notice
-  unhanded E who = drop (handed E who) (notices_from told empty_state E who)
+-- ---- the notices, and the whole
 
-  abbrev pub notice_rows : List Entry → List TallyRow → List BaseRow
-  notice_rows E tallies = map (λ n. notice n.to n.line) (flat_map (unhanded E) (told_addresses tallies))
+-- the notices that no Handed of the list counts
+abbrev pub unhanded : List Entry → Jid → List Notice
+unhanded E who = drop (handed E who) (notices_from empty_state E who)
 
-  abbrev pub rows_of : List Entry → List BaseRow
-  rows_of E =
-      let s = replay_from told empty_state E in
-      book_rows s.book ++ (counter_rows s.tallies ++ notice_rows E s.tallies)
+abbrev pub notice_rows : List Entry → List TallyRow → List BaseRow
+notice_rows E tallies = map (λ n. notice n.to n.line) (flat_map (unhanded E) (told_addresses tallies))
 
-  abbrev pub base_of : List Entry → List Entry
-  base_of E = map (λ r. entry.Base (row_tree r)) (rows_of E)
+abbrev pub rows_of : List Entry → List BaseRow
+rows_of E =
+    let s = replay_from empty_state E in
+    book_rows s.book ++ (counter_rows s.tallies ++ notice_rows E s.tallies)
 
 abbrev pub base : List Entry → List Entry
-base E = base_of is_built_event E
+base E = map (λ r. entry.Base (row_tree r)) (rows_of E)

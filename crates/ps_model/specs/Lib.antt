@@ -1,4 +1,5 @@
 pub mod Access
+pub mod Addressed
 pub mod After
 pub mod AskEntity
 pub mod AskOwner
@@ -13,7 +14,6 @@ pub mod BaseRead
 pub mod BaseRows
 pub mod Book
 pub mod Bounds
-pub mod Built
 pub mod ChangeEntity
 pub mod ChangeNodes
 pub mod ChangeOwner

@@ -1,5 +1,5 @@
--- The laws of whole lists of entries, wherever these events are told, and of what an event gives.
-use Rattle.std.specs.Prelude.{◌≡◌, ℕ, ◌+◌, ◌++◌, Bool, true, List, Some, slice_get}
+-- The laws of whole lists of entries, which may begin with the rows of a compacted store, and of what an event gives.
+use Rattle.std.specs.Prelude.{◌≡◌, ℕ, ◌+◌, ◌++◌, true, List, Some, slice_get}
 use Rattle.std.specs.List.{list_any}
 use Rattle.ps_types.specs.Same.{same_jid}
 use Rattle.ps_types.specs.Tree.{Tree}
@@ -12,18 +12,17 @@ use Rattle.ps_model.specs.Book.{Book}
 use Rattle.ps_model.specs.Due.{may_read}
 use Rattle.ps_model.specs.Given.{asked, given, node_read}
 use Rattle.ps_model.specs.Numbers.{counter_of}
-use Rattle.ps_model.specs.Replay.{lawful_by, notices_by, notices_from, replay_by, replay_from}
+use Rattle.ps_model.specs.Replay.{lawful_based, notices, notices_from, replay, replay_from}
 
-module _ (told : Event → Bool) where
-  abbrev pub ReplayGoesOn : Type 0
-  ReplayGoesOn = (E F : List Entry) → replay_by told (E ++ F) ≡ replay_from told (replay_by told E) F
+abbrev pub ReplayGoesOn : Type 0
+ReplayGoesOn = (E F : List Entry) → replay (E ++ F) ≡ replay_from (replay E) F
 
-  abbrev pub NoticesGrow : Type 0
-  NoticesGrow = (E F : List Entry) (a : Jid) → notices_by told (E ++ F) a ≡ notices_by told E a ++ notices_from told (replay_by told E) F a
+abbrev pub NoticesGrow : Type 0
+NoticesGrow = (E F : List Entry) (a : Jid) → notices (E ++ F) a ≡ notices E a ++ notices_from (replay E) F a
 
-  -- the k-th notice of a bare address has the number of its counter and k
-  abbrev pub NumbersRise : Type 0
-  NumbersRise = (E : List Entry) (a : Jid) → lawful_by told E → (k : ℕ) (n : Notice) → slice_get (notices_by told E a) k ≡ Some n → n.number ≡ counter_of E a + (k + 1)
+-- the k-th notice of a bare address has the number of its counter and k
+abbrev pub NumbersRise : Type 0
+NumbersRise = (E : List Entry) (a : Jid) → lawful_based E → (k : ℕ) (n : Notice) → slice_get (notices E a) k ≡ Some n → n.number ≡ counter_of E a + (k + 1)
 
 -- who gets something of an event is among those that are asked, and may read the node of the event
 abbrev pub NobodyIsMissed : Book → Event → Type 0

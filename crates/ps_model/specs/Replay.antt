@@ -4,15 +4,13 @@ use Rattle.ps_types.specs.Same.{same_bare}
 use Rattle.ps_types.specs.declared.entry.Entry.{Entry}
 use Rattle.ps_types.specs.declared.entry.Entry.TheVariants.{Boot, Change, Handed, Gone, Base}
 use Rattle.ps_types.specs.declared.entry.Notice.{Notice}
-use Rattle.ps_types.specs.declared.event.Event.{Event}
 use Rattle.ps_types.specs.declared.jid.Jid.{Jid}
 use Rattle.ps_types.specs.declared.request.Request.{Request}
-use Rattle.ps_model.specs.After as step
+use Rattle.ps_model.specs.After.{after, notices_at}
 use Rattle.ps_model.specs.BaseAfter.{accepts_row}
 use Rattle.ps_model.specs.BaseRead.{row_of}
 use Rattle.ps_model.specs.BaseRows.{BaseRow}
 use Rattle.ps_model.specs.Book.{Book, State, empty_state}
-use Rattle.ps_model.specs.Built.{is_built_entry, is_built_event}
 use Rattle.ps_model.specs.Commits.{makes_entry}
 use Rattle.ps_model.specs.Taking.{request_in, tree_taken}
 use Rattle.ps_model.specs.Tallies.{handed_to, is_next_line, made_for}
@@ -48,51 +46,49 @@ accepted_at s (Handed to) = is_booted s && (length to.resource == 0) && nat_lt (
 accepted_at s (Gone host) = is_booted s
 accepted_at s (Base row) = not (is_booted s) && row_accepted (row_of row) s
 
--- ---- where these events are told
-module _ (told : Event → Bool) where
-  -- from this State on
-  abbrev pub replay_from : State → List Entry → State
-  replay_from s [] = s
-  replay_from s (e ∷ E) = replay_from (step.after told s e) E
+-- ---- whole lists
 
-  abbrev pub notices_from : State → List Entry → Jid → List Notice
-  notices_from s [] a = []
-  notices_from s (e ∷ E) a = to_address a (step.notices_at told s e) ++ notices_from (step.after told s e) E a
+-- the State that entries leave, from this State on
+abbrev pub replay_from : State → List Entry → State
+replay_from s [] = s
+replay_from s (e ∷ E) = replay_from (after s e) E
 
-  -- each entry is accepted at its place, by this test
-  abbrev pub AreAcceptedFrom : (State → Entry → Bool) → State → List Entry → Type 0
-  AreAcceptedFrom accepts s [] = Unit {0}
-  AreAcceptedFrom accepts s (e ∷ E) = (accepts s e ≡ true) × AreAcceptedFrom accepts (step.after told s e) E
+-- the notices that they make for a bare address, in order
+abbrev pub notices_from : State → List Entry → Jid → List Notice
+notices_from s [] a = []
+notices_from s (e ∷ E) a = to_address a (notices_at s e) ++ notices_from (after s e) E a
 
-  abbrev pub IsLawfulFrom : State → List Entry → Type 0
-  IsLawfulFrom s E = AreAcceptedFrom accepted_at s E
+-- each entry is accepted at its place, by this test
+abbrev pub AreAcceptedFrom : (State → Entry → Bool) → State → List Entry → Type 0
+AreAcceptedFrom accepts s [] = Unit {0}
+AreAcceptedFrom accepts s (e ∷ E) = (accepts s e ≡ true) × AreAcceptedFrom accepts (after s e) E
 
-  abbrev pub lawful_by : List Entry → Type 0
-  lawful_by E = IsLawfulFrom empty_state E
+abbrev pub IsLawfulFrom : State → List Entry → Type 0
+IsLawfulFrom s E = AreAcceptedFrom accepted_at s E
 
-  -- the State that a list of entries leaves, and the notices that it makes for a bare address, in order
-  abbrev pub replay_by : List Entry → State
-  replay_by E = replay_from empty_state E
+-- from the empty State on
+abbrev pub replay : List Entry → State
+replay E = replay_from empty_state E
 
-  abbrev pub notices_by : List Entry → Jid → List Notice
-  notices_by E a = notices_from empty_state E a
+abbrev pub notices : List Entry → Jid → List Notice
+notices E a = notices_from empty_state E a
+
+-- each entry is accepted at its place; the list may begin with the rows of a compacted store
+abbrev pub lawful_based : List Entry → Type 0
+lawful_based E = IsLawfulFrom empty_state E
 
 -- ---- today
 
+-- rows of a compacted store aren't taken yet
+abbrev pub is_row : Entry → Bool
+is_row (Boot service) = false
+is_row (Change host line moment t) = false
+is_row (Handed to) = false
+is_row (Gone host) = false
+is_row (Base row) = true
+
 abbrev pub accepted : State → Entry → Bool
-accepted s e = is_built_entry e && accepted_at s e
+accepted s e = not (is_row e) && accepted_at s e
 
-abbrev pub after : State → Entry → State
-after s e = step.after is_built_event s e
-
--- the State that a list of entries leaves
-abbrev pub replay : List Entry → State
-replay E = replay_from is_built_event empty_state E
-
--- the notices that it makes for a bare address, in order
-abbrev pub notices : List Entry → Jid → List Notice
-notices E a = notices_from is_built_event empty_state E a
-
--- each entry is accepted at its place
 abbrev pub lawful : List Entry → Type 0
-lawful E = AreAcceptedFrom is_built_event accepted empty_state E
+lawful E = AreAcceptedFrom accepted empty_state E

@@ -1,24 +1,23 @@
 -- The service as the machine of steps sees it, and the machine over it.
-use Rattle.std.specs.Prelude.{ℕ, Bool, List, option_map}
+use Rattle.std.specs.Prelude.{ℕ, List, option_map}
 use Rattle.ps_types.specs.Print.{print}
 use Rattle.ps_types.specs.declared.entry.Entry.{Entry}
-use Rattle.ps_types.specs.declared.event.Event.{Event}
 use Rattle.ps_model.specs.Core.{Core}
 use Rattle.ps_model.specs.Machine as machine
-use Rattle.ps_model.specs.Replay.{accepted, accepted_at, notices, notices_by, replay, replay_by}
+use Rattle.ps_model.specs.Replay.{accepted, accepted_at, notices, replay}
 use Rattle.ps_model.specs.Replies.{entry_of, reply_to}
 use Rattle.ps_model.specs.Tallies.{greatest_line}
 use Rattle.ps_model.specs.World.{World}
 use Rattle.ps_model.specs.declared.steps.Step.{Step}
 
--- where these events are told
-unfoldable pub core_of : (Event → Bool) → Core
-core_of told = record {
-  accepted = λ E e. accepted_at (replay_by told E) e;
-  reply = λ E host line arrival full. option_map print (reply_to host (replay_by told E).book line arrival full);
-  entry = λ E host line arrival full. entry_of host (replay_by told E).book line arrival full;
-  greatest = λ E host. greatest_line host (replay_by told E).lines;
-  notices = notices_by told;
+-- a list may begin with the rows of a compacted store
+unfoldable pub based_core : Core
+based_core = record {
+  accepted = λ E e. accepted_at (replay E) e;
+  reply = λ E host line arrival full. option_map print (reply_to host (replay E).book line arrival full);
+  entry = λ E host line arrival full. entry_of host (replay E).book line arrival full;
+  greatest = λ E host. greatest_line host (replay E).lines;
+  notices = notices;
 }
 
 -- what the program does today

@@ -7,7 +7,6 @@ use Rattle.std.specs.Map.{keys_of}
 use Rattle.std.proofs.lemmas.Map.Keys.{IsDistinct-head, IsDistinct-tail}
 use Rattle.ps_types.specs.declared.node.NodeKey.{NodeKey}
 use Rattle.ps_types.specs.contracts.node.NodeKeyPartialEq.TheImpl.{eq-value}
-use Rattle.ps_types.specs.Same.{same_node}
 use Rattle.ps_types.proofs.Same.{same_node-Decides}
 use Rattle.ps_nodes.specs.declared.nodes.NodeRest.{NodeRest}
 use Rattle.ps_nodes.specs.NodeRows.{row_of, is_there}

@@ -4,12 +4,15 @@
 //! said in `ps_types`, `specs/Nodes.antt`: a row is of a key, a key has at most one row, a new row goes last, and where one goes
 //! the others keep their order. A row lies in memory by its parts, so [`Nodes::row`] and [`Nodes::get`] hand out a [`NodeRef`],
 //! which `row_seen` of `specs/NodeRows.antt` reads as the row. Beside the map stand how many nodes each address made
-//! (`specs/Tallies.antt`), and which nodes each service host or account has (`specs/Served.antt`). Both are found by digests, and
-//! all hashes and digests go by the seed of the table.
+//! (`specs/Tallies.antt`), and by what each node is found: its service host or account, and its name (`specs/Marks.antt`;
+//! `specs/Served.antt` and `specs/Named.antt` say what is found). All of it goes by digests, and all hashes and digests by the seed of
+//! the table.
 #![tactic(auto)]
 
 mod entries;
 mod makers;
+mod marks;
+mod named;
 mod nodes;
 mod served;
 mod tallied;

@@ -2,16 +2,18 @@
 ghost use Rattle.std.specs.Prelude.{◌≡◌, ◌+◌, ◌<◌, ◌≤◌, [], ◌∷◌, ◌++◌, true, IfOk, IfSome, OnOk, OnErr, length, slice_get, option_copied, option_map, is_err};
 ghost use Rattle.ps_types.specs.Nodes.{node_at, config_at, stands, made_by, nodes_with, nodes_without};
 ghost use Rattle.ps_nodes.specs.NodeRows.{IsAlone, is_there, row_seen};
+ghost use Rattle.ps_nodes.specs.Named.{places_at};
 ghost use Rattle.ps_nodes.specs.Served.{keys_at};
 
 use crate::entries::{NodeMap, config_in, copy_of, holds, place_in, row_at, row_in, set_config_in};
 use crate::makers::{Tally, made_in, tallies_of};
-use crate::served::{keys_among, mark_all, marks_of};
+use crate::marks::{By, digest_of, mark_all, marks_of};
+use crate::named::places_among;
+use crate::served::keys_among;
 use crate::tallied::{add_tallied, remove_tallied, reserve};
 use indexmap::IndexMap;
 use ps_chains::{Chains, Seeded};
-use ps_rows::bare_digest;
-use ps_types::{Jid, Memory, NodeConfig, NodeKey, NodeRow};
+use ps_types::{Jid, Memory, NodeConfig, NodeKey, NodeRow, Text};
 use std::alloc::Global;
 use std::marker::Model;
 
@@ -39,6 +41,7 @@ pub struct Nodes {
     nodes: NodeMap,
     made: IndexMap<u64, Tally>,
     served: Chains,
+    named: Chains,
     seed: u64,
 }
 
@@ -49,6 +52,7 @@ impl Drop for Nodes {
             nodes: _,
             made: _,
             served: _,
+            named: _,
             seed: _,
         } = self;
     }
@@ -59,13 +63,13 @@ impl Model for Nodes {
     ghost use Rattle.ps_base.specs.Rows.{Table};
     ghost use Rattle.ps_types.specs.declared.rows.NodeRow.{NodeRow};
     ghost use Rattle.ps_nodes.specs.NodeRows.{row_of};
-    ghost use Rattle.ps_nodes.specs.Served.{IsIndexed, room_with};
+    ghost use Rattle.ps_nodes.specs.Marks.{IsIndexed, room_with};
 
     ghost Value = { Table NodeRow };
 
-    ghost view = { λ t. record { rows = map row_of t.nodes.entries; spare = room_with t.nodes t.made t.served } };
+    ghost view = { λ t. record { rows = map row_of t.nodes.entries; spare = room_with t.nodes t.made t.served t.named } };
 
-    ghost invariant = { λ t. IsIndexed t.seed t.nodes t.made t.served };
+    ghost invariant = { λ t. IsIndexed t.seed t.nodes t.made t.served t.named };
 }
 
 impl Nodes {
@@ -84,6 +88,7 @@ impl Nodes {
             nodes: IndexMap::with_hasher(alloc, Seeded { seed }),
             made: IndexMap::new(alloc),
             served: Chains::new(alloc),
+            named: Chains::new(alloc),
             seed,
         })
     }
@@ -109,7 +114,8 @@ impl Nodes {
         ensures kept { self.old.spare ≤ self.new.spare }
     {
         reserve(&mut self.nodes, &mut self.made, rows as usize)?;
-        self.served.reserve(rows as usize)
+        self.served.reserve(rows as usize)?;
+        self.named.reserve(rows as usize)
     }
 
     /// A table with the same rows.
@@ -118,11 +124,13 @@ impl Nodes {
     {
         let nodes = copy_of(&self.nodes)?;
         let made = tallies_of(self.seed, &nodes)?;
-        let served = marks_of(*nodes.allocator(), self.seed, &nodes)?;
+        let served = marks_of(*nodes.allocator(), By::Service, self.seed, &nodes)?;
+        let named = marks_of(*nodes.allocator(), By::Name, self.seed, &nodes)?;
         Ok(Nodes {
             nodes,
             made,
             served,
+            named,
             seed: self.seed,
         })
     }
@@ -173,6 +181,13 @@ impl Nodes {
         keys_among(alloc, self.seed, &self.nodes, &self.served, service)
     }
 
+    /// The places of the nodes of a name, counted from 0, in the order of their making.
+    pub fn places_named(&self, alloc: Global, name: &Text) -> Result<Vec<u64>, Memory>
+        ensures places { IfOk result (λ places. places.items ≡ places_at name.now self.now.rows) }
+    {
+        places_among(alloc, self.seed, &self.nodes, &self.named, name)
+    }
+
     /// Adds a node as the last one, where its key is new. It takes no memory.
     pub fn create(&mut self, row: NodeRow) -> Result<(), Exists>
         requires room { 0 < self.old.spare }
@@ -184,9 +199,11 @@ impl Nodes {
         if holds(&self.nodes, &row.key) {
             return Err(Exists);
         }
-        let digest = bare_digest(self.seed, &row.key.service);
+        let service = digest_of(By::Service, self.seed, &row.key);
+        let name = digest_of(By::Name, self.seed, &row.key);
         add_tallied(self.seed, &mut self.nodes, &mut self.made, row);
-        self.served.push(digest);
+        self.served.push(service);
+        self.named.push(name);
         Ok(())
     }
 
@@ -206,7 +223,8 @@ impl Nodes {
         ensures room { self.old.spare ≤ self.new.spare }
     {
         let stood = remove_tallied(self.seed, &mut self.nodes, &mut self.made, node);
-        mark_all(self.seed, &mut self.served, &self.nodes);
+        mark_all(By::Service, self.seed, &mut self.served, &self.nodes);
+        mark_all(By::Name, self.seed, &mut self.named, &self.nodes);
         stood
     }
 

@@ -12,7 +12,6 @@ use Rattle.ps_model.specs.Core.{Core, handed}
 use Rattle.ps_model.specs.Machine.{counted, emits}
 use Rattle.ps_model.specs.World.{AddressPart, Flight, Nothing, Recorded, Unrecorded, World, at_address, durable, ends}
 use Rattle.ps_secrecy.proofs.AlikeWorlds.{AlikeWorlds, IsHeard, IsIdle}
-use Rattle.ps_secrecy.proofs.Choice.{Choice}
 use Rattle.ps_model.specs.Heard.{placeless}
 use Rattle.ps_secrecy.proofs.AlikeRuns.{AlikeRuns}
 use Rattle.ps_secrecy.proofs.FrontLaws.{now}
@@ -47,13 +46,13 @@ emits-other w b c Nothing (Some n) apart = by (nat_lt n.place (durable w))
     by true = rw apart refl
     by false = refl
 
-module _ (choice : Choice) (S : List NodeKey) (a : Jid) (core : Core) (service : List ℕ) (is : IsCore choice core) (heard : IsHeard choice.told a core) where
+module _ (S : List NodeKey) (a : Jid) (core : Core) (service : List ℕ) (is : IsCore core) (heard : IsHeard a core) where
   next : World → Jid → Option Notice
   next w b = slice_get (core.notices w.entries b) (handed w.entries b)
 
   -- ---- the notice of a that is next
 
-  same-length : (v w : World) → AlikeWorlds choice.told S a service v w → length (core.notices (take (durable v) v.entries) a) ≡ length (core.notices (take (durable w) w.entries) a)
+  same-length : (v w : World) → AlikeWorlds S a service v w → length (core.notices (take (durable v) v.entries) a) ≡ length (core.notices (take (durable w) w.entries) a)
   same-length v w al =
       let fr = al.hosts.fronts in
       let low : v.flushed ≤ v.flushed = omega arith in
@@ -62,10 +61,10 @@ module _ (choice : Choice) (S : List NodeKey) (a : Jid) (core : Core) (service :
       sym (length-map placeless (core.notices (take (durable v) v.entries) a)) ∙ ap (λ (ns : List Notice). length ns) (heard.hears (take (durable v) v.entries) ∙ l.hears ∙ sym (heard.hears (take (ends v.flushed w.made) w.entries))) ∙ length-map placeless (core.notices (take (ends v.flushed w.made) w.entries) a) in
       e ∙ ap (λ m. length (core.notices (take (ends m w.made) w.entries) a)) fr.flushed
 
-  next-same : (v w : World) → AlikeWorlds choice.told S a service v w → option_map placeless (next v a) ≡ option_map placeless (next w a)
+  next-same : (v w : World) → AlikeWorlds S a service v w → option_map placeless (next v a) ≡ option_map placeless (next w a)
   unfolding next
   next-same v w al =
-      let l = now (AlikeRuns choice.told S a) v w al.hosts.fronts in
+      let l = now (AlikeRuns S a) v w al.hosts.fronts in
       sym (get-map placeless (core.notices v.entries a) (handed v.entries a))
       ∙ ap (λ k. slice_get (map placeless (core.notices v.entries a)) k) l.handed
       ∙ ap (λ (ns : List Notice). slice_get ns (handed w.entries a)) (heard.hears v.entries ∙ l.hears ∙ sym (heard.hears w.entries))
@@ -80,7 +79,7 @@ module _ (choice : Choice) (S : List NodeKey) (a : Jid) (core : Core) (service :
   itself : (b : Jid) → same_jid b b ≡ true
   itself b = (same_jid-Decides b b).1 refl
 
-  sends : (v w : World) → AlikeWorlds choice.told S a service v w → (n m : Notice) → placeless n ≡ placeless m → (c d : Bool) → c ≡ d
+  sends : (v w : World) → AlikeWorlds S a service v w → (n m : Notice) → placeless n ≡ placeless m → (c d : Bool) → c ≡ d
       → Parts ((if c then record v { addresses = at_address a (λ part. record part { sent = part.sent ++ n ∷ []; flight = Unrecorded }) v.addresses } else v).addresses a)
       ((if d then record w { addresses = at_address a (λ part. record part { sent = part.sent ++ m ∷ []; flight = Unrecorded }) w.addresses } else w).addresses a)
   sends v w al n m e true true same = rw (itself a) (record {
@@ -92,7 +91,7 @@ module _ (choice : Choice) (S : List NodeKey) (a : Jid) (core : Core) (service :
   sends v w al n m e true false same = absurd (true≢false same)
   sends v w al n m e false true same = absurd (true≢false (sym same))
 
-  emit-parts : (v w : World) → AlikeWorlds choice.told S a service v w → (f : Flight) (o p : Option Notice) → next v a ≡ o → next w a ≡ p → option_map placeless o ≡ option_map placeless p → Parts ((emits v a f o).addresses a) ((emits w a f p).addresses a)
+  emit-parts : (v w : World) → AlikeWorlds S a service v w → (f : Flight) (o p : Option Notice) → next v a ≡ o → next w a ≡ p → option_map placeless o ≡ option_map placeless p → Parts ((emits v a f o).addresses a) ((emits w a f p).addresses a)
   unfolding next
   emit-parts v w al Unrecorded o p eo ep e = record { flight = al.flight; sent = al.sent; earlier = al.earlier }
   emit-parts v w al (Recorded t) o p eo ep e = record { flight = al.flight; sent = al.sent; earlier = al.earlier }
@@ -100,7 +99,7 @@ module _ (choice : Choice) (S : List NodeKey) (a : Jid) (core : Core) (service :
   emit-parts v w al Nothing None (Some m) eo ep e = absurd (cc e)
   emit-parts v w al Nothing (Some n) None eo ep e = absurd (cc e)
   emit-parts v w al Nothing (Some n) (Some m) eo ep e =
-      let l = now (AlikeRuns choice.told S a) v w al.hosts.fronts in
+      let l = now (AlikeRuns S a) v w al.hosts.fronts in
       let same : placeless n ≡ placeless m = cc in
       sends v w al n m same (nat_lt n.place (durable v)) (nat_lt m.place (durable w))
       (heard.placed v.entries (handed v.entries a) (durable v) n eo ∙ ap (λ k. nat_lt k (length (core.notices (take (durable v) v.entries) a))) l.handed ∙ ap (nat_lt (handed w.entries a)) (same-length v w al)
@@ -119,10 +118,10 @@ module _ (choice : Choice) (S : List NodeKey) (a : Jid) (core : Core) (service :
       ∙ ap (λ (ns : List Notice). ((emits w b Nothing (slice_get ns (handed w.entries b))).addresses c).flight) none
       ∙ idle c like apart
 
-  emit-form : (v w : World) (A B : Jid → AddressPart) → AlikeWorlds choice.told S a service v w → Parts (A a) (B a) → IsIdle a (record v { addresses = A }) → IsIdle a (record w { addresses = B })
-      → AlikeWorlds choice.told S a service (counted (record v { addresses = A })) (counted (record w { addresses = B }))
+  emit-form : (v w : World) (A B : Jid → AddressPart) → AlikeWorlds S a service v w → Parts (A a) (B a) → IsIdle a (record v { addresses = A }) → IsIdle a (record w { addresses = B })
+      → AlikeWorlds S a service (counted (record v { addresses = A })) (counted (record w { addresses = B }))
   emit-form v w A B al parts idle idle2 = record {
-    hosts = still-worlds choice S a core service is v w v.hosts w.hosts A B v.broken w.broken al.hosts (λ k. refl) (λ k. refl) (λ k. refl) (λ k. refl) (λ k. al.hosts.taken k) (λ k. refl) (λ k. refl);
+    hosts = still-worlds S a core service is v w v.hosts w.hosts A B v.broken w.broken al.hosts (λ k. refl) (λ k. refl) (λ k. refl) (λ k. refl) (λ k. al.hosts.taken k) (λ k. refl) (λ k. refl);
     flight = parts.flight;
     sent = parts.sent;
     earlier = parts.earlier;
@@ -130,7 +129,7 @@ module _ (choice : Choice) (S : List NodeKey) (a : Jid) (core : Core) (service :
     idle_there = idle2;
   }
 
-  emit-by : (v w : World) (b : Jid) → AlikeWorlds choice.told S a service v w → (d : Bool) → same_jid a b ≡ d → Parts ((emits v b (v.addresses b).flight (next v b)).addresses a) ((emits w b (w.addresses b).flight (next w b)).addresses a)
+  emit-by : (v w : World) (b : Jid) → AlikeWorlds S a service v w → (d : Bool) → same_jid a b ≡ d → Parts ((emits v b (v.addresses b).flight (next v b)).addresses a) ((emits w b (w.addresses b).flight (next w b)).addresses a)
   emit-by v w b al true e =
       let same : a ≡ b = (same_jid-Decides a b).0 e in
       subst (λ (c : Jid). Parts ((emits v c (v.addresses c).flight (next v c)).addresses a) ((emits w c (w.addresses c).flight (next w c)).addresses a)) same
@@ -145,14 +144,14 @@ module _ (choice : Choice) (S : List NodeKey) (a : Jid) (core : Core) (service :
       }
 
   -- an Emit of any address
-  pub emit-on : (v w : World) (b : Jid) → AlikeWorlds choice.told S a service v w
-      → AlikeWorlds choice.told S a service (counted (emits v b (v.addresses b).flight (slice_get (core.notices v.entries b) (handed v.entries b)))) (counted (emits w b (w.addresses b).flight (slice_get (core.notices w.entries b) (handed w.entries b))))
+  pub emit-on : (v w : World) (b : Jid) → AlikeWorlds S a service v w
+      → AlikeWorlds S a service (counted (emits v b (v.addresses b).flight (slice_get (core.notices v.entries b) (handed v.entries b)))) (counted (emits w b (w.addresses b).flight (slice_get (core.notices w.entries b) (handed w.entries b))))
   unfolding next
   emit-on v w b al =
       let ev = emits-is v b (v.addresses b).flight (next v b) in
       let ew = emits-is w b (w.addresses b).flight (next w b) in
       let A = (emits v b (v.addresses b).flight (next v b)).addresses in
       let B = (emits w b (w.addresses b).flight (next w b)).addresses in
-      subst (λ (x : World). AlikeWorlds choice.told S a service (counted x) (counted (emits w b (w.addresses b).flight (next w b)))) (sym ev)
-      (subst (λ (y : World). AlikeWorlds choice.told S a service (counted (record v { addresses = A })) (counted y)) (sym ew)
+      subst (λ (x : World). AlikeWorlds S a service (counted x) (counted (emits w b (w.addresses b).flight (next w b)))) (sym ev)
+      (subst (λ (y : World). AlikeWorlds S a service (counted (record v { addresses = A })) (counted y)) (sym ew)
       (emit-form v w A B al (emit-by v w b al (same_jid a b) refl) (λ c like apart. idle-at v b al.idle c like apart (same_jid c b) refl) (λ c like apart. idle-at w b al.idle_there c like apart (same_jid c b) refl)))

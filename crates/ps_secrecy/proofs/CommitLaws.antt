@@ -32,7 +32,6 @@ use Rattle.ps_model.specs.Outcome.{outcome, is_accepted}
 use Rattle.ps_model.specs.Steps.{first_denial}
 use Rattle.ps_model.specs.TwoWorlds.{IsShutOut, is_in, items_outside, counts_outside}
 use Rattle.ps_secrecy.proofs.Blank.{is_quiet}
-use Rattle.ps_secrecy.proofs.Choice.{Choice}
 use Rattle.ps_secrecy.proofs.Twin.{twin, Beside}
 use Rattle.ps_secrecy.proofs.RowLaws.{count-seen, kept-hidden, without-hidden}
 use Rattle.ps_secrecy.proofs.ChangeLaws.{changed-twin, beside-itself, retract-touches}
@@ -182,8 +181,8 @@ module _ (S : List NodeKey) (a : Jid) (decides : (ms ns : List NodeRow) → same
   accepted-by d e s t same = ap (λ (f : Option Condition). is_accepted (outcome f s)) same ∙ child-apart e s t
 
   -- whether it makes an entry
-  pub makes-even : (choice : Choice) (r : Request) → is_quiet S r r.ask ≡ false → makes_entry x r ≡ makes_entry (twin x i c) r
-  makes-even choice r is =
+  pub makes-even : (r : Request) → is_quiet S r r.ask ≡ false → makes_entry x r ≡ makes_entry (twin x i c) r
+  makes-even r is =
       ap (λ b. b && commits x r) ((accepted-by (first_denial (steps_of r.ask x r)) (first_denial (steps_of r.ask (twin x i c) r)) _ _ (denial-quiet r.ask r is)))
       ∙ ap (λ b. is_accepted (check (twin x i c) r) && b) (commits-even r.ask r is)
 
@@ -260,22 +259,22 @@ module _ (S : List NodeKey) (a : Jid) (decides : (ms ns : List NodeRow) → same
   odd ask.Silent r is = absurd (true≢false (sym is))
 
   -- both worlds make the entry or none does, or it does nothing that is compared
-  abbrev pub Turns : Choice → Request → Type 0
-  Turns choice r = (makes_entry x r ≡ makes_entry (twin x i c) r) ⊎ ((is_quiet S r r.ask ≡ true) × ((m : Option ℕ) → Beside S a x (changed r m x)))
+  abbrev pub Turns : Request → Type 0
+  Turns r = (makes_entry x r ≡ makes_entry (twin x i c) r) ⊎ ((is_quiet S r r.ask ≡ true) × ((m : Option ℕ) → Beside S a x (changed r m x)))
 
-  turn-odd : (choice : Choice) (r : Request) → is_quiet S r r.ask ≡ true → Odd r.ask r → Turns choice r
+  turn-odd : (r : Request) → is_quiet S r r.ask ≡ true → Odd r.ask r → Turns r
   unfolding Odd Lone Even
-  turn-odd choice r is (inl lone) = inr (is, lone)
-  turn-odd choice r is (inr even) = inl (
+  turn-odd r is (inl lone) = inr (is, lone)
+  turn-odd r is (inr even) = inl (
       ap (λ b. b && commits x r) ((accepted-by (first_denial (steps_of r.ask x r)) (first_denial (steps_of r.ask (twin x i c) r)) _ _ (even.1)))
       ∙ ap (λ b. is_accepted (check (twin x i c) r) && b) even.0)
 
-  turn-by : (choice : Choice) (r : Request) (b : Bool) → is_quiet S r r.ask ≡ b → Turns choice r
-  turn-by choice r true is = turn-odd choice r is (odd r.ask r is)
-  turn-by choice r false is = inl (makes-even choice r is)
+  turn-by : (r : Request) (b : Bool) → is_quiet S r r.ask ≡ b → Turns r
+  turn-by r true is = turn-odd r is (odd r.ask r is)
+  turn-by r false is = inl (makes-even r is)
 
-  pub turns : (choice : Choice) (r : Request) → Turns choice r
-  turns choice r = turn-by choice r (is_quiet S r r.ask) refl
+  pub turns : (r : Request) → Turns r
+  turns r = turn-by r (is_quiet S r r.ask) refl
 
   -- ---- an accepted request of one who is shut out commits in both or in none
 

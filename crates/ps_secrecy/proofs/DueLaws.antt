@@ -1,6 +1,6 @@
 -- What is due to the addresses of one who is shut out is the same in both worlds, with equal numbers.
-use Rattle.std.proofs.Common.{◌≡◌, ℕ, ◌+◌, Bool, true, false, cond, List, [], ◌∷◌, ◌++◌, Option, None, refl, sym, ap, ◌∙◌, length, arith}
-use Rattle.std.specs.Prelude.{filter, map}
+use Rattle.std.proofs.Common.{◌≡◌, ℕ, ◌+◌, Bool, true, false, List, [], ◌∷◌, ◌++◌, Option, None, refl, sym, ap, ◌∙◌, length, arith}
+use Rattle.std.specs.Prelude.{map}
 use Rattle.std.specs.List.{cons_option, flat_map, list_all}
 use Rattle.std.proofs.lemmas.Bool.{true≢false, and_parts}
 use Rattle.ps_types.specs.declared.entry.Notice.{Notice}
@@ -22,7 +22,6 @@ use Rattle.ps_model.specs.Tallies.{made_for, handed_to, more_made}
 use Rattle.ps_model.specs.TwoWorlds.{IsShutOut, items_outside}
 use Rattle.ps_model.proofs.TallyLaws.{made-kept, made-like, made-more, handed-made, same_bare-turned}
 use Rattle.ps_secrecy.proofs.Blank.{blank, is_hidden}
-use Rattle.ps_secrecy.proofs.Choice.{Choice}
 use Rattle.ps_model.specs.Heard.{heard}
 use Rattle.ps_secrecy.proofs.Heard.{due_to, hears}
 use Rattle.ps_secrecy.proofs.Twin.{twin}
@@ -103,18 +102,6 @@ module _ (a : Jid) where
 abbrev asks : Book → Book → List Event → List Jid
 asks before after evs = flat_map (λ ev. asked (book_for ev before after) ev) evs
 
-told-blank : (choice : Choice) (S : List NodeKey) (ev : Event) → choice.told (blank S ev) ≡ choice.told ev
-told-blank choice S (event.Items node item) = choice.told_items node _ _
-told-blank choice S (event.Last node to by moment) = choice.told_last node to by _ _
-told-blank choice S (event.Retract node id) = refl
-told-blank choice S (event.Purge node) = refl
-told-blank choice S (event.Delete node) = refl
-told-blank choice S (event.Configuration node) = refl
-told-blank choice S (event.Associate node collection) = refl
-told-blank choice S (event.Approval node owner who) = refl
-told-blank choice S (event.Told node who state) = refl
-told-blank choice S (event.Question to caps) = refl
-
 module _ (S : List NodeKey) (x z : Book) where
   for-asked : (ev : Event) → asked (book_for (blank S ev) x z) (blank S ev) ≡ asked (book_for ev x z) ev
   for-asked (event.Items node item) = refl
@@ -128,15 +115,9 @@ module _ (S : List NodeKey) (x z : Book) where
   for-asked (event.Told node who state) = refl
   for-asked (event.Question to caps) = refl
 
-  module _ (choice : Choice) where
-    asks-step : (ev : Event) (evs : List Event) (b : Bool) → asks x z (filter choice.told (map (blank S) evs)) ≡ asks x z (filter choice.told evs)
-        → asks x z (cond b (blank S ev ∷ filter choice.told (map (blank S) evs)) (filter choice.told (map (blank S) evs))) ≡ asks x z (cond b (ev ∷ filter choice.told evs) (filter choice.told evs))
-    asks-step ev evs true h = ap (λ (ws : List Jid). ws ++ asks x z (filter choice.told (map (blank S) evs))) (for-asked ev) ∙ ap (λ (ws : List Jid). asked (book_for ev x z) ev ++ ws) h
-    asks-step ev evs false h = h
-
-    pub asks-blank : (evs : List Event) → asks x z (filter choice.told (map (blank S) evs)) ≡ asks x z (filter choice.told evs)
-    asks-blank [] = refl
-    asks-blank (ev ∷ evs) = rw (told-blank choice S ev) (asks-step ev evs (choice.told ev) (asks-blank evs))
+  pub asks-blank : (evs : List Event) → asks x z (map (blank S) evs) ≡ asks x z evs
+  asks-blank [] = refl
+  asks-blank (ev ∷ evs) = ap (λ (ws : List Jid). ws ++ asks x z (map (blank S) evs)) (for-asked ev) ∙ ap (λ (ws : List Jid). asked (book_for ev x z) ev ++ ws) (asks-blank evs)
 
 module _ (x z : Book) (i j : List ItemRow) (c d : List CountRow) where
   for-twin : (ev : Event) → asked (book_for ev (twin x i c) (twin z j d)) ev ≡ asked (book_for ev x z) ev
@@ -155,7 +136,7 @@ module _ (x z : Book) (i j : List ItemRow) (c d : List CountRow) where
   asks-twin [] = refl
   asks-twin (ev ∷ evs) = ap (λ (ws : List Jid). ws ++ asks (twin x i c) (twin z j d) evs) (for-twin ev) ∙ ap (λ (ws : List Jid). asked (book_for ev x z) ev ++ ws) (asks-twin evs)
 
-module _ (S : List NodeKey) (a : Jid) (choice : Choice) (x z : Book) (shut : IsShutOut S a x) (shut-after : IsShutOut S a z) where
+module _ (S : List NodeKey) (a : Jid) (x z : Book) (shut : IsShutOut S a x) (shut-after : IsShutOut S a z) where
   module _ (who : Jid) (same : same_bare who a ≡ true) where
     for-blank : (ev : Event) → given (book_for (blank S ev) x z) (blank S ev) who ≡ given (book_for ev x z) ev who
     for-blank (event.Items node item) = given-blank S a z shut-after who same (event.Items node item)
@@ -169,14 +150,9 @@ module _ (S : List NodeKey) (a : Jid) (choice : Choice) (x z : Book) (shut : IsS
     for-blank (event.Told node w state) = refl
     for-blank (event.Question to caps) = refl
 
-    due-step : (ev : Event) (evs : List Event) (b : Bool) → due_of x z (filter choice.told (map (blank S) evs)) who ≡ due_of x z (filter choice.told evs) who
-        → due_of x z (cond b (blank S ev ∷ filter choice.told (map (blank S) evs)) (filter choice.told (map (blank S) evs))) who ≡ due_of x z (cond b (ev ∷ filter choice.told evs) (filter choice.told evs)) who
-    due-step ev evs true h = ap (λ (o : Option Tree). cons_option o (due_of x z (filter choice.told (map (blank S) evs)) who)) (for-blank ev) ∙ ap (cons_option (given (book_for ev x z) ev who)) h
-    due-step ev evs false h = h
-
-    due-blank : (evs : List Event) → due_of x z (filter choice.told (map (blank S) evs)) who ≡ due_of x z (filter choice.told evs) who
+    due-blank : (evs : List Event) → due_of x z (map (blank S) evs) who ≡ due_of x z evs who
     due-blank [] = refl
-    due-blank (ev ∷ evs) = rw (told-blank choice S ev) (due-step ev evs (choice.told ev) (due-blank evs))
+    due-blank (ev ∷ evs) = ap (λ (o : Option Tree). cons_option o (due_of x z (map (blank S) evs) who)) (for-blank ev) ∙ ap (cons_option (given (book_for ev x z) ev who)) (due-blank evs)
 
     -- ---- hidden events
 
@@ -192,13 +168,11 @@ module _ (S : List NodeKey) (a : Jid) (choice : Choice) (x z : Book) (shut : IsS
     for-hidden (event.Told node w state) is = absurd (true≢false (sym is))
     for-hidden (event.Question to caps) is = absurd (true≢false (sym is))
 
-    none-step : (ev : Event) (evs : List Event) (b : Bool) → is_hidden S ev ≡ true → due_of x z (filter choice.told evs) who ≡ [] → due_of x z (cond b (ev ∷ filter choice.told evs) (filter choice.told evs)) who ≡ []
-    none-step ev evs true is h = ap (λ (o : Option Tree). cons_option o (due_of x z (filter choice.told evs) who)) (for-hidden ev is) ∙ h
-    none-step ev evs false is h = h
-
-    due-none : (evs : List Event) → list_all (is_hidden S) evs ≡ true → due_of x z (filter choice.told evs) who ≡ []
+    due-none : (evs : List Event) → list_all (is_hidden S) evs ≡ true → due_of x z evs who ≡ []
     due-none [] all = refl
-    due-none (ev ∷ evs) all = let p = and_parts (is_hidden S ev) (list_all (is_hidden S) evs) all in none-step ev evs (choice.told ev) p.0 (due-none evs p.1)
+    due-none (ev ∷ evs) all =
+        let p = and_parts (is_hidden S ev) (list_all (is_hidden S) evs) all in
+        ap (λ (o : Option Tree). cons_option o (due_of x z evs who)) (for-hidden ev p.0) ∙ due-none evs p.1
 
     -- ---- the other world
 
@@ -220,15 +194,15 @@ module _ (S : List NodeKey) (a : Jid) (choice : Choice) (x z : Book) (shut : IsS
       due-twin (ev ∷ evs) = ap (λ (o : Option Tree). cons_option o (due_of (twin x i c) (twin z j d) evs who)) (given-for ev) ∙ ap (cons_option (given (book_for ev x z) ev who)) (due-twin evs)
 
   -- all that is due to the addresses, where events differ in what isn't compared
-  pub all-blank : (evs : List Event) → due_to a (all_due x z (filter choice.told (map (blank S) evs))) ≡ due_to a (all_due x z (filter choice.told evs))
+  pub all-blank : (evs : List Event) → due_to a (all_due x z (map (blank S) evs)) ≡ due_to a (all_due x z evs)
   all-blank evs =
-      flat-same a (λ who. due_of x z (filter choice.told (map (blank S) evs)) who) (λ who. due_of x z (filter choice.told evs) who) (λ who same. due-blank who same evs) (sorted (asks x z (filter choice.told (map (blank S) evs))))
-      ∙ ap (λ (ws : List Jid). due_to a (flat_map (λ who. map (λ t. (who, t)) (due_of x z (filter choice.told evs) who)) (sorted ws))) (asks-blank S x z choice evs)
+      flat-same a (λ who. due_of x z (map (blank S) evs) who) (λ who. due_of x z evs who) (λ who same. due-blank who same evs) (sorted (asks x z (map (blank S) evs)))
+      ∙ ap (λ (ws : List Jid). due_to a (flat_map (λ who. map (λ t. (who, t)) (due_of x z evs who)) (sorted ws))) (asks-blank S x z evs)
 
-  pub all-hidden : (evs : List Event) → list_all (is_hidden S) evs ≡ true → due_to a (all_due x z (filter choice.told evs)) ≡ []
+  pub all-hidden : (evs : List Event) → list_all (is_hidden S) evs ≡ true → due_to a (all_due x z evs) ≡ []
   all-hidden evs all =
-      flat-same a (λ who. due_of x z (filter choice.told evs) who) (λ who. []) (λ who same. due-none who same evs all) (sorted (asks x z (filter choice.told evs)))
-      ∙ flat-nothing a (sorted (asks x z (filter choice.told evs)))
+      flat-same a (λ who. due_of x z evs who) (λ who. []) (λ who same. due-none who same evs all) (sorted (asks x z evs))
+      ∙ flat-nothing a (sorted (asks x z evs))
 
   pub all-twin : (i j : List ItemRow) (c d : List CountRow) → items_outside S x.items ≡ items_outside S i → items_outside S z.items ≡ items_outside S j → (evs : List Event) → due_to a (all_due (twin x i c) (twin z j d) evs) ≡ due_to a (all_due x z evs)
   all-twin i j c d h l evs =
@@ -237,6 +211,6 @@ module _ (S : List NodeKey) (a : Jid) (choice : Choice) (x z : Book) (shut : IsS
 
   -- in both worlds
   pub all-same : (i j : List ItemRow) (c d : List CountRow) → items_outside S x.items ≡ items_outside S i → items_outside S z.items ≡ items_outside S j → (evs fvs : List Event) → map (blank S) evs ≡ map (blank S) fvs
-      → due_to a (all_due x z (filter choice.told evs)) ≡ due_to a (all_due (twin x i c) (twin z j d) (filter choice.told fvs))
+      → due_to a (all_due x z evs) ≡ due_to a (all_due (twin x i c) (twin z j d) fvs)
   all-same i j c d h l evs fvs e =
-      sym (all-blank evs) ∙ ap (λ (bs : List Event). due_to a (all_due x z (filter choice.told bs))) e ∙ all-blank fvs ∙ sym (all-twin i j c d h l (filter choice.told fvs))
+      sym (all-blank evs) ∙ ap (λ (bs : List Event). due_to a (all_due x z bs)) e ∙ all-blank fvs ∙ sym (all-twin i j c d h l fvs)

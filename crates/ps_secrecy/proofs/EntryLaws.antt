@@ -6,7 +6,6 @@ use Rattle.ps_types.specs.Same.{same_bare}
 use Rattle.ps_types.specs.Tree.{Tree}
 use Rattle.ps_types.specs.declared.entry.Entry.{Entry}
 use Rattle.ps_types.specs.declared.entry.Entry.TheVariants.{Boot, Change, Handed, Gone, Base}
-use Rattle.ps_types.specs.declared.event.Event.{Event}
 use Rattle.ps_types.specs.declared.jid.Jid.{Jid}
 use Rattle.ps_types.specs.declared.node.NodeKey.{NodeKey}
 use Rattle.ps_types.specs.declared.request.Request.{Request}
@@ -20,32 +19,31 @@ use Rattle.ps_model.specs.Taking.{request_in, tree_taken}
 use Rattle.ps_model.specs.Tallies.{handed_to, is_next_line, made_for}
 use Rattle.ps_model.specs.TwoWorlds.{IsShutOut, SameBut}
 use Rattle.ps_model.proofs.TallyLaws.{handed-like, made-like}
-use Rattle.ps_secrecy.specs.Alike.{IsBlind, LookAlike}
+use Rattle.ps_secrecy.specs.Alike.{LookAlike}
 use Rattle.ps_secrecy.specs.Deeds.{IsAbove, applied, applied_notices}
 use Rattle.ps_secrecy.proofs.BaseLaws.{base-on}
-use Rattle.ps_secrecy.proofs.Choices.{choice_of}
 use Rattle.ps_secrecy.proofs.SameLaws.{nodes-are}
 use Rattle.ps_secrecy.proofs.StepLaws.{boot-on, change-on, gone-on, handed-on, handed-one-on, same-back}
 
-module _ (told : Event → Bool) (blind : IsBlind told) (S : List NodeKey) (a : Jid) where
+module _ (S : List NodeKey) (a : Jid) where
   -- the worlds after the entry, by whether it is accepted in each
   After : State → State → Entry → Bool → Bool → Type 0
-  After s t e b c = LookAlike S a (cond b (after told s e) s) (cond c (after told t e) t) (cond b (notices_at told s e) []) (cond c (notices_at told t e) [])
+  After s t e b c = LookAlike S a (cond b (after s e) s) (cond c (after t e) t) (cond b (notices_at s e) []) (cond c (notices_at t e) [])
 
   Shut : State → Entry → Bool → Type 0
-  Shut s e b = IsShutOut S a (cond b (after told s e) s).book
+  Shut s e b = IsShutOut S a (cond b (after s e) s).book
 
   booted-same : (s t : State) → SameBut S a s t → is_booted s ≡ is_booted t
   booted-same s t h = ap (λ (service : List ℕ). nat_lt 0 (length service)) h.service
 
   boot-by : (s t : State) → SameBut S a s t → (service : List ℕ) (b : Bool) → Shut s (Boot service) b → Shut t (Boot service) b → After s t (Boot service) b b
-  unfolding After Shut choice_of
-  boot-by s t h service true shut shut2 = record { same = boot-on S a (choice_of told blind) s t service h shut shut2; hear = refl }
+  unfolding After Shut
+  boot-by s t h service true shut shut2 = record { same = boot-on S a s t service h shut shut2; hear = refl }
   boot-by s t h service false shut shut2 = record { same = h; hear = refl }
 
   gone-by : (s t : State) → SameBut S a s t → (host : List ℕ) (b c : Bool) → b ≡ c → Shut s (Gone host) b → Shut t (Gone host) c → After s t (Gone host) b c
-  unfolding After Shut choice_of
-  gone-by s t h host true true e shut shut2 = record { same = gone-on S a (choice_of told blind) s t host h shut shut2; hear = refl }
+  unfolding After Shut
+  gone-by s t h host true true e shut shut2 = record { same = gone-on S a s t host h shut shut2; hear = refl }
   gone-by s t h host false false e shut shut2 = record { same = h; hear = refl }
   gone-by s t h host true false e shut shut2 = absurd (true≢false e)
   gone-by s t h host false true e shut shut2 = absurd (true≢false (sym e))
@@ -59,17 +57,17 @@ module _ (told : Event → Bool) (blind : IsBlind told) (S : List NodeKey) (a : 
       (sym (handed-like a to s.tallies like) ∙ h.handed ∙ handed-like a to t.tallies like) (sym (made-like a to s.tallies like) ∙ h.made ∙ made-like a to t.tallies like)
 
   handed-both : (s t : State) → SameBut S a s t → (to : Jid) (b c : Bool) → b ≡ c → After s t (Handed to) b c
-  unfolding After choice_of
-  handed-both s t h to true true e = record { same = handed-on S a (choice_of told blind) s t to h; hear = refl }
+  unfolding After
+  handed-both s t h to true true e = record { same = handed-on S a s t to h; hear = refl }
   handed-both s t h to false false e = record { same = h; hear = refl }
   handed-both s t h to true false e = absurd (true≢false e)
   handed-both s t h to false true e = absurd (true≢false (sym e))
 
   handed-lone : (s t : State) → SameBut S a s t → (to : Jid) → same_bare a to ≡ false → (b c : Bool) → After s t (Handed to) b c
-  unfolding After choice_of
-  handed-lone s t h to far true true = record { same = handed-on S a (choice_of told blind) s t to h; hear = refl }
-  handed-lone s t h to far true false = record { same = handed-one-on S a (choice_of told blind) s t to far h; hear = refl }
-  handed-lone s t h to far false true = record { same = same-back S a (after told t (Handed to)) s (handed-one-on S a (choice_of told blind) t s to far (same-back S a s t h)); hear = refl }
+  unfolding After
+  handed-lone s t h to far true true = record { same = handed-on S a s t to h; hear = refl }
+  handed-lone s t h to far true false = record { same = handed-one-on S a s t to far h; hear = refl }
+  handed-lone s t h to far false true = record { same = same-back S a (after t (Handed to)) s (handed-one-on S a t s to far (same-back S a s t h)); hear = refl }
   handed-lone s t h to far false false = record { same = h; hear = refl }
 
   handed-by : (s t : State) → SameBut S a s t → (to : Jid) (like : Bool) → same_bare a to ≡ like → After s t (Handed to) (accepted_at s (Handed to)) (accepted_at t (Handed to))
@@ -100,9 +98,9 @@ module _ (told : Event → Bool) (blind : IsBlind told) (S : List NodeKey) (a : 
     change-asked : (s t : State) → SameBut S a s t → (o : Option Request) → request_on host s.book u ≡ o → request_on host t.book u ≡ o
         → Shut s (Change host line m u) (request_accepted o s.book) → Shut t (Change host line m u) (request_accepted o t.book)
         → After s t (Change host line m u) (request_accepted o s.book) (request_accepted o t.book)
-    unfolding After Shut choice_of
+    unfolding After Shut
     change-asked s t h None at at2 shut shut2 = record { same = h; hear = refl }
-    change-asked s t h (Some r) at at2 shut shut2 = change-on S a nodes-are (choice_of told blind) s t h m r host host line line u u at at2 shut shut2
+    change-asked s t h (Some r) at at2 shut shut2 = change-on S a nodes-are s t h m r host host line line u u at at2 shut shut2
 
     change-by : (s t : State) → SameBut S a s t → is_next_line host line s.lines ≡ true → is_next_line host line t.lines ≡ true → (b : Bool) → is_booted s ≡ b
         → Shut s (Change host line m u) (accepted_at s (Change host line m u)) → Shut t (Change host line m u) (accepted_at t (Change host line m u))
@@ -150,8 +148,8 @@ module _ (told : Event → Bool) (blind : IsBlind told) (S : List NodeKey) (a : 
 
   -- ---- each
 
-  pub entry-secret : (s t : State) → SameBut S a s t → (e : Entry) → IsAbove s e → IsAbove t e → IsShutOut S a (applied told s e).book → IsShutOut S a (applied told t e).book
-      → LookAlike S a (applied told s e) (applied told t e) (applied_notices told s e) (applied_notices told t e)
+  pub entry-secret : (s t : State) → SameBut S a s t → (e : Entry) → IsAbove s e → IsAbove t e → IsShutOut S a (applied s e).book → IsShutOut S a (applied t e).book
+      → LookAlike S a (applied s e) (applied t e) (applied_notices s e) (applied_notices t e)
   unfolding After Shut
   entry-secret s t h (Boot service) above above2 shut shut2 = boot-by s t h service (nat_lt 0 (length service)) shut shut2
   entry-secret s t h (Change host line m u) above above2 shut shut2 = change-by host line m u s t h above above2 (is_booted s) refl shut shut2

@@ -10,7 +10,7 @@ pub mod DueLaws
 pub mod StepLaws
 pub mod SameLaws
 pub mod ArriveLaws
-pub mod Choices
+pub mod Answered
 pub mod FrontLaws
 pub mod RunLaws
 pub mod BaseLaws
@@ -22,7 +22,6 @@ pub mod WholeLaws
 pub mod TopLaws
 pub mod PlaceLaws
 pub mod Twin
-pub mod Choice
 pub mod Blank
 pub mod Heard
 pub mod Stepped

@@ -13,26 +13,25 @@ use Rattle.ps_model.specs.Taking as taking
 use Rattle.ps_model.specs.Heard.{is_from}
 use Rattle.ps_model.specs.Check.{check}
 use Rattle.ps_model.specs.Commits.{makes_entry}
-use Rattle.ps_secrecy.proofs.Choice.{Choice}
 
-abbrev pub reply_in : Choice → Taken → Book → ℕ → Option Tree
-reply_in choice taken.silent book line = None
-reply_in choice (taken.refused why) book line = Some (refused_tree line why)
-reply_in choice (taken.denied head why) book line = if_answered head.is_answered (error_reply head [] why)
-reply_in choice (taken.asked t r) book line = outcome_reply t r false (check book r)
+abbrev pub reply_in : Taken → Book → ℕ → Option Tree
+reply_in taken.silent book line = None
+reply_in (taken.refused why) book line = Some (refused_tree line why)
+reply_in (taken.denied head why) book line = if_answered head.is_answered (error_reply head [] why)
+reply_in (taken.asked t r) book line = outcome_reply t r false (check book r)
 
-abbrev pub entry_in : Choice → Taken → List ℕ → Book → ℕ → Option ℕ → Option Entry
-entry_in choice taken.silent host book line moment = None
-entry_in choice (taken.refused why) host book line moment = None
-entry_in choice (taken.denied head why) host book line moment = None
-entry_in choice (taken.asked t r) host book line moment = cond (makes_entry book r) (Some (Change host line moment t)) None
+abbrev pub entry_in : Taken → List ℕ → Book → ℕ → Option ℕ → Option Entry
+entry_in taken.silent host book line moment = None
+entry_in (taken.refused why) host book line moment = None
+entry_in (taken.denied head why) host book line moment = None
+entry_in (taken.asked t r) host book line moment = cond (makes_entry book r) (Some (Change host line moment t)) None
 
-abbrev pub line_reply : Choice → State → List ℕ → ℕ → Arrival → Option Tree
-line_reply choice s host line arrival = reply_in choice (taking.taken host s.book.service arrival) s.book line
+abbrev pub line_reply : State → List ℕ → ℕ → Arrival → Option Tree
+line_reply s host line arrival = reply_in (taking.taken host s.book.service arrival) s.book line
 
-abbrev pub line_entry : Choice → State → List ℕ → ℕ → Arrival → Option Entry
-line_entry choice s host line arrival = entry_in choice (taking.taken host s.book.service arrival) host s.book line (moment_of arrival)
+abbrev pub line_entry : State → List ℕ → ℕ → Arrival → Option Entry
+line_entry s host line arrival = entry_in (taking.taken host s.book.service arrival) host s.book line (moment_of arrival)
 
 -- the reply where it is to an address of a, or else nothing
-abbrev pub line_to : Choice → Jid → State → List ℕ → ℕ → Arrival → Option Tree
-line_to choice a s host line arrival = cond (is_from a (taking.taken host s.book.service arrival)) (line_reply choice s host line arrival) None
+abbrev pub line_to : Jid → State → List ℕ → ℕ → Arrival → Option Tree
+line_to a s host line arrival = cond (is_from a (taking.taken host s.book.service arrival)) (line_reply s host line arrival) None

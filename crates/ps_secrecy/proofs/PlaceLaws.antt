@@ -8,7 +8,6 @@ use Rattle.ps_types.specs.Tree.{Tree}
 use Rattle.ps_types.specs.declared.entry.Entry.{Entry}
 use Rattle.ps_types.specs.declared.entry.Entry.TheVariants.{Boot, Change, Handed, Gone, Base}
 use Rattle.ps_types.specs.declared.entry.Notice.{Notice}
-use Rattle.ps_types.specs.declared.event.Event.{Event}
 use Rattle.ps_types.specs.declared.jid.Jid.{Jid}
 use Rattle.ps_types.specs.declared.rows.TallyRow.{TallyRow}
 use Rattle.ps_types.proofs.Same.{same_jid-Decides, same_parts}
@@ -67,16 +66,16 @@ row-at p tallies (Some (ver r)) = tt
 row-at p tallies (Some (made r)) = tt
 row-at p tallies (Some (counter who n)) = tt
 
-module _ (told : Event → Bool) (a : Jid) where
-  entry-at : (s : State) (e : Entry) → AllAt s.count (notices_at told s e)
-  entry-at s (Boot service) = numbered-at s.count (handed_out told s (Boot service)) s.tallies
-  entry-at s (Change host line m t) = numbered-at s.count (handed_out told s (Change host line m t)) s.tallies
-  entry-at s (Handed to) = numbered-at s.count (handed_out told s (Handed to)) s.tallies
-  entry-at s (Gone host) = numbered-at s.count (handed_out told s (Gone host)) s.tallies
+module _ (a : Jid) where
+  entry-at : (s : State) (e : Entry) → AllAt s.count (notices_at s e)
+  entry-at s (Boot service) = numbered-at s.count (handed_out s (Boot service)) s.tallies
+  entry-at s (Change host line m t) = numbered-at s.count (handed_out s (Change host line m t)) s.tallies
+  entry-at s (Handed to) = numbered-at s.count (handed_out s (Handed to)) s.tallies
+  entry-at s (Gone host) = numbered-at s.count (handed_out s (Gone host)) s.tallies
   entry-at s (Base row) = row-at s.count s.tallies (row_of row)
 
-  mine-at : (s : State) (e : Entry) → AllAt s.count (to_address a (notices_at told s e))
-  mine-at s e = at-bare s.count a.resource (filter (λ n. same_bare n.to a) (notices_at told s e)) (at-filter s.count (λ n. same_bare n.to a) (notices_at told s e) (entry-at s e))
+  mine-at : (s : State) (e : Entry) → AllAt s.count (to_address a (notices_at s e))
+  mine-at s e = at-bare s.count a.resource (filter (λ n. same_bare n.to a) (notices_at s e)) (at-filter s.count (λ n. same_bare n.to a) (notices_at s e) (entry-at s e))
 
   -- an element of two lists one after the other
   record InSecond (xs ys : List Notice) (k : ℕ) (n : Notice) : Type 0 where
@@ -99,69 +98,69 @@ module _ (told : Event → Bool) (a : Jid) where
   split (x ∷ xs) ys (suc k) n e = one-more x xs ys k n (split xs ys k n e)
 
   nf : State → List Entry → List Notice
-  nf s E = notices_from told s E a
+  nf s E = notices_from s E a
 
   -- no notice has a place before
-  not-before : (E : List Entry) (s : State) (k : ℕ) (n : Notice) → slice_get (notices_from told s E a) k ≡ Some n → s.count ≤ n.place
+  not-before : (E : List Entry) (s : State) (k : ℕ) (n : Notice) → slice_get (notices_from s E a) k ≡ Some n → s.count ≤ n.place
   unfolding InBoth
   not-before [] s k n e = absurd (cc e)
-  not-before (d ∷ E) s k n e = by (λ j h. not-before E (after told s d) j n h) (split (to_address a (notices_at told s d)) (notices_from told (after told s d) E a) k n e)
+  not-before (d ∷ E) s k n e = by (λ j h. not-before E (after s d) j n h) (split (to_address a (notices_at s d)) (notices_from (after s d) E a) k n e)
     where
-      by : ((j : ℕ) → slice_get (notices_from told (after told s d) E a) j ≡ Some n → s.count + 1 ≤ n.place) → InBoth (to_address a (notices_at told s d)) (notices_from told (after told s d) E a) k n → s.count ≤ n.place
-      by later (inl p) = let q = at-get s.count (to_address a (notices_at told s d)) (mine-at s d) k n p.1 in omega (arith, q)
+      by : ((j : ℕ) → slice_get (notices_from (after s d) E a) j ≡ Some n → s.count + 1 ≤ n.place) → InBoth (to_address a (notices_at s d)) (notices_from (after s d) E a) k n → s.count ≤ n.place
+      by later (inl p) = let q = at-get s.count (to_address a (notices_at s d)) (mine-at s d) k n p.1 in omega (arith, q)
       by later (inr p) = let q = later p.place p.get in omega (arith, q)
 
   record Placed (E : List Entry) (s : State) (k p : ℕ) (n : Notice) : Type 0 where
-    low : n.place < s.count + p → k < length (notices_from told s (take p E) a)
-    high : s.count + p ≤ n.place → length (notices_from told s (take p E) a) ≤ k
+    low : n.place < s.count + p → k < length (notices_from s (take p E) a)
+    high : s.count + p ≤ n.place → length (notices_from s (take p E) a) ≤ k
 
-  placed : (E : List Entry) (s : State) (k p : ℕ) (n : Notice) → slice_get (notices_from told s E a) k ≡ Some n → Placed E s k p n
+  placed : (E : List Entry) (s : State) (k p : ℕ) (n : Notice) → slice_get (notices_from s E a) k ≡ Some n → Placed E s k p n
   unfolding InBoth
   placed [] s k p n e = absurd (cc e)
   placed (d ∷ E) s k zero n e = let q = not-before (d ∷ E) s k n e in record { low = λ l. absurd (omega (arith, q, l)); high = λ l. omega arith }
-  placed (d ∷ E) s k (suc p) n e = by (λ j h. placed E (after told s d) j p n h) (split (to_address a (notices_at told s d)) (notices_from told (after told s d) E a) k n e)
+  placed (d ∷ E) s k (suc p) n e = by (λ j h. placed E (after s d) j p n h) (split (to_address a (notices_at s d)) (notices_from (after s d) E a) k n e)
     where
-      by : ((j : ℕ) → slice_get (notices_from told (after told s d) E a) j ≡ Some n → Placed E (after told s d) j p n) → InBoth (to_address a (notices_at told s d)) (notices_from told (after told s d) E a) k n → Placed (d ∷ E) s k (suc p) n
+      by : ((j : ℕ) → slice_get (notices_from (after s d) E a) j ≡ Some n → Placed E (after s d) j p n) → InBoth (to_address a (notices_at s d)) (notices_from (after s d) E a) k n → Placed (d ∷ E) s k (suc p) n
       by later (inl q) =
-          let at = at-get s.count (to_address a (notices_at told s d)) (mine-at s d) k n q.1 in
+          let at = at-get s.count (to_address a (notices_at s d)) (mine-at s d) k n q.1 in
           let l = q.0 in
-          let len = length-append (to_address a (notices_at told s d)) (notices_from told (after told s d) (take p E) a) in
+          let len = length-append (to_address a (notices_at s d)) (notices_from (after s d) (take p E) a) in
           record { low = λ h. omega (arith, l, len); high = λ h. absurd (omega (arith, at, h)) }
       by later (inr q) =
           let more = later q.place q.get in
           let at = q.is in
-          let len = length-append (to_address a (notices_at told s d)) (notices_from told (after told s d) (take p E) a) in
+          let len = length-append (to_address a (notices_at s d)) (notices_from (after s d) (take p E) a) in
           record { low = λ h. (let r = more.low (omega (arith, h)) in omega (arith, r, at, len)); high = λ h. (let r = more.high (omega (arith, h)) in omega (arith, r, at, len)) }
 
-  test-by : (E : List Entry) (s : State) (k p : ℕ) (n : Notice) → Placed E s k p n → (b : Bool) → nat_lt n.place (s.count + p) ≡ b → b ≡ nat_lt k (length (notices_from told s (take p E) a))
-  test-by E s k p n h true e = sym (lt-ltb k (length (notices_from told s (take p E) a)) (h.low (ltb-true n.place (s.count + p) e)))
-  test-by E s k p n h false e = sym (le-ltb k (length (notices_from told s (take p E) a)) (h.high (ltb-false n.place (s.count + p) e)))
+  test-by : (E : List Entry) (s : State) (k p : ℕ) (n : Notice) → Placed E s k p n → (b : Bool) → nat_lt n.place (s.count + p) ≡ b → b ≡ nat_lt k (length (notices_from s (take p E) a))
+  test-by E s k p n h true e = sym (lt-ltb k (length (notices_from s (take p E) a)) (h.low (ltb-true n.place (s.count + p) e)))
+  test-by E s k p n h false e = sym (le-ltb k (length (notices_from s (take p E) a)) (h.high (ltb-false n.place (s.count + p) e)))
 
-  pub placed-is : (E : List Entry) (s : State) (k p : ℕ) (n : Notice) → slice_get (notices_from told s E a) k ≡ Some n → nat_lt n.place (s.count + p) ≡ nat_lt k (length (notices_from told s (take p E) a))
+  pub placed-is : (E : List Entry) (s : State) (k p : ℕ) (n : Notice) → slice_get (notices_from s E a) k ≡ Some n → nat_lt n.place (s.count + p) ≡ nat_lt k (length (notices_from s (take p E) a))
   placed-is E s k p n e = test-by E s k p n (placed E s k p n e) (nat_lt n.place (s.count + p)) refl
 
 -- ---- another address of a bare address has no notices
 
-pub others-by : (told : Event → Bool) (a b : Jid) → a.resource ≡ [] → same_bare a b ≡ true → same_jid a b ≡ false → (E : List Entry) (r : List ℕ) → b.resource ≡ r → notices_from told empty_state E b ≡ []
-others-by told a b bare like apart E [] e =
+pub others-by : (a b : Jid) → a.resource ≡ [] → same_bare a b ≡ true → same_jid a b ≡ false → (E : List Entry) (r : List ℕ) → b.resource ≡ r → notices_from empty_state E b ≡ []
+others-by a b bare like apart E [] e =
     let p = (same_bare-Decides a b).0 like in
     absurd (true≢false (sym ((same_jid-Decides a b).1 (same_parts a b p.0 p.1 (bare ∙ sym e))) ∙ apart))
-others-by told a b bare like apart E (x ∷ r) e = of-full told E empty_state b x r e
+others-by a b bare like apart E (x ∷ r) e = of-full E empty_state b x r e
 
 -- a bare address hears its notices
-heard-is : (told : Event → Bool) (a : Jid) → a.resource ≡ [] → (E : List Entry) (s : State) → map placeless (notices_from told s E a) ≡ hearing told a s E
-heard-is told a bare [] s = refl
-heard-is told a bare (e ∷ E) s =
-    let ns = filter (λ n. same_bare n.to a) (notices_at told s e) in
-    let later = notices_from told (after told s e) E a in
-    ap (λ (r : List ℕ). map placeless (of_bare r ns ++ later)) bare ∙ map-append placeless ns later ∙ ap (λ (ms : List Notice). map placeless ns ++ ms) (heard-is told a bare E (after told s e))
+heard-is : (a : Jid) → a.resource ≡ [] → (E : List Entry) (s : State) → map placeless (notices_from s E a) ≡ hearing a s E
+heard-is a bare [] s = refl
+heard-is a bare (e ∷ E) s =
+    let ns = filter (λ n. same_bare n.to a) (notices_at s e) in
+    let later = notices_from (after s e) E a in
+    ap (λ (r : List ℕ). map placeless (of_bare r ns ++ later)) bare ∙ map-append placeless ns later ∙ ap (λ (ms : List Notice). map placeless ns ++ ms) (heard-is a bare E (after s e))
 
-pub is-heard : (told : Event → Bool) (core : Core) → AnswersAs told core → (a : Jid) → a.resource ≡ [] → IsHeard told a core
-is-heard told core answers a bare = record {
-  hears = λ E. ap (map placeless) (answers.notices E a) ∙ heard-is told a bare E empty_state;
-  others = λ E b like apart. answers.notices E b ∙ others-by told a b bare like apart E b.resource refl;
+pub is-heard : (core : Core) → AnswersAs core → (a : Jid) → a.resource ≡ [] → IsHeard a core
+is-heard core answers a bare = record {
+  hears = λ E. ap (map placeless) (answers.notices E a) ∙ heard-is a bare E empty_state;
+  others = λ E b like apart. answers.notices E b ∙ others-by a b bare like apart E b.resource refl;
   placed = λ E k p n e.
       (let z : p ≡ 0 + p = omega arith in ap (λ q. nat_lt n.place q) z)
-      ∙ placed-is told a E empty_state k p n (sym (ap (λ (ns : List Notice). slice_get ns k) (answers.notices E a)) ∙ e)
+      ∙ placed-is a E empty_state k p n (sym (ap (λ (ns : List Notice). slice_get ns k) (answers.notices E a)) ∙ e)
       ∙ ap (λ (ns : List Notice). nat_lt k (length ns)) (sym (answers.notices (take p E) a));
 }

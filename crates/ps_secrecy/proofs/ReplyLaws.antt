@@ -2,7 +2,6 @@
 use Rattle.std.proofs.Common.{◌≡◌, ℕ, Bool, true, false, cond, ◌&&◌, List, Option, Some, None, refl, sym, ap, ◌∙◌}
 use Rattle.std.specs.Prelude.{codes, is_some}
 use Rattle.std.proofs.lemmas.Bool.{true≢false}
-use Rattle.ps_types.specs.declared.config.NodeConfig.{NodeConfig}
 use Rattle.ps_types.specs.declared.denial.Condition.{Condition}
 use Rattle.ps_types.specs.declared.entry.Arrival.{Arrival}
 use Rattle.ps_types.specs.declared.jid.Jid.{Jid}
@@ -31,7 +30,6 @@ use Rattle.ps_model.proofs.AskedStanza.{taken-spelled}
 use Rattle.ps_secrecy.proofs.ArriveLaws.{arrival-tree}
 use Rattle.ps_secrecy.proofs.ChangeLaws.{by-twin}
 use Rattle.ps_secrecy.proofs.CheckLaws.{steps-twin}
-use Rattle.ps_secrecy.proofs.Choice.{Choice}
 use Rattle.ps_secrecy.proofs.Lined.{line_reply, reply_in}
 use Rattle.ps_secrecy.proofs.StepLaws.{beside-of}
 use Rattle.ps_secrecy.proofs.Twin.{Beside, twin}
@@ -151,15 +149,15 @@ steps-other x i c ask.Absent r e = steps-twin x i c ask.Absent r refl
 steps-other x i c (ask.CapsAnswer node info) r e = steps-twin x i c (ask.CapsAnswer node info) r refl
 steps-other x i c ask.Silent r e = steps-twin x i c ask.Silent r refl
 
-accepted-twin : (choice : Choice) (x : Book) (i : List ItemRow) (c : List CountRow) (r : Request) → is_retract r.ask ≡ false → is_accepted (check x r) ≡ is_accepted (check (twin x i c) r)
-accepted-twin choice x i c r other =
+accepted-twin : (x : Book) (i : List ItemRow) (c : List CountRow) (r : Request) → is_retract r.ask ≡ false → is_accepted (check x r) ≡ is_accepted (check (twin x i c) r)
+accepted-twin x i c r other =
     (ap (λ (d : Option Condition). is_accepted (outcome.outcome d (child_of r.ask x r))) (ap first_denial (sym (steps-other x i c r.ask r other)))
     ∙ child-apart (first_denial (steps_of r.ask (twin x i c) r)) (child_of r.ask x r) (child_of r.ask (twin x i c) r))
 
 -- the reply of a request that its tree spells, by whether it is an iq
-asked-some : (choice : Choice) (S : List NodeKey) (a : Jid) (x y : Book) → Beside S a x y → (host service : List ℕ) (u : Tree) (r : Request) → SpellsRequest host service u r
+asked-some : (S : List NodeKey) (a : Jid) (x y : Book) → Beside S a x y → (host service : List ℕ) (u : Tree) (r : Request) → SpellsRequest host service u r
     → is_some (outcome_reply u r false (check x r)) ≡ is_some (outcome_reply u r false (check y r))
-asked-some choice S a x y h host service u r spells = outcome-some u r (check x r) ∙ by (is_retract r.ask) refl ∙ sym (outcome-some u r (check y r))
+asked-some S a x y h host service u r spells = outcome-some u r (check x r) ∙ by (is_retract r.ask) refl ∙ sym (outcome-some u r (check y r))
   where
     by : (b : Bool) → is_retract r.ask ≡ b → cond (is_accepted (check x r)) (is_answered u && is_iq u) (is_answered u) ≡ cond (is_accepted (check y r)) (is_answered u && is_iq u) (is_answered u)
     by true e =
@@ -167,27 +165,27 @@ asked-some choice S a x y h host service u r spells = outcome-some u r (check x 
         ap (λ (b : Bool). cond (is_accepted (check x r)) (is_answered u && b) (is_answered u)) iq ∙ iq-some (is_accepted (check x r)) (is_answered u)
         ∙ sym (ap (λ (b : Bool). cond (is_accepted (check y r)) (is_answered u && b) (is_answered u)) iq ∙ iq-some (is_accepted (check y r)) (is_answered u))
     by false e =
-        ap (λ (b : Bool). cond b (is_answered u && is_iq u) (is_answered u)) (by-twin S a (λ (b : Book). is_accepted (check x r) ≡ is_accepted (check b r)) x y h (λ i c hi hc. accepted-twin choice x i c r e))
+        ap (λ (b : Bool). cond b (is_answered u && is_iq u) (is_answered u)) (by-twin S a (λ (b : Book). is_accepted (check x r) ≡ is_accepted (check b r)) x y h (λ i c hi hc. accepted-twin x i c r e))
 
-taken-some : (choice : Choice) (S : List NodeKey) (a : Jid) (x y : Book) → Beside S a x y → (host service : List ℕ) (line line2 : ℕ) (one : Arrival) (z : Taken) → taking.taken host service one ≡ z → is_some (reply_in choice z x line) ≡ is_some (reply_in choice z y line2)
-taken-some choice S a x y h host service line line2 one taken.silent e = refl
-taken-some choice S a x y h host service line line2 one (taken.refused why) e = refl
-taken-some choice S a x y h host service line line2 one (taken.denied head why) e = refl
-taken-some choice S a x y h host service line line2 one (taken.asked u r) e = asked-some choice S a x y h host service u r (taken-spelled host service u u r (arrival-tree host service one u r e))
+taken-some : (S : List NodeKey) (a : Jid) (x y : Book) → Beside S a x y → (host service : List ℕ) (line line2 : ℕ) (one : Arrival) (z : Taken) → taking.taken host service one ≡ z → is_some (reply_in z x line) ≡ is_some (reply_in z y line2)
+taken-some S a x y h host service line line2 one taken.silent e = refl
+taken-some S a x y h host service line line2 one (taken.refused why) e = refl
+taken-some S a x y h host service line line2 one (taken.denied head why) e = refl
+taken-some S a x y h host service line line2 one (taken.asked u r) e = asked-some S a x y h host service u r (taken-spelled host service u u r (arrival-tree host service one u r e))
 
 -- one line in both
-pub line-some : (choice : Choice) (S : List NodeKey) (a : Jid) (s t : State) → SameBut S a s t → (host : List ℕ) (line line2 : ℕ) (one : Arrival) → is_some (line_reply choice s host line one) ≡ is_some (line_reply choice t host line2 one)
-line-some choice S a s t h host line line2 one =
-    taken-some choice S a s.book t.book (beside-of S a s t h) host s.book.service line line2 one (taking.taken host s.book.service one) refl
-    ∙ ap (λ (service : List ℕ). is_some (reply_in choice (taking.taken host service one) t.book line2)) h.service
+pub line-some : (S : List NodeKey) (a : Jid) (s t : State) → SameBut S a s t → (host : List ℕ) (line line2 : ℕ) (one : Arrival) → is_some (line_reply s host line one) ≡ is_some (line_reply t host line2 one)
+line-some S a s t h host line line2 one =
+    taken-some S a s.book t.book (beside-of S a s t h) host s.book.service line line2 one (taking.taken host s.book.service one) refl
+    ∙ ap (λ (service : List ℕ). is_some (reply_in (taking.taken host service one) t.book line2)) h.service
 
 -- a line for the items of a node gets one
-pub touch-some : (choice : Choice) (S : List NodeKey) (a : Jid) (s : State) (host : List ℕ) (line : ℕ) (one : Arrival) (node : NodeKey) → Touches S a s host one node → is_some (line_reply choice s host line one) ≡ true
-touch-some choice S a s host line one node p =
+pub touch-some : (S : List NodeKey) (a : Jid) (s : State) (host : List ℕ) (line : ℕ) (one : Arrival) (node : NodeKey) → Touches S a s host one node → is_some (line_reply s host line one) ≡ true
+touch-some S a s host line one node p =
     let spells = taken-spelled host s.book.service p.tree p.tree p.request (arrival-tree host s.book.service one p.tree p.request p.is_taken) in
     let set = items-set s.book.service p.tree p.request.from p.request.target p.request.ask node.name p.name spells.ask in
     let o = check s.book p.request in
-    ap (λ (x : Taken). is_some (reply_in choice x s.book line)) p.is_taken
+    ap (λ (x : Taken). is_some (reply_in x s.book line)) p.is_taken
     ∙ outcome-some p.tree p.request o
     ∙ ap (λ (b : Bool). cond (is_accepted o) (is_answered p.tree && b) (is_answered p.tree)) (iq-is (codes "set") p.tree set)
     ∙ iq-some (is_accepted o) (is_answered p.tree)

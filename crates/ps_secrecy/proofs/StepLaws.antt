@@ -1,6 +1,6 @@
 -- One entry, or a pair of them, keeps two worlds alike, and says the same to one who is shut out.
 use Rattle.std.proofs.Common.{◌≡◌, ◌⊎◌, inl, inr, ℕ, ◌+◌, Bool, true, false, cond, List, [], ◌∷◌, Option, Some, None, refl, sym, ap, ◌∙◌, subst, length, arith}
-use Rattle.std.specs.Prelude.{◌||◌, filter, is_some}
+use Rattle.std.specs.Prelude.{◌||◌, is_some}
 use Rattle.std.specs.List.{list_all}
 use Rattle.std.proofs.lemmas.Bool.{true≢false}
 use Rattle.ps_types.specs.declared.entry.Entry.TheVariants.{Boot, Change, Handed, Gone}
@@ -31,7 +31,6 @@ use Rattle.ps_model.proofs.TallyLaws.{made-handed, handed-one}
 use Rattle.ps_secrecy.proofs.Blank.{is_hidden, is_quiet}
 use Rattle.ps_secrecy.specs.Alike.{LookAlike}
 use Rattle.ps_model.specs.Commits.{makes_entry}
-use Rattle.ps_secrecy.proofs.Choice.{Choice}
 use Rattle.ps_secrecy.proofs.Heard.{due_to, hears}
 use Rattle.ps_secrecy.proofs.Stepped.{outs, stepped, said}
 use Rattle.ps_secrecy.proofs.Twin.{twin, Beside}
@@ -73,19 +72,19 @@ module _ (S : List NodeKey) (a : Jid) where
 
   -- ---- what is due of one request in both worlds
 
-  due-twin : (choice : Choice) (o : Option Request) (m : Option ℕ) (x : Book) (i : List ItemRow) (c : List CountRow) → items_outside S x.items ≡ items_outside S i → counts_outside S a x.counts ≡ counts_outside S a c
-      → IsShutOut S a x → IsShutOut S a (book_changed o m x) → due_to a (outs choice o m x) ≡ due_to a (outs choice o m (twin x i c))
-  due-twin choice None m x i c h k shut later = refl
-  due-twin choice (Some r) m x i c h k shut later =
+  due-twin : (o : Option Request) (m : Option ℕ) (x : Book) (i : List ItemRow) (c : List CountRow) → items_outside S x.items ≡ items_outside S i → counts_outside S a x.counts ≡ counts_outside S a c
+      → IsShutOut S a x → IsShutOut S a (book_changed o m x) → due_to a (outs o m x) ≡ due_to a (outs o m (twin x i c))
+  due-twin None m x i c h k shut later = refl
+  due-twin (Some r) m x i c h k shut later =
       let z = changed r m x in
       let y = twin x i c in
       let b = changed-twin S a r.ask r m x i c h k in
-      subst (λ (w : Book). due_to a (all_due x z (filter choice.told (events_of r m x z))) ≡ due_to a (all_due y w (filter choice.told (events_of r m y w)))) b.twins
-      (all-same S a choice x z shut later i (changed r m y).items c (changed r m y).counts h b.items (events_of r m x z) (events_of r m y (twin z (changed r m y).items (changed r m y).counts))
+      subst (λ (w : Book). due_to a (all_due x z (events_of r m x z)) ≡ due_to a (all_due y w (events_of r m y w))) b.twins
+      (all-same S a x z shut later i (changed r m y).items c (changed r m y).counts h b.items (events_of r m x z) (events_of r m y (twin z (changed r m y).items (changed r m y).counts))
       (events-same S a x z i (changed r m y).items c (changed r m y).counts k b.items r.ask r m))
 
-  pub due-both : (choice : Choice) (o : Option Request) (m : Option ℕ) (x y : Book) → Beside S a x y → IsShutOut S a x → IsShutOut S a (book_changed o m x) → due_to a (outs choice o m x) ≡ due_to a (outs choice o m y)
-  due-both choice o m x y h shut later = by-twin S a (λ (b : Book). due_to a (outs choice o m x) ≡ due_to a (outs choice o m b)) x y h (λ i c is ks. due-twin choice o m x i c is ks shut later)
+  pub due-both : (o : Option Request) (m : Option ℕ) (x y : Book) → Beside S a x y → IsShutOut S a x → IsShutOut S a (book_changed o m x) → due_to a (outs o m x) ≡ due_to a (outs o m y)
+  due-both o m x y h shut later = by-twin S a (λ (b : Book). due_to a (outs o m x) ≡ due_to a (outs o m b)) x y h (λ i c is ks. due-twin o m x i c is ks shut later)
 
   changed-both : (o : Option Request) (m : Option ℕ) (x y : Book) → Beside S a x y → Beside S a (book_changed o m x) (book_changed o m y)
   changed-both None m x y h = h
@@ -93,22 +92,22 @@ module _ (S : List NodeKey) (a : Jid) where
 
   -- ---- the two worlds after it
 
-  both-on : (choice : Choice) (s t : State) → SameBut S a s t → (m : Option ℕ) (o : Option Request) (host host2 : List ℕ) (line line2 : ℕ) (u u2 : Tree)
+  both-on : (s t : State) → SameBut S a s t → (m : Option ℕ) (o : Option Request) (host host2 : List ℕ) (line line2 : ℕ) (u u2 : Tree)
       → request_on host s.book u ≡ o → request_on host2 t.book u2 ≡ o
-      → IsShutOut S a (after choice.told s (Change host line m u)).book → IsShutOut S a (after choice.told t (Change host2 line2 m u2)).book
-      → LookAlike S a (after choice.told s (Change host line m u)) (after choice.told t (Change host2 line2 m u2)) (notices_at choice.told s (Change host line m u)) (notices_at choice.told t (Change host2 line2 m u2))
-  both-on choice s t h m o host host2 line line2 u u2 is is2 shut shut2 =
+      → IsShutOut S a (after s (Change host line m u)).book → IsShutOut S a (after t (Change host2 line2 m u2)).book
+      → LookAlike S a (after s (Change host line m u)) (after t (Change host2 line2 m u2)) (notices_at s (Change host line m u)) (notices_at t (Change host2 line2 m u2))
+  both-on s t h m o host host2 line line2 u u2 is is2 shut shut2 =
       let b = beside-of s t h in
-      let one = handed_out choice.told s (Change host line m u) in
-      let two = handed_out choice.told t (Change host2 line2 m u2) in
+      let one = handed_out s (Change host line m u) in
+      let two = handed_out t (Change host2 line2 m u2) in
       let later : IsShutOut S a (book_changed o m s.book) = subst (λ (q : Option Request). IsShutOut S a (book_changed q m s.book)) is shut in
       let due : due_to a one ≡ due_to a two =
-      ap (λ (q : Option Request). due_to a (outs choice q m s.book)) is ∙ due-both choice o m s.book t.book b h.shut_out later ∙ ap (λ (q : Option Request). due_to a (outs choice q m t.book)) (sym is2) in
+      ap (λ (q : Option Request). due_to a (outs q m s.book)) is ∙ due-both o m s.book t.book b h.shut_out later ∙ ap (λ (q : Option Request). due_to a (outs q m t.book)) (sym is2) in
       let books : Beside S a (book_changed (request_on host s.book u) m s.book) (book_changed (request_on host2 t.book u2) m t.book) =
       subst (λ (q : Option Request). Beside S a (book_changed q m s.book) (book_changed (request_on host2 t.book u2) m t.book)) (sym is)
       (subst (λ (q : Option Request). Beside S a (book_changed o m s.book) (book_changed q m t.book)) (sym is2) (changed-both o m s.book t.book b)) in
       record {
-        same = same-of (after choice.told s (Change host line m u)) (after choice.told t (Change host2 line2 m u2)) books
+        same = same-of (after s (Change host line m u)) (after t (Change host2 line2 m u2)) books
             (tallied-made a one s.tallies ∙ ap (λ n. n + length (due_to a one)) h.made ∙ ap (λ (d : List (Jid × Tree)). made_for a t.tallies + length d) due ∙ sym (tallied-made a two t.tallies))
             (tallied-handed a one s.tallies ∙ h.handed ∙ sym (tallied-handed a two t.tallies))
             shut shut2;
@@ -116,20 +115,20 @@ module _ (S : List NodeKey) (a : Jid) where
       }
 
   -- in the first world alone
-  pub one-on : (choice : Choice) (s t : State) → SameBut S a s t → (m : Option ℕ) (r : Request) (host : List ℕ) (line : ℕ) (u : Tree) → request_on host s.book u ≡ Some r
+  pub one-on : (s t : State) → SameBut S a s t → (m : Option ℕ) (r : Request) (host : List ℕ) (line : ℕ) (u : Tree) → request_on host s.book u ≡ Some r
       → Beside S a s.book (changed r m s.book) → list_all (is_hidden S) (events_of r m s.book (changed r m s.book)) ≡ true
-      → IsShutOut S a (after choice.told s (Change host line m u)).book
-      → LookAlike S a (after choice.told s (Change host line m u)) t (notices_at choice.told s (Change host line m u)) []
-  one-on choice s t h m r host line u is stays hidden shut =
+      → IsShutOut S a (after s (Change host line m u)).book
+      → LookAlike S a (after s (Change host line m u)) t (notices_at s (Change host line m u)) []
+  one-on s t h m r host line u is stays hidden shut =
       let b = beside-of s t h in
-      let one = handed_out choice.told s (Change host line m u) in
+      let one = handed_out s (Change host line m u) in
       let later : IsShutOut S a (changed r m s.book) = subst (λ (q : Option Request). IsShutOut S a (book_changed q m s.book)) is shut in
       let due : due_to a one ≡ [] =
-      ap (λ (q : Option Request). due_to a (outs choice q m s.book)) is ∙ all-hidden S a choice s.book (changed r m s.book) h.shut_out later (events_of r m s.book (changed r m s.book)) hidden in
+      ap (λ (q : Option Request). due_to a (outs q m s.book)) is ∙ all-hidden S a s.book (changed r m s.book) h.shut_out later (events_of r m s.book (changed r m s.book)) hidden in
       let books : Beside S a (book_changed (request_on host s.book u) m s.book) t.book =
       subst (λ (q : Option Request). Beside S a (book_changed q m s.book) t.book) (sym is) (beside-on S a (changed r m s.book) s.book t.book (beside-back S a s.book (changed r m s.book) stays) b) in
       record {
-        same = same-of (after choice.told s (Change host line m u)) t books
+        same = same-of (after s (Change host line m u)) t books
             (tallied-made a one s.tallies ∙ ap (λ (d : List (Jid × Tree)). made_for a s.tallies + length d) due ∙ (let z : made_for a s.tallies + 0 ≡ made_for a s.tallies = omega arith in z) ∙ h.made)
             (tallied-handed a one s.tallies ∙ h.handed)
             shut h.shut_out_there;
@@ -141,29 +140,29 @@ module _ (S : List NodeKey) (a : Jid) where
 
   -- ---- the other entries
 
-  pub boot-on : (choice : Choice) (s t : State) (service : List ℕ) → SameBut S a s t → IsShutOut S a (after choice.told s (Boot service)).book → IsShutOut S a (after choice.told t (Boot service)).book
-      → SameBut S a (after choice.told s (Boot service)) (after choice.told t (Boot service))
-  boot-on choice s t service h shut shut2 =
+  pub boot-on : (s t : State) (service : List ℕ) → SameBut S a s t → IsShutOut S a (after s (Boot service)).book → IsShutOut S a (after t (Boot service)).book
+      → SameBut S a (after s (Boot service)) (after t (Boot service))
+  boot-on s t service h shut shut2 =
       let b = beside-of s t h in
-      same-of (after choice.told s (Boot service)) (after choice.told t (Boot service)) (record { twins = ap (λ (x : Book). record x { service = service; resources = [] }) b.twins; items = b.items; counts = b.counts }) h.made h.handed shut shut2
+      same-of (after s (Boot service)) (after t (Boot service)) (record { twins = ap (λ (x : Book). record x { service = service; resources = [] }) b.twins; items = b.items; counts = b.counts }) h.made h.handed shut shut2
 
-  pub gone-on : (choice : Choice) (s t : State) (host : List ℕ) → SameBut S a s t → IsShutOut S a (after choice.told s (Gone host)).book → IsShutOut S a (after choice.told t (Gone host)).book
-      → SameBut S a (after choice.told s (Gone host)) (after choice.told t (Gone host))
-  gone-on choice s t host h shut shut2 =
+  pub gone-on : (s t : State) (host : List ℕ) → SameBut S a s t → IsShutOut S a (after s (Gone host)).book → IsShutOut S a (after t (Gone host)).book
+      → SameBut S a (after s (Gone host)) (after t (Gone host))
+  gone-on s t host h shut shut2 =
       let b = beside-of s t h in
-      same-of (after choice.told s (Gone host)) (after choice.told t (Gone host)) (record { twins = ap (λ (x : Book). record x { resources = resources_off host x.resources }) b.twins; items = b.items; counts = b.counts }) h.made h.handed shut shut2
+      same-of (after s (Gone host)) (after t (Gone host)) (record { twins = ap (λ (x : Book). record x { resources = resources_off host x.resources }) b.twins; items = b.items; counts = b.counts }) h.made h.handed shut shut2
 
-  pub handed-on : (choice : Choice) (s t : State) (to : Jid) → SameBut S a s t → SameBut S a (after choice.told s (Handed to)) (after choice.told t (Handed to))
-  handed-on choice s t to h =
-      same-of (after choice.told s (Handed to)) (after choice.told t (Handed to)) (beside-of s t h)
+  pub handed-on : (s t : State) (to : Jid) → SameBut S a s t → SameBut S a (after s (Handed to)) (after t (Handed to))
+  handed-on s t to h =
+      same-of (after s (Handed to)) (after t (Handed to)) (beside-of s t h)
       (made-handed a to s.tallies ∙ h.made ∙ sym (made-handed a to t.tallies))
       (handed-one a to s.tallies (same_bare a to) refl ∙ ap (λ n. n + cond (same_bare a to) 1 0) h.handed ∙ sym (handed-one a to t.tallies (same_bare a to) refl))
       h.shut_out h.shut_out_there
 
   -- of another address, in one world
-  pub handed-one-on : (choice : Choice) (s t : State) (to : Jid) → same_bare a to ≡ false → SameBut S a s t → SameBut S a (after choice.told s (Handed to)) t
-  handed-one-on choice s t to other h =
-      same-of (after choice.told s (Handed to)) t (beside-of s t h) (made-handed a to s.tallies ∙ h.made)
+  pub handed-one-on : (s t : State) (to : Jid) → same_bare a to ≡ false → SameBut S a s t → SameBut S a (after s (Handed to)) t
+  handed-one-on s t to other h =
+      same-of (after s (Handed to)) t (beside-of s t h) (made-handed a to s.tallies ∙ h.made)
       (handed-one a to s.tallies false other ∙ (let z : handed_to a s.tallies + 0 ≡ handed_to a s.tallies = omega arith in z) ∙ h.handed)
       h.shut_out h.shut_out_there
 
@@ -261,67 +260,67 @@ module _ (S : List NodeKey) (a : Jid) where
 
   -- ---- in the first world alone, where it makes the entry
 
-  lone-by : (choice : Choice) (s t : State) → SameBut S a s t → (m : Option ℕ) (r : Request) (host : List ℕ) (line : ℕ) (u : Tree) → request_on host s.book u ≡ Some r
+  lone-by : (s t : State) → SameBut S a s t → (m : Option ℕ) (r : Request) (host : List ℕ) (line : ℕ) (u : Tree) → request_on host s.book u ≡ Some r
       → Beside S a s.book (changed r m s.book) → list_all (is_hidden S) (events_of r m s.book (changed r m s.book)) ≡ true
-      → (b : Bool) → IsShutOut S a (cond b (after choice.told s (Change host line m u)) s).book
-      → LookAlike S a (cond b (after choice.told s (Change host line m u)) s) t (cond b (notices_at choice.told s (Change host line m u)) []) []
-  lone-by choice s t h m r host line u is stays hidden true shut = one-on choice s t h m r host line u is stays hidden shut
-  lone-by choice s t h m r host line u is stays hidden false shut = record { same = h; hear = refl }
+      → (b : Bool) → IsShutOut S a (cond b (after s (Change host line m u)) s).book
+      → LookAlike S a (cond b (after s (Change host line m u)) s) t (cond b (notices_at s (Change host line m u)) []) []
+  lone-by s t h m r host line u is stays hidden true shut = one-on s t h m r host line u is stays hidden shut
+  lone-by s t h m r host line u is stays hidden false shut = record { same = h; hear = refl }
 
-  pair-by : (choice : Choice) (s t : State) → SameBut S a s t → (m n : Option ℕ) (r q : Request) (host host2 : List ℕ) (line line2 : ℕ) (u v : Tree) → request_on host s.book u ≡ Some r → request_on host2 t.book v ≡ Some q
+  pair-by : (s t : State) → SameBut S a s t → (m n : Option ℕ) (r q : Request) (host host2 : List ℕ) (line line2 : ℕ) (u v : Tree) → request_on host s.book u ≡ Some r → request_on host2 t.book v ≡ Some q
       → Beside S a s.book (changed r m s.book) → list_all (is_hidden S) (events_of r m s.book (changed r m s.book)) ≡ true
       → Beside S a t.book (changed q n t.book) → list_all (is_hidden S) (events_of q n t.book (changed q n t.book)) ≡ true
-      → IsShutOut S a (stepped choice s r (Change host line m u)).book → IsShutOut S a (stepped choice t q (Change host2 line2 n v)).book
-      → LookAlike S a (stepped choice s r (Change host line m u)) (stepped choice t q (Change host2 line2 n v)) (said choice s r (Change host line m u)) (said choice t q (Change host2 line2 n v))
-  pair-by choice s t h m n r q host host2 line line2 u v is is2 stays hidden stays2 hidden2 shut shut2 =
-      let l = lone-by choice s t h m r host line u is stays hidden (makes_entry s.book r) shut in
-      let k = lone-by choice t (stepped choice s r (Change host line m u)) (same-back (stepped choice s r (Change host line m u)) t l.same) n q host2 line2 v is2 stays2 hidden2 (makes_entry t.book q) shut2 in
-      record { same = same-back (stepped choice t q (Change host2 line2 n v)) (stepped choice s r (Change host line m u)) k.same; hear = l.hear ∙ sym k.hear }
+      → IsShutOut S a (stepped s r (Change host line m u)).book → IsShutOut S a (stepped t q (Change host2 line2 n v)).book
+      → LookAlike S a (stepped s r (Change host line m u)) (stepped t q (Change host2 line2 n v)) (said s r (Change host line m u)) (said t q (Change host2 line2 n v))
+  pair-by s t h m n r q host host2 line line2 u v is is2 stays hidden stays2 hidden2 shut shut2 =
+      let l = lone-by s t h m r host line u is stays hidden (makes_entry s.book r) shut in
+      let k = lone-by t (stepped s r (Change host line m u)) (same-back (stepped s r (Change host line m u)) t l.same) n q host2 line2 v is2 stays2 hidden2 (makes_entry t.book q) shut2 in
+      record { same = same-back (stepped t q (Change host2 line2 n v)) (stepped s r (Change host line m u)) k.same; hear = l.hear ∙ sym k.hear }
 
   -- two requests of others for the items of nodes of these
-  pub pair-on : (choice : Choice) (s t : State) → SameBut S a s t → (m n : Option ℕ) (r q : Request) (host host2 : List ℕ) (line line2 : ℕ) (u v : Tree) → request_on host s.book u ≡ Some r → request_on host2 t.book v ≡ Some q
+  pub pair-on : (s t : State) → SameBut S a s t → (m n : Option ℕ) (r q : Request) (host host2 : List ℕ) (line line2 : ℕ) (u v : Tree) → request_on host s.book u ≡ Some r → request_on host2 t.book v ≡ Some q
       → Touch s.book r → Touch t.book q
-      → IsShutOut S a (stepped choice s r (Change host line m u)).book → IsShutOut S a (stepped choice t q (Change host2 line2 n v)).book
-      → LookAlike S a (stepped choice s r (Change host line m u)) (stepped choice t q (Change host2 line2 n v)) (said choice s r (Change host line m u)) (said choice t q (Change host2 line2 n v))
+      → IsShutOut S a (stepped s r (Change host line m u)).book → IsShutOut S a (stepped t q (Change host2 line2 n v)).book
+      → LookAlike S a (stepped s r (Change host line m u)) (stepped t q (Change host2 line2 n v)) (said s r (Change host line m u)) (said t q (Change host2 line2 n v))
   unfolding Touched
-  pair-on choice s t h m n r q host host2 line line2 u v is is2 one two shut shut2 =
+  pair-on s t h m n r q host host2 line line2 u v is is2 one two shut shut2 =
       let c = touched r m s.book one in
       let d = touched q n t.book two in
-      pair-by choice s t h m n r q host host2 line line2 u v is is2 c.0 (c.1 (changed r m s.book)) d.0 (d.1 (changed q n t.book)) shut shut2
+      pair-by s t h m n r q host host2 line line2 u v is is2 c.0 (c.1 (changed r m s.book)) d.0 (d.1 (changed q n t.book)) shut shut2
 
   -- ---- one request in both
 
   module _ (decides : (ms ns : List NodeRow) → same_nodes ms ns ≡ true → ms ≡ ns) where
-    Turned : Choice → Request → Book → Book → Type 0
-    Turned choice r x y = (makes_entry x r ≡ makes_entry y r) ⊎ ((is_quiet S r r.ask ≡ true) × ((m : Option ℕ) → Beside S a x (changed r m x)))
+    Turned : Request → Book → Book → Type 0
+    Turned r x y = (makes_entry x r ≡ makes_entry y r) ⊎ ((is_quiet S r r.ask ≡ true) × ((m : Option ℕ) → Beside S a x (changed r m x)))
 
-    turned : (choice : Choice) (r : Request) (x y : Book) → Beside S a x y → IsShutOut S a x → Turned choice r x y
+    turned : (r : Request) (x y : Book) → Beside S a x y → IsShutOut S a x → Turned r x y
     unfolding Turned
-    turned choice r x y h shut = by-twin S a (λ (b : Book). (makes_entry x r ≡ makes_entry b r) ⊎ ((is_quiet S r r.ask ≡ true) × ((m : Option ℕ) → Beside S a x (changed r m x)))) x y h (λ i c is ks. turns S a decides x shut i c is ks choice r)
+    turned r x y h shut = by-twin S a (λ (b : Book). (makes_entry x r ≡ makes_entry b r) ⊎ ((is_quiet S r r.ask ≡ true) × ((m : Option ℕ) → Beside S a x (changed r m x)))) x y h (λ i c is ks. turns S a decides x shut i c is ks r)
 
-    even-by : (choice : Choice) (s t : State) → SameBut S a s t → (m : Option ℕ) (r : Request) (host host2 : List ℕ) (line line2 : ℕ) (u v : Tree) → request_on host s.book u ≡ Some r → request_on host2 t.book v ≡ Some r
-        → (b c : Bool) → b ≡ c → IsShutOut S a (cond b (after choice.told s (Change host line m u)) s).book → IsShutOut S a (cond c (after choice.told t (Change host2 line2 m v)) t).book
-        → LookAlike S a (cond b (after choice.told s (Change host line m u)) s) (cond c (after choice.told t (Change host2 line2 m v)) t) (cond b (notices_at choice.told s (Change host line m u)) []) (cond c (notices_at choice.told t (Change host2 line2 m v)) [])
-    even-by choice s t h m r host host2 line line2 u v is is2 true true e shut shut2 = both-on choice s t h m (Some r) host host2 line line2 u v is is2 shut shut2
-    even-by choice s t h m r host host2 line line2 u v is is2 false false e shut shut2 = record { same = h; hear = refl }
-    even-by choice s t h m r host host2 line line2 u v is is2 true false e shut shut2 = absurd (true≢false e)
-    even-by choice s t h m r host host2 line line2 u v is is2 false true e shut shut2 = absurd (true≢false (sym e))
+    even-by : (s t : State) → SameBut S a s t → (m : Option ℕ) (r : Request) (host host2 : List ℕ) (line line2 : ℕ) (u v : Tree) → request_on host s.book u ≡ Some r → request_on host2 t.book v ≡ Some r
+        → (b c : Bool) → b ≡ c → IsShutOut S a (cond b (after s (Change host line m u)) s).book → IsShutOut S a (cond c (after t (Change host2 line2 m v)) t).book
+        → LookAlike S a (cond b (after s (Change host line m u)) s) (cond c (after t (Change host2 line2 m v)) t) (cond b (notices_at s (Change host line m u)) []) (cond c (notices_at t (Change host2 line2 m v)) [])
+    even-by s t h m r host host2 line line2 u v is is2 true true e shut shut2 = both-on s t h m (Some r) host host2 line line2 u v is is2 shut shut2
+    even-by s t h m r host host2 line line2 u v is is2 false false e shut shut2 = record { same = h; hear = refl }
+    even-by s t h m r host host2 line line2 u v is is2 true false e shut shut2 = absurd (true≢false e)
+    even-by s t h m r host host2 line line2 u v is is2 false true e shut shut2 = absurd (true≢false (sym e))
 
-    change-by : (choice : Choice) (s t : State) → SameBut S a s t → (m : Option ℕ) (r : Request) (host host2 : List ℕ) (line line2 : ℕ) (u v : Tree) → request_on host s.book u ≡ Some r → request_on host2 t.book v ≡ Some r
-        → Turned choice r s.book t.book
-        → IsShutOut S a (stepped choice s r (Change host line m u)).book → IsShutOut S a (stepped choice t r (Change host2 line2 m v)).book
-        → LookAlike S a (stepped choice s r (Change host line m u)) (stepped choice t r (Change host2 line2 m v)) (said choice s r (Change host line m u)) (said choice t r (Change host2 line2 m v))
+    change-by : (s t : State) → SameBut S a s t → (m : Option ℕ) (r : Request) (host host2 : List ℕ) (line line2 : ℕ) (u v : Tree) → request_on host s.book u ≡ Some r → request_on host2 t.book v ≡ Some r
+        → Turned r s.book t.book
+        → IsShutOut S a (stepped s r (Change host line m u)).book → IsShutOut S a (stepped t r (Change host2 line2 m v)).book
+        → LookAlike S a (stepped s r (Change host line m u)) (stepped t r (Change host2 line2 m v)) (said s r (Change host line m u)) (said t r (Change host2 line2 m v))
     unfolding Turned
-    change-by choice s t h m r host host2 line line2 u v is is2 (inl even) shut shut2 = even-by choice s t h m r host host2 line line2 u v is is2 (makes_entry s.book r) (makes_entry t.book r) even shut shut2
-    change-by choice s t h m r host host2 line line2 u v is is2 (inr lone) shut shut2 =
+    change-by s t h m r host host2 line line2 u v is is2 (inl even) shut shut2 = even-by s t h m r host host2 line line2 u v is is2 (makes_entry s.book r) (makes_entry t.book r) even shut shut2
+    change-by s t h m r host host2 line line2 u v is is2 (inr lone) shut shut2 =
         let b = beside-of s t h in
         let there : Beside S a t.book (changed r m t.book) =
         beside-on S a t.book s.book (changed r m t.book) (beside-back S a s.book t.book b) (beside-on S a s.book (changed r m s.book) (changed r m t.book) (lone.1 m) (changed-beside S a r m s.book t.book b)) in
-        pair-by choice s t h m m r r host host2 line line2 u v is is2 (lone.1 m) (quiet-hidden r.ask r m s.book (changed r m s.book) lone.0) there (quiet-hidden r.ask r m t.book (changed r m t.book) lone.0) shut shut2
+        pair-by s t h m m r r host host2 line line2 u v is is2 (lone.1 m) (quiet-hidden r.ask r m s.book (changed r m s.book) lone.0) there (quiet-hidden r.ask r m t.book (changed r m t.book) lone.0) shut shut2
 
     -- one request, whoever asks
-    pub change-on : (choice : Choice) (s t : State) → SameBut S a s t → (m : Option ℕ) (r : Request) (host host2 : List ℕ) (line line2 : ℕ) (u v : Tree) → request_on host s.book u ≡ Some r → request_on host2 t.book v ≡ Some r
-        → IsShutOut S a (stepped choice s r (Change host line m u)).book → IsShutOut S a (stepped choice t r (Change host2 line2 m v)).book
-        → LookAlike S a (stepped choice s r (Change host line m u)) (stepped choice t r (Change host2 line2 m v)) (said choice s r (Change host line m u)) (said choice t r (Change host2 line2 m v))
-    change-on choice s t h m r host host2 line line2 u v is is2 shut shut2 =
-        change-by choice s t h m r host host2 line line2 u v is is2 (turned choice r s.book t.book (beside-of s t h) h.shut_out) shut shut2
+    pub change-on : (s t : State) → SameBut S a s t → (m : Option ℕ) (r : Request) (host host2 : List ℕ) (line line2 : ℕ) (u v : Tree) → request_on host s.book u ≡ Some r → request_on host2 t.book v ≡ Some r
+        → IsShutOut S a (stepped s r (Change host line m u)).book → IsShutOut S a (stepped t r (Change host2 line2 m v)).book
+        → LookAlike S a (stepped s r (Change host line m u)) (stepped t r (Change host2 line2 m v)) (said s r (Change host line m u)) (said t r (Change host2 line2 m v))
+    change-on s t h m r host host2 line line2 u v is is2 shut shut2 =
+        change-by s t h m r host host2 line line2 u v is is2 (turned r s.book t.book (beside-of s t h) h.shut_out) shut shut2

@@ -13,7 +13,6 @@ use Rattle.ps_model.specs.TwoWorlds.{IsShutOut}
 use Rattle.ps_model.specs.World.{zeros}
 use Rattle.ps_secrecy.proofs.AlikeHosts.{IsCore}
 use Rattle.ps_secrecy.proofs.AlikeWorlds.{AlikeWorlds, IsHeard}
-use Rattle.ps_secrecy.proofs.Choice.{Choice}
 use Rattle.ps_secrecy.proofs.Fronts.{AllBy, Fits}
 use Rattle.ps_secrecy.specs.Runs.{ArePairs, AreDenied}
 use Rattle.ps_secrecy.proofs.AlikeRuns.{AlikeRuns}
@@ -31,17 +30,17 @@ length-zeros : (E : List Entry) → length (zeros E) ≡ length E
 length-zeros [] = refl
 length-zeros (e ∷ E) = ap suc (length-zeros E)
 
-module _ (choice : Choice) (S : List NodeKey) (a : Jid) (core : Core) (service : List ℕ) (is : IsCore choice core) (hears : IsHeard choice.told a core) where
+module _ (S : List NodeKey) (a : Jid) (core : Core) (service : List ℕ) (is : IsCore core) (hears : IsHeard a core) where
   st : List Entry → State
-  st E = replay_from choice.told empty_state E
+  st E = replay_from empty_state E
 
   begun-fits : (E : List Entry) → Fits (start core service E)
   begun-fits E = record { by = by-zeros (E ++ Boot service ∷ []); sizes = length-zeros (E ++ Boot service ∷ []); flushed = omega arith }
 
-  run-itself : (E : List Entry) → IsShutOut S a (replay_from choice.told empty_state E).book → AlikeRuns choice.told S a E E
-  run-itself E shut = record { state = same-of S a (replay_from choice.told empty_state E) (replay_from choice.told empty_state E) (beside-itself S a (replay_from choice.told empty_state E).book) refl refl shut shut; hears = refl; handed = refl }
+  run-itself : (E : List Entry) → IsShutOut S a (replay_from empty_state E).book → AlikeRuns S a E E
+  run-itself E shut = record { state = same-of S a (replay_from empty_state E) (replay_from empty_state E) (beside-itself S a (replay_from empty_state E).book) refl refl shut shut; hears = refl; handed = refl }
 
-  begun-alike : (E : List Entry) → IsShutOut S a (replay_from choice.told empty_state (E ++ Boot service ∷ [])).book → AlikeWorlds choice.told S a service (start core service E) (start core service E)
+  begun-alike : (E : List Entry) → IsShutOut S a (replay_from empty_state (E ++ Boot service ∷ [])).book → AlikeWorlds S a service (start core service E) (start core service E)
   begun-alike E shut = record {
     hosts = record {
       fronts = record {
@@ -49,13 +48,13 @@ module _ (choice : Choice) (S : List NodeKey) (a : Jid) (core : Core) (service :
         flushed = refl;
         fits = begun-fits E;
         fits_there = begun-fits E;
-        firsts = λ m low. subst (λ (F : List Entry). AlikeRuns choice.told S a F F) (sym (first-all (start core service E) (begun-fits E) m low)) (run-itself (E ++ Boot service ∷ []) shut);
+        firsts = λ m low. subst (λ (F : List Entry). AlikeRuns S a F F) (sym (first-all (start core service E) (begun-fits E) m low)) (run-itself (E ++ Boot service ∷ []) shut);
       };
       lines = λ k. refl;
       said = λ k. refl;
       taken = λ k. refl;
       earlier = λ k. refl;
-      served = ap (λ (s : State). s.book.service) (state-on choice.told E (Some (Boot service)));
+      served = ap (λ (s : State). s.book.service) (state-on E (Some (Boot service)));
     };
     flight = refl;
     sent = refl;
@@ -65,7 +64,7 @@ module _ (choice : Choice) (S : List NodeKey) (a : Jid) (core : Core) (service :
   }
 
   -- one list, one boot, two lists of steps that are pairs
-  pub whole-runs : (E : List Entry) (xs ys : List Step) → IsShutOut S a (replay_from choice.told empty_state (E ++ Boot service ∷ [])).book
-      → ArePairs choice.told core service S a (start core service E) (start core service E) xs ys → AreDenied choice.told core service S a (start core service E) xs → AreDenied choice.told core service S a (start core service E) ys
-      → AlikeWorlds choice.told S a service (run core service (start core service E) xs) (run core service (start core service E) ys)
-  whole-runs E xs ys shut pairs dx dy = runs-alike choice S a core service is hears xs ys (start core service E) (start core service E) (begun-alike E shut) pairs dx dy
+  pub whole-runs : (E : List Entry) (xs ys : List Step) → IsShutOut S a (replay_from empty_state (E ++ Boot service ∷ [])).book
+      → ArePairs core service S a (start core service E) (start core service E) xs ys → AreDenied core service S a (start core service E) xs → AreDenied core service S a (start core service E) ys
+      → AlikeWorlds S a service (run core service (start core service E) xs) (run core service (start core service E) ys)
+  whole-runs E xs ys shut pairs dx dy = runs-alike S a core service is hears xs ys (start core service E) (start core service E) (begun-alike E shut) pairs dx dy

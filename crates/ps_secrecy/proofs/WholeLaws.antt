@@ -24,7 +24,6 @@ use Rattle.std.proofs.lemmas.List.{map-append}
 use Rattle.ps_secrecy.proofs.HostLaws.{get-map}
 use Rattle.ps_secrecy.proofs.AlikeHosts.{AlikeHosts, IsCore, seen}
 use Rattle.ps_secrecy.proofs.AlikeWorlds.{AlikeWorlds, IsHeard, IsIdle}
-use Rattle.ps_secrecy.proofs.Choice.{Choice}
 use Rattle.ps_model.specs.Heard.{placeless}
 use Rattle.ps_secrecy.specs.Alike.{added}
 use Rattle.ps_secrecy.specs.Runs.{ArePairs, AreDenied, IsRoomy}
@@ -56,23 +55,23 @@ turned-false : (b c : Jid) → same_jid b c ≡ false → (d : Bool) → same_ji
 turned-false b c apart false e = e
 turned-false b c apart true e = absurd (true≢false (sym ((same_jid-Decides b c).1 (sym ((same_jid-Decides c b).0 e))) ∙ apart))
 
-module _ (choice : Choice) (S : List NodeKey) (a : Jid) (core : Core) (service : List ℕ) (is : IsCore choice core) (heard : IsHeard choice.told a core) where
+module _ (S : List NodeKey) (a : Jid) (core : Core) (service : List ℕ) (is : IsCore core) (heard : IsHeard a core) where
   abbrev st : List Entry → State
-  st E = replay_from choice.told empty_state E
+  st E = replay_from empty_state E
 
   -- ---- Record
 
-  same-ends : (s t : State) → Ends S a choice s t None None → (f : Flight) (b : Jid) → Ends S a choice s t (recorded f b) (recorded f b)
+  same-ends : (s t : State) → Ends S a s t None None → (f : Flight) (b : Jid) → Ends S a s t (recorded f b) (recorded f b)
   same-ends s t h Nothing b = h
   same-ends s t h (Recorded t2) b = h
-  same-ends s t h Unrecorded b = record { same = handed-on S a choice s t b h.same; hear = refl }
+  same-ends s t h Unrecorded b = record { same = handed-on S a s t b h.same; hear = refl }
 
-  other-ends : (s t : State) → Ends S a choice s t None None → (f g : Flight) (b : Jid) → same_bare a b ≡ false → Ends S a choice s t (recorded f b) (recorded g b)
-  other-ends s t h Unrecorded Unrecorded b apart = record { same = handed-on S a choice s t b h.same; hear = refl }
-  other-ends s t h Unrecorded Nothing b apart = record { same = handed-one-on S a choice s t b apart h.same; hear = refl }
-  other-ends s t h Unrecorded (Recorded u) b apart = record { same = handed-one-on S a choice s t b apart h.same; hear = refl }
-  other-ends s t h Nothing Unrecorded b apart = record { same = same-back S a _ s (handed-one-on S a choice t s b apart (same-back S a s t h.same)); hear = refl }
-  other-ends s t h (Recorded u) Unrecorded b apart = record { same = same-back S a _ s (handed-one-on S a choice t s b apart (same-back S a s t h.same)); hear = refl }
+  other-ends : (s t : State) → Ends S a s t None None → (f g : Flight) (b : Jid) → same_bare a b ≡ false → Ends S a s t (recorded f b) (recorded g b)
+  other-ends s t h Unrecorded Unrecorded b apart = record { same = handed-on S a s t b h.same; hear = refl }
+  other-ends s t h Unrecorded Nothing b apart = record { same = handed-one-on S a s t b apart h.same; hear = refl }
+  other-ends s t h Unrecorded (Recorded u) b apart = record { same = handed-one-on S a s t b apart h.same; hear = refl }
+  other-ends s t h Nothing Unrecorded b apart = record { same = same-back S a _ s (handed-one-on S a t s b apart (same-back S a s t h.same)); hear = refl }
+  other-ends s t h (Recorded u) Unrecorded b apart = record { same = same-back S a _ s (handed-one-on S a t s b apart (same-back S a s t h.same)); hear = refl }
   other-ends s t h Nothing Nothing b apart = h
   other-ends s t h Nothing (Recorded u) b apart = h
   other-ends s t h (Recorded u) Nothing b apart = h
@@ -83,48 +82,48 @@ module _ (choice : Choice) (S : List NodeKey) (a : Jid) (core : Core) (service :
   other-hands Nothing b apart = refl
   other-hands (Recorded t) b apart = refl
 
-  keeps : (s : State) (f : Flight) (b : Jid) → (added choice.told s (recorded f b)).book.service ≡ s.book.service
+  keeps : (s : State) (f : Flight) (b : Jid) → (added s (recorded f b)).book.service ≡ s.book.service
   keeps s Unrecorded b = refl
   keeps s Nothing b = refl
   keeps s (Recorded t) b = refl
 
   record EndsSo (s t : State) (o p : Option Entry) : Type 0 where
-    ends : Ends S a choice s t o p
+    ends : Ends S a s t o p
     hand : hands o a ≡ hands p a
 
-  ends-by : (v w : World) → AlikeWorlds choice.told S a service v w → (b : Jid) (c d : Bool) → same_jid a b ≡ c → same_bare a b ≡ d → EndsSo (st v.entries) (st w.entries) (recorded (v.addresses b).flight b) (recorded (w.addresses b).flight b)
+  ends-by : (v w : World) → AlikeWorlds S a service v w → (b : Jid) (c d : Bool) → same_jid a b ≡ c → same_bare a b ≡ d → EndsSo (st v.entries) (st w.entries) (recorded (v.addresses b).flight b) (recorded (w.addresses b).flight b)
   ends-by v w al b true d e like =
-      let l = now (AlikeRuns choice.told S a) v w al.hosts.fronts in
+      let l = now (AlikeRuns S a) v w al.hosts.fronts in
       let same : a ≡ b = (same_jid-Decides a b).0 e in
       let f : (v.addresses b).flight ≡ (w.addresses b).flight = subst (λ (x : Jid). (v.addresses x).flight ≡ (w.addresses x).flight) same al.flight in
       subst (λ (g : Flight). EndsSo (st v.entries) (st w.entries) (recorded (v.addresses b).flight b) (recorded g b)) f
       (record { ends = same-ends (st v.entries) (st w.entries) (record { same = l.state; hear = refl }) (v.addresses b).flight b; hand = refl })
   ends-by v w al b false true e like =
-      let l = now (AlikeRuns choice.told S a) v w al.hosts.fronts in
+      let l = now (AlikeRuns S a) v w al.hosts.fronts in
       let fv = al.idle b like e in
       let fw = al.idle_there b like e in
       subst (λ (f : Flight). EndsSo (st v.entries) (st w.entries) (recorded f b) (recorded (w.addresses b).flight b)) (sym fv)
       (subst (λ (g : Flight). EndsSo (st v.entries) (st w.entries) (recorded Nothing b) (recorded g b)) (sym fw) (record { ends = record { same = l.state; hear = refl }; hand = refl }))
   ends-by v w al b false false e like =
-      let l = now (AlikeRuns choice.told S a) v w al.hosts.fronts in
+      let l = now (AlikeRuns S a) v w al.hosts.fronts in
       let apart = turned-false a b e (same_jid b a) refl in
       record {
         ends = other-ends (st v.entries) (st w.entries) (record { same = l.state; hear = refl }) (v.addresses b).flight (w.addresses b).flight b like;
         hand = other-hands (v.addresses b).flight b apart ∙ sym (other-hands (w.addresses b).flight b apart);
       }
 
-  record-parts : (v w : World) → AlikeWorlds choice.told S a service v w → (f : Flight) → Parts choice S a core service is heard ((records v a f).addresses a) ((records w a f).addresses a)
+  record-parts : (v w : World) → AlikeWorlds S a service v w → (f : Flight) → Parts S a core service is heard ((records v a f).addresses a) ((records w a f).addresses a)
   record-parts v w al Nothing = record { flight = al.flight; sent = al.sent; earlier = al.earlier }
   record-parts v w al (Recorded t) = record { flight = al.flight; sent = al.sent; earlier = al.earlier }
   record-parts v w al Unrecorded =
       let s = al.hosts.fronts.steps in
       rw ((same_jid-Decides a a).1 refl) (record { flight = ap (λ n. Recorded (n + 1)) s; sent = al.sent; earlier = al.earlier })
 
-  record-by : (v w : World) (b : Jid) → AlikeWorlds choice.told S a service v w → (d : Bool) → same_jid a b ≡ d → Parts choice S a core service is heard ((records v b (v.addresses b).flight).addresses a) ((records w b (w.addresses b).flight).addresses a)
+  record-by : (v w : World) (b : Jid) → AlikeWorlds S a service v w → (d : Bool) → same_jid a b ≡ d → Parts S a core service is heard ((records v b (v.addresses b).flight).addresses a) ((records w b (w.addresses b).flight).addresses a)
   record-by v w b al true e =
       let same : a ≡ b = (same_jid-Decides a b).0 e in
-      subst (λ (c : Jid). Parts choice S a core service is heard ((records v c (v.addresses c).flight).addresses a) ((records w c (w.addresses c).flight).addresses a)) same
-      (subst (λ (f : Flight). Parts choice S a core service is heard ((records v a (v.addresses a).flight).addresses a) ((records w a f).addresses a)) al.flight (record-parts v w al (v.addresses a).flight))
+      subst (λ (c : Jid). Parts S a core service is heard ((records v c (v.addresses c).flight).addresses a) ((records w c (w.addresses c).flight).addresses a)) same
+      (subst (λ (f : Flight). Parts S a core service is heard ((records v a (v.addresses a).flight).addresses a) ((records w a f).addresses a)) al.flight (record-parts v w al (v.addresses a).flight))
   record-by v w b al false e =
       let p = records-other v b a (v.addresses b).flight e in
       let q = records-other w b a (w.addresses b).flight e in
@@ -141,7 +140,7 @@ module _ (choice : Choice) (S : List NodeKey) (a : Jid) (core : Core) (service :
       let quiet : (w.addresses b).flight ≡ Nothing = idle b (ap (same_bare a) (sym same) ∙ like) (ap (same_jid a) (sym same) ∙ apart) in
       ap (λ (f : Flight). ((records w b f).addresses c).flight) quiet ∙ idle c like apart
 
-  pub record-on : (v w : World) (b : Jid) → AlikeWorlds choice.told S a service v w → AlikeWorlds choice.told S a service (counted (records v b (v.addresses b).flight)) (counted (records w b (w.addresses b).flight))
+  pub record-on : (v w : World) (b : Jid) → AlikeWorlds S a service v w → AlikeWorlds S a service (counted (records v b (v.addresses b).flight)) (counted (records w b (w.addresses b).flight))
   record-on v w b al =
       let fv = (v.addresses b).flight in
       let fw = (w.addresses b).flight in
@@ -149,10 +148,10 @@ module _ (choice : Choice) (S : List NodeKey) (a : Jid) (core : Core) (service :
       let B = (records w b fw).addresses in
       let so = ends-by v w al b (same_jid a b) (same_bare a b) refl refl in
       let parts = record-by v w b al (same_jid a b) refl in
-      subst (λ (x : World). AlikeWorlds choice.told S a service (counted x) (counted (records w b fw))) (sym (records-is v b fv))
-      (subst (λ (y : World). AlikeWorlds choice.told S a service (counted (record (with_entry v (recorded fv b)) { addresses = A })) (counted y)) (sym (records-is w b fw))
+      subst (λ (x : World). AlikeWorlds S a service (counted x) (counted (records w b fw))) (sym (records-is v b fv))
+      (subst (λ (y : World). AlikeWorlds S a service (counted (record (with_entry v (recorded fv b)) { addresses = A })) (counted y)) (sym (records-is w b fw))
       (record {
-        hosts = record-worlds choice S a core service is v w (recorded fv b) (recorded fw b) A B al.hosts so.ends so.hand (keeps (st v.entries) fv b);
+        hosts = record-worlds S a core service is v w (recorded fv b) (recorded fw b) A B al.hosts so.ends so.hand (keeps (st v.entries) fv b);
         flight = parts.flight;
         sent = parts.sent;
         earlier = parts.earlier;
@@ -224,7 +223,7 @@ module _ (choice : Choice) (S : List NodeKey) (a : Jid) (core : Core) (service :
       by false = refl
 
   -- the first reply that isn't taken is one of the same step in both
-  next-seen : (v w : World) (h : List ℕ) → AlikeWorlds choice.told S a service v w
+  next-seen : (v w : World) (h : List ℕ) → AlikeWorlds S a service v w
       → option_map (seen a service h) (slice_get (v.hosts h).said (v.hosts h).taken) ≡ option_map (seen a service h) (slice_get (w.hosts h).said (w.hosts h).taken)
   next-seen v w h al =
       sym (get-map (seen a service h) (v.hosts h).said (v.hosts h).taken)
@@ -255,12 +254,12 @@ module _ (choice : Choice) (S : List NodeKey) (a : Jid) (core : Core) (service :
       by true false is = absurd (true≢false is)
       by false true is = absurd (true≢false (sym is))
 
-  still-form : (v w : World) (H G : List ℕ → HostPart) (b c : Bool) → AlikeWorlds choice.told S a service v w
+  still-form : (v w : World) (H G : List ℕ → HostPart) (b c : Bool) → AlikeWorlds S a service v w
       → ((k : List ℕ) → (H k).line ≡ (v.hosts k).line) → ((k : List ℕ) → (H k).said ≡ (v.hosts k).said) → ((k : List ℕ) → (G k).line ≡ (w.hosts k).line) → ((k : List ℕ) → (G k).said ≡ (w.hosts k).said)
       → ((k : List ℕ) → (H k).taken ≡ (G k).taken) → ((k : List ℕ) → (H k).earlier ≡ (v.hosts k).earlier) → ((k : List ℕ) → (G k).earlier ≡ (w.hosts k).earlier)
-      → AlikeWorlds choice.told S a service (counted (record v { hosts = H; broken = b })) (counted (record w { hosts = G; broken = c }))
+      → AlikeWorlds S a service (counted (record v { hosts = H; broken = b })) (counted (record w { hosts = G; broken = c }))
   still-form v w H G b c al hl hs gl gs ts he ge = record {
-    hosts = still-worlds choice S a core service is v w H G v.addresses w.addresses b c al.hosts hl hs gl gs ts he ge;
+    hosts = still-worlds S a core service is v w H G v.addresses w.addresses b c al.hosts hl hs gl gs ts he ge;
     flight = al.flight;
     sent = al.sent;
     earlier = al.earlier;
@@ -268,10 +267,10 @@ module _ (choice : Choice) (S : List NodeKey) (a : Jid) (core : Core) (service :
     idle_there = al.idle_there;
   }
 
-  take-on : (v w : World) (h : List ℕ) (o p : Option Said) → option_map (seen a service h) o ≡ option_map (seen a service h) p → AlikeWorlds choice.told S a service v w → AlikeWorlds choice.told S a service (counted (took v h o)) (counted (took w h p))
+  take-on : (v w : World) (h : List ℕ) (o p : Option Said) → option_map (seen a service h) o ≡ option_map (seen a service h) p → AlikeWorlds S a service v w → AlikeWorlds S a service (counted (took v h o)) (counted (took w h p))
   take-on v w h o p same al =
-      subst (λ (x : World). AlikeWorlds choice.told S a service (counted x) (counted (took w h p))) (sym (took-is v h o))
-      (subst (λ (y : World). AlikeWorlds choice.told S a service (counted (record v { hosts = (took v h o).hosts })) (counted y)) (sym (took-is w h p))
+      subst (λ (x : World). AlikeWorlds S a service (counted x) (counted (took w h p))) (sym (took-is v h o))
+      (subst (λ (y : World). AlikeWorlds S a service (counted (record v { hosts = (took v h o).hosts })) (counted y)) (sym (took-is w h p))
       (still-form v w (took v h o).hosts (took w h p).hosts v.broken w.broken al (took-line v h o) (took-said v h o) (took-line w h p) (took-said w h p) (took-taken v w h o p same al.hosts.fronts.flushed al.hosts.taken) (took-earlier v h o) (took-earlier w h p)))
 
   role-line : (role : Role) (p : HostPart) → (ends_role role p).line ≡ p.line
@@ -292,9 +291,9 @@ module _ (choice : Choice) (S : List NodeKey) (a : Jid) (core : Core) (service :
 
   -- ---- flushes and crashes
 
-  flush-to : (v w : World) (m : ℕ) → AlikeWorlds choice.told S a service v w → v.flushed ≤ m → m ≤ v.steps → AlikeWorlds choice.told S a service (counted (flushes v m)) (counted (flushes w m))
+  flush-to : (v w : World) (m : ℕ) → AlikeWorlds S a service v w → v.flushed ≤ m → m ≤ v.steps → AlikeWorlds S a service (counted (flushes v m)) (counted (flushes w m))
   flush-to v w m al low high = record {
-    hosts = flush-worlds choice S a core service is v w m al.hosts low high;
+    hosts = flush-worlds S a core service is v w m al.hosts low high;
     flight = ap (landed m) al.flight;
     sent = al.sent;
     earlier = al.earlier;
@@ -306,10 +305,10 @@ module _ (choice : Choice) (S : List NodeKey) (a : Jid) (core : Core) (service :
   more-earlier p q earlier sent =
       map-append (map placeless) p.earlier (p.sent ∷ []) ∙ ap₂ (λ (xs : List (List Notice)) (ns : List Notice). xs ++ ns ∷ []) earlier sent ∙ sym (map-append (map placeless) q.earlier (q.sent ∷ []))
 
-  crash-to : (v w : World) (m : ℕ) → AlikeWorlds choice.told S a service v w → v.flushed ≤ m → IsShutOut S a (st (crashes core service v m).entries).book → IsShutOut S a (st (crashes core service w m).entries).book
-      → AlikeWorlds choice.told S a service (counted (crashes core service v m)) (counted (crashes core service w m))
+  crash-to : (v w : World) (m : ℕ) → AlikeWorlds S a service v w → v.flushed ≤ m → IsShutOut S a (st (crashes core service v m).entries).book → IsShutOut S a (st (crashes core service w m).entries).book
+      → AlikeWorlds S a service (counted (crashes core service v m)) (counted (crashes core service w m))
   crash-to v w m al low shut shut2 = record {
-    hosts = crash-worlds choice S a core service is v w m al.hosts low shut shut2;
+    hosts = crash-worlds S a core service is v w m al.hosts low shut shut2;
     flight = refl;
     sent = refl;
     earlier = more-earlier (v.addresses a) (w.addresses a) al.earlier al.sent;
@@ -317,25 +316,25 @@ module _ (choice : Choice) (S : List NodeKey) (a : Jid) (core : Core) (service :
     idle_there = λ c like apart. refl;
   }
 
-  counted-on : (v w : World) → AlikeWorlds choice.told S a service v w → AlikeWorlds choice.told S a service (counted v) (counted w)
+  counted-on : (v w : World) → AlikeWorlds S a service v w → AlikeWorlds S a service (counted v) (counted w)
   counted-on v w al = still-form v w v.hosts w.hosts v.broken w.broken al (λ k. refl) (λ k. refl) (λ k. refl) (λ k. refl) al.hosts.taken (λ k. refl) (λ k. refl)
 
-  flush-by : (v w : World) (m : ℕ) (b c : Bool) → AlikeWorlds choice.told S a service v w → b ≡ c → nat_le v.flushed m && nat_le m v.steps ≡ b
-      → AlikeWorlds choice.told S a service (counted (if b then flushes v m else v)) (counted (if c then flushes w m else w))
+  flush-by : (v w : World) (m : ℕ) (b c : Bool) → AlikeWorlds S a service v w → b ≡ c → nat_le v.flushed m && nat_le m v.steps ≡ b
+      → AlikeWorlds S a service (counted (if b then flushes v m else v)) (counted (if c then flushes w m else w))
   flush-by v w m true true al same e = let p = and_parts (nat_le v.flushed m) (nat_le m v.steps) e in flush-to v w m al (leb-true v.flushed m p.0) (leb-true m v.steps p.1)
   flush-by v w m false false al same e = counted-on v w al
   flush-by v w m true false al same e = absurd (true≢false same)
   flush-by v w m false true al same e = absurd (true≢false (sym same))
 
-  crash-by : (v w : World) (m : ℕ) (b c : Bool) → AlikeWorlds choice.told S a service v w → b ≡ c → nat_le v.flushed m && nat_le m v.steps ≡ b
+  crash-by : (v w : World) (m : ℕ) (b c : Bool) → AlikeWorlds S a service v w → b ≡ c → nat_le v.flushed m && nat_le m v.steps ≡ b
       → IsShutOut S a (st (if b then crashes core service v m else v).entries).book → IsShutOut S a (st (if c then crashes core service w m else w).entries).book
-      → AlikeWorlds choice.told S a service (counted (if b then crashes core service v m else v)) (counted (if c then crashes core service w m else w))
+      → AlikeWorlds S a service (counted (if b then crashes core service v m else v)) (counted (if c then crashes core service w m else w))
   crash-by v w m true true al same e shut shut2 = let p = and_parts (nat_le v.flushed m) (nat_le m v.steps) e in crash-to v w m al (leb-true v.flushed m p.0) shut shut2
   crash-by v w m false false al same e shut shut2 = counted-on v w al
   crash-by v w m true false al same e shut shut2 = absurd (true≢false same)
   crash-by v w m false true al same e shut shut2 = absurd (true≢false (sym same))
 
-  window : (v w : World) (m : ℕ) → AlikeWorlds choice.told S a service v w → (nat_le v.flushed m && nat_le m v.steps) ≡ (nat_le w.flushed m && nat_le m w.steps)
+  window : (v w : World) (m : ℕ) → AlikeWorlds S a service v w → (nat_le v.flushed m && nat_le m v.steps) ≡ (nat_le w.flushed m && nat_le m w.steps)
   window v w m al =
       let f = al.hosts.fronts.flushed in
       let s = al.hosts.fronts.steps in
@@ -346,7 +345,7 @@ module _ (choice : Choice) (S : List NodeKey) (a : Jid) (core : Core) (service :
   Denied : World → Type 0
   Denied w = IsShutOut S a (st w.entries).book
 
-  with-hosts : (v w x y : World) → AlikeWorlds choice.told S a service v w → AlikeHosts choice.told S a service x y → x.addresses ≡ v.addresses → y.addresses ≡ w.addresses → AlikeWorlds choice.told S a service x y
+  with-hosts : (v w x y : World) → AlikeWorlds S a service v w → AlikeHosts S a service x y → x.addresses ≡ v.addresses → y.addresses ≡ w.addresses → AlikeWorlds S a service x y
   with-hosts v w x y al hosts p q = record {
     hosts = hosts;
     flight = ap (λ (A : Jid → AddressPart). (A a).flight) p ∙ al.flight ∙ ap (λ (A : Jid → AddressPart). (A a).flight) (sym q);
@@ -356,30 +355,30 @@ module _ (choice : Choice) (S : List NodeKey) (a : Jid) (core : Core) (service :
     idle_there = λ c like apart. ap (λ (A : Jid → AddressPart). (A c).flight) q ∙ al.idle_there c like apart;
   }
 
-  arrive-by : (v w : World) (h : List ℕ) (one : Arrival) (full : Bool) → full ≡ false → AlikeWorlds choice.told S a service v w → Denied (happens core service v (steps.Arrive h one full)) → Denied (happens core service w (steps.Arrive h one full))
-      → AlikeWorlds choice.told S a service (happens core service v (steps.Arrive h one full)) (happens core service w (steps.Arrive h one full))
+  arrive-by : (v w : World) (h : List ℕ) (one : Arrival) (full : Bool) → full ≡ false → AlikeWorlds S a service v w → Denied (happens core service v (steps.Arrive h one full)) → Denied (happens core service w (steps.Arrive h one full))
+      → AlikeWorlds S a service (happens core service v (steps.Arrive h one full)) (happens core service w (steps.Arrive h one full))
   unfolding Denied
   arrive-by v w h one true room al shut shut2 = absurd (true≢false room)
   arrive-by v w h one false room al shut shut2 =
-      with-hosts v w (happens core service v (steps.Arrive h one false)) (happens core service w (steps.Arrive h one false)) al (arrive-on choice S a core service is v w al.hosts h one shut shut2) refl refl
+      with-hosts v w (happens core service v (steps.Arrive h one false)) (happens core service w (steps.Arrive h one false)) al (arrive-on S a core service is v w al.hosts h one shut shut2) refl refl
 
-  pair-by : (v w : World) (h : List ℕ) (node : NodeKey) (one two : Arrival) (full full2 : Bool) → full ≡ false → full2 ≡ false → AlikeWorlds choice.told S a service v w → Touches S a (st v.entries) h one node → Touches S a (st w.entries) h two node
+  pair-by : (v w : World) (h : List ℕ) (node : NodeKey) (one two : Arrival) (full full2 : Bool) → full ≡ false → full2 ≡ false → AlikeWorlds S a service v w → Touches S a (st v.entries) h one node → Touches S a (st w.entries) h two node
       → Denied (happens core service v (steps.Arrive h one full)) → Denied (happens core service w (steps.Arrive h two full2))
-      → AlikeWorlds choice.told S a service (happens core service v (steps.Arrive h one full)) (happens core service w (steps.Arrive h two full2))
+      → AlikeWorlds S a service (happens core service v (steps.Arrive h one full)) (happens core service w (steps.Arrive h two full2))
   unfolding Denied
   pair-by v w h node one two true full2 room room2 al p q shut shut2 = absurd (true≢false room)
   pair-by v w h node one two false true room room2 al p q shut shut2 = absurd (true≢false room2)
   pair-by v w h node one two false false room room2 al p q shut shut2 =
-      with-hosts v w (happens core service v (steps.Arrive h one false)) (happens core service w (steps.Arrive h two false)) al (pair-arrives choice S a core service is v w al.hosts h node one two p q shut shut2) refl refl
+      with-hosts v w (happens core service v (steps.Arrive h one false)) (happens core service w (steps.Arrive h two false)) al (pair-arrives S a core service is v w al.hosts h node one two p q shut shut2) refl refl
 
-  step-same : (v w : World) (x : Step) → IsRoomy x → AlikeWorlds choice.told S a service v w → Denied (happens core service v x) → Denied (happens core service w x) → AlikeWorlds choice.told S a service (happens core service v x) (happens core service w x)
+  step-same : (v w : World) (x : Step) → IsRoomy x → AlikeWorlds S a service v w → Denied (happens core service v x) → Denied (happens core service w x) → AlikeWorlds S a service (happens core service v x) (happens core service w x)
   unfolding Denied
   step-same v w (steps.Arrive h one full) room al shut shut2 = arrive-by v w h one full room al shut shut2
   step-same v w (steps.Flush m) room al shut shut2 = flush-by v w m (nat_le v.flushed m && nat_le m v.steps) (nat_le w.flushed m && nat_le m w.steps) al (window v w m al) refl
   step-same v w (steps.Take h) room al shut shut2 = take-on v w h (slice_get (v.hosts h).said (v.hosts h).taken) (slice_get (w.hosts h).said (w.hosts h).taken) (next-seen v w h al) al
-  step-same v w (steps.Emit b) room al shut shut2 = emit-on choice S a core service is heard v w b al
+  step-same v w (steps.Emit b) room al shut shut2 = emit-on S a core service is heard v w b al
   step-same v w (steps.Record b) room al shut shut2 = record-on v w b al
-  step-same v w (steps.Gone h) room al shut shut2 = with-hosts v w (happens core service v (steps.Gone h)) (happens core service w (steps.Gone h)) al (gone-worlds choice S a core service is v w h al.hosts shut shut2) refl refl
+  step-same v w (steps.Gone h) room al shut shut2 = with-hosts v w (happens core service v (steps.Gone h)) (happens core service w (steps.Gone h)) al (gone-worlds S a core service is v w h al.hosts shut shut2) refl refl
   step-same v w (steps.Ended h role) room al shut shut2 =
       still-form v w (at_host h (ends_role role) v.hosts) (at_host h (ends_role role) w.hosts) v.broken w.broken al (part-line (ends_role role) (role-line role) v.hosts h) (part-said (ends_role role) (role-said role) v.hosts h)
       (part-line (ends_role role) (role-line role) w.hosts h) (part-said (ends_role role) (role-said role) w.hosts h)
@@ -388,20 +387,20 @@ module _ (choice : Choice) (S : List NodeKey) (a : Jid) (core : Core) (service :
   step-same v w steps.Broken room al shut shut2 = still-form v w v.hosts w.hosts true true al (λ k. refl) (λ k. refl) (λ k. refl) (λ k. refl) al.hosts.taken (λ k. refl) (λ k. refl)
   step-same v w (steps.Crash m) room al shut shut2 = crash-by v w m (nat_le v.flushed m && nat_le m v.steps) (nat_le w.flushed m && nat_le m w.steps) al (window v w m al) refl shut shut2
 
-  step-pair : (v w : World) (x y : Step) → IsPair S a (st v.entries) (st w.entries) x y → IsRoomy x → IsRoomy y → AlikeWorlds choice.told S a service v w → Denied (happens core service v x) → Denied (happens core service w y)
-      → AlikeWorlds choice.told S a service (happens core service v x) (happens core service w y)
+  step-pair : (v w : World) (x y : Step) → IsPair S a (st v.entries) (st w.entries) x y → IsRoomy x → IsRoomy y → AlikeWorlds S a service v w → Denied (happens core service v x) → Denied (happens core service w y)
+      → AlikeWorlds S a service (happens core service v x) (happens core service w y)
   unfolding Denied
   step-pair v w x y (inl same) rx ry al shut shut2 =
-      subst (λ (z : Step). Denied (happens core service w z) → AlikeWorlds choice.told S a service (happens core service v x) (happens core service w z)) same (λ d. step-same v w x rx al shut d) shut2
+      subst (λ (z : Step). Denied (happens core service w z) → AlikeWorlds S a service (happens core service v x) (happens core service w z)) same (λ d. step-same v w x rx al shut d) shut2
   step-pair v w x y (inr t) rx ry al shut shut2 =
-      subst (λ (p : Step). Denied (happens core service v p) → AlikeWorlds choice.told S a service (happens core service v p) (happens core service w y)) (sym t.is_one)
-      (λ d. subst (λ (q : Step). Denied (happens core service w q) → AlikeWorlds choice.told S a service (happens core service v (steps.Arrive t.host t.one t.one_full)) (happens core service w q)) (sym t.is_other)
+      subst (λ (p : Step). Denied (happens core service v p) → AlikeWorlds S a service (happens core service v p) (happens core service w y)) (sym t.is_one)
+      (λ d. subst (λ (q : Step). Denied (happens core service w q) → AlikeWorlds S a service (happens core service v (steps.Arrive t.host t.one t.one_full)) (happens core service w q)) (sym t.is_other)
       (λ e. pair-by v w t.host t.node t.one t.other t.one_full t.other_full (subst IsRoomy t.is_one rx) (subst IsRoomy t.is_other ry) al t.touches t.touches_there d e) shut2) shut
 
   -- ---- lists of steps
 
-  pub runs-alike : (xs ys : List Step) (v w : World) → AlikeWorlds choice.told S a service v w → ArePairs choice.told core service S a v w xs ys → AreDenied choice.told core service S a v xs → AreDenied choice.told core service S a w ys
-      → AlikeWorlds choice.told S a service (run core service v xs) (run core service w ys)
+  pub runs-alike : (xs ys : List Step) (v w : World) → AlikeWorlds S a service v w → ArePairs core service S a v w xs ys → AreDenied core service S a v xs → AreDenied core service S a w ys
+      → AlikeWorlds S a service (run core service v xs) (run core service w ys)
   unfolding Denied
   runs-alike [] [] v w al pairs dv dw = al
   runs-alike [] (y ∷ ys) v w al pairs dv dw = absurd pairs

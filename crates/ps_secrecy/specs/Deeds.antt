@@ -1,21 +1,19 @@
 -- An entry of one world: where it is accepted it counts, and else it does nothing.
-use Rattle.std.specs.Prelude.{◌≡◌, Bool, true, List, [], cond}
+use Rattle.std.specs.Prelude.{◌≡◌, true, List, [], cond}
 use Rattle.ps_types.specs.declared.entry.Entry.{Entry}
 use Rattle.ps_types.specs.declared.entry.Entry.TheVariants.{Change}
 use Rattle.ps_types.specs.declared.entry.Notice.{Notice}
-use Rattle.ps_types.specs.declared.event.Event.{Event}
 use Rattle.ps_model.specs.After.{after, notices_at}
 use Rattle.ps_model.specs.Book.{State}
 use Rattle.ps_model.specs.Replay.{accepted_at}
 use Rattle.ps_model.specs.Tallies.{is_next_line}
 
-module _ (told : Event → Bool) where
-  -- the State that it leaves, and its notices
-  abbrev pub applied : State → Entry → State
-  applied s e = cond (accepted_at s e) (after told s e) s
+-- the State that it leaves, and its notices
+abbrev pub applied : State → Entry → State
+applied s e = cond (accepted_at s e) (after s e) s
 
-  abbrev pub applied_notices : State → Entry → List Notice
-  applied_notices s e = cond (accepted_at s e) (notices_at told s e) []
+abbrev pub applied_notices : State → Entry → List Notice
+applied_notices s e = cond (accepted_at s e) (notices_at s e) []
 
 -- a change is of a line above the greatest one of its host
 abbrev pub IsAbove : State → Entry → Type 0

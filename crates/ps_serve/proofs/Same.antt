@@ -83,3 +83,8 @@ module _ (tells : Type 0) (sources then now sinks sinks_then sinks_now : List �
   rose-still None a = tt
   rose-still (Some s) (inl a) = inl (subst (λ (h : Held). Rose (sources s.stream.source).faults h.faults) (sym (same s.stream.source)) a)
   rose-still (Some s) (inr a) = inr (subst (λ (h : Held). Rose (sinks s.stream.sink).faults h.faults) (sym (same_sinks s.stream.sink)) a)
+
+-- what nothing was done to is as it was
+pub untouched : (P : Served → Type 0) (o : Option Served) (sinks : List ℕ → Held) (stores : List ℕ → HeldStore) (lefts : List ℕ → ℕ → List ℕ → Type 0) → IfSome o (λ s. P s ⊎ LeavesAsItWas s sinks sinks stores stores lefts lefts)
+untouched P None sinks stores lefts = tt
+untouched P (Some s) sinks stores lefts = inr (record { unwritten = refl; same_store = refl; same_left = λ t c. (λ left. left, λ left. left) })

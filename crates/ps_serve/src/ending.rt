@@ -9,6 +9,7 @@ ghost use Rattle.ps_serve.specs.Serving.{AllEnded, AreCallers, Begun, Finished, 
 use crate::turn::StreamEnd;
 use ps_disk::Disk;
 use ps_hall::{EndCause, Hall, HandedRefusal, Pass};
+use std::thread::Threads;
 
 // Why the writer ends.
 fn cause_of(end: StreamEnd) -> EndCause {
@@ -42,7 +43,8 @@ fn first_of(end: StreamEnd, gone: Result<(), HandedRefusal>) -> StreamEnd
 }
 
 /// Ends the stream, whatever ended its lines: its Gone is recorded, and its writer has ended.
-pub fn end_stream<D: Disk>(
+pub fn end_stream<R: Threads + Sync, D: Disk>(
+    rt: &R,
     hall: &mut Hall<D>,
     reader: &mut Pass,
     writer: &mut Pass,
@@ -63,7 +65,7 @@ pub fn end_stream<D: Disk>(
     ensures store_later { D.faults (disk_of hall.old.journal) ≤ D.faults (disk_of hall.new.journal) }
     ensures limits { hall.new.limits ≡ hall.old.limits }
 {
-    let gone = hall.gone(reader);
+    let gone = hall.gone(rt, reader);
     hall.writer_ended(writer, cause_of(end));
     first_of(end, gone)
 }

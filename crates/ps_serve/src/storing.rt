@@ -21,6 +21,7 @@ use ps_types::Text;
 use ps_wire::{Lines, LinesRefusal, Sink, Source};
 use std::alloc::Global;
 use std::random::RandomSource;
+use std::thread::Threads;
 
 /// How many bytes a store has at most: 2^29 by changes, and 2^30 in all.
 const LIMITS: Limits = Limits {
@@ -62,7 +63,8 @@ fn not_opened(why: HallWhy) -> Status
 }
 
 // Answers the lines of the host, and ends its stream.
-fn serve_host<D: Disk, S: Source, K: Sink>(
+fn serve_host<R: Threads + Sync, D: Disk, S: Source, K: Sink>(
+    rt: &R,
     alloc: Global,
     hall: &mut Hall<D>,
     reader: &mut Pass,
@@ -85,12 +87,12 @@ fn serve_host<D: Disk, S: Source, K: Sink>(
     ensures store_later { D.faults (disk_of hall.old.journal) ≤ D.faults (disk_of hall.new.journal) }
     ensures limits { hall.new.limits ≡ hall.old.limits }
 {
-    let end = serve_lines(alloc, hall, reader, writer, lines, sink);
-    end_stream(hall, reader, writer, end)
+    let end = serve_lines(rt, alloc, hall, reader, writer, lines, sink);
+    end_stream(rt, hall, reader, writer, end)
 }
 
 // Opens the store, answers all the lines over it, and hands the disk back.
-fn serve_store<R: RandomSource, D: Disk, S: Source, K: Sink>(
+fn serve_store<R: RandomSource + Threads + Sync, D: Disk, S: Source, K: Sink>(
     rt: &R,
     alloc: Global,
     service: &Text,
@@ -121,6 +123,7 @@ fn serve_store<R: RandomSource, D: Disk, S: Source, K: Sink>(
             let mut passes = passes;
             let own = &mut passes[0];
             let end = serve_host(
+                rt,
                 alloc,
                 &mut hall,
                 &mut own.reader,
@@ -134,7 +137,7 @@ fn serve_store<R: RandomSource, D: Disk, S: Source, K: Sink>(
 }
 
 /// Answers all the lines of a source over the store on a disk, and hands both back.
-pub fn serve_stream<R: RandomSource, D: Disk, S: Source, K: Sink>(
+pub fn serve_stream<R: RandomSource + Threads + Sync, D: Disk, S: Source, K: Sink>(
     rt: &R,
     alloc: Global,
     service: &Text,

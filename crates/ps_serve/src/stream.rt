@@ -14,6 +14,7 @@ use ps_hall::{Hall, Pass};
 use ps_types::Arrival;
 use ps_wire::{Lines, NextLine, NextLineRefusal, Sink, Source};
 use std::alloc::Global;
+use std::thread::Threads;
 
 fn end_of(why: NextLineRefusal) -> StreamEnd
     ensures read { result ≡ StreamEnd.ReadFault → why ≡ NextLineRefusal.ReadFault }
@@ -31,7 +32,8 @@ fn end_of(why: NextLineRefusal) -> StreamEnd
 }
 
 // Answers the line that comes next. False: there was none.
-fn answer_next<D: Disk, S: Source, K: Sink>(
+fn answer_next<R: Threads + Sync, D: Disk, S: Source, K: Sink>(
+    rt: &R,
     alloc: Global,
     hall: &mut Hall<D>,
     reader: &mut Pass,
@@ -70,11 +72,11 @@ fn answer_next<D: Disk, S: Source, K: Sink>(
                 bytes,
                 moment: None,
             };
-            answer_line(hall, reader, writer, &arrival, sink)?;
+            answer_line(rt, hall, reader, writer, &arrival, sink)?;
             Ok(true)
         }
         Ok(NextLine::TooLong) => {
-            answer_line(hall, reader, writer, &Arrival::TooLong, sink)?;
+            answer_line(rt, hall, reader, writer, &Arrival::TooLong, sink)?;
             Ok(true)
         }
         Ok(NextLine::End) => Ok(false),
@@ -83,7 +85,8 @@ fn answer_next<D: Disk, S: Source, K: Sink>(
 }
 
 /// Answers each line of the host's stream before it reads the next.
-pub fn serve_lines<D: Disk, S: Source, K: Sink>(
+pub fn serve_lines<R: Threads + Sync, D: Disk, S: Source, K: Sink>(
+    rt: &R,
     alloc: Global,
     hall: &mut Hall<D>,
     reader: &mut Pass,
@@ -110,7 +113,7 @@ pub fn serve_lines<D: Disk, S: Source, K: Sink>(
     ensures callers { AreCallers hall.new reader.new writer.new reader.old.host }
 {
     'answers: loop {
-        match answer_next(alloc, hall, reader, writer, lines, sink) {
+        match answer_next(rt, alloc, hall, reader, writer, lines, sink) {
             Ok(true) => {}
             Ok(false) => return StreamEnd::Ended,
             Err(why) => return why,

@@ -17,6 +17,7 @@ use ps_disk::Disk;
 use ps_hall::{ArriveRefusal, Hall, Next, Pass};
 use ps_types::Arrival;
 use ps_wire::{Sink, WriteFault, write_line};
+use std::thread::Threads;
 
 /// Why a stream ended.
 #[derive(Clone, Copy, Debug, PartialEq, Eq)]
@@ -43,7 +44,8 @@ impl From<WriteFault> for StreamEnd {
 }
 
 // The line arrives, and its reply is handed out, if it gets one.
-fn answer<D: Disk>(
+fn answer<R: Threads + Sync, D: Disk>(
+    rt: &R,
     hall: &mut Hall<D>,
     reader: &mut Pass,
     writer: &mut Pass,
@@ -61,7 +63,7 @@ fn answer<D: Disk>(
     ensures limits { hall.new.limits ≡ hall.old.limits }
     ensures callers { AreCallers hall.new reader.new writer.new reader.old.host }
 {
-    match hall.arrive(reader, arrival) {
+    match hall.arrive(rt, reader, arrival) {
         Ok(_) => match hall.next(writer) {
             Ok(Next::Reply(text)) => Ok(Some(text)),
             Ok(Next::NotYet) => Ok(None),
@@ -88,7 +90,8 @@ fn write_reply<K: Sink>(sink: &mut K, reply: &Option<Bytes>) -> Result<(), Write
 }
 
 /// Answers the line, and writes its reply.
-pub fn answer_line<D: Disk, K: Sink>(
+pub fn answer_line<R: Threads + Sync, D: Disk, K: Sink>(
+    rt: &R,
     hall: &mut Hall<D>,
     reader: &mut Pass,
     writer: &mut Pass,
@@ -110,7 +113,7 @@ pub fn answer_line<D: Disk, K: Sink>(
     ensures limits { hall.new.limits ≡ hall.old.limits }
     ensures callers { AreCallers hall.new reader.new writer.new reader.old.host }
 {
-    let reply = answer(hall, reader, writer, arrival)?;
+    let reply = answer(rt, hall, reader, writer, arrival)?;
     write_reply(sink, &reply)?;
     Ok(())
 }

@@ -19,6 +19,7 @@ use ps_outside::{World, WorldRefusal};
 use ps_types::Text;
 use std::alloc::Global;
 use std::random::RandomSource;
+use std::thread::Threads;
 
 fn refused(why: WorldRefusal) -> Status
     ensures open { result ≡ Status.OpenFault → why ≡ WorldRefusal.Failed }
@@ -31,7 +32,7 @@ fn refused(why: WorldRefusal) -> Status
 }
 
 // Opens the stream's source and sink, answers its lines over the store on a disk, and gives both back; the disk is handed back.
-fn serve_over<R: RandomSource, W: World>(
+fn serve_over<R: RandomSource + Threads + Sync, W: World>(
     rt: &R,
     alloc: Global,
     service: &Text,
@@ -89,7 +90,7 @@ fn serve_over<R: RandomSource, W: World>(
 }
 
 // Opens the store, and the stream's source and sink, answers its lines, and gives all back.
-fn serve<R: RandomSource, W: World>(
+fn serve<R: RandomSource + Threads + Sync, W: World>(
     rt: &R,
     alloc: Global,
     service: &Text,
@@ -142,7 +143,7 @@ fn served_in(command: &Command) -> (&Text, &Text, &Stream)
     (service, store, &streams.as_slice()[0])
 }
 
-fn run_words<R: RandomSource, W: World>(
+fn run_words<R: RandomSource + Threads + Sync, W: World>(
     rt: &R,
     alloc: Global,
     words: &[Text],
@@ -202,7 +203,7 @@ fn tell<W: World>(status: Status, world: &mut W)
 /// each line, at the entries before it, and the store has the entries that the lines made, and the Gone of the host behind them. Each other answer
 /// than [`Status::Done`] has its cause, but for want of memory; then the sink gained a front of that, and no crash takes away what a line came to
 /// whose reply was written. Where the source alone failed, or gave 2^40 bytes, all lines that a newline ended in what it gave have their replies.
-pub fn run<R: RandomSource, W: World>(
+pub fn run<R: RandomSource + Threads + Sync, W: World>(
     rt: &R,
     alloc: Global,
     words: &[Text],

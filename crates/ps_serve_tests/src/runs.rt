@@ -5,9 +5,9 @@ use ps_serve::run;
 use ps_types::Text;
 use ps_wire::{MemSink, MemSource};
 use std::alloc::Global;
-use std::io;
 use std::random::RandomSource;
 use std::test::Fail;
+use std::thread::Threads;
 
 pub const FIRST: &str =
     r#"{"a":{"from":"ann@a.example/1","id":"1","to":"pubsub.example","type":"set"},"c":[{"c":[{"a":{"node":"news"},"n":"create"}],"n":"pubsub","ns":"http://jabber.org/protocol/pubsub"}],"n":"iq"}"#;
@@ -112,23 +112,18 @@ pub fn world_of(
     Ok(world)
 }
 
-// A source of noughts in the place of the system's secrets.
-struct Noughts;
-
-impl RandomSource for Noughts {
-    fn fill_bytes(&self, buf: &mut [u8]) -> io::Result<()> {
-        buf.fill(0);
-        Ok(())
-    }
-}
-
 // Runs the words, and answers the status's code.
-pub fn code_of(alloc: Global, words: &str, world: &mut MemWorld) -> Result<u8, Fail> {
+pub fn code_of<R: RandomSource + Threads + Sync>(
+    rt: &R,
+    alloc: Global,
+    words: &str,
+    world: &mut MemWorld,
+) -> Result<u8, Fail> {
     let mut texts = Vec::new(alloc);
     for word in words.split(' ') {
         texts.push(Text::of(alloc, word)?)?;
     }
-    Ok(run(&Noughts, alloc, &texts, world).code())
+    Ok(run(rt, alloc, &texts, world).code())
 }
 
 // What the sink holds, what was reported, and the code.
@@ -141,15 +136,26 @@ pub fn told(alloc: Global, world: &MemWorld, code: u8) -> Result<String, Fail> {
 }
 
 // A run of the words over that input: what was written, what was reported, and the code.
-fn ran(alloc: Global, words: &str, input: &str, failing: Failing<'_>) -> Result<String, Fail> {
+fn ran<R: RandomSource + Threads + Sync>(
+    rt: &R,
+    alloc: Global,
+    words: &str,
+    input: &str,
+    failing: Failing<'_>,
+) -> Result<String, Fail> {
     let mut world = world_of(alloc, b"", input, failing)?;
-    let code = code_of(alloc, words, &mut world)?;
+    let code = code_of(rt, alloc, words, &mut world)?;
     told(alloc, &world, code)
 }
 
 // Whether a run that ends well answers the lines so.
-fn answers(alloc: Global, input: &str, output: &str) -> Result<bool, Fail> {
-    let told = ran(alloc, SERVE, input, NONE)?;
+fn answers<R: RandomSource + Threads + Sync>(
+    rt: &R,
+    alloc: Global,
+    input: &str,
+    output: &str,
+) -> Result<bool, Fail> {
+    let told = ran(rt, alloc, SERVE, input, NONE)?;
     Ok(told.as_str().strip_suffix('0') == Some(output))
 }
 
@@ -158,7 +164,7 @@ fn what_is_published_is_retrieved(rt: HostRuntime) -> Result<(), Fail> {
     let alloc = rt.alloc();
     let input = format!(in alloc; "{BOTH}{PUBLISHED}")?;
     let output = format!(in alloc; "{BOTH_ANSWERED}{PUBLISHED_ANSWERED}")?;
-    assert!(rt; answers(alloc, input.as_str(), output.as_str())?);
+    assert!(rt; answers(&rt, alloc, input.as_str(), output.as_str())?);
     Ok(())
 }
 
@@ -191,13 +197,13 @@ fn of_eleven_items_the_oldest_goes(rt: HostRuntime) -> Result<(), Fail> {
     }
     input.push_str(RETRIEVED)?;
     output.push_str(TEN)?;
-    assert!(rt; answers(alloc, input.as_str(), output.as_str())?);
+    assert!(rt; answers(&rt, alloc, input.as_str(), output.as_str())?);
     Ok(())
 }
 
 #[test]
 fn each_line_has_its_reply(rt: HostRuntime) -> Result<(), Fail> {
-    assert!(rt; answers(rt.alloc(), LINES, LINES_ANSWERED)?);
+    assert!(rt; answers(&rt, rt.alloc(), LINES, LINES_ANSWERED)?);
     Ok(())
 }
 
@@ -216,13 +222,19 @@ fn a_long_line_is_refused(rt: HostRuntime) -> Result<(), Fail> {
     let long = padded(alloc, 262_144)?;
     let longer = padded(alloc, 262_145)?;
     let input = format!(in alloc; "{long}\n{longer}")?;
-    assert!(rt; answers(alloc, input.as_str(), TOO_LONG)?);
+    assert!(rt; answers(&rt, alloc, input.as_str(), TOO_LONG)?);
     Ok(())
 }
 
 // Whether a run over two lines writes that, reports that, and ends with that code.
-fn ends(alloc: Global, failing: Failing<'_>, written: &str, reported: &str) -> Result<bool, Fail> {
-    let ran = ran(alloc, SERVE, BOTH, failing)?;
+fn ends<R: RandomSource + Threads + Sync>(
+    rt: &R,
+    alloc: Global,
+    failing: Failing<'_>,
+    written: &str,
+    reported: &str,
+) -> Result<bool, Fail> {
+    let ran = ran(rt, alloc, SERVE, BOTH, failing)?;
     Ok(ran.as_str().strip_suffix(reported) == Some(written))
 }
 
@@ -285,7 +297,10 @@ fn what_fails_has_its_status(rt: HostRuntime) -> Result<(), Fail> {
             "9",
         ),
     ] {
-        assert!(rt; ends(rt.alloc(), failing, written, reported)?, "{reported}");
+        assert!(rt;
+            ends(&rt, rt.alloc(), failing, written, reported)?,
+            "{reported}"
+        );
     }
     Ok(())
 }
@@ -306,7 +321,7 @@ fn what_came_before_a_fault_is_answered(rt: HostRuntime) -> Result<(), Fail> {
         source: &[2],
         ..NONE
     };
-    let ran = ran(alloc, SERVE, input.as_str(), failing)?;
+    let ran = ran(&rt, alloc, SERVE, input.as_str(), failing)?;
     assert!(rt; ran.as_str().strip_suffix("stream fault\n3") == Some(output.as_str()));
     Ok(())
 }
@@ -315,7 +330,7 @@ fn what_came_before_a_fault_is_answered(rt: HostRuntime) -> Result<(), Fail> {
 fn other_words_are_no_command(rt: HostRuntime) -> Result<(), Fail> {
     let alloc = rt.alloc();
     let upper = "serve --service PubSub.Example --store s A.Example i1 o1";
-    assert_eq!(rt; ran(alloc, upper, "", NONE)?.as_str(), "0");
+    assert_eq!(rt; ran(&rt, alloc, upper, "", NONE)?.as_str(), "0");
     for words in [
         "",
         "serve --store s",
@@ -329,7 +344,11 @@ fn other_words_are_no_command(rt: HostRuntime) -> Result<(), Fail> {
         "serve --service pubsub.example --store s a.example i1 ",
         "serve --service pubsub.example --store s a.example i1 o1 b.example i2 o2",
     ] {
-        assert_eq!(rt; ran(alloc, words, "", NONE)?.as_str(), USAGE, "{words}");
+        assert_eq!(rt;
+            ran(&rt, alloc, words, "", NONE)?.as_str(),
+            USAGE,
+            "{words}"
+        );
     }
     Ok(())
 }

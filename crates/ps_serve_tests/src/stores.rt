@@ -5,7 +5,9 @@ use ps_journal::{Journal, JournalRefusal};
 use ps_outside::MemWorld;
 use ps_types::{Entry, Text};
 use std::alloc::Global;
+use std::random::RandomSource;
 use std::test::Fail;
+use std::thread::Threads;
 
 // A store of version 1 with one Boot.
 const BOOTED: [u8; 31] = *b"PUBSUBJ1\x01\0\0\0\x11\0\0\x0epubsub.example7";
@@ -20,9 +22,13 @@ fn booted_but(at: usize, byte: u8) -> [u8; 31] {
 }
 
 // A run without lines over a store of these bytes: what was reported, and the code.
-fn opened(alloc: Global, bytes: &[u8]) -> Result<String, Fail> {
+fn opened<R: RandomSource + Threads + Sync>(
+    rt: &R,
+    alloc: Global,
+    bytes: &[u8],
+) -> Result<String, Fail> {
     let mut world = world_of(alloc, bytes, "", NONE)?;
-    let code = code_of(alloc, SERVE, &mut world)?;
+    let code = code_of(rt, alloc, SERVE, &mut world)?;
     told(alloc, &world, code)
 }
 
@@ -52,7 +58,7 @@ fn a_store_is_opened_or_named_damaged(rt: HostRuntime) -> Result<(), Fail> {
         ),
     ];
     for (bytes, want) in rows {
-        assert_eq!(rt; opened(rt.alloc(), bytes)?.as_str(), want, "{want}");
+        assert_eq!(rt; opened(&rt, rt.alloc(), bytes)?.as_str(), want, "{want}");
     }
     Ok(())
 }
@@ -87,14 +93,15 @@ fn kinds(alloc: Global, disk: MemDisk) -> Result<String, Fail> {
 }
 
 // A run over a store of these bytes, with that input: what is told of it, and the world.
-fn ran_over(
+fn ran_over<R: RandomSource + Threads + Sync>(
+    rt: &R,
     alloc: Global,
     bytes: &[u8],
     input: &str,
     failing: Failing<'_>,
 ) -> Result<(String, MemWorld), Fail> {
     let mut world = world_of(alloc, bytes, input, failing)?;
-    let code = code_of(alloc, SERVE, &mut world)?;
+    let code = code_of(rt, alloc, SERVE, &mut world)?;
     let told = told(alloc, &world, code)?;
     Ok((told, world))
 }
@@ -107,10 +114,10 @@ const AGAIN: &str =
 #[test]
 fn a_run_finds_what_the_one_before_made(rt: HostRuntime) -> Result<(), Fail> {
     let alloc = rt.alloc();
-    let (_, empty) = ran_over(alloc, b"", "", NONE)?;
+    let (_, empty) = ran_over(&rt, alloc, b"", "", NONE)?;
     assert_eq!(rt; store_of(alloc, &empty)?.bytes().len(), 48);
-    let (first, world) = ran_over(alloc, b"", FIRST, NONE)?;
-    let (second, world) = ran_over(alloc, store_of(alloc, &world)?.bytes(), AGAIN, NONE)?;
+    let (first, world) = ran_over(&rt, alloc, b"", FIRST, NONE)?;
+    let (second, world) = ran_over(&rt, alloc, store_of(alloc, &world)?.bytes(), AGAIN, NONE)?;
     let told = format!(in alloc; "{}{}", first.as_str().trim_end_matches('0'), second)?;
     assert_eq!(rt; told.as_str().strip_suffix('0'), Some(BOTH_ANSWERED));
     let disk = MemDisk::new(alloc, store_of(alloc, &world)?.bytes(), &[])?;
@@ -119,8 +126,12 @@ fn a_run_finds_what_the_one_before_made(rt: HostRuntime) -> Result<(), Fail> {
 }
 
 // Whether the node is there when a store of these bytes is opened again: to make it is a conflict then.
-fn has_node(alloc: Global, bytes: &[u8]) -> Result<bool, Fail> {
-    let (told, _) = ran_over(alloc, bytes, AGAIN, NONE)?;
+fn has_node<R: RandomSource + Threads + Sync>(
+    rt: &R,
+    alloc: Global,
+    bytes: &[u8],
+) -> Result<bool, Fail> {
+    let (told, _) = ran_over(rt, alloc, bytes, AGAIN, NONE)?;
     Ok(told.as_str().contains("conflict"))
 }
 
@@ -135,8 +146,12 @@ const ITEMS: &str =
 "#;
 
 // Whether the node, and whether its item is there when a store of these bytes is opened again.
-fn stands(alloc: Global, bytes: &[u8]) -> Result<(bool, bool), Fail> {
-    let (told, _) = ran_over(alloc, bytes, ITEMS, NONE)?;
+fn stands<R: RandomSource + Threads + Sync>(
+    rt: &R,
+    alloc: Global,
+    bytes: &[u8],
+) -> Result<(bool, bool), Fail> {
+    let (told, _) = ran_over(rt, alloc, bytes, ITEMS, NONE)?;
     let told = told.as_str();
     Ok((
         !told.contains("item-not-found"),
@@ -153,7 +168,7 @@ fn is_kept(there: bool, answered: u64, calls: u64) -> bool {
 #[test]
 fn a_crash_leaves_what_was_answered(rt: HostRuntime) -> Result<(), Fail> {
     let alloc = rt.alloc();
-    let (_, world) = ran_over(alloc, b"", PUBLISHING, NONE)?;
+    let (_, world) = ran_over(&rt, alloc, b"", PUBLISHING, NONE)?;
     let disk = store_of(alloc, &world)?;
     // the last four calls are those of the Gone, the four before them those of the item, and the four before these those of the node
     let published = disk.calls().saturating_sub(4);
@@ -161,7 +176,7 @@ fn a_crash_leaves_what_was_answered(rt: HostRuntime) -> Result<(), Fail> {
     for torn in [Torn::Lost, Torn::Whole, Torn::Filled(0), Torn::Filled(1)] {
         for calls in 0..disk.calls() {
             let left = disk.crashed(alloc, calls, torn)?;
-            let (node, item) = stands(alloc, left.bytes())?;
+            let (node, item) = stands(&rt, alloc, left.bytes())?;
             assert!(rt; is_kept(node, made, calls) && is_kept(item, published, calls));
         }
     }
@@ -171,17 +186,17 @@ fn a_crash_leaves_what_was_answered(rt: HostRuntime) -> Result<(), Fail> {
 #[test]
 fn a_disk_that_fails_keeps_what_was_answered(rt: HostRuntime) -> Result<(), Fail> {
     let alloc = rt.alloc();
-    let (_, whole) = ran_over(alloc, b"", FIRST, NONE)?;
+    let (_, whole) = ran_over(&rt, alloc, b"", FIRST, NONE)?;
     for before in 0..store_of(alloc, &whole)?.calls() {
         let failing = Failing {
             disk: &[before + 1],
             ..NONE
         };
-        let (told, world) = ran_over(alloc, b"", FIRST, failing)?;
+        let (told, world) = ran_over(&rt, alloc, b"", FIRST, failing)?;
         let told = told.as_str();
         assert!(rt; told == "store fault\n4" || told.strip_prefix(MADE) == Some("store fault\n4"));
         let left = store_of(alloc, &world)?.bytes();
-        assert!(rt; !told.starts_with(MADE) || has_node(alloc, left)?);
+        assert!(rt; !told.starts_with(MADE) || has_node(&rt, alloc, left)?);
     }
     Ok(())
 }

@@ -7,7 +7,7 @@ use Rattle.ps_journal.specs.Left.{IsFrontOfLeft, IsWithOrWithout, LeavesList}
 use Rattle.ps_journal.proofs.Lists.{one_list}
 use Rattle.ps_model.specs.World.{World, ends}
 use Rattle.ps_world.proofs.Lists.{ends-le}
-use Rattle.ps_store.specs.Calm.{Follows}
+use Rattle.ps_world.specs.Calm.{Follows}
 use Rattle.ps_store.specs.Left.{IsFront}
 use Rattle.ps_store.specs.Stand.{IsKept, OpenedAt}
 use Rattle.ps_store.proofs.Fronts.{front_either, front_of_two, front_on, front_whole}

@@ -1,4 +1,3 @@
-pub mod Following
 pub mod Fronts
 pub mod Keeping
 pub mod Storing

@@ -16,7 +16,7 @@ use Rattle.ps_model.specs.TheCore.{the_core}
 use Rattle.ps_model.specs.World.{World, ends}
 use Rattle.ps_world.specs.Sound.{Sound}
 use Rattle.ps_world.proofs.Lists.{ends-le}
-use Rattle.ps_store.specs.Calm.{Follows}
+use Rattle.ps_world.specs.Calm.{Follows}
 use Rattle.ps_store.specs.Frames.{IsTorn, Loaded, bytes_of, entries_of}
 use Rattle.ps_store.specs.Stand.{IsKept, IsOpened, IsWhole, OpenedAt, StoreStands, broken_in, disk_in, length_in, opened_at}
 use Rattle.ps_store.specs.declared.store.Frame.{Frame}

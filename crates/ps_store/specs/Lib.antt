@@ -1,4 +1,3 @@
-pub mod Calm
 pub mod Left
 pub mod Stand
 pub mod Frames

@@ -8,15 +8,13 @@
 //! opened left one that has the whole list with which it was opened, and that is a front of a list that a crash may leave now.
 //! While nothing has failed the disk has all entries (`IsWhole`).
 //!
-//! Between two worlds: `Follows` (`specs/Calm.antt`) says that the later is made of the earlier with no crash between. `Loaded` (`specs/Frames.antt`)
+//! Between two worlds: `Follows` (`specs/Calm.antt` of ps_world) says that the later is made of the earlier with no crash between. `Loaded` (`specs/Frames.antt`)
 //! says that a store stands for one world, and a frame has what lacks of a later one; after `append` it stands for that later world, or is
 //! torn (`IsTorn`) until the fault is told by a step.
 #![tactic(auto)]
 
-mod laws;
 mod store;
 
-pub use laws::calm_steps_follow;
 pub use store::{Frame, Store};
 
 #[cfg(test)]

@@ -2,7 +2,7 @@
 ghost use Rattle.std.specs.Prelude.{◌≡◌, ◌≢◌, ◌≤◌, ◌+◌, [], ℕ, List, None, IfSome, IfOk, IfErr, OnOk, OnErr, length};
 ghost use Rattle.ps_model.specs.Store.{gate_at, Begun};
 ghost use Rattle.ps_model.specs.World.{World};
-ghost use Rattle.ps_journal.specs.Journal.{length_of};
+ghost use Rattle.ps_journal.specs.Journal.{disk_of, length_of};
 ghost use Rattle.ps_journal.specs.Left.{LeavesAtLeast};
 ghost use Rattle.ps_store.specs.Frames.{IsRead, NotRead, NotesFault, Tears, Writes};
 ghost use Rattle.ps_store.specs.Stand.{IsOpened, StoreStands, broken_in, disk_in, firm_of, length_in, mark_of, opened_at, steps_of};
@@ -45,6 +45,7 @@ impl<D: Disk> Store<D> {
         ensures mark { mark_of result ≡ (count, length_of journal) }
         ensures steps { steps_of result ≡ 0 }
         ensures firm { firm_of result ≡ 0 }
+        ensures disk { disk_in result ≡ disk_of journal }
     {
         let length = journal.length();
         Store {

@@ -145,3 +145,69 @@ fn the_nodes_of_a_service_are_listed(rt: HostRuntime) -> Result<(), Fail> {
     assert!(rt; nodes.place(&w) == Some(1));
     Ok(())
 }
+
+fn key_at(alloc: Global, service: &str, name: &str) -> Result<NodeKey, Fail> {
+    let service = jid(alloc, service)?;
+    let name = Text::of(alloc, name)?;
+    Ok(NodeKey { service, name })
+}
+
+// Whether the node of a service host or an account was made, by its own address.
+fn makes_at(alloc: Global, nodes: &mut Nodes, service: &str, name: &str) -> Result<bool, Fail> {
+    let key = key_at(alloc, service, name)?;
+    let creator = jid(alloc, service)?;
+    let config = config(alloc, Access::Everyone)?;
+    nodes.reserve(1)?;
+    let made = nodes.create(NodeRow {
+        key,
+        creator,
+        config,
+    });
+    Ok(made.is_ok())
+}
+
+// Whether the nodes of a name stand at these places, in this order.
+fn are_at(alloc: Global, nodes: &Nodes, name: &str, places: &[u64]) -> Result<bool, Fail> {
+    let name = Text::of(alloc, name)?;
+    let found = nodes.places_named(alloc, &name)?;
+    Ok(found.as_slice() == places)
+}
+
+// Nodes of three accounts and the service host, four of them of one name.
+fn personal(alloc: Global, nodes: &mut Nodes) -> Result<[bool; 5], Fail> {
+    Ok([
+        makes_at(alloc, nodes, "ann@a.example", "mood")?,
+        makes_at(alloc, nodes, "bob@b.example", "mood")?,
+        makes_at(alloc, nodes, "ann@a.example", "tune")?,
+        makes_at(alloc, nodes, "pubsub.example", "mood")?,
+        makes_at(alloc, nodes, "eve@c.example", "mood")?,
+    ])
+}
+
+#[test]
+fn the_nodes_of_a_name_are_found(rt: HostRuntime) -> Result<(), Fail> {
+    let alloc = rt.alloc();
+    let mut nodes = Nodes::new(alloc)?;
+    let new = personal(alloc, &mut nodes)?;
+    assert!(rt; new == [true, true, true, true, true]);
+    assert!(rt; are_at(alloc, &nodes, "mood", &[0, 1, 3, 4])?);
+    assert!(rt; are_at(alloc, &nodes, "tune", &[2])?);
+    assert!(rt; are_at(alloc, &nodes, "Mood", &[])?);
+    Ok(())
+}
+
+#[test]
+fn the_nodes_of_a_name_keep_their_order(rt: HostRuntime) -> Result<(), Fail> {
+    let alloc = rt.alloc();
+    let mut nodes = Nodes::new(alloc)?;
+    let new = personal(alloc, &mut nodes)?;
+    let copy = nodes.copy()?;
+    let gone = nodes.delete(&key_at(alloc, "bob@b.example", "mood")?);
+    assert!(rt; new == [true, true, true, true, true] && gone);
+    assert!(rt; are_at(alloc, &nodes, "mood", &[0, 2, 3])?);
+    assert!(rt; are_at(alloc, &nodes, "tune", &[1])?);
+    assert!(rt; makes_at(alloc, &mut nodes, "bob@b.example", "mood")?);
+    assert!(rt; are_at(alloc, &nodes, "mood", &[0, 2, 3, 4])?);
+    assert!(rt; are_at(alloc, &copy, "mood", &[0, 1, 3, 4])?);
+    Ok(())
+}

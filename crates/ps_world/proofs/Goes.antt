@@ -1,5 +1,5 @@
 -- A step that is no crash goes on from what was known.
-use Rattle.std.proofs.Common.{◌≡◌, ℕ, zero, suc, ◌+◌, ◌<◌, ◌≤◌, ◌⊎◌, inl, inr, Bool, true, false, List, [], ◌∷◌, ◌++◌, Option, Some, None, length, take, refl, ap, sym, ◌∙◌, arith}
+use Rattle.std.proofs.Common.{◌≡◌, ℕ, zero, suc, ◌+◌, ◌≤◌, ◌⊎◌, inl, inr, Bool, true, false, List, [], ◌∷◌, ◌++◌, Option, Some, None, length, take, refl, ap, sym, ◌∙◌, arith}
 use Rattle.std.specs.Prelude.{slice_get, nat_le, nat_lt, bytes_eq, ◌&&◌, if◌then◌else◌}
 use Rattle.std.proofs.lemmas.Bool.Decides.{nat_tests}
 use Rattle.ps_types.specs.declared.jid.Jid.{Jid}
@@ -14,7 +14,7 @@ use Rattle.ps_model.specs.declared.steps.Role.{Role}
 use Rattle.ps_model.specs.declared.steps.Role.TheVariants.{Reader, Writer}
 use Rattle.ps_model.specs.Core.{Core, handed}
 use Rattle.ps_model.specs.World.{Said, Flight, Nothing, Unrecorded, Recorded, HostPart, AddressPart, World, at_address, at_host, durable, ends, more_entries, more_made, with_entry}
-use Rattle.ps_model.specs.Machine.{answered, counted, crashes, emits, ends_role, flushes, happens, landed, records, took}
+use Rattle.ps_model.specs.Machine.{answered, counted, crashes, emits, ends_role, flushes, happens, records, took}
 use Rattle.ps_world.specs.Sound.{Sound, as_list}
 use Rattle.ps_world.proofs.Kept.{chosen}
 use Rattle.ps_world.proofs.Lists.{ends-before, ends-mono, get-snoc, nil-right, take-front}

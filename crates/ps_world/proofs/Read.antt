@@ -1,5 +1,5 @@
 -- The laws as they are read, from what each step keeps.
-use Rattle.std.proofs.Common.{◌≡◌, ℕ, zero, suc, ◌+◌, ◌<◌, ◌≤◌, inl, inr, Bool, true, false, cond, List, [], ◌∷◌, ◌++◌, Option, Some, None, length, take, drop, refl, ap, sym, ◌∙◌, subst, arith, length-append}
+use Rattle.std.proofs.Common.{◌≡◌, ℕ, ◌+◌, ◌<◌, ◌≤◌, inl, inr, Bool, true, false, List, [], ◌∷◌, ◌++◌, Option, Some, None, length, take, drop, refl, ap, sym, ◌∙◌, subst, arith, length-append}
 use Rattle.std.specs.Prelude.{◌≢◌, slice_get, nat_le, nat_lt, ◌&&◌, if◌then◌else◌}
 use Rattle.std.proofs.lemmas.Bool.Decides.{nat_tests}
 use Rattle.ps_types.specs.declared.jid.Jid.{Jid}
@@ -12,7 +12,7 @@ use Rattle.ps_model.specs.Core.{Core, handed}
 use Rattle.ps_model.specs.CoreLaws.{Laws, IsLawful}
 use Rattle.ps_model.specs.World.{Said, Flight, Nothing, Unrecorded, Recorded, World, ends, durable, at_host, at_address}
 use Rattle.ps_model.specs.Machine.{took, emits, records, flushes, counted, crashes, effect, happens, run, start, world}
-use Rattle.ps_world.specs.Sound.{IsAnswer, Sound, as_list, behind}
+use Rattle.ps_world.specs.Sound.{IsAnswer, Sound, as_list}
 use Rattle.ps_world.specs.Holds.{AreRounds, CrashHolds, IsReleased, IsSaidIn, StillHolds, WorldHolds, sent_count}
 use Rattle.ps_world.specs.Lasting.{Lasting}
 use Rattle.ps_world.proofs.Lists.{get-take, get-last, take-front, take-both, length-front, length-take-le, take-drop, ends-le, ends-mono}

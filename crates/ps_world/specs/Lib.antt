@@ -2,3 +2,4 @@ pub mod Sound
 pub mod Lasting
 pub mod Holds
 pub mod Laws
+pub mod Calm

@@ -1,5 +1,5 @@
 -- Cases of many who have subscribed, computed.
-use Rattle.std.specs.Prelude.{refl, []}
+use Rattle.std.specs.Prelude.{refl}
 use lib.Utf8 as utf8
 use Rattle.json.specs.Json as json
 use Rattle.json.specs.Lex as lex

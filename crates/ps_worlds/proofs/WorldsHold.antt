@@ -12,20 +12,19 @@ use Rattle.ps_types.specs.Same as same
 use Rattle.ps_types.specs.declared.denial.Condition.{Condition}
 use Rattle.ps_types.specs.declared.denial.Condition.TheVariants.{C12, C17}
 use Rattle.ps_types.specs.declared.denial.Verdict.TheVariants.{Denied}
-use Rattle.ps_types.specs.declared.jid.Jid.{Jid}
 use Rattle.ps_types.specs.declared.request.Ask.{Ask}
 use Rattle.ps_types.specs.declared.request.Ask.TheVariants.{Publish, Retract}
 use Rattle.ps_types.specs.declared.request.Request.{Request}
 use Rattle.ps_model.specs.Access.{read}
 use Rattle.ps_model.specs.Book.{State}
 use Rattle.ps_model.specs.Stanza.{host_jid}
-use Rattle.ps_model.specs.TheCore.{core_of}
-use Rattle.ps_model.specs.TwoWorlds.{IsPair, IsShutOut, SameBut, Touches}
+use Rattle.ps_model.specs.TheCore.{based_core}
+use Rattle.ps_model.specs.TwoWorlds.{IsPair, SameBut, Touches}
 use Rattle.ps_cases.proofs.Parts.{each-part}
 use Rattle.ps_cases.specs.AccessCases.{w}
 use Rattle.ps_cases.specs.Denials.{closed_node, forbidden}
 use Rattle.ps_cases.specs.NodeCases.{unnamed}
-use Rattle.ps_cases.specs.Case.{Exchange, Holds, Sent, booted, line_of}
+use Rattle.ps_cases.specs.Case.{Holds, Sent, booted, line_of}
 use Rattle.ps_cases.specs.Words.{ann, alf, bare_bob, bare_cid, affiliate, affiliation, create, denied, done, field, get_items, gets, payload, publish, published, sent_by, service, sets, subscribe, subscribed}
 use Rattle.ps_worlds.proofs.Likeness.{same-from, seen, shut}
 use Rattle.ps_worlds.specs.WorldCases as it
@@ -354,9 +353,9 @@ unfolding same.same_jid same.same_bare same.same_node text.escape_byte fmt.digit
 commits-differ-holds = record { left = commits-differ-left; right = commits-differ-right; alike = commits-differ-alike; replies = refl; notices = refl }
 
 pub again-left : it.sent_by_steps (lefts it.commits_differ) ≡ it.left_told ++ it.left_told
-unfolding same.same_jid same.same_bare same.same_node text.escape_byte fmt.digits core_of
+unfolding same.same_jid same.same_bare same.same_node text.escape_byte fmt.digits based_core
 again-left = refl
 
 pub again-right : it.sent_by_steps (rights it.commits_differ) ≡ it.right_told ++ it.right_told
-unfolding same.same_jid same.same_bare same.same_node text.escape_byte fmt.digits core_of
+unfolding same.same_jid same.same_bare same.same_node text.escape_byte fmt.digits based_core
 again-right = refl

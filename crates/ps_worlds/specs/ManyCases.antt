@@ -3,7 +3,6 @@ use Rattle.std.specs.Prelude.{ℕ, zero, suc, ◌+◌, List, [], ◌∷◌, ◌+
 use Rattle.std.specs.Fmt.{decimal}
 use Rattle.ps_types.specs.Tree.{Tree}
 use Rattle.ps_types.specs.declared.entry.Notice.{Notice}
-use Rattle.ps_types.specs.declared.jid.Jid.{Jid}
 use Rattle.ps_cases.specs.Case.{Exchange}
 use Rattle.ps_cases.specs.Handed.{event_of, headline}
 use Rattle.ps_cases.specs.Words.{ann, news, of_b, to_b, sets, done, field, create, configure, publish, published, subscribe, subscribed, affiliation, affiliate}

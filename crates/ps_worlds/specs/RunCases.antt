@@ -1,16 +1,16 @@
 -- Two runs on one store: what was published in the first is sent in the second, and a notice that was cut off is sent again.
-use Rattle.std.specs.Prelude.{ℕ, List, [], ◌∷◌, ◌++◌, false, codes}
+use Rattle.std.specs.Prelude.{ℕ, List, [], ◌∷◌, ◌++◌, codes}
 use Rattle.ps_types.specs.Tree.{Tree}
 use Rattle.ps_types.specs.declared.entry.Entry.{Entry}
 use Rattle.ps_types.specs.declared.entry.Entry.TheVariants as entry
 use Rattle.ps_types.specs.declared.entry.Notice.{Notice}
 use Rattle.ps_model.specs.Machine as machine
+use Rattle.ps_model.specs.TheCore.{based_core}
 use Rattle.ps_model.specs.World.{World}
 use Rattle.ps_model.specs.declared.steps.Role.TheVariants.{Writer}
 use Rattle.ps_model.specs.declared.steps.Step.{Step}
 use Rattle.ps_model.specs.declared.steps.Step.TheVariants.{Emit, Ended, Flush, Gone, Record, Take}
 use Rattle.ps_cases.specs.Case.{Exchange, boot, list_of, own}
-use Rattle.ps_cases.specs.Crashed.{core}
 use Rattle.ps_cases.specs.Handed.{event_of, from_ann, headline}
 use Rattle.ps_cases.specs.HomeCases.{asks_bob, bob_answers, bob_is_present, delay, has_bob, second, t}
 use Rattle.ps_cases.specs.Words.{Iq, ann, bob, bare_bob, news, service, to_bob, to_bob_1, at_home, at_time, sent_by, sets, gets, done, shown, create, publish, published, get_items, one_of, subscribe, subscribed}
@@ -94,10 +94,10 @@ other_run = Emit to_bob ∷ Record to_bob ∷ Flush 2 ∷ Emit to_bob ∷ Record
 
 -- a run begins with the entries that the one before it left
 abbrev pub first_world : World
-first_world = machine.world core service earlier first_run
+first_world = machine.world based_core service earlier first_run
 
 abbrev pub other_world : World
-other_world = machine.world core service first_world.entries other_run
+other_world = machine.world based_core service first_world.entries other_run
 
 abbrev pub sent_in : World → List Notice
 sent_in w = (w.addresses to_bob).sent

@@ -8,16 +8,16 @@ use Rattle.ps_types.specs.declared.jid.Jid.{Jid}
 use Rattle.ps_types.specs.declared.node.NodeKey.{NodeKey}
 use Rattle.ps_model.specs.Machine as machine
 use Rattle.ps_model.specs.Stanza.{host_jid}
+use Rattle.ps_model.specs.TheCore.{based_core}
 use Rattle.ps_model.specs.World.{all_sent}
 use Rattle.ps_model.specs.declared.steps.Step.{Step}
 use Rattle.ps_model.specs.declared.steps.Step.TheVariants.{Crash, Emit}
 use Rattle.ps_cases.specs.AccessCases.{w}
 use Rattle.ps_cases.specs.Case.{Exchange, list_of}
-use Rattle.ps_cases.specs.Crashed.{core}
 use Rattle.ps_cases.specs.Denials.{closed_node, forbidden, no_such_item}
 use Rattle.ps_cases.specs.Handed.{event_of, headline}
 use Rattle.ps_cases.specs.NodeCases.{unnamed}
-use Rattle.ps_cases.specs.Words.{ann, alf, bare_bob, bare_cid, service, to_b, sets, gets, done, denied, pubsub, part, at_node, field, create, create_with, item, publish, published, get_items, subscribe, subscribed, affiliation, affiliate}
+use Rattle.ps_cases.specs.Words.{ann, alf, bare_bob, bare_cid, service, to_b, sets, gets, done, denied, pubsub, part, at_node, field, create, create_with, publish, published, get_items, subscribe, subscribed, affiliation, affiliate}
 use Rattle.ps_worlds.specs.Worlds.{both}
 
 -- ---- the node and the address
@@ -110,4 +110,4 @@ again = Emit to_alf ∷ Crash 1 ∷ Emit to_alf ∷ []
 
 -- all that was sent to alf, before the crash and after it
 abbrev pub sent_by_steps : List Exchange → List Notice
-sent_by_steps given = all_sent ((machine.world core service (list_of given) again).addresses to_alf)
+sent_by_steps given = all_sent ((machine.world based_core service (list_of given) again).addresses to_alf)

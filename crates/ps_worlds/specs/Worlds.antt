@@ -14,7 +14,7 @@ use Rattle.ps_model.specs.TwoWorlds.{IsPair, SameBut}
 use Rattle.ps_model.specs.declared.steps.Step.{Step}
 use Rattle.ps_model.specs.declared.steps.Step.TheVariants.{Arrive, Broken, Gone, Record}
 use Rattle.ps_cases.specs.Case.{Exchange, Holds, Sent, answered, booted, kept, line_of, made, own}
-use Rattle.ps_cases.specs.Running.{every, taken_in}
+use Rattle.ps_cases.specs.Running.{taken_in}
 
 -- ---- what comes in the one world and in the other
 
@@ -44,7 +44,7 @@ step_of (own e) = recorded e
 -- ---- alike before each pair and at the end, and each a pair of steps
 
 abbrev pub goes : State → Exchange → State
-goes s x = replay_from every s (made (x ∷ []))
+goes s x = replay_from s (made (x ∷ []))
 
 abbrev pub AreAlike : List NodeKey → Jid → State → State → List (Exchange × Exchange) → Type 0
 AreAlike S a s t [] = SameBut S a s t

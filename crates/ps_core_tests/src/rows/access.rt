@@ -39,6 +39,7 @@ a.example makes
 b.example makes
 {"a":{"from":"bob@b.example/1","id":"13","to":"pubsub.example","type":"set"},"c":[{"c":[{"a":{"jid":"bob@b.example","node":"q"},"n":"subscribe"}],"n":"pubsub","ns":"http://jabber.org/protocol/pubsub"}],"n":"iq"}
 {"a":{"from":"pubsub.example","id":"13","to":"bob@b.example/1","type":"result"},"c":[{"c":[{"a":{"jid":"bob@b.example","node":"q","subscription":"pending"},"n":"subscription"}],"n":"pubsub","ns":"http://jabber.org/protocol/pubsub"}],"n":"iq"}
+> ann@a.example 1 {"a":{"from":"pubsub.example","id":"n-1","to":"ann@a.example"},"c":[{"a":{"type":"form"},"c":[{"a":{"type":"hidden","var":"FORM_TYPE"},"c":[{"c":["http://jabber.org/protocol/pubsub#subscribe_authorization"],"n":"value"}],"n":"field"},{"a":{"type":"text-single","var":"pubsub#node"},"c":[{"c":["q"],"n":"value"}],"n":"field"},{"a":{"type":"jid-single","var":"pubsub#subscriber_jid"},"c":[{"c":["bob@b.example"],"n":"value"}],"n":"field"},{"a":{"type":"boolean","var":"pubsub#allow"},"c":[{"c":["0"],"n":"value"}],"n":"field"}],"n":"x","ns":"jabber:x:data"}],"n":"message"}
 b.example
 {"a":{"from":"bob@b.example/1","id":"14","to":"pubsub.example","type":"set"},"c":[{"c":[{"a":{"jid":"bob@b.example","node":"q"},"n":"subscribe"}],"n":"pubsub","ns":"http://jabber.org/protocol/pubsub"}],"n":"iq"}
 {"a":{"from":"pubsub.example","id":"14","to":"bob@b.example/1","type":"error"},"c":[{"a":{"type":"auth"},"c":[{"n":"not-authorized","ns":"urn:ietf:params:xml:ns:xmpp-stanzas"},{"n":"pending-subscription","ns":"http://jabber.org/protocol/pubsub#errors"}],"n":"error"}],"n":"iq"}
@@ -51,15 +52,18 @@ b.example
 a.example makes
 {"a":{"from":"ann@a.example/1","id":"17","to":"pubsub.example"},"c":[{"a":{"type":"submit"},"c":[{"a":{"var":"FORM_TYPE"},"c":[{"c":["http://jabber.org/protocol/pubsub#subscribe_authorization"],"n":"value"}],"n":"field"},{"a":{"var":"pubsub#node"},"c":[{"c":["q"],"n":"value"}],"n":"field"},{"a":{"var":"pubsub#subscriber_jid"},"c":[{"c":["bob@b.example"],"n":"value"}],"n":"field"},{"a":{"var":"pubsub#allow"},"c":[{"c":["0"],"n":"value"}],"n":"field"}],"n":"x","ns":"jabber:x:data"}],"n":"message"}
 
+> bob@b.example 1 {"a":{"from":"pubsub.example","id":"n-1","to":"bob@b.example"},"c":[{"c":[{"a":{"jid":"bob@b.example","node":"q","subscription":"none"},"n":"subscription"}],"n":"pubsub","ns":"http://jabber.org/protocol/pubsub"}],"n":"message"}
 b.example
 {"a":{"from":"bob@b.example/1","id":"18","to":"pubsub.example","type":"get"},"c":[{"c":[{"a":{"node":"q"},"n":"items"}],"n":"pubsub","ns":"http://jabber.org/protocol/pubsub"}],"n":"iq"}
 {"a":{"from":"pubsub.example","id":"18","to":"bob@b.example/1","type":"error"},"c":[{"a":{"type":"auth"},"c":[{"n":"not-authorized","ns":"urn:ietf:params:xml:ns:xmpp-stanzas"},{"n":"not-subscribed","ns":"http://jabber.org/protocol/pubsub#errors"}],"n":"error"}],"n":"iq"}
 b.example makes
 {"a":{"from":"bob@b.example/1","id":"19","to":"pubsub.example","type":"set"},"c":[{"c":[{"a":{"jid":"bob@b.example","node":"q"},"n":"subscribe"}],"n":"pubsub","ns":"http://jabber.org/protocol/pubsub"}],"n":"iq"}
 {"a":{"from":"pubsub.example","id":"19","to":"bob@b.example/1","type":"result"},"c":[{"c":[{"a":{"jid":"bob@b.example","node":"q","subscription":"pending"},"n":"subscription"}],"n":"pubsub","ns":"http://jabber.org/protocol/pubsub"}],"n":"iq"}
+> ann@a.example 2 {"a":{"from":"pubsub.example","id":"n-2","to":"ann@a.example"},"c":[{"a":{"type":"form"},"c":[{"a":{"type":"hidden","var":"FORM_TYPE"},"c":[{"c":["http://jabber.org/protocol/pubsub#subscribe_authorization"],"n":"value"}],"n":"field"},{"a":{"type":"text-single","var":"pubsub#node"},"c":[{"c":["q"],"n":"value"}],"n":"field"},{"a":{"type":"jid-single","var":"pubsub#subscriber_jid"},"c":[{"c":["bob@b.example"],"n":"value"}],"n":"field"},{"a":{"type":"boolean","var":"pubsub#allow"},"c":[{"c":["0"],"n":"value"}],"n":"field"}],"n":"x","ns":"jabber:x:data"}],"n":"message"}
 a.example makes
 {"a":{"from":"ann@a.example/1","id":"20","to":"pubsub.example"},"c":[{"a":{"type":"submit"},"c":[{"a":{"var":"FORM_TYPE"},"c":[{"c":["http://jabber.org/protocol/pubsub#subscribe_authorization"],"n":"value"}],"n":"field"},{"a":{"var":"pubsub#node"},"c":[{"c":["q"],"n":"value"}],"n":"field"},{"a":{"var":"pubsub#subscriber_jid"},"c":[{"c":["bob@b.example"],"n":"value"}],"n":"field"},{"a":{"var":"pubsub#allow"},"c":[{"c":["1"],"n":"value"}],"n":"field"}],"n":"x","ns":"jabber:x:data"}],"n":"message"}
 
+> bob@b.example 2 {"a":{"from":"pubsub.example","id":"n-2","to":"bob@b.example"},"c":[{"c":[{"a":{"jid":"bob@b.example","node":"q","subscription":"subscribed"},"n":"subscription"}],"n":"pubsub","ns":"http://jabber.org/protocol/pubsub"}],"n":"message"}
 b.example
 {"a":{"from":"bob@b.example/1","id":"21","to":"pubsub.example","type":"get"},"c":[{"c":[{"a":{"node":"q"},"n":"items"}],"n":"pubsub","ns":"http://jabber.org/protocol/pubsub"}],"n":"iq"}
 {"a":{"from":"pubsub.example","id":"21","to":"bob@b.example/1","type":"result"},"c":[{"c":[{"a":{"node":"q"},"n":"items"}],"n":"pubsub","ns":"http://jabber.org/protocol/pubsub"}],"n":"iq"}
@@ -75,6 +79,7 @@ b.example makes
 b.example makes
 {"a":{"from":"bob@b.example/1","id":"25","to":"pubsub.example","type":"set"},"c":[{"c":[{"a":{"node":"s"},"c":[{"a":{"id":"y"},"c":[{"n":"entry","ns":"urn:t"}],"n":"item"}],"n":"publish"}],"n":"pubsub","ns":"http://jabber.org/protocol/pubsub"}],"n":"iq"}
 {"a":{"from":"pubsub.example","id":"25","to":"bob@b.example/1","type":"result"},"c":[{"c":[{"a":{"node":"s"},"c":[{"a":{"id":"y"},"n":"item"}],"n":"publish"}],"n":"pubsub","ns":"http://jabber.org/protocol/pubsub"}],"n":"iq"}
+> bob@b.example 3 {"a":{"from":"pubsub.example","id":"n-3","to":"bob@b.example","type":"headline"},"c":[{"c":[{"a":{"node":"s"},"c":[{"a":{"id":"y"},"c":[{"n":"entry","ns":"urn:t"}],"n":"item"}],"n":"items"}],"n":"event","ns":"http://jabber.org/protocol/pubsub#event"}],"n":"message"}
 a.example
 {"a":{"from":"ann@a.example/1","id":"26","to":"pubsub.example","type":"set"},"c":[{"c":[{"a":{"node":"s"},"c":[{"a":{"affiliation":"none","jid":"ann@a.example"},"n":"affiliation"}],"n":"affiliations"}],"n":"pubsub","ns":"http://jabber.org/protocol/pubsub#owner"}],"n":"iq"}
 {"a":{"from":"pubsub.example","id":"26","to":"ann@a.example/1","type":"error"},"c":[{"a":{"type":"modify"},"c":[{"n":"not-acceptable","ns":"urn:ietf:params:xml:ns:xmpp-stanzas"}],"n":"error"}],"n":"iq"}

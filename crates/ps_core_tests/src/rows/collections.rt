@@ -48,6 +48,7 @@ b.example makes
 a.example makes
 {"a":{"from":"ann@a.example/1","id":"16","to":"pubsub.example","type":"set"},"c":[{"c":[{"a":{"node":"n2"},"n":"create"},{"c":[{"a":{"type":"submit"},"c":[{"a":{"var":"FORM_TYPE"},"c":[{"c":["http://jabber.org/protocol/pubsub#node_config"],"n":"value"}],"n":"field"},{"a":{"var":"pubsub#collection"},"c":[{"c":["mid"],"n":"value"}],"n":"field"}],"n":"x","ns":"jabber:x:data"}],"n":"configure"}],"n":"pubsub","ns":"http://jabber.org/protocol/pubsub"}],"n":"iq"}
 {"a":{"from":"pubsub.example","id":"16","to":"ann@a.example/1","type":"result"},"n":"iq"}
+> cid@b.example 1 {"a":{"from":"pubsub.example","id":"n-1","to":"cid@b.example","type":"headline"},"c":[{"c":[{"a":{"node":"mid"},"c":[{"a":{"node":"n2"},"n":"associate"}],"n":"collection"}],"n":"event","ns":"http://jabber.org/protocol/pubsub#event"}],"n":"message"}
 a.example
 {"a":{"from":"ann@a.example/1","id":"17","to":"pubsub.example","type":"set"},"c":[{"c":[{"a":{"node":"mid"},"n":"delete"}],"n":"pubsub","ns":"http://jabber.org/protocol/pubsub#owner"}],"n":"iq"}
 {"a":{"from":"pubsub.example","id":"17","to":"ann@a.example/1","type":"error"},"c":[{"a":{"type":"modify"},"c":[{"n":"not-acceptable","ns":"urn:ietf:params:xml:ns:xmpp-stanzas"}],"n":"error"}],"n":"iq"}

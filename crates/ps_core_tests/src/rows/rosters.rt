@@ -54,6 +54,7 @@ b.example
 b.example makes
 {"a":{"from":"bob@b.example/1","id":"18","to":"ann@a.example","type":"set"},"c":[{"c":[{"a":{"jid":"bob@b.example","node":"urn:t"},"n":"subscribe"}],"n":"pubsub","ns":"http://jabber.org/protocol/pubsub"}],"n":"iq"}
 {"a":{"from":"ann@a.example","id":"18","to":"bob@b.example/1","type":"result"},"c":[{"c":[{"a":{"jid":"bob@b.example","node":"urn:t","subscription":"subscribed"},"n":"subscription"}],"n":"pubsub","ns":"http://jabber.org/protocol/pubsub"}],"n":"iq"}
+> bob@b.example 1 {"a":{"from":"ann@a.example","id":"n-1","to":"bob@b.example","type":"headline"},"c":[{"c":[{"a":{"node":"urn:t"},"c":[{"a":{"id":"m"},"c":[{"n":"entry","ns":"urn:t"}],"n":"item"}],"n":"items"}],"n":"event","ns":"http://jabber.org/protocol/pubsub#event"}],"n":"message"}
 a.example makes
 {"a":{"from":"ann@a.example/1","id":"19","to":"ann@a.example","type":"set"},"c":[{"c":[{"a":{"jid":"bob@b.example","subscription":"remove"},"n":"item"}],"n":"query","ns":"jabber:iq:roster"}],"n":"iq"}
 {"a":{"from":"ann@a.example","id":"19","to":"ann@a.example/1","type":"result"},"n":"iq"}

@@ -2,4 +2,4 @@ use Rattle.ps_bases.proofs.ServesOn.{base-serves-on}
 use Rattle.ps_bases.proofs.laws.each_compacted_serves_on.Goals as goal
 
 pub returns : goal.returns
-returns c = λ telling E is stored. base-serves-on telling E is stored
+returns c = λ E is stored. base-serves-on E is stored

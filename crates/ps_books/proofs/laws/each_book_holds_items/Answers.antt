@@ -2,4 +2,4 @@ use Rattle.ps_books.proofs.Kept.{lawful-kept}
 use Rattle.ps_books.proofs.laws.each_book_holds_items.Goals as goal
 
 pub returns : goal.returns
-returns c = λ told E ok. lawful-kept told E ok
+returns c = λ E ok. lawful-kept E ok

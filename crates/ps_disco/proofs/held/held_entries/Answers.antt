@@ -2,9 +2,10 @@ use Rattle.std.proofs.Common.{rules, ◌≡◌, ap, ◌∙◌}
 use Rattle.ps_types.specs.Elem.{nodes}
 use Rattle.ps_model.specs.Discovery.{is_held_by}
 use Rattle.ps_access.specs.Tables.{book_of}
+use Rattle.ps_nodes.proofs.Places.{places-listed}
+use Rattle.ps_nodes.specs.Places.{rows_at}
 use Rattle.ps_disco.specs.Entries.{held_rows, row_at, row_children}
-use Rattle.ps_disco.specs.Held.{AreHeld, rows_at}
-use Rattle.ps_disco.proofs.Places.{places-listed}
+use Rattle.ps_disco.specs.Held.{AreHeld}
 use Rattle.ps_disco.proofs.Trees.{nodes-made}
 use Rattle.ps_disco.proofs.held.held_entries.Goals as goal
 

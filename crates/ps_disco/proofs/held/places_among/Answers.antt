@@ -3,9 +3,10 @@ use Rattle.std.specs.Prelude.{nat_eq}
 use Rattle.std.specs.BTreeSet.{insert_key}
 use Rattle.std.specs.Ordering.{nat_cmp}
 use Rattle.ps_access.specs.Tables.{book_of}
-use Rattle.ps_disco.specs.Held.{IsPlaceIn, is_held_at, is_place}
+use Rattle.ps_nodes.proofs.Places.{is_place-inserted}
+use Rattle.ps_nodes.specs.Places.{is_place}
+use Rattle.ps_disco.specs.Held.{IsPlaceIn, is_held_at}
 use Rattle.ps_disco.proofs.Steps.{any_next, any_same, at_place, or_back}
-use Rattle.ps_disco.proofs.Under.{is_place-inserted}
 use Rattle.ps_disco.proofs.held.places_among.Goals as goal
 
 pub loop-child-preserved-in_default : goal.loop-child-preserved-in_default

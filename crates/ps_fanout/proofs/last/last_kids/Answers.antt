@@ -1,6 +1,6 @@
 use Rattle.std.proofs.Common.{ap, ◌∙◌, Option, ℕ}
 use Rattle.ps_model.specs.NoticeTrees.{delay_nodes}
-use Rattle.ps_fanout.proofs.Kids.{two-kids}
+use Rattle.ps_drafts.proofs.Kids.{two-kids}
 use Rattle.ps_fanout.proofs.last.last_kids.Goals as goal
 
 pub returns-in-Some : goal.returns-in-Some

@@ -20,5 +20,5 @@ returns c =
       above = c.in_ok-above.ensures.above;
       config = refl;
       is_on = refl;
-      event = c.in_ok-event.ensures ∙ ap (λ (t : Tree). event_tree t) c.in_ok-inside.ensures;
+      event = c.in_ok-event.ensures.ok ∙ c.in_ok-event_tree.ensures ∙ ap (λ (t : Tree). event_tree t) c.in_ok-inside.ensures;
     })

@@ -2,6 +2,7 @@ use Rattle.std.proofs.Common.{inl, [], ◌∷◌}
 use Rattle.ps_disk.proofs.Moments.{started}
 use Rattle.ps_journal.specs.Journal.{disk_of}
 use Rattle.ps_journal.specs.Left.{IsWithOrWithout}
+use Rattle.ps_hall.proofs.Timely.{sketch-timely}
 use Rattle.ps_hall.proofs.Fronts.{fronts_same}
 use Rattle.ps_hall.proofs.beginning.begin.Goals as goal
 
@@ -37,3 +38,6 @@ returns-in-Err-prepare-clause-fronts g c tells E spells lasts = fronts_same g.D.
 
 pub returns-clause-fronts : goal.returns-clause-fronts
 returns-clause-fronts g c tells E spells lasts = c.append_boot.ensures.fronts tells E spells lasts
+
+pub prepare-requires-clause-timely : goal.prepare-requires-clause-timely
+prepare-requires-clause-timely g c κs within = sketch-timely c.args.boot.now c.requires.sketch

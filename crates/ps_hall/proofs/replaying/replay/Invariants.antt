@@ -4,4 +4,4 @@ use Rattle.ps_hall.specs.Replayed.{IsReplayed}
 use Rattle.ps_hall.proofs.replaying.replay.Given as goal
 
 abbrev pub invariant-entries : goal.invariant-entries
-invariant-entries l = IsReplayed (entries_in (take l.one-index l.placed.items)) l.service.state
+invariant-entries g l = IsReplayed (entries_in (take l.one-index l.placed.items)) l.service.state

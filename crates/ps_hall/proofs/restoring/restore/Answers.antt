@@ -27,10 +27,10 @@ returns-in-Memory-clause-any_moment g c tells E spells leaves =
     started D.moment D.left_since d (IsWithOrWithout E (c.args.boot.now ∷ [])) (λ f left. inl (leaves f (g.met.D.Disk.only_now d f left)))
 
 pub begin-requires-clause-accepted : goal.begin-requires-clause-accepted
-begin-requires-clause-accepted g c = boot-accepted (entries_in c.args.placed.now.items) c.replay.new.service.state c.args.boot.now c.in-All.ensures.replayed.state c.requires.boot
+begin-requires-clause-accepted g c κs within = boot-accepted (entries_in c.args.placed.now.items) c.replay.new.service.state c.args.boot.now c.in-All.ensures.replayed.state c.requires.boot
 
 pub begin-requires-clause-few : goal.begin-requires-clause-few
-begin-requires-clause-few g c = all_few c.args.placed.now.items c.replay.new.service.state c.in-All.ensures.replayed (omega arith)
+begin-requires-clause-few g c κs within = all_few c.args.placed.now.items c.replay.new.service.state c.in-All.ensures.replayed (omega arith)
 
 pub returns-in-All-clause-restored : goal.returns-in-All-clause-restored
 returns-in-All-clause-restored g c =

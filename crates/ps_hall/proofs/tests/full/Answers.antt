@@ -37,9 +37,9 @@ module _ {D : Type 0} {g : Ghosts D} (old new : Hall D g) (host : List ℕ) (is 
   told (Err e) ok err = (_, (err name some is.0 is.1).stands)
 
 pub next-requires-clause-standing : goal.next-requires-clause-standing
-next-requires-clause-standing c = arrived c.args.hall.now c.arrive.new.self c.args.passes.now.reader.host c.requires.standing _ c.arrive.result c.arrive.ensures.ok c.arrive.ensures.err
+next-requires-clause-standing g c = arrived c.args.hall.now c.arrive.new.self c.args.passes.now.reader.host c.requires.standing _ c.arrive.result c.arrive.ensures.ok c.arrive.ensures.err
 
 pub history-requires-clause-standing : goal.history-requires-clause-standing
-history-requires-clause-standing c =
+history-requires-clause-standing g c =
     told c.arrive.new.self c.next.new.self c.args.passes.now.writer.host
     (arrived c.args.hall.now c.arrive.new.self c.args.passes.now.reader.host c.requires.standing _ c.arrive.result c.arrive.ensures.ok c.arrive.ensures.err) c.next.result c.next.ensures.ok c.next.ensures.err

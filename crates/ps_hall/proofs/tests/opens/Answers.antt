@@ -31,20 +31,20 @@ one_host host is = record {
 }
 
 pub open-requires-clause-service : goal.open-requires-clause-service
-open-requires-clause-service c = subst IsHostName (sym c.in_ok-service.ensures) service_is
+open-requires-clause-service g c κs within = subst IsHostName (sym c.in_ok-service.ensures) service_is
 
 pub open-requires-clause-hosts : goal.open-requires-clause-hosts
-open-requires-clause-hosts c = one_host c.in_ok-host.host (subst IsHostName (sym c.in_ok-host.ensures) stream_is)
+open-requires-clause-hosts g c κs within = one_host c.in_ok-host.host (subst IsHostName (sym c.in_ok-host.ensures) stream_is)
 
 pub full-entries-requires-clause-reads : goal.full-entries-requires-clause-reads
-full-entries-requires-clause-reads c =
+full-entries-requires-clause-reads g c κs within =
     let is = c.in-Ok.ensures.opened in
     let size = is.passes_are.size in
     let some : 0 < length c.in-Ok.passes.items = omega (arith, size) in
     (passes_own _ _ _ _ c.in-Ok.hall c.in-Ok.passes.items is 0 c.index_mut.result.now _ (slice_get_read _ _ _ _ refl some c.index_mut.ensures.value) refl).0
 
 pub full-entries-requires-clause-writes : goal.full-entries-requires-clause-writes
-full-entries-requires-clause-writes c =
+full-entries-requires-clause-writes g c κs within =
     let is = c.in-Ok.ensures.opened in
     let size = is.passes_are.size in
     let some : 0 < length c.in-Ok.passes.items = omega (arith, size) in

@@ -6,7 +6,7 @@ use Rattle.ps_model.specs.Entries.{body}
 use Rattle.ps_model.specs.Store.{is_header, is_unbegun, Lists, spelled}
 use Rattle.ps_journal.specs.Judged.{IsFound}
 use Rattle.ps_journal.specs.Opened.{HasLength}
-use Rattle.ps_journal.proofs.Opens.{found_placed, found_length, none_before, same_entries, upgraded_spells, lists_in, upgrading_spells}
+use Rattle.ps_journal.proofs.Opens.{found_before, found_placed, found_length, none_before, same_entries, upgraded_spells, lists_in, upgrading_spells}
 use Rattle.ps_journal.proofs.opening.open_store.Goals as goal
 
 pub returns-in-Begun-clause-spells : goal.returns-in-Begun-clause-spells
@@ -85,3 +85,6 @@ returns-clause-any_moment g c tells E spells short =
     (c.settle.ensures.any_moment tells) (c.in-Ok-begin.ensures.any_moment tells (ap is_unbegun seen ∙ unbegun) fits)
     (λ f left. same_entries (D.seen old) E (D.synced old) (D.written old) f spells left)
     (λ f left. inr (subst (λ (l : List Entry). spelled f l) (sym none) left))
+
+pub returns-in-Damaged-clause-before : goal.returns-in-Damaged-clause-before
+returns-in-Damaged-clause-before g c = found_before c.deref.result.now c.in-Damaged.at c.in-Damaged.before.items c.in-Damaged.ensures

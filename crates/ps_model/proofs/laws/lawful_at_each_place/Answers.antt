@@ -3,7 +3,7 @@ use Rattle.ps_model.proofs.laws.lawful_at_each_place.Goals as goal
 
 pub returns : goal.returns
 returns c = record {
-  told = λ told E. (places-of told E, of-places told E);
+  based = λ E. (places-of E, of-places E);
   today = λ E. (todays-places E, of-todays-places E);
   stays = todays-lawful;
 }

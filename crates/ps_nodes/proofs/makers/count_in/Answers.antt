@@ -1,8 +1,7 @@
 use Rattle.std.proofs.Common.{◌≡◌, ℕ, ◌+◌, ◌<◌, ◌≤◌, Result, Ok, Err, Option, Some, None, sym, ap, subst, ◌∙◌, map, take, arith, length-take}
 use Rattle.std.specs.Prelude.{is_some, IsOk, OnOk, IfOk, if◌then◌else◌}
 use Rattle.std.proofs.lemmas.Map.Steps.{set_value_same}
-use Rattle.indexmap.specs.IndexMap.{spare, index_map_len}
-use Rattle.ps_types.specs.declared.rows.NodeRow.{NodeRow}
+use Rattle.indexmap.specs.IndexMap.{spare}
 use Rattle.ps_nodes.specs.NodeRows.{row_of}
 use Rattle.ps_nodes.specs.Tallies.{IsTallied}
 use Rattle.ps_nodes.proofs.Tallies.{now_new, now_more, now_same, now_within}

@@ -1,5 +1,4 @@
-use Rattle.std.proofs.Common.{◌≡◌, List, [], sym, subst, map, take, arith}
-use Rattle.ps_nodes.specs.NodeRows.{row_of}
+use Rattle.std.proofs.Common.{[], sym, subst, arith}
 use Rattle.ps_nodes.specs.Tallies.{IsTallied}
 use Rattle.ps_nodes.proofs.Tallies.{tallied_none}
 use Rattle.ps_nodes.proofs.makers.tally_all.Goals as goal

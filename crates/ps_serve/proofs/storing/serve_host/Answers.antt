@@ -6,7 +6,7 @@ use Rattle.ps_serve.proofs.Halls.{rose-since, rose-until}
 use Rattle.ps_serve.proofs.storing.serve_host.Goals as goal
 
 pub end_stream-requires-clause-few : goal.end_stream-requires-clause-few
-end_stream-requires-clause-few g c =
+end_stream-requires-clause-few g c κs within =
     let f = c.requires.serving in
     let mid = c.serve_lines-end.new.hall in
     let all = g.S.Source.left (source_of c.args.lines.now) in
@@ -15,7 +15,7 @@ end_stream-requires-clause-few g c =
     stops-few mid f.0 all before now (either-stops mid f.0 all before now c.serve_lines-end.result (λ e. c.serve_lines-end.ensures.done e f.0 f.1 f.2 f.3) (λ n. c.serve_lines-end.ensures.stopped n f.0 f.1 f.2 f.3))
 
 pub end_stream-requires-clause-ending : goal.end_stream-requires-clause-ending
-end_stream-requires-clause-ending g c =
+end_stream-requires-clause-ending g c κs within =
     let f = c.requires.serving in
     let mid = c.serve_lines-end.new.hall in
     let all = g.S.Source.left (source_of c.args.lines.now) in

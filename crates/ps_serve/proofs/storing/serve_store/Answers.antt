@@ -17,7 +17,7 @@ returns-in-Err-clause-part g c =
     inr (none-opened g.D.Disk c.args.service.now (g.K.Sink.written c.args.sink.now) (g.K.Sink.written c.args.sink.now) refl c.args.disk c.in-Err.field-0.disk (λ tells E spells tidy. c.in-Err.ensures.any_moment tells E spells tidy))
 
 pub serve_host-end-requires-clause-callers : goal.serve_host-end-requires-clause-callers
-serve_host-end-requires-clause-callers g c =
+serve_host-end-requires-clause-callers g c κs within =
     let is = c.in-Ok.ensures.opened in
     let only = g.met.D.Disk.only_now in
     let some = c.requires.service.0 in
@@ -25,7 +25,7 @@ serve_host-end-requires-clause-callers g c =
     (slice_get_read _ _ _ _ refl (has-passes only c.args.disk c.args.service.now c.args.host some _ c.in-Ok.hall c.in-Ok.passes.items is) c.index_mut-own.ensures.value)
 
 pub serve_host-end-requires-clause-serving : goal.serve_host-end-requires-clause-serving
-serve_host-end-requires-clause-serving g c =
+serve_host-end-requires-clause-serving g c κs within =
     let is = c.in-Ok.ensures.opened in
     let only = g.met.D.Disk.only_now in
     let some = c.requires.service.0 in

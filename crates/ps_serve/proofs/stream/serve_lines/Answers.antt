@@ -7,15 +7,15 @@ use Rattle.ps_serve.proofs.Streams.{within-count, within-few, within-more, withi
 use Rattle.ps_serve.proofs.stream.serve_lines.Goals as goal
 
 pub answer_next-requires-clause-callers : goal.answer_next-requires-clause-callers
-answer_next-requires-clause-callers g c = subst (λ (h : List ℕ). AreCallers c.answers.hall c.answers.reader c.answers.writer h) (sym c.answers.invariant.callers.reader_host) c.answers.invariant.callers
+answer_next-requires-clause-callers g c κs within = subst (λ (h : List ℕ). AreCallers c.answers.hall c.answers.reader c.answers.writer h) (sym c.answers.invariant.callers.reader_host) c.answers.invariant.callers
 
 pub answer_next-requires-clause-few : goal.answer_next-requires-clause-few
-answer_next-requires-clause-few g c =
+answer_next-requires-clause-few g c κs within =
     let f = c.requires.serving in
     within-few c.answers.hall c.args.reader.now.host f.0 (rest_of c.args.lines.now) (rest_of c.answers.lines) (g.K.Sink.written c.args.sink.now) (g.K.Sink.written c.answers.sink) (ended_of c.answers.lines) (budget_of c.answers.lines) (c.answers.invariant.runs f.0 f.1 f.2 f.3)
 
 pub answer_next-requires-clause-serving : goal.answer_next-requires-clause-serving
-answer_next-requires-clause-serving g c =
+answer_next-requires-clause-serving g c κs within =
     let f = c.requires.serving in
     within-serving c.answers.hall c.answers.reader.host f.0 (rest_of c.args.lines.now) (rest_of c.answers.lines) (g.K.Sink.written c.args.sink.now) (g.K.Sink.written c.answers.sink) (ended_of c.answers.lines) (budget_of c.answers.lines) (c.answers.invariant.runs f.0 f.1 f.2 f.3)
     f.1 (f.2 ∙ sym c.answers.invariant.callers.reader_host)

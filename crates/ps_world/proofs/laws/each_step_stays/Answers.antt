@@ -1,10 +1,10 @@
 use Rattle.ps_model.proofs.TheLaws.{laws-of, the-laws}
-use Rattle.ps_model.specs.TheCore.{core_of, the_core}
+use Rattle.ps_model.specs.TheCore.{based_core, the_core}
 use Rattle.ps_world.proofs.Read.{stays-ok}
 use Rattle.ps_world.proofs.laws.each_step_stays.Goals as goal
 
 pub returns : goal.returns
 returns c = record {
-  told = λ told E service steps more ok some. stays-ok (core_of told) (laws-of told) service some E steps more ok;
+  based = λ E service steps more ok some. stays-ok based_core laws-of service some E steps more ok;
   today = λ E service steps more ok some. stays-ok the_core the-laws service some E steps more ok;
 }

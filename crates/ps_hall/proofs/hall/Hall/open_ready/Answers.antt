@@ -16,6 +16,7 @@ use Rattle.ps_hall.proofs.Fronts.{fronts_opened, fronts_then}
 use Rattle.ps_hall.proofs.Openings.{hall_stands}
 use Rattle.ps_hall.proofs.Refusals.{journal_left, open_left, refused_journal, refused_restore}
 use Rattle.ps_hall.proofs.Replays.{name_some, opened_store}
+use Rattle.ps_hall.proofs.Timely.{placed_entries}
 use Rattle.ps_hall.proofs.hall.Hall.open_ready.Goals as goal
 
 pub returns-in-Err-clause-refused : goal.returns-in-Err-clause-refused
@@ -98,3 +99,6 @@ returns-clause-fronts g c tells none E spells short =
     let e = c.in-Ok.ensures in
     fronts_then D old mid (disk_of c.restore.new.journal) (fronts_opened D g.met.D.Disk.seen_left g.met.D.Disk.counts_now old mid E none spells (e.any_moment tells E spells short))
     (c.restore.ensures.fronts tells (entries_in c.in-Ok.placed.items) (e.same tells) (e.durable tells))
+
+pub restore-requires-clause-entries : goal.restore-requires-clause-entries
+restore-requires-clause-entries g c κs within = placed_entries c.in-Ok.placed.items c.in-Ok.ensures.each

@@ -1,7 +1,7 @@
 use Rattle.std.proofs.Common.{◌≡◌, refl, ◌∙◌, ap, subst, Option}
 use Rattle.std.specs.Prelude.{IfSome}
 use Rattle.ps_types.specs.declared.entry.Entry.{Entry}
-use Rattle.ps_model.specs.Replay.{after}
+use Rattle.ps_model.specs.After.{after}
 use Rattle.ps_hall.proofs.Laid.{gone_ok}
 use Rattle.ps_hall.proofs.state.State.lay_gone.Goals as goal
 

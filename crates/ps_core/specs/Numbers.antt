@@ -1,0 +1,32 @@
+-- What an entry does to the numbers of notices.
+use Rattle.std.specs.Prelude.{◌≡◌, ◌<◌, ◌+◌, ◌^◌, ℕ, List, length, map}
+use Rattle.ps_types.specs.declared.entry.Entry.{Entry}
+use Rattle.ps_types.specs.declared.entry.Entry.TheVariants as entry
+use Rattle.ps_types.specs.declared.entry.Notice.{Notice}
+use Rattle.ps_types.specs.declared.jid.Jid.{Jid}
+use Rattle.ps_types.specs.declared.rows.TallyRow.{TallyRow}
+use Rattle.ps_model.specs.Tallies.{handed_to, made_for, one_handed}
+use Rattle.ps_notices.specs.Due.{tallied_by}
+use Rattle.ps_core.specs.declared.numbers.Numbers.{Numbers}
+use Rattle.ps_core.specs.declared.numbers.Numbers.TheVariants.{Made, Handed}
+
+abbrev pub numbers_after : Numbers → List TallyRow → List TallyRow
+numbers_after (Made whos) tallies = tallied_by tallies whos.items
+numbers_after (Handed who) tallies = one_handed who tallies
+
+-- it is what an entry does that makes these notices
+abbrev pub IsCountOf : Entry → List Notice → Numbers → Type 0
+IsCountOf (entry.Handed to) notices (Made whos) = ⊥
+IsCountOf (entry.Handed to) notices (Handed who) = who ≡ to
+IsCountOf e notices (Made whos) = whos.items ≡ map (λ n. n.to) notices
+IsCountOf e notices (Handed who) = ⊥
+
+-- how many rows it sets
+abbrev pub rows_set : Numbers → ℕ
+rows_set (Made whos) = length whos.items
+rows_set (Handed who) = 1
+
+-- the numbers stay below the end of their type
+abbrev pub Fit : Numbers → List TallyRow → Type 0
+Fit (Made whos) tallies = (who : Jid) → made_for who tallies + length whos.items < 2 ^ 128
+Fit (Handed who) tallies = handed_to who tallies + 1 < 2 ^ 128

@@ -1,0 +1,88 @@
+// What an entry does to the numbers of notices.
+ghost use Rattle.std.specs.Prelude.{◌≡◌, ◌≤◌, IfOk, OnOk, map};
+ghost use Rattle.ps_core.specs.Numbers.{Fit, IsCountOf, numbers_after, rows_set};
+ghost use Rattle.ps_core.specs.declared.numbers.Numbers.TheVariants.{Made};
+
+use ps_base::Memory;
+use ps_tallies::Tallies;
+use ps_types::{Entry, Jid, Notice};
+use std::alloc::Global;
+
+/// What an entry does to the numbers of notices.
+pub enum Numbers {
+    /// A notice more is made for each of these addresses.
+    Made(Vec<Jid>),
+    /// A notice more is handed to this one.
+    Handed(Jid),
+}
+
+// By hand, so that its cases are met nowhere else.
+impl Drop for Numbers {
+    fn drop(self) {
+        match self {
+            Numbers::Made(_) => {}
+            Numbers::Handed(_) => {}
+        }
+    }
+}
+
+// The addresses of notices, in their order.
+fn addresses(alloc: Global, notices: &[Notice]) -> Result<Vec<Jid>, Memory>
+    ensures { IfOk result (λ whos. whos.items ≡ map (λ n. n.to) notices.now) }
+{
+    let mut whos = Vec::new(alloc);
+    for notice in notices {
+        whos.push(notice.to.clone()?)?;
+    }
+    Ok(whos)
+}
+
+/// What the entry that makes these notices does to the numbers.
+pub(crate) fn numbers_of(
+    alloc: Global,
+    entry: &Entry,
+    notices: &[Notice],
+) -> Result<Numbers, Memory>
+    ensures { IfOk result (IsCountOf entry.now notices.now) }
+{
+    match entry {
+        Entry::Handed { to } => Ok(Numbers::Handed(to.clone()?)),
+        _ => Ok(Numbers::Made(addresses(alloc, notices)?)),
+    }
+}
+
+/// Makes room for the rows that they set.
+pub(crate) fn reserve_for(tallies: &mut Tallies, numbers: &Numbers) -> Result<(), Memory>
+    ensures rows { tallies.new.rows ≡ tallies.old.rows }
+    ensures room { OnOk result (rows_set numbers.now ≤ tallies.new.spare) }
+{
+    match numbers {
+        Numbers::Made(whos) => tallies.reserve(whos.len() as u64),
+        Numbers::Handed(_) => tallies.reserve(1),
+    }
+}
+
+// A notice more is made for each.
+fn make_each(tallies: &mut Tallies, whos: Vec<Jid>)
+    requires room { rows_set (Made whos) ≤ tallies.old.spare }
+    requires fit { Fit (Made whos) tallies.old.rows }
+    ensures { tallies.new.rows ≡ numbers_after (Made whos) tallies.old.rows }
+{
+    for who in whos {
+        tallies.make(who, 1);
+    }
+}
+
+impl Numbers {
+    /// Does so, and takes no memory.
+    pub(crate) fn count_in(self, tallies: &mut Tallies)
+        requires room { rows_set self ≤ tallies.old.spare }
+        requires fit { Fit self tallies.old.rows }
+        ensures { tallies.new.rows ≡ numbers_after self tallies.old.rows }
+    {
+        match self {
+            Numbers::Made(whos) => make_each(tallies, whos),
+            Numbers::Handed(who) => tallies.hand(who),
+        }
+    }
+}

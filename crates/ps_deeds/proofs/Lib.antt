@@ -1,0 +1,14 @@
+pub mod Lining
+pub mod Wording
+pub mod Owning
+pub mod Settling
+pub mod Ending
+pub mod Completing
+pub mod Flying
+pub mod Doing
+pub mod Fitting
+pub mod Keeping
+pub mod Passing
+pub mod Landing
+pub mod Handing
+pub mod Unserved

@@ -1,0 +1,4 @@
+pub mod Around
+pub mod Due
+pub mod Placed
+pub mod Counting

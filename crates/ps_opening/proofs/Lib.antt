@@ -1,0 +1,7 @@
+pub mod Timely
+pub mod Fronts
+pub mod Queues
+pub mod Replays
+pub mod Readies
+pub mod Openings
+pub mod Refusals

@@ -1,0 +1,6 @@
+pub mod Begun
+pub mod Left
+pub mod Replayed
+pub mod Refused
+pub mod Fresh
+pub mod Opens

@@ -1,0 +1,25 @@
+-- Why a store is not opened where its journal isn't.
+use Rattle.std.specs.Prelude.{◌≡◌, ℕ, List}
+use Rattle.ps_model.specs.At.{IsDamagedAt}
+use Rattle.ps_journal.specs.Judged.{IsDamaged}
+use Rattle.ps_journal.specs.declared.judging.Placed.{Placed}
+use Rattle.ps_journal.specs.declared.opening.JournalWhy.{JournalWhy}
+use Rattle.ps_journal.specs.declared.opening.JournalWhy.TheVariants as journal
+use Rattle.ps_opening.specs.declared.opened.OpenWhy.{OpenWhy}
+use Rattle.ps_opening.specs.declared.opened.OpenWhy.TheVariants.{Damaged, Store, Full, Memory}
+
+-- bytes that the journal finds damaged here, with these entries before, are damaged there
+abbrev pub IsDamagedThere : ℕ → List Placed → ℕ → Type 0
+IsDamagedThere at before there = (bytes : List ℕ) → IsDamaged bytes at before → IsDamagedAt bytes there
+
+-- it is damaged, or there is no memory to say where
+abbrev pub IfOpenDamaged : OpenWhy → (ℕ → Type 0) → Type 0
+IfOpenDamaged (Damaged at) P = P at
+IfOpenDamaged Store P = ⊥
+IfOpenDamaged Full P = ⊥
+IfOpenDamaged Memory P = Unit {0}
+
+abbrev pub IsWhy : JournalWhy → OpenWhy → Type 0
+IsWhy (journal.Damaged at before) why = IfOpenDamaged why (IsDamagedThere at before.items)
+IsWhy journal.Store why = why ≡ Store
+IsWhy journal.Memory why = why ≡ Memory

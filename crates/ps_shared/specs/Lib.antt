@@ -1,0 +1,11 @@
+pub mod Origin
+pub mod Homes
+pub mod Seat
+pub mod Doing
+pub mod Flush
+pub mod Steps
+pub mod Told
+pub mod Calls
+pub mod Start
+pub mod Passes
+pub mod Closed

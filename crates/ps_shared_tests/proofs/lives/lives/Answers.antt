@@ -1,0 +1,22 @@
+use Rattle.std.proofs.Common.{refl}
+use Rattle.std.proofs.lemmas.Option.{slice_get_read}
+use Rattle.ps_shared_tests.proofs.Passing.{first_free, first_reads, kept}
+use Rattle.ps_shared_tests.proofs.lives.lives.Goals as goal
+
+pub serves-requires-clause-reader : goal.serves-requires-clause-reader
+serves-requires-clause-reader g c κs within = first_reads g.B.Opening.origin c.args.hall.now.twin c.args.passes.now.items c.index_mut-first.result.now (slice_get_read _ _ _ _ refl c.requires.some c.index_mut-first.ensures.value) c.requires.fresh
+
+pub serves-requires-clause-writer : goal.serves-requires-clause-writer
+serves-requires-clause-writer g c κs within = first_free g.B.Opening.origin c.args.hall.now.twin c.args.passes.now.items c.index_mut-first.result.now (slice_get_read _ _ _ _ refl c.requires.some c.index_mut-first.ensures.value) c.requires.fresh
+
+pub fails-requires-clause-reader : goal.fails-requires-clause-reader
+fails-requires-clause-reader g c κs within = first_reads g.B.Opening.origin c.args.hall.now.twin c.args.passes.now.items c.index_mut-first.result.now (slice_get_read _ _ _ _ refl c.requires.some c.index_mut-first.ensures.value) c.requires.fresh
+
+pub fails-requires-clause-writer : goal.fails-requires-clause-writer
+fails-requires-clause-writer g c κs within = first_free g.B.Opening.origin c.args.hall.now.twin c.args.passes.now.items c.index_mut-first.result.now (slice_get_read _ _ _ _ refl c.requires.some c.index_mut-first.ensures.value) c.requires.fresh
+
+pub returns-in-Whole : goal.returns-in-Whole
+returns-in-Whole g c = kept g.B.Opening.origin c.args.hall.now.twin c.args.passes.now.items c.serves.new.passes c.requires.some c.requires.fresh.all c.serves.ensures.reader c.serves.ensures.writer
+
+pub returns-in-Failing : goal.returns-in-Failing
+returns-in-Failing g c = kept g.B.Opening.origin c.args.hall.now.twin c.args.passes.now.items c.fails.new.passes c.requires.some c.requires.fresh.all c.fails.ensures.reader c.fails.ensures.writer

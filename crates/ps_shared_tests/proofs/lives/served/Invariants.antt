@@ -1,0 +1,5 @@
+use Rattle.ps_shared_tests.specs.Begun.{origin_of}
+use Rattle.ps_shared_tests.proofs.lives.served.Given as goal
+
+abbrev pub ghosts-live : goal.ghosts-live
+ghosts-live g a = record { origin = origin_of a.hosts.now a._service.now a.state a.store }

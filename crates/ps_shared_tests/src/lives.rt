@@ -1,0 +1,183 @@
+// Lives of a hall, from its opening to its end.
+ghost use Rattle.std.specs.Prelude.{◌≡◌, ◌<◌, [], length, OnOk};
+ghost use Rattle.ps_disk.specs.Calls.{state_of};
+ghost use Rattle.ps_shared.specs.Passes.{AreFresh, ArePasses};
+ghost use Rattle.ps_shared.specs.Start.{MayStart};
+ghost use Rattle.ps_shared_tests.specs.Passes.{IsFree, Reads, Writes};
+
+use crate::calls::{commits, ends, goes, is_over, refuses, replies, tells, waits};
+use crate::lines::{CREATE, MADE, PUBLISH, PUBLISHED, SUBSCRIBE, SUBSCRIBED, TOLD};
+use crate::opened::{host_names, opens, service_name};
+use ps_disk::{Disk, MemDisk};
+use ps_opening::Opened;
+use ps_shared::{ArriveRefusal, Hall, HostPasses, NoHall, Opening, Pass};
+use ps_state::State;
+use ps_store::Store;
+use ps_types::Text;
+use std::alloc::Global;
+use std::marker::Brand;
+use std::process::Abort;
+use std::random::RandomSource;
+use std::sync::Wait;
+use std::test::Fail;
+use std::thread::Threads;
+
+// A node with a subscriber, and an item.
+fn publishes<B: Opening, D: Disk>(
+    rt: &(impl Abort + Wait + Threads + Sync),
+    alloc: Global,
+    hall: &Hall<B, D>,
+    pass: &mut Pass<B, D>,
+) -> Result<(), Fail>
+    requires { Reads B.origin hall.now.twin pass.old }
+    ensures { Reads B.origin hall.now.twin pass.new }
+{
+    commits(rt, alloc, hall, pass, CREATE, 1)?;
+    commits(rt, alloc, hall, pass, SUBSCRIBE, 2)?;
+    commits(rt, alloc, hall, pass, PUBLISH, 3)
+}
+
+// Replies come first, and then the notice.
+fn hears<B: Opening, D: Disk>(
+    rt: &(impl Abort + Wait + Threads + Sync),
+    hall: &Hall<B, D>,
+    pass: &mut Pass<B, D>,
+) -> Result<(), Fail>
+    requires { IsFree B.origin hall.now.twin pass.old }
+    ensures writes { Writes B.origin hall.now.twin pass.new }
+    ensures free { OnOk result (IsFree B.origin hall.now.twin pass.new) }
+{
+    replies(rt, hall, pass, MADE)?;
+    replies(rt, hall, pass, SUBSCRIBED)?;
+    replies(rt, hall, pass, PUBLISHED)?;
+    tells(rt, hall, pass, TOLD)?;
+    waits(rt, hall, pass)
+}
+
+fn serves<B: Opening, D: Disk>(
+    rt: &(impl Abort + Wait + Threads + Sync),
+    alloc: Global,
+    hall: &Hall<B, D>,
+    passes: &mut HostPasses<B, D>,
+) -> Result<(), Fail>
+    requires reader { Reads B.origin hall.now.twin passes.old.reader }
+    requires writer { IsFree B.origin hall.now.twin passes.old.writer }
+    ensures reader { Reads B.origin hall.now.twin passes.new.reader }
+    ensures writer { Writes B.origin hall.now.twin passes.new.writer }
+{
+    publishes(rt, alloc, hall, &mut passes.reader)?;
+    hears(rt, hall, &mut passes.writer)?;
+    goes(rt, hall, &mut passes.reader);
+    is_over(rt, hall, &mut passes.writer)?;
+    ends(rt, hall, &mut passes.writer);
+    let reader = &mut passes.reader;
+    refuses(rt, alloc, hall, reader, CREATE, ArriveRefusal::Closed)
+}
+
+// The disk fails as the first frame is written: its line isn't answered, and no other is taken.
+fn fails<B: Opening, D: Disk>(
+    rt: &(impl Abort + Wait + Threads + Sync),
+    alloc: Global,
+    hall: &Hall<B, D>,
+    passes: &mut HostPasses<B, D>,
+) -> Result<(), Fail>
+    requires reader { Reads B.origin hall.now.twin passes.old.reader }
+    requires writer { IsFree B.origin hall.now.twin passes.old.writer }
+    ensures reader { Reads B.origin hall.now.twin passes.new.reader }
+    ensures writer { Writes B.origin hall.now.twin passes.new.writer }
+{
+    let reader = &mut passes.reader;
+    refuses(rt, alloc, hall, reader, CREATE, ArriveRefusal::Store)?;
+    refuses(rt, alloc, hall, reader, SUBSCRIBE, ArriveRefusal::Store)?;
+    waits(rt, hall, &mut passes.writer)
+}
+
+// What a host does in its life.
+#[derive(Clone, Copy)]
+enum Life {
+    Whole,
+    Failing,
+}
+
+fn lives<B: Opening, D: Disk>(
+    rt: &(impl Abort + Wait + Threads + Sync),
+    alloc: Global,
+    hall: &Hall<B, D>,
+    passes: &mut Vec<HostPasses<B, D>>,
+    life: Life,
+) -> Result<(), Fail>
+    requires some { 0 < length passes.old.items }
+    requires fresh { AreFresh B.origin hall.now.twin passes.old.items }
+    ensures { ArePasses B.origin hall.now.twin passes.new.items }
+{
+    let first = &mut passes[0];
+    match life {
+        Life::Whole => serves(rt, alloc, hall, first),
+        Life::Failing => fails(rt, alloc, hall, first),
+    }
+}
+
+// What was opened is named by the arguments.
+fn live<B: Opening>(
+    rt: &(impl Abort + Wait + Threads + Sync),
+    alloc: Global,
+    state: State,
+    store: Store<MemDisk>,
+    hosts: &[Text],
+    _service: &Text,
+    life: Life,
+) -> Result<MemDisk, Fail>
+    requires { MayStart B.origin state store hosts.now }
+{
+    match Hall::<B, MemDisk>::new(alloc, state, store, hosts) {
+        Ok((hall, mut passes)) => {
+            let came = lives(rt, alloc, &hall, &mut passes, life);
+            let (_, store) = hall.close(passes);
+            let disk = store.close();
+            came?;
+            Ok(disk)
+        }
+        Err(NoHall { state: _, store }) => {
+            let _ = store.close();
+            Err(Fail::new("no hall"))
+        }
+    }
+}
+
+// The disk of a store that served one host and was closed.
+fn served(
+    rt: &(impl Abort + Wait + Threads + Sync + RandomSource),
+    alloc: Global,
+    disk: MemDisk,
+    life: Life,
+) -> Result<MemDisk, Fail>
+    requires empty { (state_of disk).seen ≡ [] }
+{
+    let service = service_name(alloc)?;
+    let hosts = host_names(alloc)?;
+    let hosts: &[Text] = &hosts;
+    let Opened { state, store } = opens(rt, alloc, disk, &service, hosts)?;
+    live::<Brand>(rt, alloc, state, store, hosts, &service, life)
+}
+
+// The header, the Boot and the closed gate take 31 bytes. A frame adds its gate, four bytes of length and its entries: the three lines, of 188, 213 and 257
+// bytes behind 24 of their own, the notice that was handed with its address in 16, and the end of the host in 12.
+const LEFT: usize = 31 + (5 + 24 + 188) + (5 + 24 + 213) + (5 + 24 + 257) + (5 + 16) + (5 + 12);
+
+#[test]
+fn a_host_is_served_from_the_opening_to_the_end(rt: HostRuntime) -> Result<(), Fail> {
+    let disk = MemDisk::new(rt.alloc(), b"", &[])?;
+    let disk = served(&rt, rt.alloc(), disk, Life::Whole)?;
+    assert_eq!(rt; disk.bytes().len(), LEFT);
+    Ok(())
+}
+
+// The opening of an empty disk takes this many calls of it, and then the first frame begins.
+const FIRST: u64 = 14;
+
+#[test]
+fn no_line_is_taken_once_the_disk_failed(rt: HostRuntime) -> Result<(), Fail> {
+    let disk = MemDisk::new(rt.alloc(), b"", &[FIRST])?;
+    let _ = served(&rt, rt.alloc(), disk, Life::Failing)?;
+    Ok(())
+}

@@ -1,0 +1,11 @@
+pub mod OneRow
+pub mod Sizes
+pub mod Shapes
+pub mod Addressed
+pub mod Queued
+pub mod Stepping
+pub mod Flushed
+pub mod Calling
+pub mod Hands
+pub mod Telling
+pub mod Recording
