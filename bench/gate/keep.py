@@ -5,6 +5,7 @@
   keep.py tests NAME..     the same, and the crate's tests, proved and run
   keep.py edits NAME..     the same, and its must-fail edits
   keep.py only NAME/EDIT.. each edit on the functions alone that it changes (FN=PATH names another)
+  keep.py more [NAME..]    the same of the edits in tests/edits, which the gate doesn't try: of these crates, or of all
   keep.py all [--no-edits] everything of crates.txt, LANES (4) at a time; TESTS=0 leaves the tests out
   keep.py some NAME..      the same of these crates and those below them
   keep.py check [FLAGS]    in a crate's folder: what is below is proved or taken from what is kept, then `rt check FLAGS`
@@ -324,6 +325,8 @@ def only(cs, names):
         with tempfile.TemporaryDirectory(prefix="only-", dir=STORE) as done:
             for edit in edits_named:
                 file = f"{new.folder}/must-fail/{edit}"
+                if not os.path.exists(file):
+                    file = f"{root_of(cs[name].folder)}/tests/edits/{name}/{edit}"
                 texts, why = rt.read_edit(file, new.folder)
                 flags = ["--jobs", "1"] + [word for fn in functions_of(new, file) for word in ("--only", fn)]
                 ran = None if why else rt.checked(new, texts, flags, done)
@@ -397,6 +400,10 @@ def main():
         return 0 if ok else 1
     if verb == "only":
         return 0 if only(cs, words[1:]) else 1
+    if verb == "more":
+        folder = f"{root}/tests/edits"
+        names = [it for it in sorted(os.listdir(folder)) if it in cs and (len(words) == 1 or it in words)]
+        return 0 if only(cs, [f"{it}/{edit}" for it in names for edit in sorted(os.listdir(f"{folder}/{it}"))]) else 1
     if verb == "all":
         return 0 if everything(cs, "--no-edits" not in words) else 1
     if verb == "some":

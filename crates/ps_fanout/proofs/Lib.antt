@@ -8,3 +8,4 @@ pub mod Reached
 pub mod Heard
 pub mod Spread
 pub mod More
+pub mod Stamps

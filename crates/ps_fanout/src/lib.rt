@@ -26,5 +26,5 @@ mod ways;
 
 pub use fanout::{drafts, notices};
 pub use laws::{one_event_is_told, those_asked_suffice};
-pub use moments::stamp;
+pub use moments::{stamp, stamp_is_utc};
 pub use order::in_order;

@@ -1,5 +1,8 @@
 // The text of a moment (XEP-0082).
-ghost use Rattle.std.specs.Prelude.{◌≡◌, ◌<◌, IfOk};
+ghost use Rattle.std.specs.Prelude.{◌≡◌, ◌*◌, ◌++◌, ◌<◌, IfOk, ℕ, codes, pos};
+ghost use Rattle.jiff.specs.Names.{iso_datetime_text};
+ghost use Rattle.jiff_core.specs.DateTime.{civil_nanos};
+ghost use Rattle.jiff_core.specs.declared.civil.datetime.DateTime.{DateTime};
 ghost use Rattle.ps_model.specs.Stamp as model;
 
 use jiff::Timestamp;
@@ -23,3 +26,8 @@ pub fn stamp(alloc: Global, moment: u64) -> Result<Text, Memory>
         Err(_) => unreachable!(),
     }
 }
+
+/// The stamp of a moment is the text of the date and time that a clock at UTC shows then, as `jiff` has them, and a `Z`.
+pub fn stamp_is_utc()
+    ensures { (moment : ℕ) (shown : DateTime) → civil_nanos shown ≡ pos (moment * 1_000_000_000) → model.stamp moment ≡ iso_datetime_text shown ++ codes "Z" }
+{}

@@ -33,6 +33,3 @@ mod writing;
 pub use answers::{ArriveRefusal, EndCause, HandedRefusal, Limits, Next, Outcome, Receipt};
 pub use hall::{Hall, HostPasses, Pass};
 pub use opened::{HallRefusal, HallWhy};
-
-#[cfg(test)]
-mod tests;

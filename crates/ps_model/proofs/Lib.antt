@@ -4,7 +4,6 @@ pub mod NumberLaws
 pub mod OneAt
 pub mod OneList
 pub mod ServiceStays
-pub mod StampLaws
 pub mod TallyLaws
 pub mod TheLaws
 pub mod Spelling

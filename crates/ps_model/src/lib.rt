@@ -12,7 +12,6 @@ mod access_laws;
 mod laws;
 mod machine_laws;
 mod request_laws;
-mod stamp_laws;
 mod steps;
 mod store_laws;
 mod stream_laws;
@@ -26,7 +25,6 @@ pub use machine_laws::service_keeps_the_laws;
 pub use request_laws::{
     address_is_spelled, line_is_read, line_reads, one_request, spelled_is_taken, taken_is_spelled,
 };
-pub use stamp_laws::stamp_is_utc;
 pub use steps::{Role, Step};
 pub use store_laws::{damaged_has_none, list_or_damage, one_damage, one_list};
 pub use stream_laws::sink_has_what_is_said;

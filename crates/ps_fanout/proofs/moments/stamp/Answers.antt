@@ -4,7 +4,7 @@ use mir.Syntax.{w64}
 use mir.Val.{to_z}
 use Rattle.jiff_core.proofs.SignedLemmas.{signed_arith}
 use Rattle.jiff_core.specs.DateTime.{civil_nanos}
-use Rattle.ps_model.proofs.StampLaws.{stamp-is}
+use Rattle.ps_fanout.proofs.Stamps.{stamp-is}
 use Rattle.ps_fanout.proofs.moments.stamp.Goals as goal
 
 pub returns : goal.returns
