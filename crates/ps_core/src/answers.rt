@@ -22,18 +22,74 @@ use std::alloc::Global;
 
 /// The reply to a line, the entry that it makes, and the reply in its place where the entry finds no room in the journal, where that
 /// was asked for.
-#[derive(Drop)]
 pub struct Answer {
     pub reply: Option<Elem>,
     pub entry: Option<Entry>,
     pub full: Option<Elem>,
 }
 
+// By hand, as of all that owns memory and is met often: it is let go by one call wherever a function ends.
+impl Drop for Answer {
+    fn drop(self) {
+        let Answer {
+            reply: _,
+            entry: _,
+            full: _,
+        } = self;
+    }
+}
+
+impl Answer {
+    /// The reply and the entry.
+    pub fn into_said(self) -> (Option<Elem>, Option<Entry>)
+        ensures reply { result.0 ≡ self.reply }
+        ensures entry { result.1 ≡ self.entry }
+    {
+        let Self {
+            reply,
+            entry,
+            full: _,
+        } = self;
+        (reply, entry)
+    }
+
+    /// The reply where the entry finds no room.
+    pub fn into_full(self) -> Option<Elem>
+        ensures { result ≡ self.full }
+    {
+        let Self {
+            reply: _,
+            entry: _,
+            full,
+        } = self;
+        full
+    }
+}
+
 /// An answer, and the request that the tree of its entry was taken as.
-#[derive(Drop)]
 pub struct WithRequest {
     pub answer: Answer,
     pub request: Option<Request>,
+}
+
+impl Drop for WithRequest {
+    fn drop(self) {
+        let WithRequest {
+            answer: _,
+            request: _,
+        } = self;
+    }
+}
+
+impl WithRequest {
+    /// The answer and the request.
+    pub fn into_parts(self) -> (Answer, Option<Request>)
+        ensures answer { result.0 ≡ self.answer }
+        ensures request { result.1 ≡ self.request }
+    {
+        let Self { answer, request } = self;
+        (answer, request)
+    }
 }
 
 fn reply_alone(reply: Option<Elem>) -> Answer

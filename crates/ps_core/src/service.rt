@@ -150,7 +150,8 @@ impl Service {
         ensures full { IfOk result (λ a. a.full ≡ full_by a.entry (reply_to host.now self.now.state.book line arrival.now true)) }
     {
         let answered = answer_at(self.alloc, &self.front.tables, host, line, arrival, true)?;
-        Ok(answered.answer)
+        let (answer, _) = answered.into_parts();
+        Ok(answer)
     }
 
     /// The same with the request of its entry, and without the reply where the journal is full, which is wanted seldom.

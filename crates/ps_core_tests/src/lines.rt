@@ -135,11 +135,7 @@ pub fn entry_at(alloc: Global, service: &Service, line: u64, text: &str) -> Resu
         moment: None,
         text,
     };
-    let Answer {
-        reply: _,
-        entry,
-        full: _,
-    } = answer_of(alloc, service, &line)?;
+    let (_, entry) = answer_of(alloc, service, &line)?.into_said();
     match entry {
         Some(entry) => Ok(entry),
         None => Err(Fail::new("no entry")),

@@ -6,7 +6,7 @@ ghost use Rattle.ps_core.specs.Requests.{IsRequestOf};
 
 use crate::state::HostRow;
 use ps_base::{Bytes, Memory};
-use ps_core::{Answer, Service, WithRequest};
+use ps_core::Service;
 use ps_types::{Arrival, Elem, Entry, Request};
 use ps_wire::print_tree;
 use std::alloc::Global;
@@ -43,12 +43,9 @@ pub(crate) fn replies_at(
     ensures request { IfOk result (λ a. IfSome a.entry (λ e. IsRequestOf service.now.state.book.service e a.request)) }
 {
     let row = &rows[at];
-    let WithRequest { answer, request } = service.answer_with_room(
-        &row.host,
-        row.line + 1,
-        arrival,
-    )?;
-    let Answer { reply, entry, .. } = answer;
+    let answered = service.answer_with_room(&row.host, row.line + 1, arrival)?;
+    let (answer, request) = answered.into_parts();
+    let (reply, entry) = answer.into_said();
     let reply = printed(alloc, &reply)?;
     Ok(Replies {
         reply,

@@ -132,12 +132,11 @@ module _ {D : Type 0} {g : Ghosts D} (journal : Journal D g) (r : Rebuilt) (rows
   pub opens : (disk : D) (service : List ℕ) (hosts : List (List ℕ)) (E : List Entry) (len : ℕ) → service ≢ [] → AreHosts hosts → AreFreshRows hosts rows → IsRestored E (Boot service) r
       → limits.changes ≤ 2 ^ 30 → limits.whole ≤ 2 ^ 30 → (g.tells → IsStore (g.seen disk) E) → (g.tells → HasLength (g.seen disk) len) → length_of journal ≡ len + frame_of (Boot service) → length_of journal ≤ limits.whole
       → broken_of journal ≡ None → (g.tells → spelled (g.seen (disk_of journal)) (E ++ Boot service ∷ [])) → (g.tells → LeavesList (g.synced (disk_of journal)) (g.written (disk_of journal)) (E ++ Boot service ∷ []))
-      → IsOpen disk service hosts limits v y
+      → IsOpen disk service hosts limits E v y
   opens disk service hosts E len some are fresh restored changes whole store long size room unbroken seen lasts =
       let stands = store_stands service some E restored unbroken seen lasts in
       let same = long_same (start the_core service E) stands refl in
       record {
-        entries = E;
         store = store;
         lawful = lawful-core E restored.each;
         state = state_stands service some E restored hosts are fresh changes whole room;

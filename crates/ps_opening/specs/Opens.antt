@@ -89,8 +89,7 @@ at_now {D} {g} y = record { moment = g.moment (disk_in y); faults = g.faults (di
 
 -- The two stand for the world that begins with the entries of the store and a Boot, and no step. The state has the hosts in their order.
 pub record IsOpen {D : Type 0} {g : Ghosts D} (disk : D) (service : List ℕ) (hosts : List (List ℕ)) (limits : Limits)
-    (v : State) (y : Store D g) : Type 0 where
-  pub entries : List Entry
+    (entries : List Entry) (v : State) (y : Store D g) : Type 0 where
   pub store : g.tells → IsStore (g.seen disk) entries
   pub lawful : IsLawful the_core entries
   pub state : Stands v (start the_core service entries)

@@ -1,12 +1,14 @@
 // What comes of an opening.
 use ps_disk::Disk;
+use ps_journal::Placed;
 use ps_state::State;
 use ps_store::Store;
 
-/// The state and the store, before the first step.
+/// The state and the store, before the first step, and the entries that the store had, each with its offset.
 pub struct Opened<D: Disk> {
     pub state: State,
     pub store: Store<D>,
+    pub entries: Vec<Placed>,
 }
 
 /// Why a store was not opened.

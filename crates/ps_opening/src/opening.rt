@@ -73,8 +73,10 @@ fn made_of<D: Disk>(
     rebuilt: Rebuilt,
     rows: Vec<HostRow>,
     limits: Limits,
+    entries: Vec<Placed>,
 ) -> Opened<D>
-    ensures { IsMadeOf journal rebuilt rows.items limits result.state result.store }
+    ensures made { IsMadeOf journal rebuilt rows.items limits result.state result.store }
+    ensures entries { result.entries ≡ entries }
 {
     let Rebuilt { service, queues } = rebuilt;
     let count = service.count();
@@ -96,6 +98,7 @@ fn made_of<D: Disk>(
     Opened {
         state,
         store: Store::new(journal, count),
+        entries,
     }
 }
 
@@ -110,7 +113,7 @@ fn open_ready<R: Threads + Sync, D: Disk>(
     requires bounded { (limits.changes ≤ 2 ^ 30) × (limits.whole ≤ 2 ^ 30) }
     requires ready { (service : List ℕ) × (hosts : List (List ℕ)) × IsReady service hosts ready }
     ensures opened { (service : List ℕ) (hosts : List (List ℕ)) → IsReady service hosts ready
-        → IfOk result (λ r. IsOpen disk service hosts limits r.state r.store) }
+        → IfOk result (λ r. IsOpen disk service hosts limits (entries_in r.entries.items) r.state r.store) }
     ensures refused { (service : List ℕ) (hosts : List (List ℕ)) → IsReady service hosts ready
         → IfErr result
         (λ e. OpenNot D.tells (D.seen disk) (D.faults disk) (D.faults e.disk) service limits.whole e.why) }
@@ -147,14 +150,14 @@ fn open_ready<R: Threads + Sync, D: Disk>(
                     disk: journal.close(),
                     why,
                 }),
-                Ok(()) => Ok(made_of(alloc, journal, rebuilt, rows, limits)),
+                Ok(()) => Ok(made_of(alloc, journal, rebuilt, rows, limits, placed)),
             }
         }
     }
 }
 
 /// Opens the store on a disk, takes its entries, and appends a Boot of the service. It answers the state and the store that stand for the world that
-/// begins so. The runtime gives the secret by which rows are found; no answer rests on it.
+/// begins so, and the entries. The runtime gives the secret by which rows are found; no answer rests on it.
 pub fn open<R: RandomSource + Threads + Sync, D: Disk>(
     rt: &R,
     alloc: Global,
@@ -166,7 +169,8 @@ pub fn open<R: RandomSource + Threads + Sync, D: Disk>(
     requires bounded { (limits.changes ≤ 2 ^ 30) × (limits.whole ≤ 2 ^ 30) }
     requires service { IsHostName service.now }
     requires hosts { AreHosts hosts.now }
-    ensures opened { IfOk result (λ r. IsOpen disk service.now hosts.now limits r.state r.store) }
+    ensures opened { IfOk result
+        (λ r. IsOpen disk service.now hosts.now limits (entries_in r.entries.items) r.state r.store) }
     ensures refused { IfErr result
         (λ e. OpenNot D.tells (D.seen disk) (D.faults disk) (D.faults e.disk) service.now limits.whole e.why) }
     ensures later { MatchResult result

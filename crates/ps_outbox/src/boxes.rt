@@ -15,13 +15,24 @@ use std::alloc::Global;
 use std::marker::Model;
 
 /// The notices that wait to be handed out, in one queue for each bare address.
-#[derive(Drop)]
 pub struct Outboxes {
     waiting: Rows<Waiting>,
     addresses: Rows<Address>,
     /// The greatest place so far, while notices came in the order of their entries.
     last: u64,
     in_order: bool,
+}
+
+// By hand, so that the queues are let go by one call wherever a function ends.
+impl Drop for Outboxes {
+    fn drop(self) {
+        let Outboxes {
+            waiting: _,
+            addresses: _,
+            last: _,
+            in_order: _,
+        } = self;
+    }
 }
 
 impl Model for Outboxes {

@@ -12,11 +12,21 @@ use std::alloc::Global;
 use std::marker::Model;
 
 /// Entries in order, with their bytes, 2^30 at most. A contract sees it as the list of its entries.
-#[derive(Drop)]
 pub struct Batch {
     alloc: Global,
     entries: Vec<Entry>,
     frame: Vec<u8>,
+}
+
+// By hand, so that a batch is let go by one call wherever a function ends.
+impl Drop for Batch {
+    fn drop(self) {
+        let Batch {
+            alloc: _,
+            entries: _,
+            frame: _,
+        } = self;
+    }
 }
 
 impl Model for Batch {

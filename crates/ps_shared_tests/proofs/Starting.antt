@@ -1,22 +1,15 @@
--- The hall may start over a store that was empty.
-use Rattle.std.proofs.Common.{◌≡◌, ◌≢◌, ℕ, zero, suc, List, [], ◌∷◌, inr, length, refl, sym, ap, subst, arith}
+-- The hall may start over a store that was opened.
+use Rattle.std.proofs.Common.{◌≡◌, ◌≢◌, ℕ, zero, suc, List, [], ◌∷◌, length, refl, sym, ap, subst, arith}
 use Rattle.std.specs.Prelude.{codes, slice_get, Some}
 use Rattle.ps_disk.specs.declared.device.Disk.{Ghosts}
 use Rattle.ps_types.specs.Address.{IsHost}
 use Rattle.ps_types.specs.declared.entry.Entry.{Entry}
-use Rattle.ps_model.specs.CoreLaws.{IsLawful}
 use Rattle.ps_model.specs.Entries.{IsHostName}
-use Rattle.ps_model.specs.Machine.{start}
-use Rattle.ps_model.specs.Store.{spelled}
-use Rattle.ps_model.specs.TheCore.{the_core}
-use Rattle.ps_model.proofs.OneList.{one_list}
 use Rattle.ps_opening.specs.Fresh.{AreHosts}
-use Rattle.ps_opening.specs.Opens.{IsOpen, at_now}
+use Rattle.ps_opening.specs.Opens.{IsOpen}
 use Rattle.ps_shared.specs.Start.{MayStart}
-use Rattle.ps_state.specs.Stand.{Stands}
 use Rattle.ps_state.specs.declared.answers.Limits.{Limits}
 use Rattle.ps_state.specs.declared.state.State.{State}
-use Rattle.ps_store.specs.Stand.{StoreStands}
 use Rattle.ps_store.specs.declared.store.Store.{Store}
 use Rattle.ps_shared_tests.specs.Begun.{are_one, origin_of}
 
@@ -43,30 +36,23 @@ one_is = record {
   apart = λ j k other at_j at_k. cc ((only (codes "a.example") other j at_j).1, (only (codes "a.example") other k at_k).1);
 }
 
-lawful : IsLawful the_core []
-lawful p e h = let none : ⊥ = cc h in absurd none
-
 some : codes "pubsub.example" ≢ []
 some e = absurd (cc e)
 
-no_entries : (bytes : List ℕ) (E : List Entry) → bytes ≡ [] → spelled bytes E → E ≡ []
-no_entries bytes E is s = one_list [] E [] (subst (λ (b : List ℕ). spelled b E) is s) (inr (refl, refl, refl))
-
-module _ {D : Type 0} {g : Ghosts D} (disk : D) (service : List ℕ) (hosts : List (List ℕ)) (limits : Limits) (v : State) (y : Store D g) where
-  pub may_start : g.tells → g.seen disk ≡ [] → service ≡ codes "pubsub.example" → hosts ≡ are_one → IsOpen disk service hosts limits v y → MayStart (origin_of hosts service v y) v y hosts
-  may_start tells empty named one is =
-      let none : is.entries ≡ [] = no_entries (g.seen disk) is.entries empty (is.store tells).spells in
+module _ {D : Type 0} {g : Ghosts D} (disk : D) (service : List ℕ) (hosts : List (List ℕ)) (limits : Limits) (E : List Entry) (v : State) (y : Store D g) where
+  pub may_start : service ≡ codes "pubsub.example" → hosts ≡ are_one → IsOpen disk service hosts limits E v y → MayStart (origin_of hosts service E v y) v y hosts
+  may_start named one is =
       let size : length hosts ≡ 1 = ap length one in
       record {
         some_host = omega (arith, size);
         few = omega (arith, size);
         hosts_are = refl;
-        lawful = lawful;
+        lawful = is.lawful;
         named = subst (λ (n : List ℕ). n ≢ []) (sym named) some;
         rows = is.hosts_are;
         limits = refl;
-        state = subst (λ (E : List Entry). Stands v (start the_core service E)) none is.state;
-        archive = subst (λ (E : List Entry). StoreStands (at_now y) y (start the_core service E)) none is.archive;
+        state = is.state;
+        archive = is.archive;
         flushed = is.flushed;
         mark = is.mark;
       }

@@ -23,3 +23,7 @@ pub const PUBLISHED: &str =
 
 pub const TOLD: &str =
     r#"{"a":{"from":"pubsub.example","id":"n-1","to":"ann@a.example","type":"headline"},"c":[{"c":[{"a":{"node":"news"},"c":[{"a":{"id":"i1"},"c":[{"n":"entry","ns":"urn:t"}],"n":"item"}],"n":"items"}],"n":"event","ns":"http://jabber.org/protocol/pubsub#event"}],"n":"message"}"#;
+
+/// The second notice of it.
+pub const TOLD_NEXT: &str =
+    r#"{"a":{"from":"pubsub.example","id":"n-2","to":"ann@a.example","type":"headline"},"c":[{"c":[{"a":{"node":"news"},"c":[{"a":{"id":"i1"},"c":[{"n":"entry","ns":"urn:t"}],"n":"item"}],"n":"items"}],"n":"event","ns":"http://jabber.org/protocol/pubsub#event"}],"n":"message"}"#;

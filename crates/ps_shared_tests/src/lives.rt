@@ -1,14 +1,14 @@
 // Lives of a hall, from its opening to its end.
-ghost use Rattle.std.specs.Prelude.{◌≡◌, ◌<◌, [], length, OnOk};
-ghost use Rattle.ps_disk.specs.Calls.{state_of};
+ghost use Rattle.std.specs.Prelude.{◌<◌, length, OnOk};
 ghost use Rattle.ps_shared.specs.Passes.{AreFresh, ArePasses};
 ghost use Rattle.ps_shared.specs.Start.{MayStart};
 ghost use Rattle.ps_shared_tests.specs.Passes.{IsFree, Reads, Writes};
 
 use crate::calls::{commits, ends, goes, is_over, refuses, replies, tells, waits};
-use crate::lines::{CREATE, MADE, PUBLISH, PUBLISHED, SUBSCRIBE, SUBSCRIBED, TOLD};
+use crate::lines::{CREATE, MADE, PUBLISH, PUBLISHED, SUBSCRIBE, SUBSCRIBED, TOLD, TOLD_NEXT};
 use crate::opened::{host_names, opens, service_name};
 use ps_disk::{Disk, MemDisk};
+use ps_journal::Placed;
 use ps_opening::Opened;
 use ps_shared::{ArriveRefusal, Hall, HostPasses, NoHall, Opening, Pass};
 use ps_state::State;
@@ -92,11 +92,31 @@ fn fails<B: Opening, D: Disk>(
     waits(rt, hall, &mut passes.writer)
 }
 
+// The store was served before: its node and its subscription stand, and the notices are numbered on.
+fn goes_on<B: Opening, D: Disk>(
+    rt: &(impl Abort + Wait + Threads + Sync),
+    alloc: Global,
+    hall: &Hall<B, D>,
+    passes: &mut HostPasses<B, D>,
+) -> Result<(), Fail>
+    requires reader { Reads B.origin hall.now.twin passes.old.reader }
+    requires writer { IsFree B.origin hall.now.twin passes.old.writer }
+    ensures reader { Reads B.origin hall.now.twin passes.new.reader }
+    ensures writer { Writes B.origin hall.now.twin passes.new.writer }
+{
+    commits(rt, alloc, hall, &mut passes.reader, PUBLISH, 7)?;
+    let writer = &mut passes.writer;
+    replies(rt, hall, writer, PUBLISHED)?;
+    tells(rt, hall, writer, TOLD_NEXT)?;
+    waits(rt, hall, writer)
+}
+
 // What a host does in its life.
 #[derive(Clone, Copy)]
 enum Life {
     Whole,
     Failing,
+    Second,
 }
 
 fn lives<B: Opening, D: Disk>(
@@ -114,8 +134,11 @@ fn lives<B: Opening, D: Disk>(
     match life {
         Life::Whole => serves(rt, alloc, hall, first),
         Life::Failing => fails(rt, alloc, hall, first),
+        Life::Second => goes_on(rt, alloc, hall, first),
     }
 }
+
+fn let_go(_entries: Vec<Placed>) {}
 
 // What was opened is named by the arguments.
 fn live<B: Opening>(
@@ -123,12 +146,14 @@ fn live<B: Opening>(
     alloc: Global,
     state: State,
     store: Store<MemDisk>,
+    entries: Vec<Placed>,
     hosts: &[Text],
     _service: &Text,
     life: Life,
 ) -> Result<MemDisk, Fail>
     requires { MayStart B.origin state store hosts.now }
 {
+    let_go(entries);
     match Hall::<B, MemDisk>::new(alloc, state, store, hosts) {
         Ok((hall, mut passes)) => {
             let came = lives(rt, alloc, &hall, &mut passes, life);
@@ -150,14 +175,16 @@ fn served(
     alloc: Global,
     disk: MemDisk,
     life: Life,
-) -> Result<MemDisk, Fail>
-    requires empty { (state_of disk).seen ≡ [] }
-{
+) -> Result<MemDisk, Fail> {
     let service = service_name(alloc)?;
     let hosts = host_names(alloc)?;
     let hosts: &[Text] = &hosts;
-    let Opened { state, store } = opens(rt, alloc, disk, &service, hosts)?;
-    live::<Brand>(rt, alloc, state, store, hosts, &service, life)
+    let Opened {
+        state,
+        store,
+        entries,
+    } = opens(rt, alloc, disk, &service, hosts)?;
+    live::<Brand>(rt, alloc, state, store, entries, hosts, &service, life)
 }
 
 // The header, the Boot and the closed gate take 31 bytes. A frame adds its gate, four bytes of length and its entries: the three lines, of 188, 213 and 257
@@ -169,6 +196,14 @@ fn a_host_is_served_from_the_opening_to_the_end(rt: HostRuntime) -> Result<(), F
     let disk = MemDisk::new(rt.alloc(), b"", &[])?;
     let disk = served(&rt, rt.alloc(), disk, Life::Whole)?;
     assert_eq!(rt; disk.bytes().len(), LEFT);
+    Ok(())
+}
+
+#[test]
+fn a_store_that_was_served_goes_on(rt: HostRuntime) -> Result<(), Fail> {
+    let disk = MemDisk::new(rt.alloc(), b"", &[])?;
+    let disk = served(&rt, rt.alloc(), disk, Life::Whole)?;
+    let _ = served(&rt, rt.alloc(), disk, Life::Second)?;
     Ok(())
 }
 

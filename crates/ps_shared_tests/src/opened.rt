@@ -1,6 +1,6 @@
 // A store in memory is opened.
-ghost use Rattle.std.specs.Prelude.{◌≡◌, [], codes, IfOk};
-ghost use Rattle.ps_disk.specs.Calls.{state_of};
+ghost use Rattle.std.specs.Prelude.{◌≡◌, codes, IfOk};
+ghost use Rattle.ps_journal.specs.Places.{entries_in};
 ghost use Rattle.ps_shared.specs.Start.{MayStart};
 ghost use Rattle.ps_shared_tests.specs.Begun.{are_one, origin_of};
 
@@ -36,7 +36,7 @@ pub fn host_names(alloc: Global) -> Result<Vec<Text>, Fail>
     Ok(hosts)
 }
 
-/// An empty disk is opened.
+/// A disk is opened.
 pub fn opens<R: RandomSource + Threads + Sync>(
     rt: &R,
     alloc: Global,
@@ -44,10 +44,9 @@ pub fn opens<R: RandomSource + Threads + Sync>(
     service: &Text,
     hosts: &[Text],
 ) -> Result<Opened<MemDisk>, Fail>
-    requires empty { (state_of disk).seen ≡ [] }
     requires service { service.now ≡ codes "pubsub.example" }
     requires hosts { hosts.now ≡ are_one }
-    ensures { IfOk result (λ r. MayStart (origin_of hosts.now service.now r.state r.store) r.state r.store hosts.now) }
+    ensures { IfOk result (λ r. MayStart (origin_of hosts.now service.now (entries_in r.entries.items) r.state r.store) r.state r.store hosts.now) }
 {
     let limits = Limits {
         changes: 10_000,

@@ -7,7 +7,7 @@ ghost use Rattle.ps_state.specs.Rows.{OfRow};
 
 use crate::state::HostRow;
 use ps_base::{Bytes, Memory};
-use ps_core::{Answer, Service, WithRequest};
+use ps_core::Service;
 use ps_types::{Arrival, Elem, Entry, Request};
 use ps_wire::print_tree;
 use std::alloc::Global;
@@ -44,26 +44,15 @@ pub(crate) fn replies_at(
     ensures request { IfOk result (λ a. IfSome a.entry (λ e. IsRequestOf service.now.state.book.service e a.request)) }
 {
     let row = &rows[at];
-    let WithRequest { answer, request } = service.answer_with_room(
-        &row.host,
-        row.line + 1,
-        arrival,
-    )?;
-    let Answer { reply, entry, .. } = answer;
+    let answered = service.answer_with_room(&row.host, row.line + 1, arrival)?;
+    let (answer, request) = answered.into_parts();
+    let (reply, entry) = answer.into_said();
     let reply = printed(alloc, &reply)?;
     Ok(Replies {
         reply,
         entry,
         request,
     })
-}
-
-// The reply where there is no room. All else of the answer is let go here.
-fn full_of(answer: Answer) -> Option<Elem>
-    ensures { result ≡ answer.full }
-{
-    let Answer { full, .. } = answer;
-    full
 }
 
 /// The reply to the next line of the row at a place, which makes an entry, where that finds no room.
@@ -81,7 +70,7 @@ pub(crate) fn full_at(
 {
     let row = &rows[at];
     let answer = service.answer(&row.host, row.line + 1, arrival)?;
-    let full = full_of(answer);
+    let full = answer.into_full();
     let reply = printed(alloc, &full)?;
     Ok(reply)
 }

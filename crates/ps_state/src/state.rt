@@ -23,7 +23,6 @@ pub struct Hand {
 
 /// What is kept for one host: the number of its lines, the replies that are not taken, what its writer has in hand, and whether its callers have
 /// ended.
-#[derive(Drop)]
 pub struct HostRow {
     pub host: Text,
     pub line: u64,
@@ -33,9 +32,22 @@ pub struct HostRow {
     pub writer_ended: bool,
 }
 
+// By hand, so that a row is let go by one call.
+impl Drop for HostRow {
+    fn drop(self) {
+        let HostRow {
+            host: _,
+            line: _,
+            waiting: _,
+            in_hand: _,
+            reader_ended: _,
+            writer_ended: _,
+        } = self;
+    }
+}
+
 /// The service, the notices that are not handed, the hosts, the entries that wait to be written, the numbers of entries and of bytes of all frames
 /// that were begun, whether one of them failed, the numbers of steps, of flushed steps and of durable entries, and how long the store may become.
-#[derive(Drop)]
 pub struct State {
     pub service: Service,
     pub queues: Outboxes,
@@ -49,4 +61,24 @@ pub struct State {
     pub durable: u64,
     pub limits: Limits,
     pub alloc: Global,
+}
+
+// By hand, so that a state is let go by one call wherever a function ends.
+impl Drop for State {
+    fn drop(self) {
+        let State {
+            service: _,
+            queues: _,
+            rows: _,
+            batch: _,
+            count: _,
+            length: _,
+            broken: _,
+            steps: _,
+            flushed: _,
+            durable: _,
+            limits: _,
+            alloc: _,
+        } = self;
+    }
 }

@@ -60,7 +60,8 @@ fn entry_of(
         moment: None,
     };
     let answer = service.answer(&host, service.count(), &arrival)?;
-    Ok(answer.entry)
+    let (_, entry) = answer.into_said();
+    Ok(entry)
 }
 
 // The line of what is due.

@@ -1,8 +1,8 @@
 use Rattle.std.proofs.Common.{refl, sym, ◌∙◌}
 use Rattle.ps_opening.proofs.opening.made_of.Goals as goal
 
-pub returns : goal.returns
-returns g c = record {
+pub returns-clause-made : goal.returns-clause-made
+returns-clause-made g c = record {
   service = refl;
   queues = refl;
   rows_are = refl;

@@ -1,13 +1,15 @@
 use Rattle.std.proofs.Common.{◌+◌, ℕ, [], ◌∷◌, ◌++◌, sym, ap, ◌∙◌, subst, arith}
+use Rattle.std.specs.Global.{Vec}
 use Rattle.ps_types.specs.declared.entry.Entry.{Entry}
 use Rattle.ps_disk.proofs.Moments.{weaker}
 use Rattle.ps_journal.specs.Journal.{disk_of, length_of}
 use Rattle.ps_journal.specs.Left.{LeavesList}
 use Rattle.ps_journal.specs.Places.{entries_in}
+use Rattle.ps_journal.specs.declared.judging.Placed.{Placed}
 use Rattle.ps_model.specs.Store.{spelled}
 use Rattle.ps_opening.specs.Begun.{frame_of}
 use Rattle.ps_opening.specs.Left.{Fronts, IsOpenLeft, OpenLeaves}
-use Rattle.ps_opening.specs.Opens.{IsRestored}
+use Rattle.ps_opening.specs.Opens.{IsOpen, IsRestored}
 use Rattle.ps_opening.proofs.Fronts.{fronts_opened, fronts_then}
 use Rattle.ps_opening.proofs.Openings.{opens}
 use Rattle.ps_opening.proofs.Refusals.{journal_left, open_left, refused_journal, refused_restore}
@@ -65,7 +67,7 @@ returns-clause-any_moment g c tells E spells short =
     let D = g.D.Disk in
     let old = c.args.disk in
     let e = c.in-Ok.ensures in
-    subst (λ d. OpenLeaves D.moment D.left_since D.synced D.written E c.args.ready.boot old d) (sym c.made_of.ensures.disk)
+    subst (λ d. OpenLeaves D.moment D.left_since D.synced D.written E c.args.ready.boot old d) (sym c.made_of.ensures.made.disk)
     (open_left D old (disk_of c.in-Ok.journal) (disk_of c.restore.new.journal) c.in-Ok.placed.items c.args.ready.boot E spells (e.entries tells) (e.same tells) (e.durable tells) (e.any_moment tells E spells short) (c.restore.ensures.any_moment tells))
 
 pub returns-clause-fronts : goal.returns-clause-fronts
@@ -74,7 +76,7 @@ returns-clause-fronts g c tells none E spells short =
     let old = c.args.disk in
     let mid = disk_of c.in-Ok.journal in
     let e = c.in-Ok.ensures in
-    subst (λ d. Fronts D.moment D.left_since D.synced D.written old d) (sym c.made_of.ensures.disk)
+    subst (λ d. Fronts D.moment D.left_since D.synced D.written old d) (sym c.made_of.ensures.made.disk)
     (fronts_then D old mid (disk_of c.restore.new.journal) (fronts_opened D g.met.D.Disk.seen_left g.met.D.Disk.counts_now old mid E none spells (e.any_moment tells E spells short))
     (c.restore.ensures.fronts tells (entries_in c.in-Ok.placed.items) (e.same tells) (e.durable tells)))
 
@@ -87,7 +89,8 @@ returns-clause-opened g c service hosts ready =
     let new = disk_of c.restore.new.journal in
     let restored = subst (λ (b : Entry). IsRestored E b c.restore.new.rebuilt) ready.boot done.restored in
     let size = done.length ∙ ap (λ (n : ℕ). length_of c.in-Ok.journal + n) (ap frame_of ready.boot) in
-    opens c.restore.new.journal c.restore.new.rebuilt c.args.ready.rows.items c.args.limits _ _ c.made_of.ensures c.args.disk service hosts E (length_of c.in-Ok.journal) (name_some service ready.name) ready.hosts_are ready.rows restored
+    subst (λ (es : Vec Placed). IsOpen c.args.disk service hosts c.args.limits (entries_in es.items) c.made_of.result.state c.made_of.result.store) (sym c.made_of.ensures.entries)
+    (opens c.restore.new.journal c.restore.new.rebuilt c.args.ready.rows.items c.args.limits _ _ c.made_of.ensures.made c.args.disk service hosts E (length_of c.in-Ok.journal) (name_some service ready.name) ready.hosts_are ready.rows restored
     c.requires.bounded.0 c.requires.bounded.1 (λ tells. opened_store (D.seen c.args.disk) c.in-Ok.placed.items (e.entries tells) done.restored.each) (λ tells. e.long tells) size (omega (arith, done.room, done.length)) done.unbroken
     (λ tells. subst (λ (b : Entry). spelled (D.seen new) (E ++ b ∷ [])) ready.boot (done.entries tells (e.same tells)))
-    (λ tells. subst (λ (b : Entry). LeavesList (D.synced new) (D.written new) (E ++ b ∷ [])) ready.boot (done.durable tells (e.same tells)))
+    (λ tells. subst (λ (b : Entry). LeavesList (D.synced new) (D.written new) (E ++ b ∷ [])) ready.boot (done.durable tells (e.same tells))))

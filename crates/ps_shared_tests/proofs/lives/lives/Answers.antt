@@ -20,3 +20,12 @@ returns-in-Whole g c = kept g.B.Opening.origin c.args.hall.now.twin c.args.passe
 
 pub returns-in-Failing : goal.returns-in-Failing
 returns-in-Failing g c = kept g.B.Opening.origin c.args.hall.now.twin c.args.passes.now.items c.fails.new.passes c.requires.some c.requires.fresh.all c.fails.ensures.reader c.fails.ensures.writer
+
+pub goes_on-requires-clause-reader : goal.goes_on-requires-clause-reader
+goes_on-requires-clause-reader g c κs within = first_reads g.B.Opening.origin c.args.hall.now.twin c.args.passes.now.items c.index_mut-first.result.now (slice_get_read _ _ _ _ refl c.requires.some c.index_mut-first.ensures.value) c.requires.fresh
+
+pub goes_on-requires-clause-writer : goal.goes_on-requires-clause-writer
+goes_on-requires-clause-writer g c κs within = first_free g.B.Opening.origin c.args.hall.now.twin c.args.passes.now.items c.index_mut-first.result.now (slice_get_read _ _ _ _ refl c.requires.some c.index_mut-first.ensures.value) c.requires.fresh
+
+pub returns-in-Second : goal.returns-in-Second
+returns-in-Second g c = kept g.B.Opening.origin c.args.hall.now.twin c.args.passes.now.items c.goes_on.new.passes c.requires.some c.requires.fresh.all c.goes_on.ensures.reader c.goes_on.ensures.writer

@@ -26,5 +26,5 @@ returns c = record {
       let makes = subst (λ (r : HostRow). IsSome (entry_for book r arrival false)) (sym same) (c.requires.some row was) in
       let some : IsSome answer.entry = subst (λ (e : Option Entry). IsSome e) (sym c.in_ok-answer.ensures.entry) makes in
       let full : answer.full ≡ reply_to x.host book (x.line + 1) arrival true = full_is answer.entry _ answer.full some c.in_ok-answer.ensures.full in
-      c.in_ok-reply.ensures ∙ (ap (λ (t : Option Tree). option_map print t) (c.full_of-full.ensures ∙ full) ∙ ap (λ (r : HostRow). reply_for book r arrival true) same));
+      c.in_ok-reply.ensures ∙ (ap (λ (t : Option Tree). option_map print t) (c.into_full-full.ensures ∙ full) ∙ ap (λ (r : HostRow). reply_for book r arrival true) same));
 }
