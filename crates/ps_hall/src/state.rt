@@ -11,7 +11,6 @@ pub struct Waiting {
 }
 
 /// What is kept for one host: the number of its lines, the replies that are not taken, and whether its callers have ended.
-#[derive(Drop)]
 pub struct HostRow {
     pub host: Text,
     pub line: u64,
@@ -20,12 +19,37 @@ pub struct HostRow {
     pub writer_ended: bool,
 }
 
+// By hand, so that a row is let go by one call.
+impl Drop for HostRow {
+    fn drop(self) {
+        let HostRow {
+            host: _,
+            line: _,
+            waiting: _,
+            reader_ended: _,
+            writer_ended: _,
+        } = self;
+    }
+}
+
 /// The service, the numbers of steps, of flushed steps and of durable entries, and the hosts.
-#[derive(Drop)]
 pub struct State {
     pub service: Service,
     pub rows: Vec<HostRow>,
     pub steps: u64,
     pub flushed: u64,
     pub durable: u64,
+}
+
+// By hand, so that a state is let go by one call wherever a function ends.
+impl Drop for State {
+    fn drop(self) {
+        let State {
+            service: _,
+            rows: _,
+            steps: _,
+            flushed: _,
+            durable: _,
+        } = self;
+    }
 }
