@@ -1,8 +1,8 @@
 // A service goes through lines on several hosts.
 use crate::lines::{Line, boot, says, serve_line, take_silently};
 use crate::rows::{
-    access, approvals, bookmarks, capabilities, collections, dealt, handed, interest, last, reach,
-    rosters, streams, subscribers,
+    access, approvals, bookmarks, capabilities, collections, dealt, handed, interest, items, last,
+    reach, rosters, streams, subscribers,
 };
 use ps_core::Service;
 use ps_types::{Entry, Jid, Notice, Text};
@@ -163,6 +163,7 @@ fn runs(rt: &(impl Abort + Threads + Sync), alloc: Global, rows: &str) -> Result
 #[test]
 fn lines_on_several_hosts_are_answered(rt: HostRuntime) -> Result<(), Fail> {
     let tables = [
+        items::ROWS,
         access::ROWS,
         rosters::ROWS,
         bookmarks::ROWS,

@@ -4,8 +4,6 @@
 #![tactic(auto)]
 
 #[cfg(test)]
-mod changes;
-#[cfg(test)]
 mod hosts;
 #[cfg(test)]
 mod lines;
@@ -15,5 +13,3 @@ mod many;
 mod preparing;
 #[cfg(test)]
 mod rows;
-#[cfg(test)]
-mod service;

@@ -14,6 +14,7 @@ pub mod collections;
 pub mod dealt;
 pub mod handed;
 pub mod interest;
+pub mod items;
 pub mod last;
 pub mod reach;
 pub mod rosters;
