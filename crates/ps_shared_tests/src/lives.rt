@@ -1,7 +1,9 @@
 // Lives of a hall, from its opening to its end.
-ghost use Rattle.std.specs.Prelude.{◌<◌, length, OnOk};
+ghost use Rattle.std.specs.Prelude.{◌≡◌, ◌<◌, length, OnOk};
+ghost use Rattle.ps_deeds.specs.Own.{AllDiffer};
 ghost use Rattle.ps_shared.specs.Passes.{AreFresh, ArePasses};
 ghost use Rattle.ps_shared.specs.Start.{MayStart};
+ghost use Rattle.ps_shared_tests.specs.Begun.{are_one};
 ghost use Rattle.ps_shared_tests.specs.Passes.{IsFree, Reads, Writes};
 
 use crate::calls::{commits, ends, goes, is_over, refuses, replies, tells, waits};
@@ -10,10 +12,12 @@ use crate::opened::{host_names, opens, service_name};
 use ps_disk::{Disk, MemDisk};
 use ps_journal::Placed;
 use ps_opening::Opened;
-use ps_shared::{ArriveRefusal, Hall, HostPasses, NoHall, Opening, Pass};
+use ps_shared::{ArriveRefusal, EndCause, Hall, HostPasses, NoHall, Opening, Pass};
 use ps_state::State;
 use ps_store::Store;
+use ps_streams::write_stream;
 use ps_types::Text;
+use ps_wire::MemSink;
 use std::alloc::Global;
 use std::marker::Brand;
 use std::process::Abort;
@@ -111,12 +115,49 @@ fn goes_on<B: Opening, D: Disk>(
     waits(rt, hall, writer)
 }
 
+// The writer's worker writes all lines to its sink, once the reader has ended.
+fn is_written<B: Opening, D: Disk>(
+    rt: &(impl Abort + Wait + Threads + Sync),
+    alloc: Global,
+    hall: &Hall<B, D>,
+    pass: &mut Pass<B, D>,
+) -> Result<(), Fail>
+    requires ready { IsFree B.origin hall.now.twin pass.old }
+    requires differ { AllDiffer B.origin.hosts }
+    ensures { Writes B.origin hall.now.twin pass.new }
+{
+    let mut sink = MemSink::new(alloc, &[])?;
+    let why = write_stream(rt, hall, pass, &mut sink);
+    assert_eq!(rt; why, EndCause::Finished);
+    let lines = format!(in alloc; "{MADE}\n{SUBSCRIBED}\n{PUBLISHED}\n{TOLD}\n")?;
+    assert!(rt; sink.bytes() == lines.as_bytes());
+    Ok(())
+}
+
+fn writes<B: Opening, D: Disk>(
+    rt: &(impl Abort + Wait + Threads + Sync),
+    alloc: Global,
+    hall: &Hall<B, D>,
+    passes: &mut HostPasses<B, D>,
+) -> Result<(), Fail>
+    requires reader { Reads B.origin hall.now.twin passes.old.reader }
+    requires writer { IsFree B.origin hall.now.twin passes.old.writer }
+    requires differ { AllDiffer B.origin.hosts }
+    ensures reader { Reads B.origin hall.now.twin passes.new.reader }
+    ensures writer { Writes B.origin hall.now.twin passes.new.writer }
+{
+    publishes(rt, alloc, hall, &mut passes.reader)?;
+    goes(rt, hall, &mut passes.reader);
+    is_written(rt, alloc, hall, &mut passes.writer)
+}
+
 // What a host does in its life.
 #[derive(Clone, Copy)]
 enum Life {
     Whole,
     Failing,
     Second,
+    Written,
 }
 
 fn lives<B: Opening, D: Disk>(
@@ -128,6 +169,7 @@ fn lives<B: Opening, D: Disk>(
 ) -> Result<(), Fail>
     requires some { 0 < length passes.old.items }
     requires fresh { AreFresh B.origin hall.now.twin passes.old.items }
+    requires differ { AllDiffer B.origin.hosts }
     ensures { ArePasses B.origin hall.now.twin passes.new.items }
 {
     let first = &mut passes[0];
@@ -135,6 +177,7 @@ fn lives<B: Opening, D: Disk>(
         Life::Whole => serves(rt, alloc, hall, first),
         Life::Failing => fails(rt, alloc, hall, first),
         Life::Second => goes_on(rt, alloc, hall, first),
+        Life::Written => writes(rt, alloc, hall, first),
     }
 }
 
@@ -151,7 +194,8 @@ fn live<B: Opening>(
     _service: &Text,
     life: Life,
 ) -> Result<MemDisk, Fail>
-    requires { MayStart B.origin state store hosts.now }
+    requires start { MayStart B.origin state store hosts.now }
+    requires hosts { hosts.now ≡ are_one }
 {
     let_go(entries);
     match Hall::<B, MemDisk>::new(alloc, state, store, hosts) {
@@ -196,6 +240,13 @@ fn a_host_is_served_from_the_opening_to_the_end(rt: HostRuntime) -> Result<(), F
     let disk = MemDisk::new(rt.alloc(), b"", &[])?;
     let disk = served(&rt, rt.alloc(), disk, Life::Whole)?;
     assert_eq!(rt; disk.bytes().len(), LEFT);
+    Ok(())
+}
+
+#[test]
+fn a_writer_writes_all_lines(rt: HostRuntime) -> Result<(), Fail> {
+    let disk = MemDisk::new(rt.alloc(), b"", &[])?;
+    let _ = served(&rt, rt.alloc(), disk, Life::Written)?;
     Ok(())
 }
 

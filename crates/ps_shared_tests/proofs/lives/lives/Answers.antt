@@ -29,3 +29,12 @@ goes_on-requires-clause-writer g c κs within = first_free g.B.Opening.origin c.
 
 pub returns-in-Second : goal.returns-in-Second
 returns-in-Second g c = kept g.B.Opening.origin c.args.hall.now.twin c.args.passes.now.items c.goes_on.new.passes c.requires.some c.requires.fresh.all c.goes_on.ensures.reader c.goes_on.ensures.writer
+
+pub writes-requires-clause-reader : goal.writes-requires-clause-reader
+writes-requires-clause-reader g c κs within = first_reads g.B.Opening.origin c.args.hall.now.twin c.args.passes.now.items c.index_mut-first.result.now (slice_get_read _ _ _ _ refl c.requires.some c.index_mut-first.ensures.value) c.requires.fresh
+
+pub writes-requires-clause-writer : goal.writes-requires-clause-writer
+writes-requires-clause-writer g c κs within = first_free g.B.Opening.origin c.args.hall.now.twin c.args.passes.now.items c.index_mut-first.result.now (slice_get_read _ _ _ _ refl c.requires.some c.index_mut-first.ensures.value) c.requires.fresh
+
+pub returns-in-Written : goal.returns-in-Written
+returns-in-Written g c = kept g.B.Opening.origin c.args.hall.now.twin c.args.passes.now.items c.writes.new.passes c.requires.some c.requires.fresh.all c.writes.ensures.reader c.writes.ensures.writer

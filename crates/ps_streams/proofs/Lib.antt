@@ -1,0 +1,5 @@
+pub mod Moving
+pub mod Bytes
+pub mod Saying
+pub mod Looping
+pub mod Causes

@@ -1,0 +1,91 @@
+use Rattle.std.proofs.Common.{ℕ, ◌+◌, List, Bool, Ok, Err, refl, sym, ap, ◌∙◌, subst, arith}
+use Rattle.std.specs.Result.{IsErrOf}
+use Rattle.ps_twin.specs.Seats.{number_of, seen_of}
+use Rattle.ps_shared.specs.declared.answers.EndCause.{EndCause}
+use Rattle.ps_shared.specs.declared.answers.EndCause.TheVariants.{WriteFault}
+use Rattle.ps_streams.specs.Speaking.{FindsOver, FoundNoRoom}
+use Rattle.ps_streams.proofs.Looping.{begun-whole, err-same, speaks-on, the_err, whole-on}
+use Rattle.ps_streams.proofs.write.write_lines.Goals as goal
+
+pub loop-init : goal.loop-init
+loop-init g c = (
+  c.requires.ready,
+  record { at = refl; host = refl },
+  begun-whole g.B.Opening.origin (number_of c.args.pass.now.seat) (seen_of c.args.pass.now.seat) (g.K.Sink.written c.args.sink.now) c.requires.ready.writer.pass.owned,
+  omega arith,
+)
+
+pub write_next-requires-clause-ready : goal.write_next-requires-clause-ready
+write_next-requires-clause-ready g c κs within = c.loop.invariant.0
+
+pub loop-preserved : goal.loop-preserved
+loop-preserved g c =
+    let o = g.B.Opening.origin in
+    let i = c.loop.invariant in
+    let k = number_of c.args.pass.now.seat in
+    let j = number_of c.loop.pass.seat in
+    let old = seen_of c.args.pass.now.seat in
+    let mid = seen_of c.loop.pass.seat in
+    let new = seen_of c.write_next.new.pass.seat in
+    let first = g.K.Sink.written c.args.sink.now in
+    let second = g.K.Sink.written c.loop.sink in
+    let third = g.K.Sink.written c.write_next.new.sink in
+    let same = i.0.writer.number ∙ (ap (λ n. n + n + 1) i.1.at ∙ sym c.requires.ready.writer.number) in
+    let later = c.write_next.ensures.later in
+    let before = i.3 in (
+      c.in-Ok-true.ensures.ready,
+      record { at = c.write_next.ensures.same.at ∙ c.loop.invariant.1.at; host = c.write_next.ensures.same.host ∙ c.loop.invariant.1.host },
+      whole-on o k j old mid new first second third (IsErrOf {T = Bool} {E = EndCause} (Ok c.in-Ok-true.field-0) WriteFault) same (λ no. absurd (cc no)) i.2 c.in-Ok-true.ensures.spoke,
+      omega (arith, before, later),
+    )
+
+pub returns-in-Ok-false-clause-same : goal.returns-in-Ok-false-clause-same
+returns-in-Ok-false-clause-same g c = record { at = c.write_next.ensures.same.at ∙ c.loop.invariant.1.at; host = c.write_next.ensures.same.host ∙ c.loop.invariant.1.host }
+
+pub returns-in-Ok-false-clause-spoke : goal.returns-in-Ok-false-clause-spoke
+returns-in-Ok-false-clause-spoke g c =
+    let o = g.B.Opening.origin in
+    let i = c.loop.invariant in
+    let k = number_of c.args.pass.now.seat in
+    let j = number_of c.loop.pass.seat in
+    let old = seen_of c.args.pass.now.seat in
+    let mid = seen_of c.loop.pass.seat in
+    let new = seen_of c.write_next.new.pass.seat in
+    let first = g.K.Sink.written c.args.sink.now in
+    let second = g.K.Sink.written c.loop.sink in
+    let third = g.K.Sink.written c.write_next.new.sink in
+    let same = i.0.writer.number ∙ (ap (λ n. n + n + 1) i.1.at ∙ sym c.requires.ready.writer.number) in
+    speaks-on o k j old mid new first second third (IsErrOf {T = Bool} {E = EndCause} (Ok c.in-Ok-false.field-0) WriteFault) _ same (λ no. absurd (cc no)) i.2 c.in-Ok-false.ensures.spoke
+
+pub returns-in-Ok-false-clause-over : goal.returns-in-Ok-false-clause-over
+returns-in-Ok-false-clause-over g c = λ e. subst (λ (h : List ℕ). FindsOver g.B.Opening.origin h c.write_next.new.pass.seat) c.loop.invariant.1.host (c.in-Ok-false.ensures.over c.in-Ok-false.field-0-test)
+
+pub returns-in-Ok-false-clause-later : goal.returns-in-Ok-false-clause-later
+returns-in-Ok-false-clause-later g c = let before = c.loop.invariant.3 in let later = c.write_next.ensures.later in omega (arith, before, later)
+
+pub returns-in-Err-clause-same : goal.returns-in-Err-clause-same
+returns-in-Err-clause-same g c = record { at = c.write_next.ensures.same.at ∙ c.loop.invariant.1.at; host = c.write_next.ensures.same.host ∙ c.loop.invariant.1.host }
+
+pub returns-in-Err-clause-spoke : goal.returns-in-Err-clause-spoke
+returns-in-Err-clause-spoke g c =
+    let o = g.B.Opening.origin in
+    let i = c.loop.invariant in
+    let k = number_of c.args.pass.now.seat in
+    let j = number_of c.loop.pass.seat in
+    let old = seen_of c.args.pass.now.seat in
+    let mid = seen_of c.loop.pass.seat in
+    let new = seen_of c.write_next.new.pass.seat in
+    let first = g.K.Sink.written c.args.sink.now in
+    let second = g.K.Sink.written c.loop.sink in
+    let third = g.K.Sink.written c.write_next.new.sink in
+    let same = i.0.writer.number ∙ (ap (λ n. n + n + 1) i.1.at ∙ sym c.requires.ready.writer.number) in
+    speaks-on o k j old mid new first second third (IsErrOf {T = Bool} {E = EndCause} (Err c.in-Err.why) WriteFault) _ same (λ e. err-same c.in-Err.why WriteFault e) i.2 c.in-Err.ensures.spoke
+
+pub returns-in-Err-clause-later : goal.returns-in-Err-clause-later
+returns-in-Err-clause-later g c = let before = c.loop.invariant.3 in let later = c.write_next.ensures.later in omega (arith, before, later)
+
+pub returns-in-Err-clause-cause : goal.returns-in-Err-clause-cause
+returns-in-Err-clause-cause g c = λ e. (let before = c.loop.invariant.3 in let cause = c.in-Err.ensures.cause (ap (λ (w : EndCause). the_err Bool w) e) in omega (arith, before, cause))
+
+pub returns-in-Err-clause-full : goal.returns-in-Err-clause-full
+returns-in-Err-clause-full g c = λ e. subst (λ (h : List ℕ). FoundNoRoom g.B.Opening.origin h c.write_next.new.pass.seat) c.loop.invariant.1.host (c.in-Err.ensures.full (ap (λ (w : EndCause). the_err Bool w) e))

@@ -1,0 +1,30 @@
+use Rattle.std.proofs.Common.{◌+◌, sym, ap, ◌∙◌}
+use Rattle.ps_twin.specs.Seats.{number_of, seen_of}
+use Rattle.ps_streams.proofs.Causes.{broken-on, room-on}
+use Rattle.ps_streams.proofs.Looping.{speaks-end, writer-end}
+use Rattle.ps_streams.proofs.write.write_stream.Goals as goal
+
+pub returns-clause-spoke : goal.returns-clause-spoke
+returns-clause-spoke g c =
+    let w = c.write_lines-why.ensures in
+    let now = c.write_lines-why.new.pass in
+    let same = w.writer.number ∙ (ap (λ n. n + n + 1) w.same.at ∙ sym c.requires.ready.writer.number) in
+    speaks-end g.B.Opening.origin (number_of c.args.pass.now.seat) (number_of now.seat) now.host (seen_of c.args.pass.now.seat) (seen_of now.seat) (seen_of c.writer_ended.new.pass.seat)
+    (g.K.Sink.written c.args.sink.now) (g.K.Sink.written c.write_lines-why.new.sink) _ same w.spoke c.writer_ended.ensures.ended
+
+pub returns-clause-done : goal.returns-clause-done
+returns-clause-done g c = λ e. (
+    let w = c.write_lines-why.ensures in
+    let now = c.write_lines-why.new.pass in
+    let same = w.writer.number ∙ (ap (λ n. n + n + 1) w.same.at ∙ sym c.requires.ready.writer.number) in
+    writer-end g.B.Opening.origin (number_of c.args.pass.now.seat) (number_of now.seat) c.args.pass.now.host now.host (seen_of now.seat) (seen_of c.writer_ended.new.pass.seat) same w.same.host (w.over e) c.writer_ended.ensures.ended)
+
+pub returns-clause-store : goal.returns-clause-store
+returns-clause-store g c = λ e. (
+    let now = c.write_lines-why.new.pass in
+    broken-on g.B.Opening.origin (number_of now.seat) (seen_of now.seat) (seen_of c.writer_ended.new.pass.seat) c.writer_ended.ensures.ended (c.write_lines-why.ensures.store e))
+
+pub returns-clause-full : goal.returns-clause-full
+returns-clause-full g c = λ e. (
+    let now = c.write_lines-why.new.pass in
+    room-on g.B.Opening.origin (number_of now.seat) c.args.pass.now.host (seen_of now.seat) (seen_of c.writer_ended.new.pass.seat) c.writer_ended.ensures.ended (c.write_lines-why.ensures.full e))

@@ -1,0 +1,109 @@
+-- What a writer did.
+use Rattle.std.specs.Prelude.{◌≡◌, ◌⊎◌, ℕ, ◌+◌, ◌≤◌, ◌++◌, ◌∷◌, [], List, Option, None, length, true}
+use Rattle.std.specs.Io.KnownBytes.{Appends}
+use Rattle.ps_types.specs.declared.entry.Entry.TheVariants.{Handed}
+use Rattle.ps_types.specs.declared.jid.Jid.{Jid}
+use Rattle.ps_model.specs.Machine.{start}
+use Rattle.ps_model.specs.TheCore.{the_core}
+use Rattle.ps_disk.specs.declared.device.Disk.{Ghosts}
+use Rattle.ps_twin.specs.declared.twin.TwinSeat.{TwinSeat}
+use Rattle.ps_twin.specs.Seats.{number_of, seen_of}
+use Rattle.ps_deeds.specs.declared.deed.Deed.{Deed}
+use Rattle.ps_deeds.specs.Over.{IsOver, WriterDone}
+use Rattle.ps_deeds.specs.Own.{AreOwned, own_steps, words_by}
+use Rattle.ps_deeds.specs.Words.{Word, bytes_of, notes_in, records_in}
+use Rattle.ps_shared.specs.Calls.{HandAt, IsTooLong, IsWriter}
+use Rattle.ps_shared.specs.Homes.{world_at}
+use Rattle.ps_shared.specs.Origin.{Origin}
+use Rattle.ps_shared.specs.Passes.{OurTwin}
+use Rattle.ps_shared.specs.declared.hall.Pass.{Pass}
+
+-- ---- words
+
+-- what a pass has said, by what it has seen
+abbrev pub said_in : Origin → ℕ → List Deed → List Word
+said_in o k seen = words_by the_core o.boot k (start the_core o.boot o.list) seen
+
+-- these lines were written whole, and a front of the last one
+pub record Written (before now : Option (List ℕ)) (whole last : List Word) : Type 0 where
+  pub front : List ℕ
+  pub behind : List ℕ
+  pub split : bytes_of last ≡ front ++ behind
+  pub appends : Appends before now (bytes_of whole ++ front)
+
+-- there is at most one
+abbrev pub IsFew : List Word → Type 0
+IsFew last = (last ≡ []) ⊎ ((w : Word) × (last ≡ w ∷ []))
+
+-- The pass said these words, each of which was written whole but for the last, of which a front was. Of no notice is there a Record that was not written whole.
+pub record Spoke (o : Origin) (k : ℕ) (old new : List Deed) (before now : Option (List ℕ))
+    (whole last : List Word) : Type 0 where
+  pub words : said_in o k new ≡ said_in o k old ++ (whole ++ last)
+  pub few : IsFew last
+  pub written : Written before now whole last
+  pub records : (a : Jid)
+      → records_in a (own_steps k new) ≤ records_in a (own_steps k old) + length (notes_in a whole)
+  pub owned : AreOwned o.hosts new
+
+-- the same, where only after a cut a word may be written in part
+pub record Speaks (o : Origin) (k : ℕ) (old new : List Deed) (before now : Option (List ℕ))
+    (Cut : Type 0) : Type 0 where
+  pub whole : List Word
+  pub last : List Word
+  pub spoke : Spoke o k old new before now whole last
+  pub cut : (last ≡ []) ⊎ Cut
+
+-- each word was written whole
+pub record SpokeWhole (o : Origin) (k : ℕ) (old new : List Deed) (before now : Option (List ℕ)) : Type 0 where
+  pub whole : List Word
+  pub spoke : Spoke o k old new before now whole []
+
+-- ---- ends
+
+-- at a front of what was seen a Record of a notice to an address of the host would pass the limit
+pub record HadNoRoom (o : Origin) (host : List ℕ) (seen : List Deed) : Type 0 where
+  pub front : List Deed
+  pub rest : List Deed
+  pub is : seen ≡ front ++ rest
+  pub to : Jid
+  pub here : to.host ≡ host
+  pub long : IsTooLong o (world_at o front) (Handed to)
+
+-- ---- by the pass of a seat
+
+module _ {V J : Type 0} where
+  abbrev pub SeatSpeaks : Origin → TwinSeat V J Deed → TwinSeat V J Deed → Option (List ℕ) → Option (List ℕ)
+      → Type 0 → Type 0
+  SeatSpeaks o old new before now Cut = Speaks o (number_of old) (seen_of old) (seen_of new) before now Cut
+
+  abbrev pub SeatSpokeWhole : Origin → TwinSeat V J Deed → TwinSeat V J Deed → Option (List ℕ) → Option (List ℕ)
+      → Type 0
+  SeatSpokeWhole o old new before now = SpokeWhole o (number_of old) (seen_of old) (seen_of new) before now
+
+  -- by what it has seen the disk has failed
+  abbrev pub FindsBroken : Origin → TwinSeat V J Deed → Type 0
+  FindsBroken o s = (world_at o (seen_of s)).broken ≡ true
+
+  -- it found that a Record of a notice to an address of the host would pass the limit
+  abbrev pub FoundNoRoom : Origin → List ℕ → TwinSeat V J Deed → Type 0
+  FoundNoRoom o host s = HadNoRoom o host (seen_of s)
+
+  -- by what it has seen all is said for the host, and no reader runs
+  abbrev pub FindsOver : Origin → List ℕ → TwinSeat V J Deed → Type 0
+  FindsOver o host s = IsOver the_core o.hosts host (world_at o (seen_of s))
+
+  -- it found that, and then said that its writer has ended
+  abbrev pub IsWriterDone : Origin → List ℕ → TwinSeat V J Deed → TwinSeat V J Deed → Type 0
+  IsWriterDone o host old new = WriterDone the_core o.boot o.list o.hosts host (number_of old) (seen_of new)
+
+module _ {B D : Type 0} {g : Ghosts D} where
+  -- a writer's pass, with nothing in hand
+  pub record MaySpeak (o : Origin) (t : OurTwin B D g) (p : Pass B D g) : Type 0 where
+    pub writer : IsWriter o t p.at p.host p.seat
+    pub free : p.in_hand ≡ None
+    pub hand : HandAt o p.in_hand p.host p.seat
+
+  -- the pass of the same caller, later
+  pub record IsSamePass (old new : Pass B D g) : Type 0 where
+    pub at : new.at ≡ old.at
+    pub host : new.host ≡ old.host

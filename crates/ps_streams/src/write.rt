@@ -1,0 +1,122 @@
+// The writer of a stream.
+ghost use Rattle.std.specs.Prelude.{◌≡◌, ◌≤◌, IfOk, IsErrOf, IsFalse, OnOk};
+ghost use Rattle.ps_base.specs.Causes.{Rose};
+ghost use Rattle.ps_deeds.specs.Own.{AllDiffer};
+ghost use Rattle.ps_shared.specs.Calls.{IsWriter};
+ghost use Rattle.ps_streams.specs.Speaking.{FindsBroken, FindsOver, FoundNoRoom, IsSamePass, IsWriterDone, MaySpeak, SeatSpeaks};
+
+use ps_disk::Disk;
+use ps_shared::{EndCause, Hall, Next, Opening, Pass};
+use ps_state::HandedRefusal;
+use ps_wire::{Sink, write_line};
+use std::sync::Wait;
+use std::thread::{Threads, yield_now};
+
+fn end_of(refusal: HandedRefusal) -> EndCause
+    ensures unfinished { result ≡ EndCause.Finished → ⊥ }
+    ensures written { result ≡ EndCause.WriteFault → ⊥ }
+    ensures store { result ≡ EndCause.Store → refusal ≡ HandedRefusal.Store }
+    ensures full { result ≡ EndCause.Full → refusal ≡ HandedRefusal.Full }
+{
+    match refusal {
+        HandedRefusal::Store => EndCause::Store,
+        HandedRefusal::Full => EndCause::Full,
+        HandedRefusal::Memory => EndCause::Memory,
+    }
+}
+
+// Writes one line, or finds that there is none now. False: all is said.
+fn write_next<B: Opening, D: Disk, R: Wait + Threads + Sync, K: Sink>(
+    rt: &R,
+    hall: &Hall<B, D>,
+    pass: &mut Pass<B, D>,
+    sink: &mut K,
+) -> Result<bool, EndCause>
+    requires ready { MaySpeak B.origin hall.now.twin pass.old }
+    requires differ { AllDiffer B.origin.hosts }
+    ensures writer { IsWriter B.origin hall.now.twin pass.new.at pass.new.host pass.new.seat }
+    ensures same { IsSamePass pass.old pass.new }
+    ensures spoke { SeatSpeaks B.origin pass.old.seat pass.new.seat (K.written sink.old) (K.written sink.new)
+        (IsErrOf result EndCause.WriteFault) }
+    ensures ready { OnOk result (MaySpeak B.origin hall.now.twin pass.new) }
+    ensures over { IfOk result (λ more. IsFalse more → FindsOver B.origin pass.old.host pass.new.seat) }
+    ensures unfinished { IsErrOf result EndCause.Finished → ⊥ }
+    ensures later { K.faults sink.old ≤ K.faults sink.new }
+    ensures cause { IsErrOf result EndCause.WriteFault → Rose (K.faults sink.old) (K.faults sink.new) }
+    ensures store { IsErrOf result EndCause.Store → FindsBroken B.origin pass.new.seat }
+    ensures full { IsErrOf result EndCause.Full → FoundNoRoom B.origin pass.old.host pass.new.seat }
+{
+    match hall.next(rt, pass) {
+        Ok(Next::Reply(line)) => match write_line(sink, line.as_slice()) {
+            Ok(()) => Ok(true),
+            Err(_) => Err(EndCause::WriteFault),
+        },
+        Ok(Next::Notice(line)) => match write_line(sink, line.as_slice()) {
+            Ok(()) => match hall.handed(rt, pass) {
+                Ok(()) => Ok(true),
+                Err(refusal) => Err(end_of(refusal)),
+            },
+            Err(_) => Err(EndCause::WriteFault),
+        },
+        Ok(Next::NotYet) => {
+            yield_now();
+            Ok(true)
+        }
+        Ok(Next::Over) => Ok(false),
+        Err(_) => Err(EndCause::Memory),
+    }
+}
+
+// Writes lines until all is said.
+fn write_lines<B: Opening, D: Disk, R: Wait + Threads + Sync, K: Sink>(
+    rt: &R,
+    hall: &Hall<B, D>,
+    pass: &mut Pass<B, D>,
+    sink: &mut K,
+) -> EndCause
+    requires ready { MaySpeak B.origin hall.now.twin pass.old }
+    requires differ { AllDiffer B.origin.hosts }
+    ensures writer { IsWriter B.origin hall.now.twin pass.new.at pass.new.host pass.new.seat }
+    ensures same { IsSamePass pass.old pass.new }
+    ensures spoke { SeatSpeaks B.origin pass.old.seat pass.new.seat (K.written sink.old) (K.written sink.new)
+        (result ≡ EndCause.WriteFault) }
+    ensures over { result ≡ EndCause.Finished → FindsOver B.origin pass.old.host pass.new.seat }
+    ensures later { K.faults sink.old ≤ K.faults sink.new }
+    ensures cause { result ≡ EndCause.WriteFault → Rose (K.faults sink.old) (K.faults sink.new) }
+    ensures store { result ≡ EndCause.Store → FindsBroken B.origin pass.new.seat }
+    ensures full { result ≡ EndCause.Full → FoundNoRoom B.origin pass.old.host pass.new.seat }
+{
+    for _ in rt.forever() {
+        match write_next(rt, hall, pass, sink) {
+            Ok(true) => {}
+            Ok(false) => return EndCause::Finished,
+            Err(why) => return why,
+        }
+    }
+    unreachable!()
+}
+
+/// Writes each reply and each notice of the pass's host until all is said, and says then that its writer has ended. It ends before that where the sink or
+/// the disk fails, where a Record finds no room, or without memory, and answers which.
+pub fn write_stream<B: Opening, D: Disk, R: Wait + Threads + Sync, K: Sink>(
+    rt: &R,
+    hall: &Hall<B, D>,
+    pass: &mut Pass<B, D>,
+    sink: &mut K,
+) -> EndCause
+    requires ready { MaySpeak B.origin hall.now.twin pass.old }
+    requires differ { AllDiffer B.origin.hosts }
+    ensures writer { IsWriter B.origin hall.now.twin pass.new.at pass.new.host pass.new.seat }
+    ensures same { IsSamePass pass.old pass.new }
+    ensures spoke { SeatSpeaks B.origin pass.old.seat pass.new.seat (K.written sink.old) (K.written sink.new)
+        (result ≡ EndCause.WriteFault) }
+    ensures done { result ≡ EndCause.Finished → IsWriterDone B.origin pass.old.host pass.old.seat pass.new.seat }
+    ensures later { K.faults sink.old ≤ K.faults sink.new }
+    ensures cause { result ≡ EndCause.WriteFault → Rose (K.faults sink.old) (K.faults sink.new) }
+    ensures store { result ≡ EndCause.Store → FindsBroken B.origin pass.new.seat }
+    ensures full { result ≡ EndCause.Full → FoundNoRoom B.origin pass.old.host pass.new.seat }
+{
+    let why = write_lines(rt, hall, pass, sink);
+    hall.writer_ended(rt, pass, why);
+    why
+}
