@@ -5,6 +5,7 @@ use Rattle.ps_types.specs.declared.entry.Entry.TheVariants.{Handed}
 use Rattle.ps_types.specs.declared.jid.Jid.{Jid}
 use Rattle.ps_model.specs.Machine.{start}
 use Rattle.ps_model.specs.TheCore.{the_core}
+use Rattle.ps_model.specs.World.{Nothing, Unrecorded, World}
 use Rattle.ps_disk.specs.declared.device.Disk.{Ghosts}
 use Rattle.ps_twin.specs.declared.twin.TwinSeat.{TwinSeat}
 use Rattle.ps_twin.specs.Seats.{number_of, seen_of}
@@ -69,6 +70,11 @@ pub record HadNoRoom (o : Origin) (host : List ℕ) (seen : List Deed) : Type 0 
   pub here : to.host ≡ host
   pub long : IsTooLong o (world_at o front) (Handed to)
 
+-- each Record of a notice to an address of the host was flushed
+abbrev pub HasLanded : List ℕ → World → Type 0
+HasLanded host w =
+    (a : Jid) → a.host ≡ host → ((w.addresses a).flight ≡ Nothing) ⊎ ((w.addresses a).flight ≡ Unrecorded)
+
 -- ---- by the pass of a seat
 
 module _ {V J : Type 0} where
@@ -87,6 +93,10 @@ module _ {V J : Type 0} where
   -- it found that a Record of a notice to an address of the host would pass the limit
   abbrev pub FoundNoRoom : Origin → List ℕ → TwinSeat V J Deed → Type 0
   FoundNoRoom o host s = HadNoRoom o host (seen_of s)
+
+  -- by what it has seen each Record for the host was flushed
+  abbrev pub FindsLanded : Origin → List ℕ → TwinSeat V J Deed → Type 0
+  FindsLanded o host s = HasLanded host (world_at o (seen_of s))
 
   -- by what it has seen all is said for the host, and no reader runs
   abbrev pub FindsOver : Origin → List ℕ → TwinSeat V J Deed → Type 0

@@ -1,9 +1,9 @@
 // The writer of a stream.
-ghost use Rattle.std.specs.Prelude.{◌≡◌, ◌≤◌, IfOk, IsErrOf, IsFalse, OnOk};
+ghost use Rattle.std.specs.Prelude.{◌≡◌, ◌≢◌, ◌≤◌, IfOk, IsErrOf, IsFalse, OnOk};
 ghost use Rattle.ps_base.specs.Causes.{Rose};
 ghost use Rattle.ps_deeds.specs.Own.{AllDiffer};
 ghost use Rattle.ps_shared.specs.Calls.{IsWriter};
-ghost use Rattle.ps_streams.specs.Speaking.{FindsBroken, FindsOver, FoundNoRoom, IsSamePass, IsWriterDone, MaySpeak, SeatSpeaks};
+ghost use Rattle.ps_streams.specs.Speaking.{FindsBroken, FindsLanded, FindsOver, FoundNoRoom, IsSamePass, IsWriterDone, MaySpeak, SeatSpeaks};
 
 use ps_disk::Disk;
 use ps_shared::{EndCause, Hall, Next, Opening, Pass};
@@ -17,6 +17,7 @@ fn end_of(refusal: HandedRefusal) -> EndCause
     ensures written { result ≡ EndCause.WriteFault → ⊥ }
     ensures store { result ≡ EndCause.Store → refusal ≡ HandedRefusal.Store }
     ensures full { result ≡ EndCause.Full → refusal ≡ HandedRefusal.Full }
+    ensures other { (result ≡ EndCause.Store → ⊥) → refusal ≢ HandedRefusal.Store }
 {
     match refusal {
         HandedRefusal::Store => EndCause::Store,
@@ -45,6 +46,7 @@ fn write_next<B: Opening, D: Disk, R: Wait + Threads + Sync, K: Sink>(
     ensures cause { IsErrOf result EndCause.WriteFault → Rose (K.faults sink.old) (K.faults sink.new) }
     ensures store { IsErrOf result EndCause.Store → FindsBroken B.origin pass.new.seat }
     ensures full { IsErrOf result EndCause.Full → FoundNoRoom B.origin pass.old.host pass.new.seat }
+    ensures landed { (IsErrOf result EndCause.Store → ⊥) → FindsLanded B.origin pass.old.host pass.new.seat }
 {
     match hall.next(rt, pass) {
         Ok(Next::Reply(line)) => match write_line(sink, line.as_slice()) {
@@ -85,6 +87,7 @@ fn write_lines<B: Opening, D: Disk, R: Wait + Threads + Sync, K: Sink>(
     ensures cause { result ≡ EndCause.WriteFault → Rose (K.faults sink.old) (K.faults sink.new) }
     ensures store { result ≡ EndCause.Store → FindsBroken B.origin pass.new.seat }
     ensures full { result ≡ EndCause.Full → FoundNoRoom B.origin pass.old.host pass.new.seat }
+    ensures landed { (result ≡ EndCause.Store → ⊥) → FindsLanded B.origin pass.old.host pass.new.seat }
 {
     for _ in rt.forever() {
         match write_next(rt, hall, pass, sink) {
@@ -115,6 +118,7 @@ pub fn write_stream<B: Opening, D: Disk, R: Wait + Threads + Sync, K: Sink>(
     ensures cause { result ≡ EndCause.WriteFault → Rose (K.faults sink.old) (K.faults sink.new) }
     ensures store { result ≡ EndCause.Store → FindsBroken B.origin pass.new.seat }
     ensures full { result ≡ EndCause.Full → FoundNoRoom B.origin pass.old.host pass.new.seat }
+    ensures landed { (result ≡ EndCause.Store → ⊥) → FindsLanded B.origin pass.old.host pass.new.seat }
 {
     let why = write_lines(rt, hall, pass, sink);
     hall.writer_ended(rt, pass, why);

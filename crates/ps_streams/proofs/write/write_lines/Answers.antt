@@ -3,7 +3,7 @@ use Rattle.std.specs.Result.{IsErrOf}
 use Rattle.ps_twin.specs.Seats.{number_of, seen_of}
 use Rattle.ps_shared.specs.declared.answers.EndCause.{EndCause}
 use Rattle.ps_shared.specs.declared.answers.EndCause.TheVariants.{WriteFault}
-use Rattle.ps_streams.specs.Speaking.{FindsOver, FoundNoRoom}
+use Rattle.ps_streams.specs.Speaking.{FindsLanded, FindsOver, FoundNoRoom}
 use Rattle.ps_streams.proofs.Looping.{begun-whole, err-same, speaks-on, the_err, whole-on}
 use Rattle.ps_streams.proofs.write.write_lines.Goals as goal
 
@@ -89,3 +89,9 @@ returns-in-Err-clause-cause g c = λ e. (let before = c.loop.invariant.3 in let 
 
 pub returns-in-Err-clause-full : goal.returns-in-Err-clause-full
 returns-in-Err-clause-full g c = λ e. subst (λ (h : List ℕ). FoundNoRoom g.B.Opening.origin h c.write_next.new.pass.seat) c.loop.invariant.1.host (c.in-Err.ensures.full (ap (λ (w : EndCause). the_err Bool w) e))
+
+pub returns-in-Ok-false-clause-landed : goal.returns-in-Ok-false-clause-landed
+returns-in-Ok-false-clause-landed g c = λ no. subst (λ (h : List ℕ). FindsLanded g.B.Opening.origin h c.write_next.new.pass.seat) c.loop.invariant.1.host (c.in-Ok-false.ensures.landed (λ e. absurd (cc e)))
+
+pub returns-in-Err-clause-landed : goal.returns-in-Err-clause-landed
+returns-in-Err-clause-landed g c = λ no. subst (λ (h : List ℕ). FindsLanded g.B.Opening.origin h c.write_next.new.pass.seat) c.loop.invariant.1.host (c.in-Err.ensures.landed (λ e. no (err-same c.in-Err.why _ e)))

@@ -1,6 +1,7 @@
-use Rattle.std.proofs.Common.{◌+◌, sym, ap, ◌∙◌}
+use Rattle.std.proofs.Common.{ℕ, List, ◌+◌, sym, ap, ◌∙◌, subst}
+use Rattle.ps_deeds.specs.Own.{IsWriterOf}
 use Rattle.ps_twin.specs.Seats.{number_of, seen_of}
-use Rattle.ps_streams.proofs.Causes.{broken-on, room-on}
+use Rattle.ps_streams.proofs.Causes.{broken-on, landed-on, room-on}
 use Rattle.ps_streams.proofs.Looping.{speaks-end, writer-end}
 use Rattle.ps_streams.proofs.write.write_stream.Goals as goal
 
@@ -28,3 +29,11 @@ pub returns-clause-full : goal.returns-clause-full
 returns-clause-full g c = λ e. (
     let now = c.write_lines-why.new.pass in
     room-on g.B.Opening.origin (number_of now.seat) c.args.pass.now.host (seen_of now.seat) (seen_of c.writer_ended.new.pass.seat) c.writer_ended.ensures.ended (c.write_lines-why.ensures.full e))
+
+pub returns-clause-landed : goal.returns-clause-landed
+returns-clause-landed g c = λ no. (
+    let o = g.B.Opening.origin in
+    let w = c.write_lines-why.ensures in
+    let now = c.write_lines-why.new.pass in
+    let here = subst (λ (h : List ℕ). IsWriterOf o.hosts (number_of now.seat) h) w.same.host (now.at, w.writer.pass.here, w.writer.number) in
+    landed-on o (number_of now.seat) c.requires.differ c.args.pass.now.host here now.host (seen_of now.seat) (seen_of c.writer_ended.new.pass.seat) c.writer_ended.ensures.ended (w.landed no))
