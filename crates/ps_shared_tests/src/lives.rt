@@ -12,12 +12,13 @@ use crate::opened::{host_names, opens, service_name};
 use ps_disk::{Disk, MemDisk};
 use ps_journal::Placed;
 use ps_opening::Opened;
+use ps_outside::ConstClock;
 use ps_shared::{ArriveRefusal, EndCause, Hall, HostPasses, NoHall, Opening, Pass};
 use ps_state::State;
 use ps_store::Store;
-use ps_streams::write_stream;
+use ps_streams::{ReadEnd, read_stream, write_stream};
 use ps_types::Text;
-use ps_wire::MemSink;
+use ps_wire::{Lines, LinesRefusal, MemSink, MemSource};
 use std::alloc::Global;
 use std::marker::Brand;
 use std::process::Abort;
@@ -115,6 +116,30 @@ fn goes_on<B: Opening, D: Disk>(
     waits(rt, hall, writer)
 }
 
+// The reader's worker answers all lines of its source, and ends.
+fn is_read<B: Opening, D: Disk>(
+    rt: &(impl Abort + Wait + Threads + Sync),
+    alloc: Global,
+    hall: &Hall<B, D>,
+    pass: &mut Pass<B, D>,
+) -> Result<(), Fail>
+    requires { Reads B.origin hall.now.twin pass.old }
+    ensures { Reads B.origin hall.now.twin pass.new }
+{
+    let input = format!(in alloc; "{CREATE}\n{SUBSCRIBE}\n{PUBLISH}\n")?;
+    let source = MemSource::new(alloc, input.as_bytes(), &[])?;
+    match Lines::new(alloc, source) {
+        Ok(mut lines) => {
+            let mut clock = ConstClock { moment: 0 };
+            let end = read_stream(rt, alloc, hall, pass, &mut lines, &mut clock);
+            let _ = lines.close();
+            assert_eq!(rt; end, ReadEnd::Ended);
+            Ok(())
+        }
+        Err(LinesRefusal { source: _ }) => Err(Fail::new("no reader of lines")),
+    }
+}
+
 // The writer's worker writes all lines to its sink, once the reader has ended.
 fn is_written<B: Opening, D: Disk>(
     rt: &(impl Abort + Wait + Threads + Sync),
@@ -146,8 +171,7 @@ fn writes<B: Opening, D: Disk>(
     ensures reader { Reads B.origin hall.now.twin passes.new.reader }
     ensures writer { Writes B.origin hall.now.twin passes.new.writer }
 {
-    publishes(rt, alloc, hall, &mut passes.reader)?;
-    goes(rt, hall, &mut passes.reader);
+    is_read(rt, alloc, hall, &mut passes.reader)?;
     is_written(rt, alloc, hall, &mut passes.writer)
 }
 
@@ -244,7 +268,7 @@ fn a_host_is_served_from_the_opening_to_the_end(rt: HostRuntime) -> Result<(), F
 }
 
 #[test]
-fn a_writer_writes_all_lines(rt: HostRuntime) -> Result<(), Fail> {
+fn the_workers_of_a_stream_answer_all_lines(rt: HostRuntime) -> Result<(), Fail> {
     let disk = MemDisk::new(rt.alloc(), b"", &[])?;
     let _ = served(&rt, rt.alloc(), disk, Life::Written)?;
     Ok(())

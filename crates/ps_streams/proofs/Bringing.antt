@@ -1,0 +1,114 @@
+-- What holdings of a pass leave of what it brought.
+use Rattle.std.proofs.Common.{◌≡◌, ◌≢◌, ℕ, ◌⊎◌, inl, inr, List, [], ◌∷◌, ◌++◌, Result, Ok, Err, length, refl, ap, sym, ◌∙◌, subst}
+use Rattle.ps_types.specs.declared.entry.Arrival.{Arrival}
+use Rattle.ps_model.specs.TheCore.{the_core}
+use Rattle.ps_model.specs.World.{World}
+use Rattle.ps_model.specs.declared.steps.Step.{Step}
+use Rattle.ps_model.proofs.TheLaws.{the-laws}
+use Rattle.ps_world.proofs.Lists.{assoc, nil-right}
+use Rattle.ps_deeds.specs.declared.deed.Deed.{Deed}
+use Rattle.ps_deeds.specs.Own.{AreOwned, HasNoEnd, arrivals_in, own_steps}
+use Rattle.ps_deeds.proofs.Doing.{did-own}
+use Rattle.ps_deeds.proofs.Keeping.{did-kept, flush-keeps, no-end-append}
+use Rattle.ps_deeds.proofs.Owning.{arrivals-append}
+use Rattle.ps_deeds.proofs.Passing.{did-after, passed-by, passed-own}
+use Rattle.ps_state.specs.declared.answers.ArriveRefusal.{ArriveRefusal}
+use Rattle.ps_state.specs.declared.answers.ArriveRefusal.TheVariants.{Again, Store as NoStore}
+use Rattle.ps_state.specs.declared.answers.HandedRefusal.{HandedRefusal}
+use Rattle.ps_state.specs.declared.answers.HandedRefusal.TheVariants.{Store as NotStored}
+use Rattle.ps_state.specs.declared.answers.Receipt.{Receipt}
+use Rattle.ps_shared.specs.Calls.{Arrived, GoneThen, HasGone, IsGone, LaidThen}
+use Rattle.ps_shared.specs.Doing.{Does, Passes}
+use Rattle.ps_shared.specs.Flush.{Flushes, NotFlushed, TellsFault}
+use Rattle.ps_shared.specs.Origin.{Origin}
+use Rattle.ps_streams.specs.declared.read.ReadEnd.{ReadEnd}
+use Rattle.ps_streams.specs.declared.read.ReadEnd.TheVariants.{Store}
+use Rattle.ps_streams.specs.Reading.{Brought, Keeps}
+use Rattle.ps_streams.proofs.Looping.{the_err}
+
+module _ (o : Origin) (k : ℕ) where
+  pub brought-none : (seen : List Deed) → AreOwned o.hosts seen → Brought o k seen seen []
+  brought-none seen owned = record { own = sym (nil-right (arrivals_in (own_steps k seen))); no_end = λ h. h; owned = owned }
+
+  pub brought-more : (old mid new : List Deed) (one two : List Arrival) → Brought o k old mid one → Brought o k mid new two → Brought o k old new (one ++ two)
+  brought-more old mid new one two a b = record {
+    own = b.own ∙ (ap (λ l. l ++ two) a.own ∙ assoc (arrivals_in (own_steps k old)) one two);
+    no_end = λ h. b.no_end (a.no_end h);
+    owned = b.owned;
+  }
+
+  brought-did : {Did : World → List Step → Type 0} (old new : List Deed) (did : Does o k old new Did) (arrivals : List Arrival) → arrivals_in did.steps ≡ arrivals → HasNoEnd did.steps → Brought o k old new arrivals
+  brought-did old new did arrivals e mild =
+      let own = did-own the_core the-laws o.boot o.list o.hosts k old new did in
+      record {
+        own = ap arrivals_in own ∙ (arrivals-append (own_steps k old) did.steps ∙ ap (λ r. arrivals_in (own_steps k old) ++ r) e);
+        no_end = λ h. subst HasNoEnd (sym own) (no-end-append (own_steps k old) did.steps h mild);
+        owned = did.owned;
+      }
+
+  brought-passed : (old new : List Deed) → Passes o k old new → Brought o k old new []
+  brought-passed old new p =
+      let own = passed-own the_core the-laws o.boot o.list o.hosts k old new p in
+      record { own = ap arrivals_in own ∙ sym (nil-right (arrivals_in (own_steps k old))); no_end = λ h. subst HasNoEnd (sym own) h; owned = p.owned }
+
+  quiet : {Did : World → List Step → Type 0} (old new : List Deed) (did : Does o k old new Did) → did.steps ≡ [] → Brought o k old new [] × Keeps o k old new
+  quiet old new did none = (brought-passed old new (passed-by the_core the-laws o.boot o.list o.hosts k old new did none), did-kept the_core the-laws o.boot o.list o.hosts k old new did none)
+
+  brought-flushes : (old new : List Deed) → Flushes o k old new → Brought o k old new []
+  brought-flushes old new f = brought-more old f.found new [] [] (brought-passed old f.found f.passed) (brought-did f.found new f.added [] (ap arrivals_in f.added.does) (subst HasNoEnd (sym f.added.does) (tt, tt)))
+
+  brought-fault : (found new : List Deed) → AreOwned o.hosts found → TellsFault o k found new → Brought o k found new []
+  brought-fault found new owned (inl same) = subst (λ (l : List Deed). Brought o k found l []) (sym same.0) (brought-none found owned)
+  brought-fault found new owned (inr added) = brought-did found new added [] (ap arrivals_in added.does) (subst HasNoEnd (sym added.does) (tt, tt))
+
+  brought-not-flushed : (old new : List Deed) → NotFlushed o k old new → Brought o k old new []
+  brought-not-flushed old new f = brought-more old f.found new [] [] (brought-passed old f.found f.passed) (brought-fault f.found new f.passed.owned f.fault)
+
+  -- ---- a line
+
+  module _ (h : List ℕ) (a : Arrival) where
+    laid : (old new : List Deed) (r : Receipt) (Then : List Deed → List Deed → Type 0) → ((mid : List Deed) → Then mid new → Brought o k mid new []) → LaidThen o k h old new a r Then → Brought o k old new (a ∷ [])
+    laid old new r Then after l = brought-more old l.mid new (a ∷ []) [] (brought-did old l.mid l.laid (a ∷ []) (ap arrivals_in l.laid.does.1) (subst HasNoEnd (sym l.laid.does.1) (tt, tt))) (after l.mid l.after)
+
+    pub takes-ok : (old new : List Deed) (r : Receipt) → Arrived o k h old new a (Ok r) → Brought o k old new (a ∷ []) × Keeps o k old new
+    takes-ok old new r l = (laid old new r (Flushes o k) (λ mid f. brought-flushes mid new f) l, λ kept. flush-keeps the_core the-laws o.boot o.list o.hosts k l.after.found new l.after.added)
+
+    pub takes-err : (old new : List Deed) (refusal : ArriveRefusal) (e : ReadEnd) → (refusal ≡ NoStore → e ≡ Store) → Arrived o k h old new a (Err refusal) → (Brought o k old new [] ⊎ Brought o k old new (a ∷ [])) × (e ≢ Store → Keeps o k old new)
+    takes-err old new refusal e stored (inl did) = let q = quiet old new did did.does.1 in (inl q.0, λ other. q.1)
+    takes-err old new refusal e stored (inr l) = (inr (laid old new l.1 (NotFlushed o k) (λ mid f. brought-not-flushed mid new f) l.2), λ other. absurd (other (stored l.0)))
+
+    -- behind what others added
+    pub arrived-after : (old mid new : List Deed) → Passes o k old mid → (r : Result Receipt ArriveRefusal) → Arrived o k h mid new a r → Arrived o k h old new a r
+    arrived-after old mid new p (Ok r) l = record { mid = l.mid; laid = did-after the_core the-laws o.boot o.list o.hosts k old mid l.mid p l.laid; after = l.after }
+    arrived-after old mid new p (Err e) (inl did) = inl (did-after the_core the-laws o.boot o.list o.hosts k old mid new p did)
+    arrived-after old mid new p (Err e) (inr l) = inr (l.0, l.1, record { mid = l.2.mid; laid = did-after the_core the-laws o.boot o.list o.hosts k old mid l.2.mid p l.2.laid; after = l.2.after })
+
+    -- a line that has to wait
+    waits : (old new : List Deed) → Arrived o k h old new a (Err Again) → Passes o k old new
+    waits old new (inl did) = passed-by the_core the-laws o.boot o.list o.hosts k old new did did.does.1
+    waits old new (inr l) = absurd (cc l.0)
+
+    pub again-passed : (old new : List Deed) (r : Result Receipt ArriveRefusal) → r ≡ Err Again → Arrived o k h old new a r → Passes o k old new
+    again-passed old new r e is = waits old new (subst (λ (q : Result Receipt ArriveRefusal). Arrived o k h old new a q) e is)
+
+  -- ---- the end
+
+  module _ (h : List ℕ) where
+    gone-laid : (old new : List Deed) (Then : List Deed → List Deed → Type 0) → ((mid : List Deed) → Then mid new → Brought o k mid new []) → GoneThen o k h old new Then → Brought o k old new []
+    gone-laid old new Then after l = brought-more old l.mid new [] [] (brought-did old l.mid l.gone [] (ap arrivals_in l.gone.does.1) (subst HasNoEnd (sym l.gone.does.1) (tt, tt))) (after l.mid l.after)
+
+    pub gone-brought : {T : Type 0} (old new : List Deed) (r : Result T HandedRefusal) → IsGone o k h old new r → Brought o k old new []
+    gone-brought old new (Ok t) l = gone-laid old new (Flushes o k) (λ mid f. brought-flushes mid new f) l
+    gone-brought old new (Err e) (inl did) = (quiet old new did did.does.1).0
+    gone-brought old new (Err e) (inr l) = gone-laid old new (NotFlushed o k) (λ mid f. brought-not-flushed mid new f) l.1
+
+    pub gone-keeps : {T : Type 0} (old new : List Deed) (r : Result T HandedRefusal) → (r ≡ Err NotStored → ⊥) → IsGone o k h old new r → Keeps o k old new
+    gone-keeps old new (Ok t) other l = λ kept. flush-keeps the_core the-laws o.boot o.list o.hosts k l.after.found new l.after.added
+    gone-keeps old new (Err e) other (inl did) = (quiet old new did did.does.1).1
+    gone-keeps {T} old new (Err e) other (inr l) = absurd (other (ap (λ (x : HandedRefusal). the_err T x) l.0))
+
+pub gone-as : {T : Type 0} (o : Origin) (j k : ℕ) (g h : List ℕ) (old new : List Deed) (r : Result T HandedRefusal) → j ≡ k → g ≡ h → HasGone o j g old new r → HasGone o k h old new r
+gone-as o j k g h old new r e f is = subst (λ (n : ℕ). HasGone o n h old new r) e (subst (λ (x : List ℕ). HasGone o j x old new r) f is)
+
+pub arrived-as : (o : Origin) (j k : ℕ) (g h : List ℕ) (a : Arrival) (old new : List Deed) (r : Result Receipt ArriveRefusal) → j ≡ k → g ≡ h → Arrived o j g old new a r → Arrived o k h old new a r
+arrived-as o j k g h a old new r e f is = subst (λ (n : ℕ). Arrived o n h old new a r) e (subst (λ (x : List ℕ). Arrived o j x old new a r) f is)

@@ -1,0 +1,136 @@
+-- Lines that are read one after another, and the end of a stream.
+use Rattle.std.proofs.Common.{◌≡◌, ◌≢◌, ℕ, ◌⊎◌, inl, inr, Bool, true, List, [], ◌∷◌, ◌++◌, Option, Result, Err, refl, ap, sym, ◌∙◌, subst}
+use Rattle.ps_types.specs.declared.entry.Arrival.{Arrival}
+use Rattle.ps_model.specs.TheCore.{the_core}
+use Rattle.ps_model.proofs.TheLaws.{the-laws}
+use Rattle.ps_world.proofs.Lists.{assoc, nil-right}
+use Rattle.ps_deeds.specs.declared.deed.Deed.{Deed}
+use Rattle.ps_deeds.specs.Own.{AreOwned, arrivals_in, own_steps}
+use Rattle.ps_deeds.proofs.Doing.{did-own}
+use Rattle.ps_deeds.proofs.Keeping.{done-kept}
+use Rattle.ps_deeds.proofs.Owning.{arrivals-append}
+use Rattle.ps_state.specs.declared.answers.HandedRefusal.{HandedRefusal}
+use Rattle.ps_state.specs.declared.answers.HandedRefusal.TheVariants.{Store as NotStored}
+use Rattle.ps_shared.specs.Calls.{HasGone}
+use Rattle.ps_shared.specs.Origin.{Origin}
+use Rattle.ps_streams.specs.declared.read.ReadEnd.{ReadEnd}
+use Rattle.ps_streams.specs.declared.read.ReadEnd.TheVariants.{Ended, Store}
+use Rattle.ps_streams.specs.Reading.{Brought, CameOf, Comes, IsEnd, Keeps, Lined, NoneComes, Reads, SoRead, StreamRead, WasAsked, brings_all}
+use Rattle.ps_streams.proofs.Bringing.{brought-more, brought-none, gone-brought, gone-keeps}
+use Rattle.ps_streams.proofs.Lines.{asked-more, asked-none, came-more, came-none, end-of}
+
+abbrev Bytes : Type 0
+Bytes = Option (List ℕ)
+
+abbrev Told : Type 0
+Told = Option (List (Option ℕ))
+
+module _ (o : Origin) where
+  pub so-begun : (k : ℕ) (seen : List Deed) (before : Bytes) (told : Told) → AreOwned o.hosts seen → SoRead o k seen seen before before told told
+  so-begun k seen before told owned = record { arrived = []; came = came-none before; asked = asked-none told; brought = brought-none o k seen owned; keeps = λ h. h }
+
+  pub so-more : (k j : ℕ) (old mid new : List Deed) (all rest left : Bytes) (t u v : Told) → j ≡ k → SoRead o k old mid all rest t u → SoRead o j mid new rest left u v → SoRead o k old new all left t v
+  so-more k j old mid new all rest left t u v same a b' =
+      let b = subst (λ (n : ℕ). SoRead o n mid new rest left u v) same b' in
+      record {
+        arrived = a.arrived ++ b.arrived;
+        came = came-more all rest left a.arrived b.arrived a.came b.came;
+        asked = asked-more t u v a.arrived b.arrived a.asked b.asked;
+        brought = brought-more o k old mid new a.arrived b.arrived a.brought b.brought;
+        keeps = λ kept. b.keeps (a.keeps kept);
+      }
+
+  pub reads-ended : (k j : ℕ) (old mid new : List Deed) (all rest left : Bytes) (t u v : Told) → j ≡ k → SoRead o k old mid all rest t u → SoRead o j mid new rest left u v → IsEnd rest left → Reads o k old new all t v Ended
+  reads-ended k j old mid new all rest left t u v same a b end =
+      let s = so-more k j old mid new all rest left t u v same a b in
+      record {
+        arrived = s.arrived;
+        lined = record {
+          missing = [];
+          few = inl refl;
+          none = λ e. refl;
+          left = left;
+          came = subst (CameOf all left) (sym (nil-right s.arrived)) s.came;
+          whole = λ e. end-of all rest left a.arrived a.came end;
+          asked = subst (WasAsked t v) (sym (nil-right s.arrived)) s.asked;
+        };
+        brought = s.brought;
+        keeps = λ other. s.keeps;
+      }
+
+  pub reads-more : (k j : ℕ) (old mid new : List Deed) (all rest : Bytes) (t u v : Told) (e : ReadEnd) → j ≡ k → SoRead o k old mid all rest t u → Reads o j mid new rest u v e → Reads o k old new all t v e
+  reads-more k j old mid new all rest t u v e same a b' =
+      let b = subst (λ (n : ℕ). Reads o n mid new rest u v e) same b' in
+      let l = b.lined in
+      let path = sym (assoc a.arrived b.arrived l.missing) in
+      record {
+        arrived = a.arrived ++ b.arrived;
+        lined = record {
+          missing = l.missing;
+          few = l.few;
+          none = l.none;
+          left = l.left;
+          came = subst (CameOf all l.left) path (came-more all rest l.left a.arrived (b.arrived ++ l.missing) a.came l.came);
+          whole = λ is. end-of all rest l.left a.arrived a.came (l.whole is);
+          asked = subst (WasAsked t v) path (asked-more t u v a.arrived (b.arrived ++ l.missing) a.asked l.asked);
+        };
+        brought = brought-more o k old mid new a.arrived b.arrived a.brought b.brought;
+        keeps = λ other kept. b.keeps other (a.keeps kept);
+      }
+
+  module _ (k : ℕ) (old new : List Deed) (before left : Bytes) (told now : Told) where
+    pub next-ok : (a : Arrival) → Comes before left told now a → Brought o k old new (a ∷ []) × Keeps o k old new → SoRead o k old new before left told now
+    next-ok a c t = record { arrived = a ∷ []; came = c.came; asked = c.asked; brought = t.0; keeps = t.1 }
+
+    pub next-err : (a : Arrival) (e : ReadEnd) → (brings_all e ≡ true → ⊥) → Comes before left told now a → (Brought o k old new [] ⊎ Brought o k old new (a ∷ [])) × (e ≢ Store → Keeps o k old new) → Reads o k old new before told now e
+    next-err a e some c t = elim t.0 [
+      | inl b ↦ record {
+        arrived = [];
+        lined = record { missing = a ∷ []; few = inr (a, refl); none = λ is. absurd (some is); left = left; came = c.came; whole = λ is. absurd (some (ap brings_all is)); asked = c.asked };
+        brought = b;
+        keeps = t.1;
+      }
+      | inr b ↦ record {
+        arrived = a ∷ [];
+        lined = record { missing = []; few = inl refl; none = λ is. refl; left = left; came = c.came; whole = λ is. absurd (some (ap brings_all is)); asked = c.asked };
+        brought = b;
+        keeps = t.1;
+      }
+    ]
+
+  module _ (k : ℕ) (seen : List Deed) (owned : AreOwned o.hosts seen) (before : Bytes) (told now : Told) where
+    pub next-none : (left : Bytes) → NoneComes before left told now → SoRead o k seen seen before left told now × IsEnd before left
+    next-none left c = (record { arrived = []; came = c.came; asked = c.asked; brought = brought-none o k seen owned; keeps = λ h. h }, c.whole)
+
+    pub next-stop : (e : ReadEnd) → (e ≡ Ended → ⊥) → WasAsked told now [] → Reads o k seen seen before told now e
+    next-stop e other asked = record {
+      arrived = [];
+      lined = record { missing = []; few = inl refl; none = λ is. refl; left = before; came = came-none before; whole = λ is. absurd (other is); asked = asked };
+      brought = brought-none o k seen owned;
+      keeps = λ other h. h;
+    }
+
+  -- ---- the end of a stream
+
+  pub stream-read : {T : Type 0} (h : List ℕ) (k : ℕ) (old mid new : List Deed) (before : Bytes) (told now : Told) (end final : ReadEnd) (r : Result T HandedRefusal) → (brings_all final ≡ true → final ≡ end) → (end ≡ Store → final ≡ Store) → (r ≡ Err NotStored → final ≡ Store) → Reads o k old mid before told now end → HasGone o k h mid new r → StreamRead o h k old new before told now final
+  stream-read h k old mid new before told now end final r all earlier stored a gone =
+      let b = subst (Brought o k old gone.before) (nil-right a.arrived) (brought-more o k old mid gone.before a.arrived [] a.brought (gone-brought o k h mid gone.before r gone.gone)) in
+      let there = arrivals_in (own_steps k gone.before) in
+      let last = did-own the_core the-laws o.boot o.list o.hosts k gone.before new gone.ended in
+      record {
+        arrived = a.arrived;
+        lined = record {
+          missing = a.lined.missing;
+          few = a.lined.few;
+          none = λ is. a.lined.none (ap brings_all (sym (all is)) ∙ is);
+          left = a.lined.left;
+          came = a.lined.came;
+          whole = λ is. a.lined.whole (sym (all (ap brings_all is)) ∙ is);
+          asked = a.lined.asked;
+        };
+        own = ap arrivals_in last ∙ (arrivals-append (own_steps k gone.before) gone.ended.steps ∙ (ap (λ l. there ++ arrivals_in l) gone.ended.does ∙ (nil-right there ∙ b.own)));
+        owned = gone.ended.owned;
+        done = λ other no_end kept.
+            done-kept the_core the-laws o.boot o.list o.hosts k gone.before new gone.ended h gone.ended.does (b.no_end no_end)
+            (gone-keeps o k h mid gone.before r (λ e. other (stored e)) gone.gone (a.keeps (λ e. other (earlier e)) kept));
+      }

@@ -1,0 +1,25 @@
+use Rattle.std.proofs.Common.{subst}
+use Rattle.ps_wire.specs.Reading.{IsNext, rest_of}
+use Rattle.ps_wire.specs.declared.lines.NextLine.{NextLine}
+use Rattle.ps_streams.proofs.Lines.{asked-line, asked-long, came-line, came-long}
+use Rattle.ps_streams.proofs.read.next_arrival.Goals as goal
+
+pub returns-in-Ok-Line-clause-some : goal.returns-in-Ok-Line-clause-some
+returns-in-Ok-Line-clause-some g c =
+    let before = rest_of c.args.lines.now in
+    let left = rest_of c.next.new.self in
+    record {
+      came = came-line c.in-Ok-Line.bytes c.moment-moment.result before left (subst (λ (n : NextLine). IsNext n before left) c.in-Ok-Line.field-0-is c.in-Ok-Line.ensures.next);
+      asked = asked-line (g.C.Clock.told c.args.clock.now) (g.C.Clock.told c.moment-moment.new.clock) c.in-Ok-Line.bytes c.moment-moment.result c.moment-moment.ensures.gives;
+      moment = c.moment-moment.ensures.bound;
+    }
+
+pub returns-in-Ok-TooLong-clause-some : goal.returns-in-Ok-TooLong-clause-some
+returns-in-Ok-TooLong-clause-some g c =
+    let before = rest_of c.args.lines.now in
+    let left = rest_of c.next.new.self in
+    record {
+      came = came-long before left (subst (λ (n : NextLine). IsNext n before left) c.in-Ok-TooLong.field-0-is c.in-Ok-TooLong.ensures.next);
+      asked = asked-long (g.C.Clock.told c.args.clock.now) (g.C.Clock.told c.moment.new.clock) c.moment.result c.moment.ensures.gives;
+      moment = tt;
+    }

@@ -1,0 +1,75 @@
+use Rattle.std.proofs.Common.{◌+◌, Bool, Ok, refl, sym, ap, ◌∙◌, subst}
+use Rattle.ps_twin.specs.Seats.{number_of, seen_of}
+use Rattle.ps_wire.specs.Reading.{rest_of}
+use Rattle.ps_streams.specs.Reading.{NextRead}
+use Rattle.ps_streams.proofs.Readings.{reads-ended, reads-more, so-begun, so-more}
+use Rattle.ps_streams.proofs.read.read_lines.Goals as goal
+
+pub loop-init : goal.loop-init
+loop-init g c = (
+  c.requires.reader,
+  record { at = refl; host = refl },
+  so-begun g.B.Opening.origin (number_of c.args.pass.now.seat) (seen_of c.args.pass.now.seat) (rest_of c.args.lines.now) (g.C.Clock.told c.args.clock.now) c.requires.reader.pass.owned,
+)
+
+pub loop-preserved : goal.loop-preserved
+loop-preserved g c =
+    let o = g.B.Opening.origin in
+    let i = c.loop.invariant in
+    let k = number_of c.args.pass.now.seat in
+    let j = number_of c.loop.pass.seat in
+    let old = seen_of c.args.pass.now.seat in
+    let mid = seen_of c.loop.pass.seat in
+    let new = seen_of c.read_next.new.pass.seat in
+    let all = rest_of c.args.lines.now in
+    let rest = rest_of c.loop.lines in
+    let left = rest_of c.read_next.new.lines in
+    let t = g.C.Clock.told c.args.clock.now in
+    let u = g.C.Clock.told c.loop.clock in
+    let v = g.C.Clock.told c.read_next.new.clock in
+    let same = i.0.number ∙ (ap (λ n. n + n) i.1.at ∙ sym c.requires.reader.number) in
+    let read = subst (λ (b : Bool). NextRead o j mid new rest left u v (Ok b)) c.in-Ok-true.field-0-test c.in-Ok-true.ensures.read in
+    (c.read_next.ensures.reader, record { at = c.read_next.ensures.same.at ∙ c.loop.invariant.1.at; host = c.read_next.ensures.same.host ∙ c.loop.invariant.1.host }, so-more o k j old mid new all rest left t u v same i.2 read)
+
+pub returns-in-Ok-false-clause-same : goal.returns-in-Ok-false-clause-same
+returns-in-Ok-false-clause-same g c = record { at = c.read_next.ensures.same.at ∙ c.loop.invariant.1.at; host = c.read_next.ensures.same.host ∙ c.loop.invariant.1.host }
+
+pub returns-in-Ok-false-clause-reads : goal.returns-in-Ok-false-clause-reads
+returns-in-Ok-false-clause-reads g c =
+    let o = g.B.Opening.origin in
+    let i = c.loop.invariant in
+    let k = number_of c.args.pass.now.seat in
+    let j = number_of c.loop.pass.seat in
+    let old = seen_of c.args.pass.now.seat in
+    let mid = seen_of c.loop.pass.seat in
+    let new = seen_of c.read_next.new.pass.seat in
+    let all = rest_of c.args.lines.now in
+    let rest = rest_of c.loop.lines in
+    let left = rest_of c.read_next.new.lines in
+    let t = g.C.Clock.told c.args.clock.now in
+    let u = g.C.Clock.told c.loop.clock in
+    let v = g.C.Clock.told c.read_next.new.clock in
+    let same = i.0.number ∙ (ap (λ n. n + n) i.1.at ∙ sym c.requires.reader.number) in
+    let read = subst (λ (b : Bool). NextRead o j mid new rest left u v (Ok b)) c.in-Ok-false.field-0-test c.in-Ok-false.ensures.read in
+    reads-ended o k j old mid new all rest left t u v same i.2 read.0 read.1
+
+pub returns-in-Err-clause-same : goal.returns-in-Err-clause-same
+returns-in-Err-clause-same g c = record { at = c.read_next.ensures.same.at ∙ c.loop.invariant.1.at; host = c.read_next.ensures.same.host ∙ c.loop.invariant.1.host }
+
+pub returns-in-Err-clause-reads : goal.returns-in-Err-clause-reads
+returns-in-Err-clause-reads g c =
+    let o = g.B.Opening.origin in
+    let i = c.loop.invariant in
+    let k = number_of c.args.pass.now.seat in
+    let j = number_of c.loop.pass.seat in
+    let old = seen_of c.args.pass.now.seat in
+    let mid = seen_of c.loop.pass.seat in
+    let new = seen_of c.read_next.new.pass.seat in
+    let all = rest_of c.args.lines.now in
+    let rest = rest_of c.loop.lines in
+    let left = rest_of c.read_next.new.lines in
+    let t = g.C.Clock.told c.args.clock.now in
+    let u = g.C.Clock.told c.loop.clock in
+    let v = g.C.Clock.told c.read_next.new.clock in
+    let same = i.0.number ∙ (ap (λ n. n + n) i.1.at ∙ sym c.requires.reader.number) in
+    reads-more o k j old mid new all rest t u v c.in-Err.end same i.2 c.in-Err.ensures.read

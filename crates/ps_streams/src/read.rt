@@ -1,0 +1,234 @@
+// The reader of a stream.
+ghost use Rattle.std.specs.Prelude.{◌≡◌, [], true, IfErr, IfOk, IfSome, IfNone, IsErrOf};
+ghost use Rattle.ps_wire.specs.Reading.{rest_of};
+ghost use Rattle.ps_model.specs.Entries.{IsMoment};
+ghost use Rattle.ps_state.specs.Shape.{IsArrival};
+ghost use Rattle.ps_shared.specs.Calls.{IsReader, SeatArrived};
+ghost use Rattle.ps_streams.specs.Speaking.{IsSamePass};
+ghost use Rattle.ps_streams.specs.Reading.{ClockGives, Comes, NoneComes, SeatNextRead, SeatReads, SeatStreamRead, SeatTakes, WasAsked, brings_all};
+
+use ps_disk::Disk;
+use ps_outside::Clock;
+use ps_shared::{ArriveRefusal, Hall, HandedRefusal, Opening, Pass, Receipt};
+use ps_types::Arrival;
+use ps_wire::{Lines, NextLine, NextLineRefusal, Source};
+use std::alloc::Global;
+use std::sync::Wait;
+use std::thread::{Threads, yield_now};
+
+/// Why a reader ended.
+#[derive(Clone, Copy, Debug, PartialEq, Eq)]
+pub enum ReadEnd {
+    /// No line was left.
+    Ended,
+    /// Its source failed.
+    ReadFault,
+    /// Its source gave all that a stream may have.
+    Long,
+    /// The host's writer has ended.
+    Closed,
+    /// The disk failed.
+    Store,
+    /// The end of the host's callers would pass the store's limit.
+    Full,
+    Memory,
+}
+
+fn end_of_lines(why: NextLineRefusal) -> ReadEnd
+    ensures ended { result ≡ ReadEnd.Ended → ⊥ }
+{
+    match why {
+        NextLineRefusal::ReadFault => ReadEnd::ReadFault,
+        NextLineRefusal::Long => ReadEnd::Long,
+        NextLineRefusal::Memory => ReadEnd::Memory,
+    }
+}
+
+fn end_of_line(refusal: ArriveRefusal) -> ReadEnd
+    ensures some { brings_all result ≡ true → ⊥ }
+    ensures store { refusal ≡ ArriveRefusal.Store → result ≡ ReadEnd.Store }
+{
+    match refusal {
+        ArriveRefusal::Closed => ReadEnd::Closed,
+        ArriveRefusal::Store => ReadEnd::Store,
+        ArriveRefusal::Again => ReadEnd::Memory,
+        ArriveRefusal::Memory => ReadEnd::Memory,
+    }
+}
+
+// The first of both causes in the order of a reader's.
+fn worse(end: ReadEnd, refusal: HandedRefusal) -> ReadEnd
+    ensures some { brings_all result ≡ true → ⊥ }
+    ensures earlier { end ≡ ReadEnd.Store → result ≡ ReadEnd.Store }
+    ensures store { refusal ≡ HandedRefusal.Store → result ≡ ReadEnd.Store }
+{
+    match (end, refusal) {
+        (ReadEnd::Store, _) | (_, HandedRefusal::Store) => ReadEnd::Store,
+        (ReadEnd::Full, _) | (_, HandedRefusal::Full) => ReadEnd::Full,
+        (_, HandedRefusal::Memory) => ReadEnd::Memory,
+    }
+}
+
+fn must_wait(answer: &Result<Receipt, ArriveRefusal>) -> bool
+    ensures { result ≡ true → IsErrOf answer.now ArriveRefusal.Again }
+{
+    match answer {
+        Err(ArriveRefusal::Again) => true,
+        Err(ArriveRefusal::Closed | ArriveRefusal::Store | ArriveRefusal::Memory) => false,
+        Ok(_) => false,
+    }
+}
+
+// The moment of a line, if the clock tells one that a stamp can tell.
+fn moment<C: Clock>(clock: &mut C) -> Option<u64>
+    ensures bound { IsMoment result }
+    ensures gives { ClockGives (C.told clock.old) (C.told clock.new) result }
+{
+    match clock.now() {
+        Ok(at) => { if at < 253_370_764_800 { Some(at) } else { None } }
+        Err(_) => None,
+    }
+}
+
+// The line that comes next, as it arrives.
+fn next_arrival<S: Source, C: Clock>(
+    alloc: Global,
+    lines: &mut Lines<S>,
+    clock: &mut C,
+) -> Result<Option<Arrival>, ReadEnd>
+    ensures some { IfOk result (λ next. IfSome next
+        (Comes (rest_of lines.old) (rest_of lines.new) (C.told clock.old) (C.told clock.new))) }
+    ensures none { IfOk result (λ next. IfNone next
+        (NoneComes (rest_of lines.old) (rest_of lines.new) (C.told clock.old) (C.told clock.new))) }
+    ensures ended { IsErrOf result ReadEnd.Ended → ⊥ }
+    ensures asked { IfErr result (λ e. WasAsked (C.told clock.old) (C.told clock.new) []) }
+{
+    match lines.next(alloc) {
+        Ok(NextLine::Line(bytes)) => {
+            let moment = moment(clock);
+            Ok(Some(Arrival::Line { bytes, moment }))
+        }
+        Ok(NextLine::TooLong) => {
+            let _ = moment(clock);
+            Ok(Some(Arrival::TooLong))
+        }
+        Ok(NextLine::End) => Ok(None),
+        Err(why) => Err(end_of_lines(why)),
+    }
+}
+
+// Answers the line once there is room for its reply.
+fn arrive_once<B: Opening, D: Disk, R: Wait + Threads + Sync>(
+    rt: &R,
+    hall: &Hall<B, D>,
+    pass: &mut Pass<B, D>,
+    arrival: &Arrival,
+) -> Result<Receipt, ArriveRefusal>
+    requires reader { IsReader B.origin hall.now.twin pass.old.at pass.old.host pass.old.seat }
+    requires arrival { IsArrival arrival.now }
+    ensures reader { IsReader B.origin hall.now.twin pass.new.at pass.new.host pass.new.seat }
+    ensures same { IsSamePass pass.old pass.new }
+    ensures arrived { SeatArrived B.origin pass.old.host pass.old.seat pass.new.seat arrival.now result }
+{
+    for _ in rt.forever() {
+        let answer = hall.arrive(rt, pass, arrival);
+        if !must_wait(&answer) {
+            return answer;
+        }
+        yield_now();
+    }
+    unreachable!()
+}
+
+// Answers the line. An error: the reader is to end.
+fn take_line<B: Opening, D: Disk, R: Wait + Threads + Sync>(
+    rt: &R,
+    hall: &Hall<B, D>,
+    pass: &mut Pass<B, D>,
+    arrival: &Arrival,
+) -> Result<(), ReadEnd>
+    requires reader { IsReader B.origin hall.now.twin pass.old.at pass.old.host pass.old.seat }
+    requires arrival { IsArrival arrival.now }
+    ensures reader { IsReader B.origin hall.now.twin pass.new.at pass.new.host pass.new.seat }
+    ensures same { IsSamePass pass.old pass.new }
+    ensures takes { SeatTakes B.origin pass.old.seat pass.new.seat arrival.now result }
+    ensures some { IfErr result (λ e. brings_all e ≡ true → ⊥) }
+{
+    match arrive_once(rt, hall, pass, arrival) {
+        Ok(_) => Ok(()),
+        Err(refusal) => Err(end_of_line(refusal)),
+    }
+}
+
+// Answers the line that comes next. False: there was none.
+fn read_next<B: Opening, D: Disk, R: Wait + Threads + Sync, S: Source, C: Clock>(
+    rt: &R,
+    alloc: Global,
+    hall: &Hall<B, D>,
+    pass: &mut Pass<B, D>,
+    lines: &mut Lines<S>,
+    clock: &mut C,
+) -> Result<bool, ReadEnd>
+    requires reader { IsReader B.origin hall.now.twin pass.old.at pass.old.host pass.old.seat }
+    ensures reader { IsReader B.origin hall.now.twin pass.new.at pass.new.host pass.new.seat }
+    ensures same { IsSamePass pass.old pass.new }
+    ensures read { SeatNextRead B.origin pass.old.seat pass.new.seat (rest_of lines.old) (rest_of lines.new)
+        (C.told clock.old) (C.told clock.new) result }
+{
+    match next_arrival(alloc, lines, clock) {
+        Ok(Some(arrival)) => match take_line(rt, hall, pass, &arrival) {
+            Ok(()) => Ok(true),
+            Err(end) => Err(end),
+        },
+        Ok(None) => Ok(false),
+        Err(end) => Err(end),
+    }
+}
+
+// Answers each line of the source.
+fn read_lines<B: Opening, D: Disk, R: Wait + Threads + Sync, S: Source, C: Clock>(
+    rt: &R,
+    alloc: Global,
+    hall: &Hall<B, D>,
+    pass: &mut Pass<B, D>,
+    lines: &mut Lines<S>,
+    clock: &mut C,
+) -> ReadEnd
+    requires reader { IsReader B.origin hall.now.twin pass.old.at pass.old.host pass.old.seat }
+    ensures reader { IsReader B.origin hall.now.twin pass.new.at pass.new.host pass.new.seat }
+    ensures same { IsSamePass pass.old pass.new }
+    ensures reads { SeatReads B.origin pass.old.seat pass.new.seat (rest_of lines.old)
+        (C.told clock.old) (C.told clock.new) result }
+{
+    for _ in rt.forever() {
+        match read_next(rt, alloc, hall, pass, lines, clock) {
+            Ok(true) => {}
+            Ok(false) => return ReadEnd::Ended,
+            Err(end) => return end,
+        }
+    }
+    unreachable!()
+}
+
+/// Answers each line of the source, each with the moment that the clock then tells, and ends then the reader of the pass's host. Of several causes it
+/// answers the first in the order `Store`, `Full`, `Memory`, `ReadFault`, `Long`, `Closed`.
+pub fn read_stream<B: Opening, D: Disk, R: Wait + Threads + Sync, S: Source, C: Clock>(
+    rt: &R,
+    alloc: Global,
+    hall: &Hall<B, D>,
+    pass: &mut Pass<B, D>,
+    lines: &mut Lines<S>,
+    clock: &mut C,
+) -> ReadEnd
+    requires reader { IsReader B.origin hall.now.twin pass.old.at pass.old.host pass.old.seat }
+    ensures reader { IsReader B.origin hall.now.twin pass.new.at pass.new.host pass.new.seat }
+    ensures same { IsSamePass pass.old pass.new }
+    ensures read { SeatStreamRead B.origin pass.old.host pass.old.seat pass.new.seat (rest_of lines.old)
+        (C.told clock.old) (C.told clock.new) result }
+{
+    let end = read_lines(rt, alloc, hall, pass, lines, clock);
+    match hall.gone(rt, pass) {
+        Ok(()) => end,
+        Err(refusal) => worse(end, refusal),
+    }
+}
