@@ -1,5 +1,6 @@
 -- Why a writer ended.
-use Rattle.std.proofs.Common.{◌≡◌, ℕ, ◌⊎◌, inl, inr, Bool, true, false, List, [], ◌∷◌, ◌++◌, Option, Some, None, Result, Err, refl, ap, sym, ◌∙◌, subst}
+use Rattle.std.proofs.Common.{◌≡◌, ℕ, ◌⊎◌, inl, inr, Bool, true, false, List, [], ◌∷◌, ◌++◌, Option, Some, None, Result, Ok, Err, refl, ap, sym, ◌∙◌, subst}
+use Rattle.ps_types.specs.declared.entry.Arrival.{Arrival}
 use Rattle.ps_types.specs.declared.entry.Entry.TheVariants.{Handed}
 use Rattle.ps_types.specs.declared.jid.Jid.{Jid}
 use Rattle.ps_types.specs.Same.{same_jid}
@@ -17,15 +18,18 @@ use Rattle.ps_deeds.specs.declared.deed.Deed.{Deed}
 use Rattle.ps_deeds.specs.Own.{AllDiffer, IsWriterOf, deeds}
 use Rattle.ps_deeds.proofs.Doing.{did-between, did-world, world-append}
 use Rattle.ps_deeds.proofs.Flying.{still-run}
-use Rattle.ps_deeds.proofs.Passing.{did-follows}
+use Rattle.ps_deeds.proofs.Passing.{did-follows, passed-follows}
+use Rattle.ps_state.specs.declared.answers.ArriveRefusal.{ArriveRefusal}
+use Rattle.ps_state.specs.declared.answers.ArriveRefusal.TheVariants.{Store as NoStore}
 use Rattle.ps_state.specs.declared.answers.HandedRefusal.{HandedRefusal}
 use Rattle.ps_state.specs.declared.answers.HandedRefusal.TheVariants.{Full, Store}
-use Rattle.ps_shared.specs.Calls.{HasHand, HasHanded, IsTooLong}
-use Rattle.ps_shared.specs.Doing.{Adds, Does}
-use Rattle.ps_shared.specs.Flush.{NotFlushed, TellsFault}
+use Rattle.ps_shared.specs.Calls.{Arrived, HasGone, HasHand, HasHanded, IsGone, IsTooLong}
+use Rattle.ps_shared.specs.Doing.{Adds, Does, Passes}
+use Rattle.ps_shared.specs.Flush.{Flushes, NotFlushed, TellsFault}
 use Rattle.ps_shared.specs.Homes.{world_at}
 use Rattle.ps_shared.specs.Origin.{Origin}
 use Rattle.ps_streams.specs.Speaking.{HadNoRoom, HasLanded}
+use Rattle.ps_streams.proofs.Looping.{the_err}
 
 -- what is in hand was not recorded, and nothing else of the host is in flight
 pub hand-landed : (hand : Option Jid) (h : List ℕ) (w : World) → HasHand hand h w → HasLanded h w
@@ -40,10 +44,10 @@ module _ (o : Origin) (k : ℕ) where
   abbrev at : List Deed → World
   at log = world_at o log
 
-  quiet-world : {Did : World → List Step → Type 0} (old new : List Deed) (did : Does o k old new Did) → did.steps ≡ [] → at new ≡ at (old ++ did.between)
+  pub quiet-world : {Did : World → List Step → Type 0} (old new : List Deed) (did : Does o k old new Did) → did.steps ≡ [] → at new ≡ at (old ++ did.between)
   quiet-world old new did e = did-world the_core the-laws o.boot o.list o.hosts k old new did ∙ ap (run the_core o.boot (at (old ++ did.between))) e
 
-  tells-broken : (found new : List Deed) → TellsFault o k found new → (at new).broken ≡ true
+  pub tells-broken : (found new : List Deed) → TellsFault o k found new → (at new).broken ≡ true
   tells-broken found new (inl same) = ap (λ (l : List Deed). (at l).broken) same.0 ∙ same.1
   tells-broken found new (inr added) = ap (λ (w : World). w.broken) (did-world the_core the-laws o.boot o.list o.hosts k found new added ∙ ap (run the_core o.boot (at (found ++ added.between))) added.does)
 
@@ -93,3 +97,36 @@ module _ (o : Origin) (k : ℕ) where
     here = had.here;
     long = had.long;
   }
+
+-- ---- a reader
+
+module _ (o : Origin) (k : ℕ) (h : List ℕ) where
+  refused-broken : (a : Arrival) (old new : List Deed) → Arrived o k h old new a (Err NoStore) → (world_at o new).broken ≡ true
+  refused-broken a old new (inl did) = ap (λ (w : World). w.broken) (quiet-world o k old new did did.does.1) ∙ did.does.0.1
+  refused-broken a old new (inr l) = tells-broken o k l.2.after.found new l.2.after.fault
+
+  pub arrived-store : (a : Arrival) (old new : List Deed) (e : ArriveRefusal) → e ≡ NoStore → Arrived o k h old new a (Err e) → (world_at o new).broken ≡ true
+  arrived-store a old new e same is = refused-broken a old new (subst (λ (x : ArriveRefusal). Arrived o k h old new a (Err x)) same is)
+
+  passed-broken : (old new : List Deed) → Passes o k old new → (world_at o old).broken ≡ true → (world_at o new).broken ≡ true
+  passed-broken old new p e = (passed-follows the_core the-laws o.boot o.list o.hosts k old new p).broken e
+
+  flushes-broken : (old new : List Deed) → Flushes o k old new → (world_at o old).broken ≡ true → (world_at o new).broken ≡ true
+  flushes-broken old new f e = broken-on o k f.found new f.added (passed-broken old f.found f.passed e)
+
+  gone-on : {T : Type 0} (old new : List Deed) (r : Result T HandedRefusal) → IsGone o k h old new r → (world_at o old).broken ≡ true → (world_at o new).broken ≡ true
+  gone-on old new (Ok t) g e = flushes-broken g.mid new g.after (broken-on o k old g.mid g.gone e)
+  gone-on old new (Err x) (inl did) e = broken-on o k old new did e
+  gone-on old new (Err x) (inr g) e = tells-broken o k g.1.after.found new g.1.after.fault
+
+  gone-broken : {T : Type 0} (old new : List Deed) (r : Result T HandedRefusal) → r ≡ Err Store → IsGone o k h old new r → (world_at o new).broken ≡ true
+  gone-broken {T} old new r e is = by (subst (λ (q : Result T HandedRefusal). IsGone o k h old new q) e is)
+    where
+      by : IsGone o k h old new (the_err T Store) → (world_at o new).broken ≡ true
+      by (inl did) = ap (λ (w : World). w.broken) (quiet-world o k old new did did.does.1) ∙ did.does.0
+      by (inr g) = tells-broken o k g.1.after.found new g.1.after.fault
+
+  -- the reader was told of a fault before its end, or at it
+  pub stream-broken : {T : Type 0} (old new : List Deed) (r : Result T HandedRefusal) → HasGone o k h old new r → ((world_at o old).broken ≡ true) ⊎ (r ≡ Err Store) → (world_at o new).broken ≡ true
+  stream-broken old new r g (inl e) = broken-on o k g.before new g.ended (gone-on old g.before r g.gone e)
+  stream-broken old new r g (inr e) = broken-on o k g.before new g.ended (gone-broken old g.before r e g.gone)

@@ -6,3 +6,4 @@ pub mod Causes
 pub mod Lines
 pub mod Bringing
 pub mod Readings
+pub mod Fronts

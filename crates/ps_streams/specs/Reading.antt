@@ -4,7 +4,11 @@ use Rattle.ps_types.specs.Lines.{lines_of}
 use Rattle.ps_types.specs.declared.entry.Arrival.{Arrival}
 use Rattle.ps_types.specs.declared.entry.Arrival.TheVariants.{Line, TooLong}
 use Rattle.ps_outside.specs.Clock.{noted}
+use Rattle.ps_types.specs.declared.entry.Entry.TheVariants.{Gone as GoneEntry}
 use Rattle.ps_model.specs.TheCore.{the_core}
+use Rattle.ps_model.specs.World.{World}
+use Rattle.ps_model.specs.declared.steps.Step.{Step}
+use Rattle.ps_model.specs.declared.steps.Step.TheVariants.{Gone}
 use Rattle.ps_twin.specs.declared.twin.TwinSeat.{TwinSeat}
 use Rattle.ps_twin.specs.Seats.{number_of, seen_of}
 use Rattle.ps_deeds.specs.declared.deed.Deed.{Deed}
@@ -12,6 +16,8 @@ use Rattle.ps_deeds.specs.Did.{IsKept}
 use Rattle.ps_deeds.specs.Over.{ReaderDone}
 use Rattle.ps_deeds.specs.Own.{AreOwned, HasNoEnd, arrivals_in, own_steps}
 use Rattle.ps_state.specs.Shape.{IsArrival}
+use Rattle.ps_shared.specs.Calls.{IsTooLong}
+use Rattle.ps_shared.specs.Homes.{world_at}
 use Rattle.ps_shared.specs.Origin.{Origin}
 use Rattle.ps_streams.specs.declared.read.ReadEnd.{ReadEnd}
 use Rattle.ps_streams.specs.declared.read.ReadEnd.TheVariants.{Closed, Ended, Full, Long, Memory, ReadFault, Store}
@@ -116,6 +122,37 @@ brings_all Closed = false
 brings_all Store = false
 brings_all Full = false
 brings_all Memory = false
+
+-- the host's callers were said to be gone
+abbrev pub says_gone : ReadEnd → Bool
+says_gone Ended = true
+says_gone ReadFault = true
+says_gone Long = true
+says_gone Closed = true
+says_gone Store = false
+says_gone Full = false
+says_gone Memory = false
+
+-- the pass said that the host's callers are gone
+pub record SaidGone (host : List ℕ) (k : ℕ) (seen : List Deed) : Type 0 where
+  pub front : List Step
+  pub rest : List Step
+  pub is : own_steps k seen ≡ front ++ Gone host ∷ rest
+
+-- this holds of the world at a front of what was seen
+pub record FoundAt (o : Origin) (seen : List Deed) (Holds : World → Type 0) : Type 0 where
+  pub front : List Deed
+  pub rest : List Deed
+  pub is : seen ≡ front ++ rest
+  pub holds : Holds (world_at o front)
+
+-- the host's writer has ended
+abbrev pub FoundClosed : Origin → List ℕ → List Deed → Type 0
+FoundClosed o host seen = FoundAt o seen (λ w. (w.hosts host).writer_ended ≡ true)
+
+-- that its callers are gone would pass the limit
+abbrev pub FoundNoEnd : Origin → List ℕ → List Deed → Type 0
+FoundNoEnd o host seen = FoundAt o seen (λ w. IsTooLong o w (GoneEntry host))
 
 abbrev pub AreFew : List Arrival → Type 0
 AreFew missing = (missing ≡ []) ⊎ ((a : Arrival) × (missing ≡ a ∷ []))

@@ -1,11 +1,13 @@
 // The reader of a stream.
-ghost use Rattle.std.specs.Prelude.{◌≡◌, [], true, IfErr, IfOk, IfSome, IfNone, IsErrOf};
-ghost use Rattle.ps_wire.specs.Reading.{rest_of};
+ghost use Rattle.std.specs.Prelude.{◌≡◌, ◌⊎◌, ◌≤◌, ◌^◌, [], true, None, IfErr, IfOk, IfSome, IfNone, IsErrOf, OnOk};
+ghost use Rattle.ps_base.specs.Causes.{Rose};
+ghost use Rattle.ps_wire.specs.Reading.{given_of, rest_of, source_of, stopped_of};
 ghost use Rattle.ps_model.specs.Entries.{IsMoment};
 ghost use Rattle.ps_state.specs.Shape.{IsArrival};
+ghost use Rattle.ps_twin.specs.Seats.{number_of, seen_of};
 ghost use Rattle.ps_shared.specs.Calls.{IsReader, SeatArrived};
-ghost use Rattle.ps_streams.specs.Speaking.{IsSamePass};
-ghost use Rattle.ps_streams.specs.Reading.{ClockGives, Comes, NoneComes, SeatNextRead, SeatReads, SeatStreamRead, SeatTakes, WasAsked, brings_all};
+ghost use Rattle.ps_streams.specs.Speaking.{FindsBroken, IsSamePass};
+ghost use Rattle.ps_streams.specs.Reading.{ClockGives, Comes, FoundClosed, FoundNoEnd, NoneComes, SaidGone, SeatNextRead, SeatReads, SeatStreamRead, SeatTakes, WasAsked, brings_all, says_gone};
 
 use ps_disk::Disk;
 use ps_outside::Clock;
@@ -36,6 +38,11 @@ pub enum ReadEnd {
 
 fn end_of_lines(why: NextLineRefusal) -> ReadEnd
     ensures ended { result ≡ ReadEnd.Ended → ⊥ }
+    ensures fault { result ≡ ReadEnd.ReadFault → why ≡ NextLineRefusal.ReadFault }
+    ensures long { result ≡ ReadEnd.Long → why ≡ NextLineRefusal.Long }
+    ensures store { result ≡ ReadEnd.Store → ⊥ }
+    ensures closed { result ≡ ReadEnd.Closed → ⊥ }
+    ensures room { result ≡ ReadEnd.Full → ⊥ }
 {
     match why {
         NextLineRefusal::ReadFault => ReadEnd::ReadFault,
@@ -47,6 +54,9 @@ fn end_of_lines(why: NextLineRefusal) -> ReadEnd
 fn end_of_line(refusal: ArriveRefusal) -> ReadEnd
     ensures some { brings_all result ≡ true → ⊥ }
     ensures store { refusal ≡ ArriveRefusal.Store → result ≡ ReadEnd.Store }
+    ensures from_store { result ≡ ReadEnd.Store → refusal ≡ ArriveRefusal.Store }
+    ensures from_closed { result ≡ ReadEnd.Closed → refusal ≡ ArriveRefusal.Closed }
+    ensures room { result ≡ ReadEnd.Full → ⊥ }
 {
     match refusal {
         ArriveRefusal::Closed => ReadEnd::Closed,
@@ -61,6 +71,9 @@ fn worse(end: ReadEnd, refusal: HandedRefusal) -> ReadEnd
     ensures some { brings_all result ≡ true → ⊥ }
     ensures earlier { end ≡ ReadEnd.Store → result ≡ ReadEnd.Store }
     ensures store { refusal ≡ HandedRefusal.Store → result ≡ ReadEnd.Store }
+    ensures from_store { result ≡ ReadEnd.Store → (end ≡ ReadEnd.Store) ⊎ (refusal ≡ HandedRefusal.Store) }
+    ensures from_full { result ≡ ReadEnd.Full → (end ≡ ReadEnd.Full) ⊎ (refusal ≡ HandedRefusal.Full) }
+    ensures never { says_gone result ≡ true → ⊥ }
 {
     match (end, refusal) {
         (ReadEnd::Store, _) | (_, HandedRefusal::Store) => ReadEnd::Store,
@@ -96,11 +109,20 @@ fn next_arrival<S: Source, C: Clock>(
     lines: &mut Lines<S>,
     clock: &mut C,
 ) -> Result<Option<Arrival>, ReadEnd>
+    requires going { stopped_of lines.old ≡ None }
     ensures some { IfOk result (λ next. IfSome next
         (Comes (rest_of lines.old) (rest_of lines.new) (C.told clock.old) (C.told clock.new))) }
     ensures none { IfOk result (λ next. IfNone next
         (NoneComes (rest_of lines.old) (rest_of lines.new) (C.told clock.old) (C.told clock.new))) }
     ensures ended { IsErrOf result ReadEnd.Ended → ⊥ }
+    ensures going { OnOk result (stopped_of lines.new ≡ None) }
+    ensures later { S.faults (source_of lines.old) ≤ S.faults (source_of lines.new) }
+    ensures fault { IsErrOf result ReadEnd.ReadFault
+        → Rose (S.faults (source_of lines.old)) (S.faults (source_of lines.new)) }
+    ensures long { IsErrOf result ReadEnd.Long → given_of lines.new ≡ 2 ^ 40 }
+    ensures store { IsErrOf result ReadEnd.Store → ⊥ }
+    ensures closed { IsErrOf result ReadEnd.Closed → ⊥ }
+    ensures room { IsErrOf result ReadEnd.Full → ⊥ }
     ensures asked { IfErr result (λ e. WasAsked (C.told clock.old) (C.told clock.new) []) }
 {
     match lines.next(alloc) {
@@ -153,6 +175,9 @@ fn take_line<B: Opening, D: Disk, R: Wait + Threads + Sync>(
     ensures same { IsSamePass pass.old pass.new }
     ensures takes { SeatTakes B.origin pass.old.seat pass.new.seat arrival.now result }
     ensures some { IfErr result (λ e. brings_all e ≡ true → ⊥) }
+    ensures store { IsErrOf result ReadEnd.Store → FindsBroken B.origin pass.new.seat }
+    ensures closed { IsErrOf result ReadEnd.Closed → FoundClosed B.origin pass.old.host (seen_of pass.new.seat) }
+    ensures room { IsErrOf result ReadEnd.Full → ⊥ }
 {
     match arrive_once(rt, hall, pass, arrival) {
         Ok(_) => Ok(()),
@@ -170,10 +195,19 @@ fn read_next<B: Opening, D: Disk, R: Wait + Threads + Sync, S: Source, C: Clock>
     clock: &mut C,
 ) -> Result<bool, ReadEnd>
     requires reader { IsReader B.origin hall.now.twin pass.old.at pass.old.host pass.old.seat }
+    requires going { stopped_of lines.old ≡ None }
     ensures reader { IsReader B.origin hall.now.twin pass.new.at pass.new.host pass.new.seat }
     ensures same { IsSamePass pass.old pass.new }
     ensures read { SeatNextRead B.origin pass.old.seat pass.new.seat (rest_of lines.old) (rest_of lines.new)
         (C.told clock.old) (C.told clock.new) result }
+    ensures going { OnOk result (stopped_of lines.new ≡ None) }
+    ensures later { S.faults (source_of lines.old) ≤ S.faults (source_of lines.new) }
+    ensures fault { IsErrOf result ReadEnd.ReadFault
+        → Rose (S.faults (source_of lines.old)) (S.faults (source_of lines.new)) }
+    ensures long { IsErrOf result ReadEnd.Long → given_of lines.new ≡ 2 ^ 40 }
+    ensures store { IsErrOf result ReadEnd.Store → FindsBroken B.origin pass.new.seat }
+    ensures closed { IsErrOf result ReadEnd.Closed → FoundClosed B.origin pass.old.host (seen_of pass.new.seat) }
+    ensures room { IsErrOf result ReadEnd.Full → ⊥ }
 {
     match next_arrival(alloc, lines, clock) {
         Ok(Some(arrival)) => match take_line(rt, hall, pass, &arrival) {
@@ -195,10 +229,18 @@ fn read_lines<B: Opening, D: Disk, R: Wait + Threads + Sync, S: Source, C: Clock
     clock: &mut C,
 ) -> ReadEnd
     requires reader { IsReader B.origin hall.now.twin pass.old.at pass.old.host pass.old.seat }
+    requires going { stopped_of lines.old ≡ None }
     ensures reader { IsReader B.origin hall.now.twin pass.new.at pass.new.host pass.new.seat }
     ensures same { IsSamePass pass.old pass.new }
     ensures reads { SeatReads B.origin pass.old.seat pass.new.seat (rest_of lines.old)
         (C.told clock.old) (C.told clock.new) result }
+    ensures later { S.faults (source_of lines.old) ≤ S.faults (source_of lines.new) }
+    ensures fault { result ≡ ReadEnd.ReadFault
+        → Rose (S.faults (source_of lines.old)) (S.faults (source_of lines.new)) }
+    ensures long { result ≡ ReadEnd.Long → given_of lines.new ≡ 2 ^ 40 }
+    ensures store { result ≡ ReadEnd.Store → FindsBroken B.origin pass.new.seat }
+    ensures closed { result ≡ ReadEnd.Closed → FoundClosed B.origin pass.old.host (seen_of pass.new.seat) }
+    ensures room { result ≡ ReadEnd.Full → ⊥ }
 {
     for _ in rt.forever() {
         match read_next(rt, alloc, hall, pass, lines, clock) {
@@ -221,10 +263,19 @@ pub fn read_stream<B: Opening, D: Disk, R: Wait + Threads + Sync, S: Source, C: 
     clock: &mut C,
 ) -> ReadEnd
     requires reader { IsReader B.origin hall.now.twin pass.old.at pass.old.host pass.old.seat }
+    requires going { stopped_of lines.old ≡ None }
     ensures reader { IsReader B.origin hall.now.twin pass.new.at pass.new.host pass.new.seat }
     ensures same { IsSamePass pass.old pass.new }
     ensures read { SeatStreamRead B.origin pass.old.host pass.old.seat pass.new.seat (rest_of lines.old)
         (C.told clock.old) (C.told clock.new) result }
+    ensures later { S.faults (source_of lines.old) ≤ S.faults (source_of lines.new) }
+    ensures fault { result ≡ ReadEnd.ReadFault
+        → Rose (S.faults (source_of lines.old)) (S.faults (source_of lines.new)) }
+    ensures long { result ≡ ReadEnd.Long → given_of lines.new ≡ 2 ^ 40 }
+    ensures store { result ≡ ReadEnd.Store → FindsBroken B.origin pass.new.seat }
+    ensures closed { result ≡ ReadEnd.Closed → FoundClosed B.origin pass.old.host (seen_of pass.new.seat) }
+    ensures full { result ≡ ReadEnd.Full → FoundNoEnd B.origin pass.old.host (seen_of pass.new.seat) }
+    ensures gone { says_gone result ≡ true → SaidGone pass.old.host (number_of pass.old.seat) (seen_of pass.new.seat) }
 {
     let end = read_lines(rt, alloc, hall, pass, lines, clock);
     match hall.gone(rt, pass) {

@@ -1,7 +1,9 @@
-use Rattle.std.proofs.Common.{◌+◌, Bool, Ok, refl, sym, ap, ◌∙◌, subst}
+use Rattle.std.proofs.Common.{ℕ, ◌+◌, List, Bool, Ok, refl, sym, ap, ◌∙◌, subst, arith}
 use Rattle.ps_twin.specs.Seats.{number_of, seen_of}
 use Rattle.ps_wire.specs.Reading.{rest_of}
-use Rattle.ps_streams.specs.Reading.{NextRead}
+use Rattle.ps_streams.specs.declared.read.ReadEnd.{ReadEnd}
+use Rattle.ps_streams.specs.Reading.{FoundClosed, NextRead}
+use Rattle.ps_streams.proofs.Looping.{the_err}
 use Rattle.ps_streams.proofs.Readings.{reads-ended, reads-more, so-begun, so-more}
 use Rattle.ps_streams.proofs.read.read_lines.Goals as goal
 
@@ -10,6 +12,8 @@ loop-init g c = (
   c.requires.reader,
   record { at = refl; host = refl },
   so-begun g.B.Opening.origin (number_of c.args.pass.now.seat) (seen_of c.args.pass.now.seat) (rest_of c.args.lines.now) (g.C.Clock.told c.args.clock.now) c.requires.reader.pass.owned,
+  c.requires.going,
+  omega arith,
 )
 
 pub loop-preserved : goal.loop-preserved
@@ -29,7 +33,7 @@ loop-preserved g c =
     let v = g.C.Clock.told c.read_next.new.clock in
     let same = i.0.number ∙ (ap (λ n. n + n) i.1.at ∙ sym c.requires.reader.number) in
     let read = subst (λ (b : Bool). NextRead o j mid new rest left u v (Ok b)) c.in-Ok-true.field-0-test c.in-Ok-true.ensures.read in
-    (c.read_next.ensures.reader, record { at = c.read_next.ensures.same.at ∙ c.loop.invariant.1.at; host = c.read_next.ensures.same.host ∙ c.loop.invariant.1.host }, so-more o k j old mid new all rest left t u v same i.2 read)
+    (c.read_next.ensures.reader, record { at = c.read_next.ensures.same.at ∙ c.loop.invariant.1.at; host = c.read_next.ensures.same.host ∙ c.loop.invariant.1.host }, so-more o k j old mid new all rest left t u v same i.2 read, c.in-Ok-true.ensures.going, (let x = i.4 in let y = c.read_next.ensures.later in omega (arith, x, y)))
 
 pub returns-in-Ok-false-clause-same : goal.returns-in-Ok-false-clause-same
 returns-in-Ok-false-clause-same g c = record { at = c.read_next.ensures.same.at ∙ c.loop.invariant.1.at; host = c.read_next.ensures.same.host ∙ c.loop.invariant.1.host }
@@ -73,3 +77,6 @@ returns-in-Err-clause-reads g c =
     let v = g.C.Clock.told c.read_next.new.clock in
     let same = i.0.number ∙ (ap (λ n. n + n) i.1.at ∙ sym c.requires.reader.number) in
     reads-more o k j old mid new all rest t u v c.in-Err.end same i.2 c.in-Err.ensures.read
+
+pub returns-in-Err-clause-closed : goal.returns-in-Err-clause-closed
+returns-in-Err-clause-closed g c = λ e. subst (λ (h : List ℕ). FoundClosed g.B.Opening.origin h (seen_of c.read_next.new.pass.seat)) c.loop.invariant.1.host (c.in-Err.ensures.closed (ap (λ (w : ReadEnd). the_err Bool w) e))

@@ -1,0 +1,97 @@
+-- What a reader had found before its end.
+use Rattle.std.proofs.Common.{◌≡◌, ℕ, inl, inr, true, List, [], ◌∷◌, ◌++◌, Result, Ok, Err, length, refl, ap, sym, ◌∙◌, subst}
+use Rattle.ps_types.specs.declared.entry.Arrival.{Arrival}
+use Rattle.ps_types.specs.declared.entry.Entry.TheVariants.{Gone as GoneEntry}
+use Rattle.ps_model.specs.TheCore.{the_core}
+use Rattle.ps_model.specs.World.{World}
+use Rattle.ps_model.specs.declared.steps.Role.TheVariants.{Reader}
+use Rattle.ps_model.specs.declared.steps.Step.{Step}
+use Rattle.ps_model.specs.declared.steps.Step.TheVariants.{Ended, Flush, Gone}
+use Rattle.ps_model.proofs.TheLaws.{the-laws}
+use Rattle.ps_world.proofs.Lists.{assoc, nil-right}
+use Rattle.ps_deeds.specs.declared.deed.Deed.{Deed}
+use Rattle.ps_deeds.specs.Own.{deeds, own_steps}
+use Rattle.ps_deeds.proofs.Doing.{did-own}
+use Rattle.ps_deeds.proofs.Passing.{passed-own}
+use Rattle.ps_state.specs.declared.answers.ArriveRefusal.{ArriveRefusal}
+use Rattle.ps_state.specs.declared.answers.ArriveRefusal.TheVariants.{Closed}
+use Rattle.ps_state.specs.declared.answers.HandedRefusal.{HandedRefusal}
+use Rattle.ps_state.specs.declared.answers.HandedRefusal.TheVariants.{Full}
+use Rattle.ps_shared.specs.Calls.{Arrived, HasGone, IsGone, IsTooLong}
+use Rattle.ps_shared.specs.Doing.{Does, Passes}
+use Rattle.ps_shared.specs.Flush.{Flushes, NotFlushed, TellsFault}
+use Rattle.ps_shared.specs.Origin.{Origin}
+use Rattle.ps_streams.specs.Reading.{FoundAt, FoundClosed, FoundNoEnd, SaidGone}
+use Rattle.ps_streams.proofs.Looping.{the_err}
+
+-- what was seen grows
+abbrev pub Grows : List Deed → List Deed → Type 0
+Grows old new = (more : List Deed) × (new ≡ old ++ more)
+
+grow-more : (old mid new : List Deed) → Grows old mid → Grows mid new → Grows old new
+grow-more old mid new a b = (a.0 ++ b.0, b.1 ∙ (ap (λ l. l ++ b.0) a.1 ∙ assoc old a.0 b.0))
+
+pub found-on : (o : Origin) {Holds : World → Type 0} (old new : List Deed) → Grows old new → FoundAt o old Holds → FoundAt o new Holds
+found-on o old new g had = record { front = had.front; rest = had.rest ++ g.0; is = g.1 ∙ (ap (λ l. l ++ g.0) had.is ∙ assoc had.front had.rest g.0); holds = had.holds }
+
+module _ (o : Origin) (k : ℕ) where
+  grows-did : {Did : World → List Step → Type 0} (old new : List Deed) → Does o k old new Did → Grows old new
+  grows-did old new did = (did.between ++ deeds k did.bytes did.steps, did.seen ∙ assoc old did.between (deeds k did.bytes did.steps))
+
+  grows-passed : (old new : List Deed) → Passes o k old new → Grows old new
+  grows-passed old new p = (p.between, p.is)
+
+  grows-flushes : (old new : List Deed) → Flushes o k old new → Grows old new
+  grows-flushes old new f = grow-more old f.found new (grows-passed old f.found f.passed) (grows-did f.found new f.added)
+
+  grows-fault : (found new : List Deed) → TellsFault o k found new → Grows found new
+  grows-fault found new (inl same) = ([], same.0 ∙ sym (nil-right found))
+  grows-fault found new (inr added) = grows-did found new added
+
+  grows-not-flushed : (old new : List Deed) → NotFlushed o k old new → Grows old new
+  grows-not-flushed old new f = grow-more old f.found new (grows-passed old f.found f.passed) (grows-fault f.found new f.fault)
+
+  module _ (h : List ℕ) where
+    grows-gone : {T : Type 0} (old new : List Deed) (r : Result T HandedRefusal) → IsGone o k h old new r → Grows old new
+    grows-gone old new (Ok t) g = grow-more old g.mid new (grows-did old g.mid g.gone) (grows-flushes g.mid new g.after)
+    grows-gone old new (Err e) (inl did) = grows-did old new did
+    grows-gone old new (Err e) (inr g) = grow-more old g.1.mid new (grows-did old g.1.mid g.1.gone) (grows-not-flushed g.1.mid new g.1.after)
+
+    pub gone-grows : {T : Type 0} (old new : List Deed) (r : Result T HandedRefusal) → HasGone o k h old new r → Grows old new
+    gone-grows old new r g = grow-more old g.before new (grows-gone old g.before r g.gone) (grows-did g.before new g.ended)
+
+    -- ---- causes
+
+    closed-is : (a : Arrival) (old new : List Deed) → Arrived o k h old new a (Err Closed) → FoundClosed o h new
+    closed-is a old new (inl did) = record { front = old ++ did.between; rest = deeds k did.bytes did.steps; is = did.seen; holds = did.does.0 }
+    closed-is a old new (inr l) = absurd (cc l.0)
+
+    pub arrived-closed : (a : Arrival) (old new : List Deed) (e : ArriveRefusal) → e ≡ Closed → Arrived o k h old new a (Err e) → FoundClosed o h new
+    arrived-closed a old new e same is = closed-is a old new (subst (λ (x : ArriveRefusal). Arrived o k h old new a (Err x)) same is)
+
+    full-is : (T : Type 0) (old new : List Deed) → IsGone o k h old new (the_err T Full) → FoundNoEnd o h new
+    full-is T old new (inl did) = record { front = old ++ did.between; rest = deeds k did.bytes did.steps; is = did.seen; holds = did.does.0.1 }
+    full-is T old new (inr g) = absurd (cc g.0)
+
+    pub gone-full : {T : Type 0} (old new : List Deed) (r : Result T HandedRefusal) → HasGone o k h old new r → r ≡ Err Full → FoundNoEnd o h new
+    gone-full {T} old new r g e = found-on o g.before new (grows-did g.before new g.ended) (full-is T old g.before (subst (λ (q : Result T HandedRefusal). IsGone o k h old g.before q) e g.gone))
+
+    -- ---- the Gone
+
+    said-by : {T : Type 0} (old new : List Deed) (t : T) → IsGone o k h old new (Ok t) → (m : ℕ) × (own_steps k new ≡ (own_steps k old ++ Gone h ∷ []) ++ Flush m ∷ [])
+    said-by old new t g =
+        let first = did-own the_core the-laws o.boot o.list o.hosts k old g.mid g.gone ∙ ap (λ ss. own_steps k old ++ ss) g.gone.does.1 in
+        let second = passed-own the_core the-laws o.boot o.list o.hosts k g.mid g.after.found g.after.passed in
+        let third = did-own the_core the-laws o.boot o.list o.hosts k g.after.found new g.after.added ∙ ap (λ ss. own_steps k g.after.found ++ ss) g.after.added.does in
+        (length g.after.found, third ∙ ap (λ l. l ++ Flush (length g.after.found) ∷ []) (second ∙ first))
+
+    pub said-gone : {T : Type 0} (old new : List Deed) (r : Result T HandedRefusal) → HasGone o k h old new r → (t : T) → r ≡ Ok t → SaidGone h k new
+    said-gone {T} old new r g t e =
+        let said = said-by old g.before t (subst (λ (q : Result T HandedRefusal). IsGone o k h old g.before q) e g.gone) in
+        let last = did-own the_core the-laws o.boot o.list o.hosts k g.before new g.ended ∙ ap (λ ss. own_steps k g.before ++ ss) g.ended.does in
+        let end = Ended h Reader ∷ [] in
+        record {
+          front = own_steps k old;
+          rest = Flush said.0 ∷ end;
+          is = last ∙ (ap (λ l. l ++ end) said.1 ∙ (assoc (own_steps k old ++ Gone h ∷ []) (Flush said.0 ∷ []) end ∙ assoc (own_steps k old) (Gone h ∷ []) (Flush said.0 ∷ end)));
+        }
