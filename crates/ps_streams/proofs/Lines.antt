@@ -11,6 +11,7 @@ use Rattle.ps_wire.specs.Reading.{IsNext}
 use Rattle.ps_wire.specs.declared.lines.NextLine.TheVariants as next
 use Rattle.ps_world.proofs.Lists.{assoc}
 use Rattle.ps_streams.specs.Reading.{AreLinesOf, CameOf, ClockGives, HasMoment, HaveMoments, IsEnd, WasAsked, all_noted, told_moment}
+use Rattle.ps_streams.proofs.Saying.{if_so}
 
 lines-more : (xs ys : List Arrival) (ls ms : List (List ℕ)) → AreLinesOf xs ls → AreLinesOf ys ms → AreLinesOf (xs ++ ys) (ls ++ ms)
 lines-more [] ys [] ms a b = b
@@ -91,19 +92,15 @@ asked-long told now m gives = asked-one told now m TooLong (λ x e. tt) gives
 
 -- ---- an answer
 
-if_true : {X : Type 0} (b : Bool) (x y : X) → b ≡ true → (if b then x else y) ≡ x
-if_true true x y e = refl
-if_true false x y e = absurd (cc e)
-
-if_false : {X : Type 0} (b : Bool) (x y : X) → b ≡ false → (if b then x else y) ≡ y
-if_false true x y e = absurd (cc e)
-if_false false x y e = refl
+if_not : {X : Type 0} (b : Bool) (x y : X) → b ≡ false → (if b then x else y) ≡ y
+if_not true x y e = absurd (cc e)
+if_not false x y e = refl
 
 pub kept-moment : (at : ℕ) → at < 253370764800 → Some at ≡ told_moment (Some at)
-kept-moment at low = sym (if_true (nat_lt at 253370764800) (Some at) None (lt-ltb at 253370764800 low))
+kept-moment at low = sym (if_so (nat_lt at 253370764800) (Some at) None (lt-ltb at 253370764800 low))
 
 pub lost-moment : (at : ℕ) → 253370764800 ≤ at → None ≡ told_moment (Some at)
-lost-moment at high = sym (if_false (nat_lt at 253370764800) (Some at) None (le-ltb at 253370764800 high))
+lost-moment at high = sym (if_not (nat_lt at 253370764800) (Some at) None (le-ltb at 253370764800 high))
 
 pub gives-ok : (E : Type 0) (told now : Option (List (Option ℕ))) (at : ℕ) (m : Option ℕ) → m ≡ told_moment (Some at) → Tells {E = E} told now (Ok at) → ClockGives told now m
 gives-ok E None now at m e tells = (Some at, e)

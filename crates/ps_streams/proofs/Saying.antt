@@ -40,7 +40,7 @@ use Rattle.ps_streams.proofs.Moving.{Moved, moved-did, moved-handed, moved-more,
 
 -- ---- words
 
-if_so : {X : Type 0} (b : Bool) (x y : X) → b ≡ true → (if b then x else y) ≡ x
+pub if_so : {X : Type 0} (b : Bool) (x y : X) → b ≡ true → (if b then x else y) ≡ x
 if_so true x y e = refl
 if_so false x y e = absurd (cc e)
 
