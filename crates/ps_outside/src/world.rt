@@ -39,13 +39,13 @@ pub enum WorldRefusal {
 
 /// The outside, which opens objects by name and takes reports.
 pub trait World {
-    type Reading: Source + Send;
+    type Reading: Source + Send + Drop;
 
-    type Writing: Sink + Send;
+    type Writing: Sink + Send + Drop;
 
-    type Store: Disk + Send;
+    type Store: Disk + Send + Drop;
 
-    type Ticking: Clock + Send;
+    type Ticking: Clock + Send + Drop;
 
     /// What is held under each name as a source, while it isn't open.
     ghost sources: { Self → List ℕ → Held };

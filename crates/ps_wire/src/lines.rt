@@ -60,6 +60,7 @@ pub struct LinesRefusal<S> {
 ///
 /// `specs/Reading.antt` names what contracts see of it: its source, the bytes that it holds, how many it was given, whether
 /// the input has ended, and the refusal at which it stopped.
+#[derive(Drop)]
 pub struct Lines<S: Source> {
     source: S,
     held: Held,
