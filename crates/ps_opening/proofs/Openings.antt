@@ -1,15 +1,17 @@
 -- The two values before the first step.
-use Rattle.std.proofs.Common.{◌≡◌, ◌≢◌, ℕ, ◌+◌, ◌≤◌, ◌^◌, false, List, [], ◌∷◌, ◌++◌, Option, Some, None, length, refl, ap, sym, ◌∙◌, subst, arith, length-append, append-nil}
+use Rattle.std.proofs.Common.{◌≡◌, ◌≢◌, inl, inr, ℕ, ◌+◌, ◌-◌, ◌≤◌, ◌^◌, false, List, [], ◌∷◌, ◌++◌, Option, Some, None, length, refl, ap, sym, ◌∙◌, subst, arith, length-append, append-nil}
 use Rattle.std.specs.Prelude.{IfSome, slice_get, option_map}
 use Rattle.std.proofs.lemmas.Option.{slice_get-map}
+use Rattle.std.proofs.Math.Nat.{le_refl}
 use Rattle.ps_types.specs.declared.entry.Entry.{Entry}
 use Rattle.ps_types.specs.declared.entry.Entry.TheVariants.{Boot}
 use Rattle.ps_types.specs.declared.entry.Notice.{Notice}
 use Rattle.ps_disk.specs.declared.device.Disk.{Ghosts}
+use Rattle.ps_disk.specs.Disk.{MayLeave}
 use Rattle.ps_journal.specs.declared.journal.Journal.{Journal}
 use Rattle.ps_journal.specs.Journal.{broken_of, disk_of, length_of}
 use Rattle.ps_journal.specs.Left.{LeavesList}
-use Rattle.ps_journal.specs.Opened.{HasLength}
+use Rattle.ps_journal.specs.Opened.{HasLength, IsShortIfUnbegun}
 use Rattle.ps_model.specs.At.{IsStore}
 use Rattle.ps_model.specs.Machine.{start}
 use Rattle.ps_model.specs.Replay.{lawful}
@@ -27,11 +29,13 @@ use Rattle.ps_state.specs.declared.state.Hand.{Hand}
 use Rattle.ps_state.specs.declared.state.HostRow.{HostRow}
 use Rattle.ps_state.specs.declared.state.State.{State}
 use Rattle.ps_state.proofs.Stepping.{count-is}
-use Rattle.ps_store.specs.Stand.{OpenedAt, StoreStands, length_in, opened_at}
+use Rattle.ps_store.specs.Stand.{BeganFrom, OpenedAt, SinceStart, StoreStands, disk_in, length_in}
 use Rattle.ps_store.specs.declared.store.Store.{Store}
+use Rattle.ps_store.proofs.Fronts.{front_either}
 use Rattle.ps_opening.specs.Begun.{frame_of}
 use Rattle.ps_opening.specs.Fresh.{AreFreshRows, AreHosts}
-use Rattle.ps_opening.specs.Opens.{IsMadeOf, IsOpen, IsRestored, at_now}
+use Rattle.ps_opening.specs.Left.{Fronts, OpenLeaves}
+use Rattle.ps_opening.specs.Opens.{IsMadeOf, IsOpen, IsRestored, at_from}
 use Rattle.ps_opening.specs.declared.replaying.Rebuilt.{Rebuilt}
 use Rattle.ps_opening.proofs.Replays.{lawful-core}
 
@@ -72,6 +76,23 @@ all_durable service some E each =
     let least : length (E ++ Boot service ∷ []) ≤ durable w = sound.opened in
     let size : length w.made ≡ length (E ++ Boot service ∷ []) = sound.sizes in
     omega (arith, most, least, size)
+
+-- what a crash leaves while a store is opened
+since_opened : {D : Type 0} (g : Ghosts D) (at : OpenedAt) (disk new : D) (service : List ℕ) (E : List Entry) → at.start ≡ g.moment disk → at.synced ≡ g.synced disk → at.written ≡ g.written disk → at.moment ≡ g.moment new
+    → OpenLeaves g.moment g.left_since g.synced g.written E (Boot service) disk new → (g.written disk ≡ [] → Fronts g.moment g.left_since g.synced g.written disk new) → SinceStart g at new (start the_core service E)
+since_opened {D} g at disk new service E begun synced written moment moments fronts =
+    let w = start the_core service E in
+    let more = length-append E (Boot service ∷ []) in
+    let fewer : w.opened - 1 ≡ length E = omega (arith, more) in
+    let from : (c : List ℕ) → g.left_since new at.start c → g.left_since new (g.moment disk) c = λ c left. subst (λ (t : ℕ). g.left_since new t c) begun left in
+    record {
+      begun = (let l = moments.later in omega (arith, l, begun, moment));
+      left = λ c left. elim (moments.each c (from c left)) [
+        | inl may ↦ inl (subst (λ (s : List ℕ). MayLeave s at.written c) (sym synced) (subst (λ (x : List (ℕ × ℕ)). MayLeave (g.synced disk) x c) (sym written) may))
+        | inr some ↦ inr (front_either E (Boot service ∷ []) w.entries (length E) (w.opened - 1) c refl fewer (le_refl (length E)) some)
+      ];
+      fronts = λ none c left. (fronts (sym written ∙ none)).since.each c (from c left);
+    }
 
 module _ {D : Type 0} {g : Ghosts D} (journal : Journal D g) (r : Rebuilt) (rows : List HostRow) (limits : Limits) (v : State) (y : Store D g) (made : IsMadeOf journal r rows limits v y) where
   module _ (service : List ℕ) (some : service ≢ []) (E : List Entry) (restored : IsRestored E (Boot service) r) where
@@ -117,30 +138,42 @@ module _ {D : Type 0} {g : Ghosts D} (journal : Journal D g) (r : Rebuilt) (rows
       queues = subst (λ (q : List Notice). QueuesStand q (E ++ Boot service ∷ [])) (sym made.queues) restored.queues;
     }
 
-    store_stands : broken_of journal ≡ None → (g.tells → spelled (g.seen (disk_of journal)) (E ++ Boot service ∷ [])) → (g.tells → LeavesList (g.synced (disk_of journal)) (g.written (disk_of journal)) (E ++ Boot service ∷ []))
-        → StoreStands (opened_at journal) y (start the_core service E)
-    store_stands unbroken seen lasts =
-        made.stands (start the_core service E) (record { sound = start_sound service some E restored.each; steps = refl; unbroken = refl; whole = unbroken; seen = seen; lasts = lasts }) counted
+    store_stands : (at : OpenedAt) → BeganFrom at journal (start the_core service E) → broken_of journal ≡ None → (g.tells → spelled (g.seen (disk_of journal)) (E ++ Boot service ∷ [])) → (g.tells → LeavesList (g.synced (disk_of journal)) (g.written (disk_of journal)) (E ++ Boot service ∷ []))
+        → StoreStands at y (start the_core service E)
+    store_stands at began unbroken seen lasts =
+        made.stands at (start the_core service E) (record { sound = start_sound service some E restored.each; steps = refl; unbroken = refl; whole = unbroken; seen = seen; lasts = lasts }) counted began
 
-  long_same : (w : World) → StoreStands (opened_at journal) y w → w.broken ≡ false → length_in y ≡ length_of journal
-  long_same w is unbroken = sym (is.whole unbroken).length_is ∙ (ap (λ (p : ℕ × ℕ). p.1) made.mark ∙ made.length_is)
+  long_same : (at : OpenedAt) (w : World) → StoreStands at y w → w.broken ≡ false → length_in y ≡ length_of journal
+  long_same at w is unbroken = sym (is.whole unbroken).length_is ∙ (ap (λ (p : ℕ × ℕ). p.1) made.mark ∙ made.length_is)
 
-  same_at : length_in y ≡ length_of journal → at_now y ≡ opened_at journal
-  same_at long = λ j. record { moment = g.moment (made.disk j); faults = g.faults (made.disk j); bytes = long j }
+  -- with its length as the journal tells it
+  abbrev at_with : D → ℕ → OpenedAt
+  at_with disk long = record { moment = g.moment (disk_in y); faults = g.faults (disk_in y); bytes = long; start = g.moment disk; seen = g.seen disk; synced = g.synced disk; written = g.written disk }
+
+  began_with : (disk : D) (service : List ℕ) (E : List Entry) → (g.tells → IsShortIfUnbegun (g.seen disk) → OpenLeaves g.moment g.left_since g.synced g.written E (Boot service) disk (disk_of journal))
+      → (g.tells → g.written disk ≡ [] → IsShortIfUnbegun (g.seen disk) → Fronts g.moment g.left_since g.synced g.written disk (disk_of journal)) → (long : ℕ) → long ≡ length_of journal → BeganFrom (at_with disk long) journal (start the_core service E)
+  began_with disk service E moments fronts long same = record {
+    moment = ap g.moment made.disk;
+    faults = ap g.faults made.disk;
+    bytes = same;
+    since_start = λ tells short. since_opened g (at_with disk long) disk (disk_of journal) service E refl refl refl (ap g.moment made.disk) (moments tells short) (λ none. fronts tells none short);
+  }
 
   -- a store that was opened
   pub opens : (disk : D) (service : List ℕ) (hosts : List (List ℕ)) (E : List Entry) (len : ℕ) → service ≢ [] → AreHosts hosts → AreFreshRows hosts rows → IsRestored E (Boot service) r
       → limits.changes ≤ 2 ^ 30 → limits.whole ≤ 2 ^ 30 → (g.tells → IsStore (g.seen disk) E) → (g.tells → HasLength (g.seen disk) len) → length_of journal ≡ len + frame_of (Boot service) → length_of journal ≤ limits.whole
       → broken_of journal ≡ None → (g.tells → spelled (g.seen (disk_of journal)) (E ++ Boot service ∷ [])) → (g.tells → LeavesList (g.synced (disk_of journal)) (g.written (disk_of journal)) (E ++ Boot service ∷ []))
+      → (g.tells → IsShortIfUnbegun (g.seen disk) → OpenLeaves g.moment g.left_since g.synced g.written E (Boot service) disk (disk_of journal)) → (g.tells → g.written disk ≡ [] → IsShortIfUnbegun (g.seen disk) → Fronts g.moment g.left_since g.synced g.written disk (disk_of journal))
       → IsOpen disk service hosts limits E v y
-  opens disk service hosts E len some are fresh restored changes whole store long size room unbroken seen lasts =
-      let stands = store_stands service some E restored unbroken seen lasts in
-      let same = long_same (start the_core service E) stands refl in
+  opens disk service hosts E len some are fresh restored changes whole store long size room unbroken seen lasts moments fronts =
+      let began = began_with disk service E moments fronts in
+      let stands = store_stands service some E restored (at_with disk (length_of journal)) (began (length_of journal) refl) unbroken seen lasts in
+      let same = long_same (at_with disk (length_of journal)) (start the_core service E) stands refl in
       record {
         store = store;
         lawful = lawful-core E restored.each;
         state = state_stands service some E restored hosts are fresh changes whole room;
-        archive = subst (λ (at : OpenedAt). StoreStands at y (start the_core service E)) (sym (same_at same)) stands;
+        archive = store_stands service some E restored (at_from disk y) (began (length_in y) same) unbroken seen lasts;
         long = λ tells. (len, long tells, same ∙ size);
         room = omega (arith, same, room);
         hosts_are = ap names made.rows_are ∙ fresh.hosts_are;

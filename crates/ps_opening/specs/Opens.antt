@@ -20,7 +20,7 @@ use Rattle.ps_state.specs.Stand.{QueuesStand, Stands}
 use Rattle.ps_state.specs.declared.answers.Limits.{Limits}
 use Rattle.ps_state.specs.declared.state.HostRow.{HostRow}
 use Rattle.ps_state.specs.declared.state.State.{State}
-use Rattle.ps_store.specs.Stand.{IsOpened, OpenedAt, StoreStands, disk_in, firm_of, length_in, mark_of, opened_at}
+use Rattle.ps_store.specs.Stand.{BeganFrom, IsOpened, OpenedAt, StoreStands, disk_in, firm_of, length_in, mark_of}
 use Rattle.ps_store.specs.declared.store.Store.{Store}
 use Rattle.ps_opening.specs.Begun.{NotBegun, frame_of}
 use Rattle.ps_opening.specs.Replayed.{StopsAt}
@@ -81,11 +81,20 @@ pub record IsMadeOf {D : Type 0} {g : Ghosts D} (journal : Journal D g) (r : Reb
   pub disk : disk_in y ≡ disk_of journal
   pub mark : mark_of y ≡ (v.count, v.length)
   pub firm : firm_of y ≡ 0
-  pub stands : (w : World) → IsOpened journal w → v.count ≡ length w.entries → StoreStands (opened_at journal) y w
+  pub stands : (at : OpenedAt) (w : World) → IsOpened journal w → v.count ≡ length w.entries → BeganFrom at journal w
+      → StoreStands at y w
 
--- the moment of its disk, its faults and its length
-abbrev pub at_now : {D : Type 0} {g : Ghosts D} → Store D g → OpenedAt
-at_now {D} {g} y = record { moment = g.moment (disk_in y); faults = g.faults (disk_in y); bytes = length_in y }
+-- the moment of its disk, its faults and its length, and the disk as it was before
+abbrev pub at_from : {D : Type 0} {g : Ghosts D} → D → Store D g → OpenedAt
+at_from {D} {g} disk y = record {
+  moment = g.moment (disk_in y);
+  faults = g.faults (disk_in y);
+  bytes = length_in y;
+  start = g.moment disk;
+  seen = g.seen disk;
+  synced = g.synced disk;
+  written = g.written disk;
+}
 
 -- The two stand for the world that begins with the entries of the store and a Boot, and no step. The state has the hosts in their order.
 pub record IsOpen {D : Type 0} {g : Ghosts D} (disk : D) (service : List ℕ) (hosts : List (List ℕ)) (limits : Limits)
@@ -93,7 +102,7 @@ pub record IsOpen {D : Type 0} {g : Ghosts D} (disk : D) (service : List ℕ) (h
   pub store : g.tells → IsStore (g.seen disk) entries
   pub lawful : IsLawful the_core entries
   pub state : Stands v (start the_core service entries)
-  pub archive : StoreStands (at_now y) y (start the_core service entries)
+  pub archive : StoreStands (at_from disk y) y (start the_core service entries)
   pub long : g.tells → (len : ℕ) × HasLength (g.seen disk) len × (length_in y ≡ len + frame_of (Boot service))
   pub room : length_in y ≤ limits.whole
   pub hosts_are : names v.rows.items ≡ hosts

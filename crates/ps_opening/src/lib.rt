@@ -6,7 +6,8 @@
 //! first of its address away. So each queue has what is not handed, in order. Nothing is flushed and no step was made.
 //!
 //! Where it answers an [`OpenRefusal`], the disk comes back with the cause: the offset of the damage, a fault of the disk, a Boot for which there is no
-//! room, or no memory. A crash at any moment of the call leaves what it might have left before, the entries, or those and the Boot.
+//! room, or no memory. A crash at any moment of the call leaves what it might have left before, the entries, or those and the Boot. The store that was
+//! opened keeps this in what it stands for, of all moments since the call began (`at_from`).
 #![tactic(auto)]
 
 mod beginning;

@@ -1,8 +1,7 @@
 -- A store that is opened, written, torn and read.
-use Rattle.std.proofs.Common.{◌≡◌, ◌≢◌, ◌⊎◌, inl, inr, ℕ, ◌+◌, ◌≤◌, ◌^◌, Bool, true, false, List, [], ◌++◌, Option, Some, None, length, refl, ap, sym, ◌∙◌, subst, arith, append-nil}
+use Rattle.std.proofs.Common.{◌≡◌, ◌≢◌, ◌⊎◌, inl, inr, ℕ, ◌+◌, ◌≤◌, ◌^◌, Bool, true, false, List, ◌++◌, Option, Some, None, length, refl, ap, sym, ◌∙◌, subst, arith, append-nil}
 use Rattle.std.specs.Prelude.{is_some}
 use Rattle.std.proofs.lemmas.Bool.{false≢true}
-use Rattle.std.proofs.Math.Nat.{le_refl}
 use Rattle.ps_base.specs.Causes.{Rose}
 use Rattle.ps_types.specs.declared.entry.Entry.{Entry}
 use Rattle.ps_disk.specs.declared.device.Disk.{Ghosts}
@@ -13,12 +12,12 @@ use Rattle.ps_journal.specs.Left.{IsFrontOfLeft, IsWithOrWithout, LeavesList}
 use Rattle.ps_model.specs.Entries.{body}
 use Rattle.ps_model.specs.Store.{spelled}
 use Rattle.ps_model.specs.TheCore.{the_core}
-use Rattle.ps_model.specs.World.{World, ends}
+use Rattle.ps_model.specs.World.{World}
 use Rattle.ps_world.specs.Sound.{Sound}
 use Rattle.ps_world.proofs.Lists.{ends-le}
 use Rattle.ps_world.specs.Calm.{Follows}
 use Rattle.ps_store.specs.Frames.{IsTorn, Loaded, bytes_of, entries_of}
-use Rattle.ps_store.specs.Stand.{IsKept, IsOpened, IsWhole, OpenedAt, StoreStands, broken_in, disk_in, length_in, opened_at}
+use Rattle.ps_store.specs.Stand.{BeganFrom, IsKept, IsOpened, IsWhole, OpenedAt, StoreStands, broken_in, disk_in, length_in}
 use Rattle.ps_store.specs.declared.store.Frame.{Frame}
 use Rattle.ps_store.specs.declared.store.Store.{Store}
 use Rattle.ps_store.proofs.Keeping.{CountsNow, OnlyNow, SeenLeft, kept_all, kept_on, kept_opened, kept_read, kept_torn, kept_written}
@@ -48,17 +47,17 @@ rose_or before now (inl not) none = absurd (not none)
 rose_or before now (inr rose) none = rose
 
 module _ {D : Type 0} {g : Ghosts D} where
-  pub opened_ok : OnlyNow g → (journal : Journal D g) (count len : ℕ) (w : World) → IsOpened journal w → count ≡ length w.entries → len ≡ length_of journal → (let y : Store D g = record { journal = journal; count = count; length = len; steps = 0; firm = 0 } in StoreStands (opened_at journal) y w)
-  opened_ok only journal count len w is counted long = record {
+  pub opened_ok : OnlyNow g → (journal : Journal D g) (count len : ℕ) (at : OpenedAt) (w : World) → IsOpened journal w → count ≡ length w.entries → BeganFrom at journal w → len ≡ length_of journal → (let y : Store D g = record { journal = journal; count = count; length = len; steps = 0; firm = 0 } in StoreStands at y w)
+  opened_ok only journal count len at w is counted began long = record {
     sound = is.sound;
     steps = sym is.steps;
     firm = omega arith;
     broken = is.unbroken ∙ ap (λ o. is_some o) (sym is.whole);
     whole = λ b. record { unbroken = is.whole; seen = is.seen; lasts = is.lasts; count = counted; length_is = long };
     fault = λ b. absurd (false≢true (sym is.unbroken ∙ b));
-    faults = le_refl (g.faults (disk_of journal));
-    grows = le_refl (length_of journal);
-    kept = λ tells. kept_opened g (opened_at journal) only (disk_of journal) 0 w is.sound.sizes (opened-within w is.sound) refl (is.lasts tells);
+    faults = (let f = began.faults in omega (arith, f));
+    grows = (let b = began.bytes in omega (arith, b));
+    kept = λ tells. kept_opened g at only (disk_of journal) 0 w is.sound.sizes (opened-within w is.sound) began.moment (is.lasts tells) (began.since_start tells);
   }
 
   -- what the frame lacks is whole before it

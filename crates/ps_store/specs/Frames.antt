@@ -10,7 +10,7 @@ use Rattle.ps_model.specs.World.{World}
 use Rattle.ps_types.specs.declared.entry.Entry.{Entry}
 use Rattle.ps_world.specs.Sound.{Sound}
 use Rattle.ps_world.specs.Calm.{Follows}
-use Rattle.ps_store.specs.Stand.{IsKept, OpenedAt, StoreStands, broken_in, disk_in, firm_of, length_in, steps_of}
+use Rattle.ps_store.specs.Stand.{IsKept, OpenedAt, StoreStands, broken_in, disk_in, firm_of, length_in}
 use Rattle.ps_store.specs.declared.store.Frame.{Frame}
 use Rattle.ps_store.specs.declared.store.Store.{Store}
 

@@ -1,11 +1,12 @@
 -- When a store stands for a world, and what every crash keeps of it.
-use Rattle.std.specs.Prelude.{◌≡◌, ℕ, ◌≤◌, true, false, List, length, Option, None, is_some}
+use Rattle.std.specs.Prelude.{◌≡◌, ◌⊎◌, ℕ, ◌-◌, ◌≤◌, true, false, List, [], length, Option, None, is_some}
 use Rattle.ps_base.specs.Causes.{Rose}
 use Rattle.ps_disk.specs.declared.device.Disk.{Ghosts}
 use Rattle.ps_disk.specs.Disk.{MayLeave}
 use Rattle.ps_journal.specs.declared.journal.Journal.{Journal}
 use Rattle.ps_journal.specs.Journal.{broken_of, disk_of, length_of}
 use Rattle.ps_journal.specs.Left.{IsFrontOfLeft, LeavesList}
+use Rattle.ps_journal.specs.Opened.{IsShortIfUnbegun}
 use Rattle.ps_model.specs.Store.{spelled}
 use Rattle.ps_model.specs.TheCore.{the_core}
 use Rattle.ps_model.specs.World.{World, ends}
@@ -36,17 +37,30 @@ mark_of y = (y.count, y.length)
 
 -- ---- since when
 
--- the disk's moment, its count of faults and the journal's length, as the store was opened
+-- the disk's moment, its count of faults and the journal's length, once the store was opened; and the disk as it was before: its moment, what a read of it
+-- gives, what stood there at its last sync, and the ranges written since
 pub record OpenedAt : Type 0 where
   pub moment : ℕ
   pub faults : ℕ
   pub bytes : ℕ
-
-abbrev pub opened_at : {D : Type 0} {g : Ghosts D} → Journal D g → OpenedAt
-opened_at {D} {g} journal =
-    record { moment = g.moment (disk_of journal); faults = g.faults (disk_of journal); bytes = length_of journal }
+  pub start : ℕ
+  pub seen : List ℕ
+  pub synced : List ℕ
+  pub written : List (ℕ × ℕ)
 
 -- ---- worlds
+
+-- what a crash might have left before the opening, or a front that has all entries but the last of those that the opening left
+abbrev pub IsLeftSince : OpenedAt → World → List ℕ → Type 0
+IsLeftSince at w c = MayLeave at.synced at.written c ⊎ IsFront w.entries (w.opened - 1) c
+
+-- what crashes left at any moment since before the opening
+pub record SinceStart {D : Type 0} (g : Ghosts D) (at : OpenedAt) (disk : D) (w : World) : Type 0 where
+  pub begun : at.start ≤ at.moment
+  pub left : (c : List ℕ) → g.left_since disk at.start c → IsLeftSince at w c
+  -- where nothing was pending then, it is a front of a list that a crash may leave now
+  pub fronts : at.written ≡ [] → (c : List ℕ) → g.left_since disk at.start c
+      → IsFrontOfLeft (g.synced disk) (g.written disk) c
 
 -- what every crash keeps
 pub record IsKept {D : Type 0} (g : Ghosts D) (at : OpenedAt) (disk : D) (firm : ℕ) (w : World) : Type 0 where
@@ -57,6 +71,8 @@ pub record IsKept {D : Type 0} (g : Ghosts D) (at : OpenedAt) (disk : D) (firm :
   -- crash may leave now
   pub since : (c : List ℕ) → g.left_since disk at.moment c → IsFront w.entries w.opened c
   pub fronts : (c : List ℕ) → g.left_since disk at.moment c → IsFrontOfLeft (g.synced disk) (g.written disk) c
+  -- and what it left at any moment since before the opening
+  pub since_start : IsShortIfUnbegun at.seen → SinceStart g at disk w
 
 -- nothing has failed: the disk has all entries, after a crash too, and the numbers of the frames are the journal's
 pub record IsWhole {D : Type 0} {g : Ghosts D} (y : Store D g) (w : World) : Type 0 where
@@ -87,3 +103,10 @@ pub record IsOpened {D : Type 0} {g : Ghosts D} (journal : Journal D g) (w : Wor
   pub whole : broken_of journal ≡ None
   pub seen : g.tells → spelled (g.seen (disk_of journal)) w.entries
   pub lasts : g.tells → LeavesList (g.synced (disk_of journal)) (g.written (disk_of journal)) w.entries
+
+-- it was opened at that moment, with those faults and that length, and the list has all that crashes left since before
+pub record BeganFrom {D : Type 0} {g : Ghosts D} (at : OpenedAt) (journal : Journal D g) (w : World) : Type 0 where
+  pub moment : at.moment ≡ g.moment (disk_of journal)
+  pub faults : at.faults ≡ g.faults (disk_of journal)
+  pub bytes : at.bytes ≡ length_of journal
+  pub since_start : g.tells → IsShortIfUnbegun at.seen → SinceStart g at (disk_of journal) w

@@ -1,11 +1,11 @@
 // The journal, and the list of steps that it stands for.
-ghost use Rattle.std.specs.Prelude.{◌≡◌, ◌≢◌, ◌≤◌, ◌+◌, [], ℕ, List, None, IfSome, IfOk, IfErr, OnOk, OnErr, length};
+ghost use Rattle.std.specs.Prelude.{◌≡◌, ◌≢◌, ◌≤◌, ◌+◌, [], ℕ, List, None, IfSome, IfOk, IfErr, OnOk, OnErr, is_some, length};
 ghost use Rattle.ps_model.specs.Store.{gate_at, Begun};
 ghost use Rattle.ps_model.specs.World.{World};
 ghost use Rattle.ps_journal.specs.Journal.{disk_of, length_of};
 ghost use Rattle.ps_journal.specs.Left.{LeavesAtLeast};
 ghost use Rattle.ps_store.specs.Frames.{IsRead, NotRead, NotesFault, Tears, Writes};
-ghost use Rattle.ps_store.specs.Stand.{IsOpened, StoreStands, broken_in, disk_in, firm_of, length_in, mark_of, opened_at, steps_of};
+ghost use Rattle.ps_store.specs.Stand.{BeganFrom, IsOpened, OpenedAt, StoreStands, broken_in, disk_in, firm_of, length_in, mark_of, steps_of};
 
 use ps_base::Failed;
 use ps_disk::Disk;
@@ -40,8 +40,8 @@ pub struct Store<D: Disk> {
 impl<D: Disk> Store<D> {
     /// The store of a journal that was opened and has so many entries, before the first step.
     pub fn new(journal: Journal<D>, count: u64) -> Store<D>
-        ensures stands { (w : World) → IsOpened journal w → count ≡ length w.entries
-            → StoreStands (opened_at journal) result w }
+        ensures stands { (at : OpenedAt) (w : World) → IsOpened journal w → count ≡ length w.entries
+            → BeganFrom at journal w → StoreStands at result w }
         ensures mark { mark_of result ≡ (count, length_of journal) }
         ensures steps { steps_of result ≡ 0 }
         ensures firm { firm_of result ≡ 0 }
@@ -76,6 +76,13 @@ impl<D: Disk> Store<D> {
         ensures { result ≡ mark_of self.now }
     {
         (self.count, self.length)
+    }
+
+    /// Whether the disk has failed under a frame, or as the entries were read again.
+    pub fn is_broken(&self) -> bool
+        ensures { result ≡ is_some (broken_in self.now) }
+    {
+        self.journal.broken().is_some()
     }
 
     /// Writes a frame. Once it succeeds, all steps so far are firm. Where it fails, the fault is to be told by a step, and

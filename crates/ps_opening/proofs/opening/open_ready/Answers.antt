@@ -13,7 +13,7 @@ use Rattle.ps_opening.specs.Opens.{IsOpen, IsRestored}
 use Rattle.ps_opening.proofs.Fronts.{fronts_opened, fronts_then}
 use Rattle.ps_opening.proofs.Openings.{opens}
 use Rattle.ps_opening.proofs.Refusals.{journal_left, open_left, refused_journal, refused_restore}
-use Rattle.ps_opening.proofs.Replays.{name_some, opened_store}
+use Rattle.ps_opening.proofs.Replays.{name_some, opened_spells, opened_store}
 use Rattle.ps_opening.proofs.Timely.{placed_entries}
 use Rattle.ps_opening.proofs.opening.open_ready.Goals as goal
 
@@ -86,6 +86,8 @@ returns-clause-opened g c service hosts ready =
     let e = c.in-Ok.ensures in
     let done = c.in-Ok-restore.ensures in
     let E = entries_in c.in-Ok.placed.items in
+    let old = c.args.disk in
+    let mid = disk_of c.in-Ok.journal in
     let new = disk_of c.restore.new.journal in
     let restored = subst (λ (b : Entry). IsRestored E b c.restore.new.rebuilt) ready.boot done.restored in
     let size = done.length ∙ ap (λ (n : ℕ). length_of c.in-Ok.journal + n) (ap frame_of ready.boot) in
@@ -93,4 +95,12 @@ returns-clause-opened g c service hosts ready =
     (opens c.restore.new.journal c.restore.new.rebuilt c.args.ready.rows.items c.args.limits _ _ c.made_of.ensures.made c.args.disk service hosts E (length_of c.in-Ok.journal) (name_some service ready.name) ready.hosts_are ready.rows restored
     c.requires.bounded.0 c.requires.bounded.1 (λ tells. opened_store (D.seen c.args.disk) c.in-Ok.placed.items (e.entries tells) done.restored.each) (λ tells. e.long tells) size (omega (arith, done.room, done.length)) done.unbroken
     (λ tells. subst (λ (b : Entry). spelled (D.seen new) (E ++ b ∷ [])) ready.boot (done.entries tells (e.same tells)))
-    (λ tells. subst (λ (b : Entry). LeavesList (D.synced new) (D.written new) (E ++ b ∷ [])) ready.boot (done.durable tells (e.same tells))))
+    (λ tells. subst (λ (b : Entry). LeavesList (D.synced new) (D.written new) (E ++ b ∷ [])) ready.boot (done.durable tells (e.same tells)))
+    (λ tells short. (
+    let spells = opened_spells (D.seen old) c.in-Ok.placed.items (e.entries tells) in
+    subst (λ (b : Entry). OpenLeaves D.moment D.left_since D.synced D.written E b old new) ready.boot
+    (open_left D old mid new c.in-Ok.placed.items c.args.ready.boot E spells (e.entries tells) (e.same tells) (e.durable tells) (e.any_moment tells E spells short) (c.restore.ensures.any_moment tells))))
+    (λ tells none short. (
+    let spells = opened_spells (D.seen old) c.in-Ok.placed.items (e.entries tells) in
+    fronts_then D old mid new (fronts_opened D g.met.D.Disk.seen_left g.met.D.Disk.counts_now old mid E none spells (e.any_moment tells E spells short))
+    (c.restore.ensures.fronts tells E (e.same tells) (e.durable tells)))))

@@ -1,8 +1,7 @@
-use Rattle.std.proofs.Common.{◌≡◌, ◌+◌, ap, arith, refl, ◌∙◌, sym}
+use Rattle.std.proofs.Common.{◌≡◌, ap, arith, refl}
 use Rattle.std.specs.Prelude.{Err}
 use Rattle.ps_journal.specs.declared.journal.AppendRefusal.{AppendRefusal}
 use Rattle.ps_journal.specs.declared.journal.AppendRefusal.TheVariants.{Full, Store}
-use Rattle.ps_journal.specs.Journal.{disk_of}
 use Rattle.ps_store.proofs.Storing.{passed_ok, room_ok, rose_or, torn_ok, whole_before, written_ok}
 use Rattle.ps_store.proofs.store.Store.append.Goals as goal
 
