@@ -1,0 +1,4 @@
+pub mod Numbers
+pub mod Hosts
+pub mod Cut
+pub mod Well
