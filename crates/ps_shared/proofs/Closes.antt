@@ -29,6 +29,7 @@ kept_less g at disk few firm w le is = record {
   now = λ c may. (let f = is.now c may in let m = ends-mono few firm w.made le in let e = f.enough in record { count = f.count; enough = omega (arith, m, e); fits = f.fits; spells = f.spells });
   since = is.since;
   fronts = is.fronts;
+  since_start = is.since_start;
 }
 
 pub closed_ok : {V J D : Type 0} {g : Ghosts D} (o : Origin) (v : State) (y : Store D g) (log l : List Deed) (seats : List (TwinSeat V J Deed)) → HomeStands o v log → ArchiveStands o y l → Prefix l log → v.flushed ≤ store.firm_of y → state_mark v ≡ store.mark_of y
@@ -50,5 +51,7 @@ closed_ok {V} {J} {D} {g} o v y log l seats home archive front firm mark later =
           let count : v.count ≡ y.count = ap (λ p. p.0) mark in
           let cut = same_cut b.begun w.entries (entries_of v.batch) follows.more (sym b.all ∙ follows.entries) (b.size ∙ (count ∙ whole.count)) in
           b.all ∙ ap (λ E. E ++ entries_of v.batch) cut.0);
+      firm = firm;
+      mark = mark;
       later = later;
     }

@@ -5,6 +5,7 @@ use Rattle.ps_state.specs.declared.answers.Limits.{Limits}
 use Rattle.ps_store.specs.Stand.{OpenedAt}
 
 -- the hosts that are served, the list that the store had, the service of the Boot that followed it, how long the store may become, and what was seen of the disk
+-- before the opening and behind it
 pub record Origin : Type 0 where
   pub hosts : List (List ℕ)
   pub list : List Entry
@@ -13,4 +14,4 @@ pub record Origin : Type 0 where
   pub at : OpenedAt
 
 abbrev pub nowhere : Origin
-nowhere = record { hosts = []; list = []; boot = []; limits = record { changes = 0; whole = 0 }; at = record { moment = 0; faults = 0; bytes = 0 } }
+nowhere = record { hosts = []; list = []; boot = []; limits = record { changes = 0; whole = 0 }; at = record { moment = 0; faults = 0; bytes = 0; start = 0; seen = []; synced = []; written = [] } }

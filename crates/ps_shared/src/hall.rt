@@ -74,7 +74,8 @@ impl<B: Opening, D: Disk> Drop for HostPasses<B, D> {
 }
 
 impl<B: Opening, D: Disk> HostPasses<B, D> {
-    pub(crate) fn into_passes(self) -> (Pass<B, D>, Pass<B, D>)
+    /// Both, the reader's first.
+    pub fn into_passes(self) -> (Pass<B, D>, Pass<B, D>)
         ensures { result ≡ (self.reader, self.writer) }
     {
         let Self { reader, writer } = self;

@@ -40,7 +40,7 @@ some : codes "pubsub.example" ≢ []
 some e = absurd (cc e)
 
 module _ {D : Type 0} {g : Ghosts D} (disk : D) (service : List ℕ) (hosts : List (List ℕ)) (limits : Limits) (E : List Entry) (v : State) (y : Store D g) where
-  pub may_start : service ≡ codes "pubsub.example" → hosts ≡ are_one → IsOpen disk service hosts limits E v y → MayStart (origin_of hosts service E v y) v y hosts
+  pub may_start : service ≡ codes "pubsub.example" → hosts ≡ are_one → IsOpen disk service hosts limits E v y → MayStart (origin_of disk hosts service E v y) v y hosts
   may_start named one is =
       let size : length hosts ≡ 1 = ap length one in
       record {

@@ -1,6 +1,7 @@
 // Lives of a hall, from its opening to its end.
-ghost use Rattle.std.specs.Prelude.{◌≡◌, ◌<◌, length, OnOk};
+ghost use Rattle.std.specs.Prelude.{◌≡◌, ◌<◌, codes, length, OnOk};
 ghost use Rattle.ps_deeds.specs.Own.{AllDiffer};
+ghost use Rattle.ps_disk.specs.declared.memory.MemDisk.{MemDisk};
 ghost use Rattle.ps_shared.specs.Passes.{AreFresh, ArePasses};
 ghost use Rattle.ps_shared.specs.Start.{MayStart};
 ghost use Rattle.ps_shared_tests.specs.Begun.{are_one};
@@ -237,6 +238,29 @@ fn live<B: Opening>(
     }
 }
 
+// The disk is opened, and its host lives. The disk as it was is named apart, since the hall begins with what stood on it.
+fn opened(
+    rt: &(impl Abort + Wait + Threads + Sync + RandomSource),
+    alloc: Global,
+    disk: MemDisk,
+    service: &Text,
+    hosts: &[Text],
+    life: Life,
+) -> Result<MemDisk, Fail>
+    ghost from: { MemDisk }
+    requires given { disk ≡ from }
+    requires service { service.now ≡ codes "pubsub.example" }
+    requires hosts { hosts.now ≡ are_one }
+{
+    let opened = opens(rt, alloc, disk, service, hosts)?;
+    let Opened {
+        state,
+        store,
+        entries,
+    } = opened;
+    live::<Brand>(rt, alloc, state, store, entries, hosts, service, life)
+}
+
 // The disk of a store that served one host and was closed.
 fn served(
     rt: &(impl Abort + Wait + Threads + Sync + RandomSource),
@@ -246,13 +270,7 @@ fn served(
 ) -> Result<MemDisk, Fail> {
     let service = service_name(alloc)?;
     let hosts = host_names(alloc)?;
-    let hosts: &[Text] = &hosts;
-    let Opened {
-        state,
-        store,
-        entries,
-    } = opens(rt, alloc, disk, &service, hosts)?;
-    live::<Brand>(rt, alloc, state, store, entries, hosts, &service, life)
+    opened(rt, alloc, disk, &service, &hosts, life)
 }
 
 // The header, the Boot and the closed gate take 31 bytes. A frame adds its gate, four bytes of length and its entries: the three lines, of 188, 213 and 257

@@ -7,8 +7,9 @@ use Rattle.ps_types.specs.declared.entry.Arrival.{Arrival}
 use Rattle.ps_types.specs.declared.entry.Arrival.TheVariants.{Line, TooLong}
 use Rattle.ps_types.proofs.Lines.{lines_of_first}
 use Rattle.ps_outside.specs.Clock.{Tells, noted}
-use Rattle.ps_wire.specs.Reading.{IsNext}
+use Rattle.ps_wire.specs.Reading.{Gave, IsNext}
 use Rattle.ps_wire.specs.declared.lines.NextLine.TheVariants as next
+use Rattle.ps_wire.proofs.Gaining.{gave_more}
 use Rattle.ps_world.proofs.Lists.{assoc}
 use Rattle.ps_streams.specs.Reading.{AreLinesOf, CameOf, ClockGives, HasMoment, HaveMoments, IsEnd, WasAsked, all_noted, told_moment}
 use Rattle.ps_streams.proofs.Saying.{if_so}
@@ -62,6 +63,10 @@ end-of None mid left arrivals a b = tt
 end-of (Some all) None left arrivals a b = absurd a
 end-of (Some all) (Some mid) None arrivals a b = b
 end-of (Some all) (Some mid) (Some left) arrivals a b = b
+
+-- a source gave bytes, and then gave more
+pub gave-on : (first second third : Option (List ℕ)) (given mid now : ℕ) → Gave first second given mid → Gave second third mid now → Gave first third given now
+gave-on first second third given mid now a b = gave_more first second third given mid now b.0 a b.1 b.2
 
 -- ---- a clock
 

@@ -13,8 +13,9 @@ use Rattle.ps_state.specs.declared.answers.HandedRefusal.{HandedRefusal}
 use Rattle.ps_state.specs.declared.answers.HandedRefusal.TheVariants.{Store as NotStored}
 use Rattle.ps_shared.specs.Calls.{HasGone}
 use Rattle.ps_shared.specs.Origin.{Origin}
+use Rattle.ps_wire.specs.Reading.{IsWithoutLine}
 use Rattle.ps_streams.specs.declared.read.ReadEnd.{ReadEnd}
-use Rattle.ps_streams.specs.declared.read.ReadEnd.TheVariants.{Ended, Store}
+use Rattle.ps_streams.specs.declared.read.ReadEnd.TheVariants.{Ended, Long, ReadFault, Store}
 use Rattle.ps_streams.specs.Reading.{Brought, CameOf, Comes, IsEnd, Keeps, Lined, NoneComes, Reads, SoRead, StreamRead, WasAsked, brings_all}
 use Rattle.ps_streams.proofs.Bringing.{brought-more, brought-none, gone-brought, gone-keeps}
 use Rattle.ps_streams.proofs.Lines.{asked-more, asked-none, came-more, came-none, end-of}
@@ -24,6 +25,11 @@ Bytes = Option (List ℕ)
 
 abbrev Told : Type 0
 Told = Option (List (Option ℕ))
+
+-- an end at which a line may be missing is none of these two
+not-cut : (e : ReadEnd) → (brings_all e ≡ true → ⊥) → (e ≡ ReadFault) ⊎ (e ≡ Long) → ⊥
+not-cut e some (inl is) = some (ap brings_all is)
+not-cut e some (inr is) = some (ap brings_all is)
 
 module _ (o : Origin) where
   pub so-begun : (k : ℕ) (seen : List Deed) (before : Bytes) (told : Told) → AreOwned o.hosts seen → SoRead o k seen seen before before told told
@@ -40,8 +46,8 @@ module _ (o : Origin) where
         keeps = λ kept. b.keeps (a.keeps kept);
       }
 
-  pub reads-ended : (k j : ℕ) (old mid new : List Deed) (all rest left : Bytes) (t u v : Told) → j ≡ k → SoRead o k old mid all rest t u → SoRead o j mid new rest left u v → IsEnd rest left → Reads o k old new all t v Ended
-  reads-ended k j old mid new all rest left t u v same a b end =
+  pub reads-ended : (k j : ℕ) (old mid new : List Deed) (all rest left source : Bytes) (t u v : Told) → j ≡ k → SoRead o k old mid all rest t u → SoRead o j mid new rest left u v → IsEnd rest left → Reads o k old new all source t v Ended
+  reads-ended k j old mid new all rest left source t u v same a b end =
       let s = so-more k j old mid new all rest left t u v same a b in
       record {
         arrived = s.arrived;
@@ -52,15 +58,16 @@ module _ (o : Origin) where
           left = left;
           came = subst (CameOf all left) (sym (nil-right s.arrived)) s.came;
           whole = λ e. end-of all rest left a.arrived a.came end;
+          cut = λ e. absurd (elim e [ inl x ↦ cc x | inr x ↦ cc x ]);
           asked = subst (WasAsked t v) (sym (nil-right s.arrived)) s.asked;
         };
         brought = s.brought;
         keeps = λ other. s.keeps;
       }
 
-  pub reads-more : (k j : ℕ) (old mid new : List Deed) (all rest : Bytes) (t u v : Told) (e : ReadEnd) → j ≡ k → SoRead o k old mid all rest t u → Reads o j mid new rest u v e → Reads o k old new all t v e
-  reads-more k j old mid new all rest t u v e same a b' =
-      let b = subst (λ (n : ℕ). Reads o n mid new rest u v e) same b' in
+  pub reads-more : (k j : ℕ) (old mid new : List Deed) (all rest source : Bytes) (t u v : Told) (e : ReadEnd) → j ≡ k → SoRead o k old mid all rest t u → Reads o j mid new rest source u v e → Reads o k old new all source t v e
+  reads-more k j old mid new all rest source t u v e same a b' =
+      let b = subst (λ (n : ℕ). Reads o n mid new rest source u v e) same b' in
       let l = b.lined in
       let path = sym (assoc a.arrived b.arrived l.missing) in
       record {
@@ -72,6 +79,7 @@ module _ (o : Origin) where
           left = l.left;
           came = subst (CameOf all l.left) path (came-more all rest l.left a.arrived (b.arrived ++ l.missing) a.came l.came);
           whole = λ is. end-of all rest l.left a.arrived a.came (l.whole is);
+          cut = l.cut;
           asked = subst (WasAsked t v) path (asked-more t u v a.arrived (b.arrived ++ l.missing) a.asked l.asked);
         };
         brought = brought-more o k old mid new a.arrived b.arrived a.brought b.brought;
@@ -82,17 +90,17 @@ module _ (o : Origin) where
     pub next-ok : (a : Arrival) → Comes before left told now a → Brought o k old new (a ∷ []) × Keeps o k old new → SoRead o k old new before left told now
     next-ok a c t = record { arrived = a ∷ []; came = c.came; asked = c.asked; brought = t.0; keeps = t.1 }
 
-    pub next-err : (a : Arrival) (e : ReadEnd) → (brings_all e ≡ true → ⊥) → Comes before left told now a → (Brought o k old new [] ⊎ Brought o k old new (a ∷ [])) × (e ≢ Store → Keeps o k old new) → Reads o k old new before told now e
-    next-err a e some c t = elim t.0 [
+    pub next-err : (source : Bytes) (a : Arrival) (e : ReadEnd) → (brings_all e ≡ true → ⊥) → Comes before left told now a → (Brought o k old new [] ⊎ Brought o k old new (a ∷ [])) × (e ≢ Store → Keeps o k old new) → Reads o k old new before source told now e
+    next-err source a e some c t = elim t.0 [
       | inl b ↦ record {
         arrived = [];
-        lined = record { missing = a ∷ []; few = inr (a, refl); none = λ is. absurd (some is); left = left; came = c.came; whole = λ is. absurd (some (ap brings_all is)); asked = c.asked };
+        lined = record { missing = a ∷ []; few = inr (a, refl); none = λ is. absurd (some is); left = left; came = c.came; whole = λ is. absurd (some (ap brings_all is)); cut = λ is. absurd (not-cut e some is); asked = c.asked };
         brought = b;
         keeps = t.1;
       }
       | inr b ↦ record {
         arrived = a ∷ [];
-        lined = record { missing = []; few = inl refl; none = λ is. refl; left = left; came = c.came; whole = λ is. absurd (some (ap brings_all is)); asked = c.asked };
+        lined = record { missing = []; few = inl refl; none = λ is. refl; left = left; came = c.came; whole = λ is. absurd (some (ap brings_all is)); cut = λ is. absurd (not-cut e some is); asked = c.asked };
         brought = b;
         keeps = t.1;
       }
@@ -102,18 +110,18 @@ module _ (o : Origin) where
     pub next-none : (left : Bytes) → NoneComes before left told now → SoRead o k seen seen before left told now × IsEnd before left
     next-none left c = (record { arrived = []; came = c.came; asked = c.asked; brought = brought-none o k seen owned; keeps = λ h. h }, c.whole)
 
-    pub next-stop : (e : ReadEnd) → (e ≡ Ended → ⊥) → WasAsked told now [] → Reads o k seen seen before told now e
-    next-stop e other asked = record {
+    pub next-stop : (source : Bytes) (e : ReadEnd) → (e ≡ Ended → ⊥) → ((e ≡ ReadFault) ⊎ (e ≡ Long) → IsWithoutLine before source) → WasAsked told now [] → Reads o k seen seen before source told now e
+    next-stop source e other cut asked = record {
       arrived = [];
-      lined = record { missing = []; few = inl refl; none = λ is. refl; left = before; came = came-none before; whole = λ is. absurd (other is); asked = asked };
+      lined = record { missing = []; few = inl refl; none = λ is. refl; left = before; came = came-none before; whole = λ is. absurd (other is); cut = cut; asked = asked };
       brought = brought-none o k seen owned;
       keeps = λ other h. h;
     }
 
   -- ---- the end of a stream
 
-  pub stream-read : {T : Type 0} (h : List ℕ) (k : ℕ) (old mid new : List Deed) (before : Bytes) (told now : Told) (end final : ReadEnd) (r : Result T HandedRefusal) → (brings_all final ≡ true → final ≡ end) → (end ≡ Store → final ≡ Store) → (r ≡ Err NotStored → final ≡ Store) → Reads o k old mid before told now end → HasGone o k h mid new r → StreamRead o h k old new before told now final
-  stream-read h k old mid new before told now end final r all earlier stored a gone =
+  pub stream-read : {T : Type 0} (h : List ℕ) (k : ℕ) (old mid new : List Deed) (before source : Bytes) (told now : Told) (end final : ReadEnd) (r : Result T HandedRefusal) → (brings_all final ≡ true → final ≡ end) → (end ≡ Store → final ≡ Store) → (r ≡ Err NotStored → final ≡ Store) → Reads o k old mid before source told now end → HasGone o k h mid new r → StreamRead o h k old new before source told now final
+  stream-read h k old mid new before source told now end final r all earlier stored a gone =
       let b = subst (Brought o k old gone.before) (nil-right a.arrived) (brought-more o k old mid gone.before a.arrived [] a.brought (gone-brought o k h mid gone.before r gone.gone)) in
       let there = arrivals_in (own_steps k gone.before) in
       let last = did-own the_core the-laws o.boot o.list o.hosts k gone.before new gone.ended in
@@ -126,6 +134,7 @@ module _ (o : Origin) where
           left = a.lined.left;
           came = a.lined.came;
           whole = λ is. a.lined.whole (sym (all (ap brings_all is)) ∙ is);
+          cut = λ is. a.lined.cut (elim is [ inl x ↦ inl (sym (all (ap brings_all x)) ∙ x) | inr x ↦ inr (sym (all (ap brings_all x)) ∙ x) ]);
           asked = a.lined.asked;
         };
         own = ap arrivals_in last ∙ (arrivals-append (own_steps k gone.before) gone.ended.steps ∙ (ap (λ l. there ++ arrivals_in l) gone.ended.does ∙ (nil-right there ∙ b.own)));

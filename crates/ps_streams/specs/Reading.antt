@@ -4,6 +4,7 @@ use Rattle.ps_types.specs.Lines.{lines_of}
 use Rattle.ps_types.specs.declared.entry.Arrival.{Arrival}
 use Rattle.ps_types.specs.declared.entry.Arrival.TheVariants.{Line, TooLong}
 use Rattle.ps_outside.specs.Clock.{noted}
+use Rattle.ps_wire.specs.Reading.{IsWithoutLine}
 use Rattle.ps_types.specs.declared.entry.Entry.TheVariants.{Gone as GoneEntry}
 use Rattle.ps_model.specs.TheCore.{the_core}
 use Rattle.ps_model.specs.World.{World}
@@ -157,8 +158,9 @@ FoundNoEnd o host seen = FoundAt o seen (λ w. IsTooLong o w (GoneEntry host))
 abbrev pub AreFew : List Arrival → Type 0
 AreFew missing = (missing ≡ []) ⊎ ((a : Arrival) × (missing ≡ a ∷ []))
 
--- lines that were given, each with its moment, and brought; the last alone may be missing, where the reader ended so
-pub record Lined (end : ReadEnd) (before : Option (List ℕ)) (told now : Option (List (Option ℕ)))
+-- Lines that were given, each with its moment, and brought; the last alone may be missing, where the reader ended so. `source` is what its source still has:
+-- where that failed, or has given all that a stream may have, each line that a newline ended was given.
+pub record Lined (end : ReadEnd) (before source : Option (List ℕ)) (told now : Option (List (Option ℕ)))
     (arrived : List Arrival) : Type 0 where
   pub missing : List Arrival
   pub few : AreFew missing
@@ -166,6 +168,7 @@ pub record Lined (end : ReadEnd) (before : Option (List ℕ)) (told now : Option
   pub left : Option (List ℕ)
   pub came : CameOf before left (arrived ++ missing)
   pub whole : end ≡ Ended → IsEnd before left
+  pub cut : (end ≡ ReadFault) ⊎ (end ≡ Long) → IsWithoutLine left source
   pub asked : WasAsked told now (arrived ++ missing)
 
 -- so far: all lines that were given were brought, and are flushed
@@ -178,25 +181,26 @@ pub record SoRead (o : Origin) (k : ℕ) (old new : List Deed) (before left : Op
   pub keeps : Keeps o k old new
 
 -- up to an end
-pub record Reads (o : Origin) (k : ℕ) (old new : List Deed) (before : Option (List ℕ))
+pub record Reads (o : Origin) (k : ℕ) (old new : List Deed) (before source : Option (List ℕ))
     (told now : Option (List (Option ℕ))) (end : ReadEnd) : Type 0 where
   pub arrived : List Arrival
-  pub lined : Lined end before told now arrived
+  pub lined : Lined end before source told now arrived
   pub brought : Brought o k old new arrived
   pub keeps : end ≢ Store → Keeps o k old new
 
 -- one more line, or none, or an end
-abbrev pub NextRead : Origin → ℕ → List Deed → List Deed → Option (List ℕ) → Option (List ℕ)
+abbrev pub NextRead : Origin → ℕ → List Deed → List Deed → Option (List ℕ) → Option (List ℕ) → Option (List ℕ)
     → Option (List (Option ℕ)) → Option (List (Option ℕ)) → Result Bool ReadEnd → Type 0
-NextRead o k old new before left told now (Ok true) = SoRead o k old new before left told now
-NextRead o k old new before left told now (Ok false) = SoRead o k old new before left told now × IsEnd before left
-NextRead o k old new before left told now (Err e) = Reads o k old new before told now e
+NextRead o k old new before source left told now (Ok true) = SoRead o k old new before left told now
+NextRead o k old new before source left told now (Ok false) =
+    SoRead o k old new before left told now × IsEnd before left
+NextRead o k old new before source left told now (Err e) = Reads o k old new before source told now e
 
 -- the same of a whole stream, whose reader has said last that it has ended, with all that it laid flushed before but after a fault of the disk
-pub record StreamRead (o : Origin) (host : List ℕ) (k : ℕ) (old new : List Deed) (before : Option (List ℕ))
+pub record StreamRead (o : Origin) (host : List ℕ) (k : ℕ) (old new : List Deed) (before source : Option (List ℕ))
     (told now : Option (List (Option ℕ))) (end : ReadEnd) : Type 0 where
   pub arrived : List Arrival
-  pub lined : Lined end before told now arrived
+  pub lined : Lined end before source told now arrived
   pub own : arrivals_in (own_steps k new) ≡ arrivals_in (own_steps k old) ++ arrived
   pub owned : AreOwned o.hosts new
   pub done : end ≢ Store → HasNoEnd (own_steps k old) → IsKept the_core o.boot o.list o.hosts k old
@@ -209,19 +213,20 @@ module _ {V J : Type 0} where
   SeatTakes o old new a result = Takes o (number_of old) (seen_of old) (seen_of new) a result
 
   abbrev pub SeatNextRead : Origin → TwinSeat V J Deed → TwinSeat V J Deed → Option (List ℕ) → Option (List ℕ)
-      → Option (List (Option ℕ)) → Option (List (Option ℕ)) → Result Bool ReadEnd → Type 0
-  SeatNextRead o old new before left told now result =
-      NextRead o (number_of old) (seen_of old) (seen_of new) before left told now result
+      → Option (List ℕ) → Option (List (Option ℕ)) → Option (List (Option ℕ)) → Result Bool ReadEnd → Type 0
+  SeatNextRead o old new before source left told now result =
+      NextRead o (number_of old) (seen_of old) (seen_of new) before source left told now result
 
   abbrev pub SeatSoRead : Origin → TwinSeat V J Deed → TwinSeat V J Deed → Option (List ℕ) → Option (List ℕ)
       → Option (List (Option ℕ)) → Option (List (Option ℕ)) → Type 0
   SeatSoRead o old new before left told now = SoRead o (number_of old) (seen_of old) (seen_of new) before left told now
 
-  abbrev pub SeatReads : Origin → TwinSeat V J Deed → TwinSeat V J Deed → Option (List ℕ)
+  abbrev pub SeatReads : Origin → TwinSeat V J Deed → TwinSeat V J Deed → Option (List ℕ) → Option (List ℕ)
       → Option (List (Option ℕ)) → Option (List (Option ℕ)) → ReadEnd → Type 0
-  SeatReads o old new before told now end = Reads o (number_of old) (seen_of old) (seen_of new) before told now end
+  SeatReads o old new before source told now end =
+      Reads o (number_of old) (seen_of old) (seen_of new) before source told now end
 
   abbrev pub SeatStreamRead : Origin → List ℕ → TwinSeat V J Deed → TwinSeat V J Deed → Option (List ℕ)
-      → Option (List (Option ℕ)) → Option (List (Option ℕ)) → ReadEnd → Type 0
-  SeatStreamRead o host old new before told now end =
-      StreamRead o host (number_of old) (seen_of old) (seen_of new) before told now end
+      → Option (List ℕ) → Option (List (Option ℕ)) → Option (List (Option ℕ)) → ReadEnd → Type 0
+  SeatStreamRead o host old new before source told now end =
+      StreamRead o host (number_of old) (seen_of old) (seen_of new) before source told now end

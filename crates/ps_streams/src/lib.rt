@@ -2,8 +2,9 @@
 //!
 //! [`read_stream`] takes the lines of its source one after the other, asks a clock for the moment of each, and has the hall answer it; in the end, for whatever
 //! cause, it says that the host's callers are gone. What it promises (`specs/Reading.antt`): `StreamRead`, the arrivals that its pass brought are those that
-//! the source gave, in order, each with the moment that the clock told, of which the last alone may be missing, and none where the source ended it; all that
-//! it laid was flushed before it said that its reader has ended, but after a fault of the disk; `SaidGone`, `FoundClosed` and `FoundNoEnd` go with its causes.
+//! the source gave, in order, each with the moment that the clock told, of which the last alone may be missing, and none where the source ended it; where that
+//! failed or gave all that it may, each line that a newline ended came; all that it laid was flushed before it said that its reader has ended, but after a
+//! fault of the disk; `SaidGone`, `FoundClosed` and `FoundNoEnd` go with its causes.
 //!
 //! [`write_stream`] asks the hall for what its host is to be told, writes each reply and each notice as a line to its sink, records each notice that was
 //! written, and says at the end that the writer has ended. What it promises is told of what its pass saw and of what the sink was given

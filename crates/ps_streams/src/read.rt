@@ -1,7 +1,8 @@
 // The reader of a stream.
-ghost use Rattle.std.specs.Prelude.{◌≡◌, ◌⊎◌, ◌≤◌, ◌^◌, [], true, None, IfErr, IfOk, IfSome, IfNone, IsErrOf, OnOk};
+ghost use Rattle.std.specs.Prelude.{◌≡◌, ◌⊎◌, ◌<◌, ◌≤◌, ◌^◌, [], true, None, IfErr, IfOk, IfSome, IfNone, IsErrOf, IsFalse, OnOk};
 ghost use Rattle.ps_base.specs.Causes.{Rose};
-ghost use Rattle.ps_wire.specs.Reading.{given_of, rest_of, source_of, stopped_of};
+ghost use Rattle.ps_wire.specs.AtEnd.{nothing_of};
+ghost use Rattle.ps_wire.specs.Reading.{Gave, IsWithoutLine, given_of, rest_of, source_of, stopped_of};
 ghost use Rattle.ps_model.specs.Entries.{IsMoment};
 ghost use Rattle.ps_state.specs.Shape.{IsArrival};
 ghost use Rattle.ps_twin.specs.Seats.{number_of, seen_of};
@@ -124,6 +125,13 @@ fn next_arrival<S: Source, C: Clock>(
     ensures closed { IsErrOf result ReadEnd.Closed → ⊥ }
     ensures room { IsErrOf result ReadEnd.Full → ⊥ }
     ensures asked { IfErr result (λ e. WasAsked (C.told clock.old) (C.told clock.new) []) }
+    ensures cut { IfErr result (λ e. (e ≡ ReadEnd.ReadFault) ⊎ (e ≡ ReadEnd.Long)
+        → IsWithoutLine (rest_of lines.old) (S.left (source_of lines.new))) }
+    ensures gave { Gave (S.left (source_of lines.old)) (S.left (source_of lines.new))
+        (given_of lines.old) (given_of lines.new) }
+    ensures early { IfOk result (λ next. IfNone next (given_of lines.new < 2 ^ 40)) }
+    ensures whole { IfOk result (λ next. IfNone next
+        (S.left (source_of lines.new) ≡ nothing_of (S.left (source_of lines.new)))) }
 {
     match lines.next(alloc) {
         Ok(NextLine::Line(bytes)) => {
@@ -198,8 +206,9 @@ fn read_next<B: Opening, D: Disk, R: Wait + Threads + Sync, S: Source, C: Clock>
     requires going { stopped_of lines.old ≡ None }
     ensures reader { IsReader B.origin hall.now.twin pass.new.at pass.new.host pass.new.seat }
     ensures same { IsSamePass pass.old pass.new }
-    ensures read { SeatNextRead B.origin pass.old.seat pass.new.seat (rest_of lines.old) (rest_of lines.new)
-        (C.told clock.old) (C.told clock.new) result }
+    ensures read { SeatNextRead B.origin pass.old.seat pass.new.seat (rest_of lines.old)
+        (S.left (source_of lines.new)) (rest_of lines.new) (C.told clock.old) (C.told clock.new) result }
+    ensures ended { IsErrOf result ReadEnd.Ended → ⊥ }
     ensures going { OnOk result (stopped_of lines.new ≡ None) }
     ensures later { S.faults (source_of lines.old) ≤ S.faults (source_of lines.new) }
     ensures fault { IsErrOf result ReadEnd.ReadFault
@@ -208,6 +217,11 @@ fn read_next<B: Opening, D: Disk, R: Wait + Threads + Sync, S: Source, C: Clock>
     ensures store { IsErrOf result ReadEnd.Store → FindsBroken B.origin pass.new.seat }
     ensures closed { IsErrOf result ReadEnd.Closed → FoundClosed B.origin pass.old.host (seen_of pass.new.seat) }
     ensures room { IsErrOf result ReadEnd.Full → ⊥ }
+    ensures gave { Gave (S.left (source_of lines.old)) (S.left (source_of lines.new))
+        (given_of lines.old) (given_of lines.new) }
+    ensures early { IfOk result (λ more. IsFalse more → given_of lines.new < 2 ^ 40) }
+    ensures whole { IfOk result (λ more. IsFalse more
+        → S.left (source_of lines.new) ≡ nothing_of (S.left (source_of lines.new))) }
 {
     match next_arrival(alloc, lines, clock) {
         Ok(Some(arrival)) => match take_line(rt, hall, pass, &arrival) {
@@ -233,7 +247,7 @@ fn read_lines<B: Opening, D: Disk, R: Wait + Threads + Sync, S: Source, C: Clock
     ensures reader { IsReader B.origin hall.now.twin pass.new.at pass.new.host pass.new.seat }
     ensures same { IsSamePass pass.old pass.new }
     ensures reads { SeatReads B.origin pass.old.seat pass.new.seat (rest_of lines.old)
-        (C.told clock.old) (C.told clock.new) result }
+        (S.left (source_of lines.new)) (C.told clock.old) (C.told clock.new) result }
     ensures later { S.faults (source_of lines.old) ≤ S.faults (source_of lines.new) }
     ensures fault { result ≡ ReadEnd.ReadFault
         → Rose (S.faults (source_of lines.old)) (S.faults (source_of lines.new)) }
@@ -241,6 +255,11 @@ fn read_lines<B: Opening, D: Disk, R: Wait + Threads + Sync, S: Source, C: Clock
     ensures store { result ≡ ReadEnd.Store → FindsBroken B.origin pass.new.seat }
     ensures closed { result ≡ ReadEnd.Closed → FoundClosed B.origin pass.old.host (seen_of pass.new.seat) }
     ensures room { result ≡ ReadEnd.Full → ⊥ }
+    ensures gave { Gave (S.left (source_of lines.old)) (S.left (source_of lines.new))
+        (given_of lines.old) (given_of lines.new) }
+    ensures early { result ≡ ReadEnd.Ended → given_of lines.new < 2 ^ 40 }
+    ensures whole { result ≡ ReadEnd.Ended
+        → S.left (source_of lines.new) ≡ nothing_of (S.left (source_of lines.new)) }
 {
     for _ in rt.forever() {
         match read_next(rt, alloc, hall, pass, lines, clock) {
@@ -267,7 +286,7 @@ pub fn read_stream<B: Opening, D: Disk, R: Wait + Threads + Sync, S: Source, C: 
     ensures reader { IsReader B.origin hall.now.twin pass.new.at pass.new.host pass.new.seat }
     ensures same { IsSamePass pass.old pass.new }
     ensures read { SeatStreamRead B.origin pass.old.host pass.old.seat pass.new.seat (rest_of lines.old)
-        (C.told clock.old) (C.told clock.new) result }
+        (S.left (source_of lines.new)) (C.told clock.old) (C.told clock.new) result }
     ensures later { S.faults (source_of lines.old) ≤ S.faults (source_of lines.new) }
     ensures fault { result ≡ ReadEnd.ReadFault
         → Rose (S.faults (source_of lines.old)) (S.faults (source_of lines.new)) }
@@ -276,6 +295,11 @@ pub fn read_stream<B: Opening, D: Disk, R: Wait + Threads + Sync, S: Source, C: 
     ensures closed { result ≡ ReadEnd.Closed → FoundClosed B.origin pass.old.host (seen_of pass.new.seat) }
     ensures full { result ≡ ReadEnd.Full → FoundNoEnd B.origin pass.old.host (seen_of pass.new.seat) }
     ensures gone { says_gone result ≡ true → SaidGone pass.old.host (number_of pass.old.seat) (seen_of pass.new.seat) }
+    ensures gave { Gave (S.left (source_of lines.old)) (S.left (source_of lines.new))
+        (given_of lines.old) (given_of lines.new) }
+    ensures early { result ≡ ReadEnd.Ended → given_of lines.new < 2 ^ 40 }
+    ensures whole { result ≡ ReadEnd.Ended
+        → S.left (source_of lines.new) ≡ nothing_of (S.left (source_of lines.new)) }
 {
     let end = read_lines(rt, alloc, hall, pass, lines, clock);
     match hall.gone(rt, pass) {

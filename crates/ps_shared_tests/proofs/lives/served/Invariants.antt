@@ -1,6 +1,4 @@
-use Rattle.ps_journal.specs.Places.{entries_in}
-use Rattle.ps_shared_tests.specs.Begun.{origin_of}
 use Rattle.ps_shared_tests.proofs.lives.served.Given as goal
 
-abbrev pub ghosts-live : goal.ghosts-live
-ghosts-live g a = record { origin = origin_of a.hosts.now a._service.now (entries_in a.entries.items) a.state a.store }
+abbrev pub ghost-opened : goal.ghost-opened
+ghost-opened g a = a.disk

@@ -1,4 +1,4 @@
-use Rattle.std.proofs.Common.{subst}
+use Rattle.std.proofs.Common.{Err, ap, inl, inr, subst}
 use Rattle.ps_wire.specs.Reading.{IsNext, rest_of}
 use Rattle.ps_wire.specs.declared.lines.NextLine.{NextLine}
 use Rattle.ps_streams.proofs.Lines.{asked-line, asked-long, came-line, came-long}
@@ -23,3 +23,7 @@ returns-in-Ok-TooLong-clause-some g c =
       asked = asked-long (g.C.Clock.told c.args.clock.now) (g.C.Clock.told c.moment.new.clock) c.moment.result c.moment.ensures.gives;
       moment = tt;
     }
+
+pub returns-in-Err-clause-cut : goal.returns-in-Err-clause-cut
+returns-in-Err-clause-cut g c = λ e.
+    c.in-Err.ensures.no_line (elim e [ inl x ↦ inl (ap Err (c.end_of_lines.ensures.fault x)) | inr x ↦ inr (ap Err (c.end_of_lines.ensures.long x)) ]) c.requires.going

@@ -1,5 +1,5 @@
 use Rattle.std.proofs.Common.{◌≡◌, ◌≤◌, None}
-use Rattle.ps_wire.specs.Reading.{rest_of, source_of, stopped_of}
+use Rattle.ps_wire.specs.Reading.{Gave, given_of, rest_of, source_of, stopped_of}
 use Rattle.ps_shared.specs.Calls.{IsReader}
 use Rattle.ps_streams.specs.Reading.{SeatSoRead}
 use Rattle.ps_streams.specs.Speaking.{IsSamePass}
@@ -12,3 +12,4 @@ invariant-loop g l =
     × SeatSoRead g.B.Opening.origin l.initial.pass.seat l.pass.seat (rest_of l.initial.lines) (rest_of l.lines) (g.C.Clock.told l.initial.clock) (g.C.Clock.told l.clock)
     × (stopped_of l.lines ≡ None)
     × (g.S.Source.faults (source_of l.initial.lines) ≤ g.S.Source.faults (source_of l.lines))
+    × Gave (g.S.Source.left (source_of l.initial.lines)) (g.S.Source.left (source_of l.lines)) (given_of l.initial.lines) (given_of l.lines)

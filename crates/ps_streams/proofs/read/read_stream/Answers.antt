@@ -1,9 +1,9 @@
 use Rattle.std.proofs.Common.{◌+◌, inl, inr, sym, ap, ◌∙◌, refl}
 use Rattle.ps_twin.specs.Seats.{number_of, seen_of}
-use Rattle.ps_wire.specs.Reading.{rest_of}
+use Rattle.ps_wire.specs.Reading.{rest_of, source_of}
 use Rattle.ps_streams.proofs.Bringing.{gone-as}
 use Rattle.ps_state.specs.declared.answers.HandedRefusal.{HandedRefusal}
-use Rattle.ps_streams.specs.Reading.{says_gone}
+use Rattle.ps_streams.specs.Reading.{brings_all, says_gone}
 use Rattle.ps_streams.proofs.Causes.{stream-broken}
 use Rattle.ps_streams.proofs.Fronts.{found-on, gone-full, gone-grows, said-gone}
 use Rattle.ps_streams.proofs.Looping.{err-same, the_err}
@@ -19,7 +19,7 @@ returns-in-Ok-clause-read g c =
     let h = c.args.pass.now.host in
     let same = w.reader.number ∙ (ap (λ n. n + n) w.same.at ∙ sym c.requires.reader.number) in
     let gone = gone-as o (number_of mid.seat) k mid.host h (seen_of mid.seat) (seen_of c.gone.new.pass.seat) c.gone.result same w.same.host c.gone.ensures.gone in
-    stream-read o h k (seen_of c.args.pass.now.seat) (seen_of mid.seat) (seen_of c.gone.new.pass.seat) (rest_of c.args.lines.now) (g.C.Clock.told c.args.clock.now) (g.C.Clock.told c.read_lines-end.new.clock) c.read_lines-end.result c.read_lines-end.result c.gone.result (λ is. refl) (λ e. e) (λ e. absurd (cc (sym c.in-Ok.is ∙ e))) w.reads gone
+    stream-read o h k (seen_of c.args.pass.now.seat) (seen_of mid.seat) (seen_of c.gone.new.pass.seat) (rest_of c.args.lines.now) (g.S.Source.left (source_of c.read_lines-end.new.lines)) (g.C.Clock.told c.args.clock.now) (g.C.Clock.told c.read_lines-end.new.clock) c.read_lines-end.result c.read_lines-end.result c.gone.result (λ is. refl) (λ e. e) (λ e. absurd (cc (sym c.in-Ok.is ∙ e))) w.reads gone
 
 pub returns-in-Err-clause-read : goal.returns-in-Err-clause-read
 returns-in-Err-clause-read g c =
@@ -30,7 +30,7 @@ returns-in-Err-clause-read g c =
     let h = c.args.pass.now.host in
     let same = w.reader.number ∙ (ap (λ n. n + n) w.same.at ∙ sym c.requires.reader.number) in
     let gone = gone-as o (number_of mid.seat) k mid.host h (seen_of mid.seat) (seen_of c.gone.new.pass.seat) c.gone.result same w.same.host c.gone.ensures.gone in
-    stream-read o h k (seen_of c.args.pass.now.seat) (seen_of mid.seat) (seen_of c.gone.new.pass.seat) (rest_of c.args.lines.now) (g.C.Clock.told c.args.clock.now) (g.C.Clock.told c.read_lines-end.new.clock) c.read_lines-end.result c.worse.result c.gone.result (λ is. absurd (c.worse.ensures.some is)) c.worse.ensures.earlier (λ e. c.worse.ensures.store (err-same c.in-Err.refusal _ (sym c.in-Err.is ∙ e))) w.reads gone
+    stream-read o h k (seen_of c.args.pass.now.seat) (seen_of mid.seat) (seen_of c.gone.new.pass.seat) (rest_of c.args.lines.now) (g.S.Source.left (source_of c.read_lines-end.new.lines)) (g.C.Clock.told c.args.clock.now) (g.C.Clock.told c.read_lines-end.new.clock) c.read_lines-end.result c.worse.result c.gone.result (λ is. absurd (c.worse.ensures.some is)) c.worse.ensures.earlier (λ e. c.worse.ensures.store (err-same c.in-Err.refusal _ (sym c.in-Err.is ∙ e))) w.reads gone
 
 pub returns-in-Ok-clause-store : goal.returns-in-Ok-clause-store
 returns-in-Ok-clause-store g c = λ e. (
@@ -119,3 +119,9 @@ returns-in-Err-clause-full g c = λ e. (
     let same = w.reader.number ∙ (ap (λ n. n + n) w.same.at ∙ sym c.requires.reader.number) in
     let gone = gone-as o (number_of mid.seat) k mid.host h (seen_of mid.seat) (seen_of c.gone.new.pass.seat) c.gone.result same w.same.host c.gone.ensures.gone in
     gone-full o k h (seen_of mid.seat) (seen_of c.gone.new.pass.seat) c.gone.result gone (elim (c.worse.ensures.from_full e) [ inl a ↦ absurd (w.room a) | inr b ↦ c.in-Err.is ∙ ap (λ (x : HandedRefusal). the_err (Unit {0}) x) b ]))
+
+pub returns-in-Err-clause-early : goal.returns-in-Err-clause-early
+returns-in-Err-clause-early g c = λ e. absurd (c.worse.ensures.some (ap brings_all e))
+
+pub returns-in-Err-clause-whole : goal.returns-in-Err-clause-whole
+returns-in-Err-clause-whole g c = λ e. absurd (c.worse.ensures.some (ap brings_all e))
