@@ -1,0 +1,120 @@
+-- What is served of one stream, from what its reader and its writer made.
+use Rattle.std.proofs.Common.{◌≡◌, ℕ, ◌+◌, List, [], ◌∷◌, ◌++◌, map, Some, refl, ap, sym, ◌∙◌, subst, arith}
+use Rattle.std.specs.Prelude.{slice_get}
+use Rattle.ps_types.specs.declared.entry.Arrival.{Arrival}
+use Rattle.ps_model.specs.CoreLaws.{IsLawful}
+use Rattle.ps_model.specs.Machine.{start}
+use Rattle.ps_model.specs.TheCore.{the_core}
+use Rattle.ps_model.specs.World.{World, durable}
+use Rattle.ps_model.specs.declared.steps.Role.TheVariants.{Writer}
+use Rattle.ps_model.specs.declared.steps.Step.TheVariants.{Ended as Ends}
+use Rattle.ps_model.proofs.TheLaws.{the-laws}
+use Rattle.ps_world.proofs.Lists.{assoc, nil-right}
+use Rattle.ps_turn.specs.History.{Later}
+use Rattle.ps_deeds.specs.Lines.{Came, came}
+use Rattle.ps_deeds.specs.Over.{AllRead, IsComplete, IsFront}
+use Rattle.ps_deeds.specs.Own.{AllDiffer, AreOwned, NoneOf, arrivals_in, deeds, own_steps, steps_in, words_by}
+use Rattle.ps_deeds.specs.Words.{Word, records_in, words}
+use Rattle.ps_deeds.specs.declared.deed.Deed.{Deed}
+use Rattle.ps_deeds.proofs.Completing.{is-complete, is-front}
+use Rattle.ps_deeds.proofs.Handing.{hands-none}
+use Rattle.ps_deeds.proofs.Lining.{begun-lines, run-lines}
+use Rattle.ps_deeds.proofs.Owning.{calm, own-append, own-arrivals, own-none, own-records, own-words, words-by-append, words-by-none}
+use Rattle.ps_deeds.proofs.Wording.{recorded-few}
+use Rattle.ps_shared.specs.Homes.{HadNoRoom, maker_of, world_at}
+use Rattle.ps_shared.specs.Origin.{Origin}
+use Rattle.ps_shared.specs.declared.answers.EndCause.TheVariants.{Finished}
+use Rattle.ps_shared.proofs.Logs.{none_of}
+use Rattle.ps_streams.specs.Reading.{Lined}
+use Rattle.ps_workers.specs.Headline.{IsAllSaid, ServesStream, Worked, base_of}
+use Rattle.ps_workers.specs.Told.{IsAcknowledged}
+use Rattle.ps_workers.specs.Working.{ReaderMade, WriterMade}
+use Rattle.ps_workers.proofs.Acknowledging.{acknowledged}
+use Rattle.ps_workers.proofs.Filling.{full-run}
+use Rattle.ps_workers.proofs.Leaving.{has-gone}
+
+-- the deeds at the end begin with what the pass has seen, and have nothing of its making after that
+pub record HasSeen (k : ℕ) (seen log : List Deed) : Type 0 where
+  pub after : List Deed
+  pub is : log ≡ seen ++ after
+  pub none : NoneOf k after
+
+pub has_seen : (k : ℕ) (seen log : List Deed) → Later maker_of k seen log → HasSeen k seen log
+has_seen k seen log l = record { after = l.0; is = l.1; none = none_of k l.0 l.2 }
+
+own_seen : (k : ℕ) (seen log : List Deed) → HasSeen k seen log → own_steps k log ≡ own_steps k seen
+own_seen k seen log h = ap (own_steps k) h.is ∙ (own-append k seen h.after ∙ (ap (λ r. own_steps k seen ++ r) (own-none k h.after h.none) ∙ nil-right (own_steps k seen)))
+
+words_seen : (o : Origin) (k : ℕ) (seen log : List Deed) → HasSeen k seen log → words_by the_core o.boot k (start the_core o.boot o.list) log ≡ words_by the_core o.boot k (start the_core o.boot o.list) seen
+words_seen o k seen log h =
+    let first = start the_core o.boot o.list in
+    let said = words_by the_core o.boot k first seen in
+    ap (words_by the_core o.boot k first) h.is ∙ (words-by-append the_core o.boot k first seen h.after ∙ (ap (λ r. said ++ r) (words-by-none the_core o.boot k (world_at o seen) h.after h.none) ∙ nil-right said))
+
+module _ (o : Origin) (log : List Deed) (lawful : IsLawful the_core o.list) (named : o.boot ≡ [] → ⊥) (owned : AreOwned o.hosts log) (differ : AllDiffer o.hosts) (bytes : ℕ) (had : HadNoRoom o.limits.changes bytes o.boot (start the_core o.boot o.list) log)
+    (i : ℕ) (h : List ℕ) (here : slice_get o.hosts i ≡ Some h) where
+  abbrev first : World
+  first = start the_core o.boot o.list
+
+  abbrev at : World
+  at = world_at o log
+
+  abbrev cs : List Came
+  cs = came the_core h o.boot first (steps_in log)
+
+  abbrev ws : List Word
+  ws = words the_core h o.boot first (steps_in log)
+
+  abbrev arrival_in : Came → Arrival
+  arrival_in c = c.arrival
+
+  -- the lines that its reader brought, and the words that its writer said
+  brought : (seen : List Deed) (arrived : List Arrival) → HasSeen (i + i) seen log → arrivals_in (own_steps (i + i) seen) ≡ arrived → arrived ≡ map arrival_in cs
+  brought seen arrived kept own = sym own ∙ (ap arrivals_in (sym (own_seen (i + i) seen log kept)) ∙ own-arrivals o.hosts differ the_core o.boot h (i + i) (i, here, refl) first log owned)
+
+  said : (seen : List Deed) (whole : List Word) → HasSeen (i + i + 1) seen log → words_by the_core o.boot (i + i + 1) first seen ≡ whole → ws ≡ whole
+  said seen whole kept spoke = sym (own-words o.hosts differ the_core o.boot h (i + i + 1) (i, here, refl) first log owned) ∙ (words_seen o (i + i + 1) seen log kept ∙ spoke)
+
+  pub serves_stream : (t : Worked) (seen seen_too : List Deed) → ReaderMade o h (i + i) seen t.source t.source_now t.clock t.clock_now t.read → HasSeen (i + i) seen log
+      → WriterMade o h (i + i + 1) seen_too t.sink t.sink_now t.wrote → HasSeen (i + i + 1) seen_too log
+      → (s : ServesStream o bytes at h t) × (AllRead the_core o.boot o.list o.hosts log → t.wrote ≡ Finished → IsAllSaid o at h bytes t s)
+  serves_stream t seen seen_too r kept w kept_too =
+      let base = base_of o in
+      let spoke = w.speaks.spoke in
+      let whole = w.speaks.whole in
+      let last = w.speaks.last in
+      let quiet = calm o.hosts log owned in
+      let arrivals : r.read.arrived ≡ map arrival_in cs = brought seen r.read.arrived kept r.read.own in
+      let words_are : ws ≡ whole ++ last = said seen_too (whole ++ last) kept_too spoke.words in (
+        record {
+          lines = cs;
+          whole = whole;
+          last = last;
+          stand = run-lines the_core h the-laws o.boot base first [] (steps_in log) quiet (begun-lines the_core h o.boot o.list);
+          lined = subst (Lined t.read t.source.bytes t.source_now.bytes t.clock.told t.clock_now.told) arrivals r.read.lined;
+          full = full-run o.limits.changes bytes h the-laws o.boot base first [] log quiet (begun-lines the_core h o.boot o.list) had;
+          written = spoke.written;
+          few = spoke.few;
+          cut = w.speaks.cut;
+          front = subst (IsFront the_core base h at cs) words_are (is-front the_core the-laws o.boot named o.list lawful o.hosts h log owned);
+          recorded = λ a there. (
+              let few = recorded-few the_core the-laws o.boot a first (steps_in log) quiet in
+              let own = own-records o.hosts differ h (i + i + 1) (i, here, refl) a there log owned in
+              let same = ap (records_in a) (own_seen (i + i + 1) seen_too log kept_too) in
+              let most = spoke.records a in
+              omega (arith, few, own, same, most));
+          acknowledged = subst (IsAcknowledged (durable at) h cs) words_are (acknowledged the_core the-laws hands-none o.boot named o.list lawful h (steps_in log) quiet);
+          gone = λ says. (
+              let g = r.gone says in
+              has-gone the_core the-laws o.boot o.list h (i + i) log g.front g.rest quiet (own_seen (i + i) seen log kept ∙ g.is));
+          causes = record { read_later = r.later; read_fault = r.fault; long = r.long; early = r.early; write_later = w.later; write_fault = w.fault };
+        },
+        λ all finished. (
+            let d = w.done finished in
+            let last_deed = deeds (i + i + 1) d.bytes (Ends h Writer ∷ []) in
+            let rest = (d.between ++ last_deed) ++ kept_too.after in
+            subst (IsComplete the_core base h at cs) words_are
+            (is-complete the_core the-laws o.boot named o.list lawful hands-none o.hosts differ h log d.before rest
+            (kept_too.is ∙ (ap (λ l. l ++ kept_too.after) (d.is ∙ assoc d.before d.between last_deed) ∙ assoc d.before (d.between ++ last_deed) kept_too.after))
+            owned all d.over)),
+      )

@@ -1,0 +1,126 @@
+-- The last frame, of what still waits.
+use Rattle.std.proofs.Common.{◌≡◌, ◌≢◌, ℕ, ◌+◌, ◌≤◌, true, false, List, [], Option, None, Result, Ok, Err, is_some, length, ap, sym, ◌∙◌, subst, arith}
+use Rattle.std.specs.Prelude.{OnOk, OnErr, IfSome}
+use Rattle.std.proofs.lemmas.Bool.{false≢true}
+use Rattle.ps_base.specs.Causes.{Rose}
+use Rattle.ps_types.specs.declared.entry.Entry.{Entry}
+use Rattle.ps_disk.specs.declared.device.Disk.{Ghosts}
+use Rattle.ps_model.specs.Entries.{body}
+use Rattle.ps_model.specs.Machine.{start}
+use Rattle.ps_model.specs.TheCore.{the_core}
+use Rattle.ps_model.specs.World.{World}
+use Rattle.ps_world.proofs.Lists.{ends-mono}
+use Rattle.ps_twin.specs.declared.twin.TwinSeat.{TwinSeat}
+use Rattle.ps_deeds.specs.declared.deed.Deed.{Deed}
+use Rattle.ps_state.specs.Stand.{Stands, entries_of}
+use Rattle.ps_state.specs.declared.state.State.{State}
+use Rattle.ps_store.specs.Frames.{IsTorn, Loaded, Tears, Writes}
+use Rattle.ps_store.specs.Stand.{IsKept, IsWhole, OpenedAt, StoreStands, broken_in, disk_in, firm_of, length_in, mark_of}
+use Rattle.ps_store.specs.declared.store.Frame.{Frame}
+use Rattle.ps_store.specs.declared.store.Store.{Store}
+use Rattle.ps_shared.specs.Closed.{HasClosed}
+use Rattle.ps_shared.specs.Flush.{IsFrameOf}
+use Rattle.ps_shared.specs.Homes.{bytes_in, world_at}
+use Rattle.ps_shared.specs.Origin.{Origin}
+use Rattle.ps_shared.proofs.Framing.{loaded_ok}
+use Rattle.ps_shared.proofs.Homing.{bytes_given}
+use Rattle.ps_shared.proofs.Logs.{prefix_follows, room_more}
+use Rattle.ps_workers.specs.Closing.{HasEnded}
+
+-- fewer steps are counted on
+kept_less : {D : Type 0} (g : Ghosts D) (at : OpenedAt) (disk : D) (few firm : ℕ) (w : World) → few ≤ firm → IsKept g at disk firm w → IsKept g at disk few w
+kept_less g at disk few firm w le is = record {
+  later = is.later;
+  now = λ c may. (let f = is.now c may in let m = ends-mono few firm w.made le in let e = f.enough in record { count = f.count; enough = omega (arith, m, e); fits = f.fits; spells = f.spells });
+  since = is.since;
+  fronts = is.fronts;
+  since_start = is.since_start;
+}
+
+module _ {V J D : Type 0} {g : Ghosts D} (o : Origin) (v now : State) (y : Store D g) (f : Frame) (seats : List (TwinSeat V J Deed)) (closed : HasClosed o v y seats) (did : IsFrameOf v now f) where
+  abbrev before : World
+  before = world_at o closed.list
+
+  abbrev after : World
+  after = world_at o closed.log
+
+  stands : Stands now after
+  stands = did.goes o.boot closed.home.named after closed.home.stands
+
+  long : now.length ≡ f.length
+  long = ap (λ p. p.1) did.mark
+
+  fits : bytes_in v ≤ now.length + 5
+  fits =
+      let given = bytes_given v now did.none (long ∙ did.longer) in
+      let none = ap (λ b. length (body (entries_of b))) did.none in
+      omega (arith, given, none)
+
+  -- what each store that is left at the end has to tell
+  ended : (z : Store D g) → (g.tells → IsKept g o.at (disk_in z) now.flushed after) → (now.broken ≡ false → broken_in z ≡ None → IsWhole z after) → (now.broken ≡ false → broken_in z ≡ None → now.length ≡ length_in z)
+      → (is_some (broken_in z) ≡ true → Rose o.at.faults (g.faults (disk_in z))) → o.at.faults ≤ g.faults (disk_in z) → o.at.bytes ≤ length_in z → HasEnded o now z seats
+  ended z kept whole length_is fault faults grows = record {
+    log = closed.log;
+    lawful = closed.home.lawful;
+    named = closed.home.named;
+    owned = closed.home.owned;
+    full = room_more o.limits.changes (bytes_in v) (now.length + 5) o.boot (start the_core o.boot o.list) closed.log fits closed.home.full;
+    stands = stands;
+    rows = did.kept.hosts ∙ closed.home.hosts;
+    limits = did.kept.limits ∙ closed.home.limits;
+    kept = kept;
+    whole = whole;
+    length_is = length_is;
+    fault = fault;
+    faults = faults;
+    grows = grows;
+    later = closed.later;
+  }
+
+  -- the disk had failed before
+  pub ended_broken : now.broken ≡ true → HasEnded o now y seats
+  ended_broken broken =
+      let a = closed.archive in
+      ended y
+      (λ tells. subst (λ n. IsKept g o.at (disk_in y) n after) (sym did.kept.flushed) (closed.kept tells))
+      (λ quiet. absurd (false≢true (sym quiet ∙ broken)))
+      (λ quiet. absurd (false≢true (sym quiet ∙ broken)))
+      (λ torn. a.fault (a.broken ∙ torn))
+      a.faults
+      a.grows
+
+  loaded : now.broken ≡ false → Loaded o.at y f before after
+  loaded quiet = loaded_ok o v now y f before after closed.archive closed.home.stands (prefix_follows o closed.list closed.log closed.front closed.home.owned) closed.mark (sym did.kept.broken ∙ quiet) did
+
+  -- the frame was written
+  ended_written : (z : Store D g) → now.broken ≡ false → Writes y z f → mark_of z ≡ (f.count, f.length) → firm_of z ≡ f.steps → HasEnded o now z seats
+  ended_written z quiet writes mark firm =
+      let s : StoreStands o.at z after = writes o.at before after (loaded quiet) in
+      let calm : after.broken ≡ false = sym stands.broken ∙ quiet in
+      ended z
+      (λ tells. kept_less g o.at (disk_in z) now.flushed (firm_of z) after (let a = stands.flushed in let b = stands.sound.flushed in let c = did.steps in let e = did.kept.steps in let h = stands.steps in omega (arith, a, b, c, e, h, firm)) (s.kept tells))
+      (λ still none. s.whole calm)
+      (λ still none. long ∙ (sym (ap (λ p. p.1) mark) ∙ (s.whole calm).length_is))
+      (λ torn. s.fault (s.broken ∙ torn))
+      s.faults
+      s.grows
+
+  -- the disk failed meanwhile
+  ended_torn : (z : Store D g) → now.broken ≡ false → Tears y z f → firm_of z ≡ firm_of y → HasEnded o now z seats
+  ended_torn z quiet tears firm =
+      let t : IsTorn o.at z after = (tears o.at before after (loaded quiet)).1 in
+      ended z
+      (λ tells. kept_less g o.at (disk_in z) now.flushed (firm_of z) after (let a = did.kept.flushed in let b = closed.firm in omega (arith, a, b, firm)) (t.kept tells))
+      (λ still none. absurd (false≢true (sym (ap is_some none) ∙ t.broken)))
+      (λ still none. absurd (false≢true (sym (ap is_some none) ∙ t.broken)))
+      (λ torn. t.fault)
+      t.faults
+      t.grows
+
+  pub ended_last : {T E : Type 0} (z : Store D g) (r : Result T E) → now.broken ≡ false → OnOk r (Writes y z f) → OnErr r (Tears y z f) → mark_of z ≡ (f.count, f.length) → OnOk r (firm_of z ≡ f.steps) → OnErr r (firm_of z ≡ firm_of y) → HasEnded o now z seats
+  ended_last z (Ok t) quiet writes tears mark firm same = ended_written z quiet writes mark firm
+  ended_last z (Err e) quiet writes tears mark firm same = ended_torn z quiet tears same
+
+  -- a frame has entries, or there is none to write
+  pub may_write : IfSome f.batch (λ es. es ≢ [])
+  may_write = subst (λ (b : Option (List Entry)). IfSome b (λ es. es ≢ [])) (sym did.batch) closed.home.stands.batch.some

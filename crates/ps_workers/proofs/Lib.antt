@@ -1,0 +1,10 @@
+pub mod Acknowledging
+pub mod Leaving
+pub mod Filling
+pub mod Heading
+pub mod Jobs
+pub mod Parting
+pub mod Teaming
+pub mod LastFrame
+pub mod Streams
+pub mod Sending

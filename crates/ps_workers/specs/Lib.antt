@@ -1,0 +1,5 @@
+pub mod Told
+pub mod Headline
+pub mod Working
+pub mod Teams
+pub mod Closing

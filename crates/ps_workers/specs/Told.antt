@@ -1,0 +1,49 @@
+-- What is told of a host's lines, and of what was written for it.
+use Rattle.std.specs.Prelude.{◌≡◌, ℕ, ◌+◌, ◌<◌, ◌≤◌, ◌++◌, ◌∷◌, [], true, false, List, Option, Some, None, length, take, slice_get}
+use Rattle.ps_types.specs.declared.jid.Jid.{Jid}
+use Rattle.ps_types.specs.declared.entry.Entry.{Entry}
+use Rattle.ps_types.specs.declared.entry.Entry.TheVariants.{Gone}
+use Rattle.ps_types.specs.declared.entry.Notice.{Notice}
+use Rattle.ps_model.specs.Entries.{spelling}
+use Rattle.ps_model.specs.TheCore.{the_core}
+use Rattle.ps_deeds.specs.Lines.{Came}
+use Rattle.ps_deeds.specs.Words.{Word, notes_in, replies_in}
+
+-- the entry that the line would have made passes the limit behind so many bytes
+pub record PassesLimit (limit bytes : ℕ) (E : List Entry) (h : List ℕ) (k : ℕ) (c : Came) : Type 0 where
+  pub entry : Entry
+  pub its : the_core.entry (take c.place E) h k c.arrival false ≡ Some entry
+  pub over : limit < bytes + length (spelling entry)
+
+-- so does each of these lines, from number k on, that found the store full
+abbrev pub AreFull : ℕ → ℕ → List Entry → List ℕ → ℕ → List Came → Type 0
+AreFull limit bytes E h k [] = Unit {0}
+AreFull limit bytes E h k (c ∷ cs) = (c.full ≡ true → PassesLimit limit bytes E h k c) × AreFull limit bytes E h (k + 1) cs
+
+-- those of the lines that got a reply
+abbrev pub if_replied : Option (List ℕ) → Came → List Came → List Came
+if_replied None c cs = cs
+if_replied (Some r) c cs = c ∷ cs
+
+abbrev pub replied : List Came → List Came
+replied [] = []
+replied (c ∷ cs) = if_replied c.reply c (replied cs)
+
+-- how many entries a line rests on: those before its place, and the one that it made
+abbrev pub made_by : Option Entry → ℕ
+made_by None = 0
+made_by (Some e) = 1
+
+abbrev pub rests_on : Came → ℕ
+rests_on c = c.place + made_by c.entry
+
+-- what was written rests on durable entries: each reply on those before its line's place and the one that its line made, each notice on its own
+pub record IsAcknowledged (firm : ℕ) (h : List ℕ) (lines : List Came) (words : List Word) : Type 0 where
+  pub replies : (k : ℕ) (c : Came) → slice_get (take (length (replies_in words)) (replied lines)) k ≡ Some c → rests_on c ≤ firm
+  pub notices : (a : Jid) (k : ℕ) (n : Notice) → a.host ≡ h → slice_get (notes_in a words) k ≡ Some n → n.place < firm
+
+-- the end of the host's callers stands behind these entries
+pub record HasGoneBehind (base E : List Entry) (h : List ℕ) : Type 0 where
+  pub front : List Entry
+  pub rest : List Entry
+  pub is : E ≡ (base ++ front) ++ Gone h ∷ rest

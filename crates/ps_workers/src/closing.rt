@@ -1,0 +1,41 @@
+// The end of a hall, with the last frame.
+ghost use Rattle.ps_shared.specs.Flush.{IsFrameOf};
+ghost use Rattle.ps_shared.specs.Passes.{ArePasses, seats_in};
+ghost use Rattle.ps_state.specs.Stand.{IsStanding};
+ghost use Rattle.ps_workers.specs.Closing.{HasEnded};
+
+use ps_disk::Disk;
+use ps_shared::{Hall, HostPasses, Opening};
+use ps_state::State;
+use ps_store::{Frame, Store};
+
+// The entries that wait become those of a frame.
+fn frame_of(state: &mut State) -> Frame
+    requires standing { IsStanding state.old }
+    ensures { IsFrameOf state.old state.new result }
+{
+    let batch = state.hand_over();
+    Frame {
+        batch,
+        count: state.count,
+        length: state.length,
+        steps: state.steps,
+    }
+}
+
+/// Ends the hall, and writes the entries that still wait unless the disk has failed. Where it fails now, the store tells.
+pub(crate) fn close<B: Opening, D: Disk>(
+    hall: Hall<B, D>,
+    passes: Vec<HostPasses<B, D>>,
+) -> (State, Store<D>)
+    requires { ArePasses B.origin hall.twin passes.items }
+    ensures { HasEnded B.origin result.0 result.1 (seats_in passes.items) }
+{
+    let (mut state, mut store) = hall.close(passes);
+    let frame = frame_of(&mut state);
+    if state.broken {
+        return (state, store);
+    }
+    let _ = store.append(&frame);
+    (state, store)
+}
