@@ -1,4 +1,4 @@
--- What three openings in a row ask for.
+-- What the opening of a store and of the streams behind it ask for.
 use Rattle.std.proofs.Common.{◌≡◌, suc, List, [], ◌∷◌, ◌++◌, ◌∙◌, sym, ap, append_assoc}
 use Rattle.std.specs.Prelude.{take}
 use Rattle.std.proofs.lemmas.List.{append-nil}
@@ -8,13 +8,9 @@ use Rattle.ps_outside.specs.declared.world.WorldRefusal.{WorldRefusal}
 use Rattle.ps_outside.specs.declared.world.WorldRefusal.TheVariants.{Failed, Memory}
 use Rattle.ps_serve.specs.Runs.{AsksInOrder}
 
-module _ (old one two new : List Opening) (first second : Opening) (asked_first : one ≡ old ++ first ∷ []) (kept : new ≡ two) where
-  pub asked-both : two ≡ one ++ second ∷ [] → AsksInOrder (first ∷ second ∷ []) old new
-  asked-both asked_second = (2, kept ∙ asked_second ∙ ap (λ (l : List Opening). l ++ second ∷ []) asked_first ∙ append_assoc old (first ∷ []) (second ∷ []))
-
-  pub asked-refused : (why : WorldRefusal) → AskedAt why one second two → AsksInOrder (first ∷ second ∷ []) old new
-  asked-refused Failed asked = asked-both asked
-  asked-refused Memory asked = (1, kept ∙ asked ∙ asked_first)
+-- nothing yet
+pub asked-none : (openings old : List Opening) → AsksInOrder openings old old
+asked-none openings old = (0, sym (append-nil old))
 
 -- one more before the others
 pub asked-before : (first : Opening) (rest : List Opening) (old one two new : List Opening) → one ≡ old ++ first ∷ [] → AsksInOrder rest one two → new ≡ two → AsksInOrder (first ∷ rest) old new
@@ -25,3 +21,7 @@ asked-before first rest old one two new asked more kept =
 pub asked-first : (first : Opening) (rest : List Opening) (old new : List Opening) (why : WorldRefusal) → AskedAt why old first new → AsksInOrder (first ∷ rest) old new
 asked-first first rest old new Failed asked = (1, asked)
 asked-first first rest old new Memory asked = (0, asked ∙ sym (append-nil old))
+
+-- and then nothing
+pub asked-then : (openings old mid new : List Opening) → AsksInOrder openings old mid → new ≡ mid → AsksInOrder openings old new
+asked-then openings old mid new asked kept = (asked.0, kept ∙ asked.1)

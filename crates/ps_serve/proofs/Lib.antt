@@ -1,17 +1,10 @@
-pub mod Hosts
-pub mod Eight
-pub mod Coming
-pub mod OneLine
-pub mod Halls
-pub mod Answering
-pub mod Arrivals
-pub mod EachLine
-pub mod Streams
-pub mod Opens
-pub mod Ends
-pub mod Closes
-pub mod Over
-pub mod Carried
-pub mod Asking
-pub mod Reaching
-pub mod Same
+mod Moved
+mod Works
+mod Ranks
+mod Stored
+mod Fulls
+mod Headlines
+mod Opened
+mod Over
+mod Streams
+mod Asking

@@ -1,74 +1,73 @@
--- A stream over its store, from the opening of the hall to its close.
-use Rattle.std.proofs.Common.{◌≡◌, ◌≢◌, ℕ, ◌+◌, ◌≤◌, List, [], ◌∷◌, Option, Some, None, ap, sym, ◌∙◌, subst}
-use Rattle.std.specs.Prelude.{slice_get}
-use Rattle.ps_types.specs.declared.entry.Arrival.{Arrival}
-use Rattle.ps_types.specs.declared.entry.Entry.{Entry}
-use Rattle.ps_types.specs.declared.entry.Entry.TheVariants.{Boot}
-use Rattle.ps_disk.specs.declared.device.Disk.{Ghosts}
-use Rattle.ps_disk.specs.Disk.{LeavesOnly}
-use Rattle.ps_journal.specs.Journal.{broken_of, disk_of, length_of}
-use Rattle.ps_journal.specs.Left.{LeavesAtLeast}
-use Rattle.ps_model.specs.Store.{Begun as BegunStore, gate_at, spelled}
-use Rattle.ps_outside.specs.Held.{HeldStore}
-use Rattle.ps_hall.specs.Begun.{IsOpenLeft}
-use Rattle.ps_hall.specs.OpenHall.{IsOpenHall, disk_under}
-use Rattle.ps_hall.specs.declared.answers.Limits.{Limits}
-use Rattle.ps_hall.specs.declared.hall.Hall.{Hall}
-use Rattle.ps_hall.specs.declared.hall.HostPasses.{HostPasses}
-use Rattle.ps_hall.proofs.Fronts.{OnlyNow}
-use Rattle.ps_serve.specs.Answering.{AnswersAll, AnswersSome}
-use Rattle.ps_serve.specs.Kept.{IsTidy, LacksGone, held_as, max_changes, max_whole}
-use Rattle.ps_serve.specs.Serving.{AreCallers, Finished, IsFreshIn, LacksGoneIn, Stopped}
-use Rattle.ps_serve.proofs.Closes.{all-closed, lacks-closed, some-closed}
-use Rattle.ps_serve.proofs.Opens.{began, callers-first, serves-first}
+-- Streams that were opened in a world, served over a disk, and given back.
+use Rattle.std.proofs.Common.{◌≡◌, ℕ, zero, suc, ◌<◌, List, [], ◌∷◌, inl, inr, length, ◌∙◌, ap, subst, arith}
+use Rattle.std.specs.Prelude.{get_or}
+use Rattle.std.proofs.lemmas.List.{length-map}
+use Rattle.ps_disk.specs.declared.device.Disk.{Ghosts as DiskGhosts}
+use Rattle.ps_outside.specs.declared.clock.Clock.{Ghosts as ClockGhosts}
+use Rattle.ps_outside.specs.declared.world.World.{Ghosts}
+use Rattle.ps_ports.specs.Ports.{AtEach, IsPortHeld, IsPortOpened, LeavesOthers}
+use Rattle.ps_ports.specs.declared.port.Port.{Port}
+use Rattle.ps_wire.specs.Reading.{IsFresh}
+use Rattle.ps_wire.specs.declared.lines.Lines.{Lines}
+use Rattle.ps_wire.specs.declared.streams.Sink.{Ghosts as SinkGhosts}
+use Rattle.ps_wire.specs.declared.streams.Source.{Ghosts as SourceGhosts}
+use Rattle.ps_words.specs.declared.command.Stream.{Stream}
+use Rattle.ps_workers.specs.Headline.{Worked}
+use Rattle.ps_workers.specs.Teams.{worked_of}
+use Rattle.ps_workers.specs.declared.serving.Ended.{Ended}
+use Rattle.ps_serve.specs.Comes.{Comes, ComesServed}
+use Rattle.ps_serve.specs.Ends.{IsServing}
+use Rattle.ps_serve.specs.Headline.{Headline, IdleCause}
+use Rattle.ps_serve.specs.Outside.{held_as, outside}
+use Rattle.ps_serve.specs.Runs.{RanOver, RanServing, hosts_of}
+use Rattle.ps_serve.specs.declared.status.Status.{Status}
+use Rattle.ps_serve.specs.declared.status.Status.TheVariants.{OpenFault}
+use Rattle.ps_serve.specs.declared.storing.Run.{Run}
+use Rattle.ps_serve.proofs.Streams.{all-back}
+use Rattle.ps_serve.proofs.Works.{clock_by, each-told, sink_by}
 
-module _ {D : Type 0} {g : Ghosts D} (only : OnlyNow g) (disk : D) (service host : List ℕ) (some : service ≢ []) (limits : Limits) (hall : Hall D g) (passes : List HostPasses) (is : IsOpenHall disk service (host ∷ []) limits hall passes) where
-  -- the first pass is the host's
-  module _ (one : HostPasses) (here : slice_get passes 0 ≡ Some one) where
-    pub one-host-is : one.reader.host ≡ host
-    one-host-is = (callers-first only disk service host some limits hall passes is one here).reader_host
+-- ---- by what comes of it
 
-    pub one-callers : AreCallers hall one.reader one.writer one.reader.host
-    one-callers = subst (λ (h : List ℕ). AreCallers hall one.reader one.writer h) (sym one-host-is) (callers-first only disk service host some limits hall passes is one here)
+module _ {D L C K : Type 0} (g : DiskGhosts D) (works : List (Port L C K) → List (Ended L C K) → List Worked) (service : List ℕ) (hosts : List (List ℕ)) (disk : D)
+    (ports : List (Port L C K)) (run : Run D (Port L C K)) where
+  pub as-many : Comes g works service hosts disk ports run → length run.ports.items ≡ length ports
+  as-many (inl idle) = ap length idle.same
+  as-many (inr served) = ap length served.back ∙ (length-map served.ended (λ e. e.port) ∙ served.many)
 
-    pub one-serving : IsFreshIn hall one.reader.host
-    one-serving = (began only disk service host some limits hall passes is, some, sym one-host-is, serves-first only disk service host some limits hall passes is)
+  -- nothing is opened any more
+  pub not-open : Comes g works service hosts disk ports run → run.status ≡ OpenFault → ⊥
+  not-open (inl idle) e = subst (λ (st : Status). IdleCause g.tells service (held_as g disk) (held_as g run.disk) st) e idle.idle.cause
+  not-open (inr served) e = subst IsServing e served.headline.ended.served
 
-  module _ (later : g.faults disk ≤ g.faults (disk_under hall))
-      (any : g.tells → (E : List Entry) → spelled (g.seen disk) E → IsTidy (g.seen disk) → LeavesOnly g.moment g.left_since disk (disk_under hall) (IsOpenLeft (g.synced disk) (g.written disk) E (Boot service)))
-      (final : Hall D g) (kept : final.limits ≡ hall.limits) (closed : D) (same : closed ≡ disk_under final)
-      (long : g.tells → broken_of final.journal ≡ None → (bs : List (List ℕ)) → BegunStore (g.seen closed) bs → length_of final.journal ≡ gate_at bs + 1)
-      (floor : g.tells → LeavesAtLeast (g.synced closed) (g.written closed) (length_of final.journal)) where
-    abbrev told : D → HeldStore
-    told d = held_as g.faults g.seen g.synced g.written g.moment g.syncs d
+-- ---- by the world
 
-    was : g.tells → spelled (g.seen disk) is.entries
-    was tells = (is.store tells).spells
+module _ {W S K D C : Type 0} (w : Ghosts W S K D C) {s : SourceGhosts S} (k : SinkGhosts K) (c : ClockGhosts C) where
+  pub opened-fresh : (world : W) (streams : List Stream) (ports : List (Port (Lines S s) C K)) → AtEach (IsPortOpened w {r = s} k c world) streams ports
+      → (n : ℕ) (d : Port (Lines S s) C K) → n < length ports → IsFresh (get_or ports n d).lines
+  opened-fresh world [] [] a n d less = absurd (omega (arith, less))
+  opened-fresh world [] (p ∷ ps) a n d less = absurd a
+  opened-fresh world (x ∷ xs) [] a n d less = absurd a
+  opened-fresh world (x ∷ xs) (p ∷ ps) a zero d less = a.0.fresh
+  opened-fresh world (x ∷ xs) (p ∷ ps) a (suc n) d less = opened-fresh world xs ps a.1 n d (omega (arith, less))
 
-    first : g.tells → IsTidy (g.seen disk) → LeavesOnly g.moment g.left_since disk (disk_under hall) (IsOpenLeft (g.synced disk) (g.written disk) is.entries (Boot service))
-    first tells tidy = any tells is.entries (was tells) tidy
+  module _ (g : DiskGhosts D) (service : List ℕ) (streams : List Stream) (disk : D) (old new : W) (ports : List (Port (Lines S s) C K))
+      (run : Run D (Port (Lines S s) C K)) (was : AtEach (IsPortOpened w {r = s} k c old) streams ports)
+      (is : AtEach (IsPortHeld w {r = s} k c new) streams run.ports.items) (leaves : LeavesOthers w streams old new) where
+    held-at : (back : List (Port (Lines S s) C K)) → run.ports.items ≡ back → AtEach (IsPortHeld w {r = s} k c new) streams back
+    held-at back e = subst (λ (l : List (Port (Lines S s) C K)). AtEach (IsPortHeld w {r = s} k c new) streams l) e is
 
-    there : g.tells → broken_of final.journal ≡ None → (bs : List (List ℕ)) → BegunStore (g.seen (disk_of final.journal)) bs → length_of final.journal ≡ gate_at bs + 1
-    there tells whole bs begun = long tells whole bs (subst (λ (d : D). BegunStore (g.seen d) bs) (sym same) begun)
+    serving : (hosts : List (List ℕ)) → hosts ≡ hosts_of streams → ComesServed g (worked_of (clock_by c) (sink_by k)) service hosts disk ports run
+        → RanServing g.tells service streams (outside w old) (outside w new) (held_as g disk) (held_as g run.disk) (g.left_since run.disk) run.status
+    serving hosts e served = record {
+      worked = worked_of (clock_by c) (sink_by k) ports served.ended;
+      size = served.size ∙ (ap length e ∙ length-map streams (λ x. x.host));
+      told = each-told w k c old new streams ports served.ended was (held-at _ served.back);
+      headline =
+          subst (λ (hs : List (List ℕ)). Headline g.tells service hs (worked_of (clock_by c) (sink_by k) ports served.ended) (held_as g disk) (held_as g run.disk)
+          (g.left_since run.disk) run.status) e served.headline;
+    }
 
-    least : g.tells → LeavesAtLeast (g.synced (disk_of final.journal)) (g.written (disk_of final.journal)) (length_of final.journal)
-    least tells = subst (λ (d : D). LeavesAtLeast (g.synced d) (g.written d) (length_of final.journal)) same (floor tells)
-
-    module _ (changes : limits.changes ≡ max_changes) where
-      limit : final.limits.changes ≡ max_changes
-      limit = ap (λ (l : Limits). l.changes) (kept ∙ is.limits_are) ∙ changes
-
-      pub opened-all : (all before now : Option (List ℕ)) → Finished final (began only disk service host some limits hall passes is) all before now → AnswersAll g.tells service host all before now (told disk) (told closed) (g.left_since closed)
-      opened-all all before now done =
-          subst (λ (d : D). AnswersAll g.tells service host all before now (told disk) (told d) (g.left_since d)) (sym same)
-          (all-closed disk final (began only disk service host some limits hall passes is) was later first limit there least all before now done)
-
-      pub opened-some : (Shown : List Arrival → List ℕ → Type 0) → Stopped final (began only disk service host some limits hall passes is) Shown → AnswersSome g.tells service host Shown (told disk) (told closed) (g.left_since closed)
-      opened-some Shown stop =
-          subst (λ (d : D). AnswersSome g.tells service host Shown (told disk) (told d) (g.left_since d)) (sym same)
-          (some-closed disk final (began only disk service host some limits hall passes is) was later first limit there least Shown stop)
-
-      pub opened-lacks : (Shown : List Arrival → List ℕ → Type 0) → limits.whole ≡ max_whole → Stopped final (began only disk service host some limits hall passes is) Shown → LacksGoneIn final host → g.tells → LacksGone (g.seen closed) host
-      opened-lacks Shown whole stop lacks tells =
-          subst (λ (d : D). LacksGone (g.seen d) host) (sym same)
-          (lacks-closed disk final (began only disk service host some limits hall passes is) was later first limit there least Shown stop lacks (ap (λ (l : Limits). l.whole) (kept ∙ is.limits_are) ∙ whole) tells)
+    pub ran-over : (hosts : List (List ℕ)) → hosts ≡ hosts_of streams → Comes g (worked_of (clock_by c) (sink_by k)) service hosts disk ports run
+        → RanOver g service streams (outside w old) (outside w new) disk run.disk run.status
+    ran-over hosts e (inl idle) = inr (inl (record { same = all-back w k c old new streams ports was (held-at ports idle.same) leaves; idle = idle.idle }))
+    ran-over hosts e (inr served) = inr (inr (serving hosts e served))

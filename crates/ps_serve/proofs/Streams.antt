@@ -1,135 +1,155 @@
--- One line more of a stream, with what is written for it.
-use Rattle.std.proofs.Common.{◌≡◌, ◌≢◌, inl, inr, Bool, true, false, ℕ, ◌+◌, ◌≤◌, ◌<◌, ◌^◌, List, [], ◌∷◌, ◌++◌, length, Option, refl, sym, ◌∙◌, subst, ap, arith, length-append}
-use Rattle.std.specs.Prelude.{Result, Ok, Err, OnErr}
-use Rattle.std.specs.Io.KnownBytes.{Appends}
-use Rattle.std.proofs.lemmas.Bool.{false≢true}
-use Rattle.std.proofs.lemmas.List.{append-nil}
-use Rattle.ps_types.specs.declared.entry.Arrival.{Arrival}
-use Rattle.ps_disk.specs.declared.device.Disk.{Ghosts}
-use Rattle.ps_hall.specs.declared.hall.Hall.{Hall}
-use Rattle.ps_wire.specs.Reading.{CutAtNewline, IsFresh, IsNext, IsWithoutLine, budget_of, ended_of, rest_of}
+-- The streams of a command: their hosts, and their objects from the opening to the giving back.
+use Rattle.std.proofs.Common.{◌≡◌, ◌≢◌, ◌⊎◌, inl, inr, ℕ, zero, suc, ◌≤◌, Bool, true, false, List, [], ◌∷◌, Some, length, refl, sym, ◌∙◌, ap, subst, arith}
+use Rattle.std.specs.Prelude.{slice_get}
+use Rattle.std.specs.Str.{bytes_eq}
+use Rattle.std.proofs.lemmas.Slice.Eq.{bytes_eq-Decides}
+use Rattle.ps_model.specs.Entries.{IsHostName}
+use Rattle.ps_opening.specs.Fresh.{AreHosts}
+use Rattle.ps_outside.specs.declared.clock.Clock.{Ghosts as ClockGhosts}
+use Rattle.ps_outside.specs.declared.world.Kind.{Kind}
+use Rattle.ps_outside.specs.declared.world.Kind.TheVariants.{Source, Sink, Clock}
+use Rattle.ps_outside.specs.declared.world.World.{Ghosts}
+use Rattle.ps_ports.specs.Ports.{AreApart, AtEach, Differs, IsOther, IsPortHeld, IsPortOpened, IsWithin, LeavesOthers, OpensNothing}
+use Rattle.ps_ports.specs.declared.port.Port.{Port}
+use Rattle.ps_ports.proofs.Back.{clock-same, held-same}
 use Rattle.ps_wire.specs.declared.lines.Lines.{Lines}
+use Rattle.ps_wire.specs.declared.streams.Sink.{Ghosts as SinkGhosts}
 use Rattle.ps_wire.specs.declared.streams.Source.{Ghosts as SourceGhosts}
-use Rattle.ps_hall.specs.Passes.{steps_of}
-use Rattle.ps_wire.specs.Writing.{AppendsFront}
-use Rattle.ps_wire.specs.declared.lines.NextLine.TheVariants.{End}
-use Rattle.ps_wire.proofs.Written.{appends_more, none_written, second_part}
-use Rattle.ps_serve.specs.Served.{line_of}
-use Rattle.ps_serve.specs.Serving.{AllEnded, AreFirst, Begun, EndsIn, InPart, IsServing, Ran, Runs, RunsWithin, ServesIn, Stops, Wrote, WroteInPart}
-use Rattle.ps_serve.proofs.Arrivals.{Came, are-first, came-all, came-more, came-none}
-use Rattle.ps_serve.proofs.EachLine.{each-ended, each-more, each-none}
-use Rattle.ps_serve.proofs.Halls.{serves-ends}
+use Rattle.ps_words.specs.Well.{AreApart as AreApartBy, IsWellServed}
+use Rattle.ps_words.specs.declared.command.Stream.{Stream}
+use Rattle.ps_serve.specs.Outside.{SameStreams, outside}
+use Rattle.ps_serve.specs.Runs.{hosts_of}
 
--- what doesn't depend on the error
-pub on-err : {T E : Type 0} (r : Result T E) (P : Type 0) → P → OnErr r P
-on-err (Ok x) P p = tt
-on-err (Err e) P p = p
+-- ---- hosts
 
--- all of what was written is a front of it
-pub whole-front : (before now : Option (List ℕ)) (out : List ℕ) → Appends before now out → AppendsFront before now out
-whole-front before now out whole = record { front = out; behind = []; split = sym (append-nil out); appends = whole }
+get-host : (streams : List Stream) (k : ℕ) (h : List ℕ) → slice_get (hosts_of streams) k ≡ Some h → (s : Stream) × (slice_get streams k ≡ Some s) × (s.host ≡ h)
+get-host [] k h e = absurd (cc e)
+get-host (s ∷ ss) zero h e = let same : s.host ≡ h = cc e in (s, refl, same)
+get-host (s ∷ ss) (suc k) h e = get-host ss k h e
 
-module _ {D : Type 0} {g : Ghosts D} (old new : Hall D g) (b : Begun D) (arrivals : List Arrival) (a : Arrival) (before mid now : Option (List ℕ)) where
-  -- the line was answered, and its reply was written
-  pub wrote-more : (reply : Option (List ℕ)) → Wrote old b arrivals before mid → ((out : List ℕ) → ServesIn old b arrivals out → ServesIn new b (arrivals ++ a ∷ []) (out ++ line_of reply)) → Appends mid now (line_of reply) → Wrote new b (arrivals ++ a ∷ []) before now
-  wrote-more reply was step whole = record { out = was.out ++ line_of reply; serves = step was.out was.serves; wrote = appends_more before mid now was.out (line_of reply) was.wrote whole }
+pub host-count : (streams : List Stream) → length (hosts_of streams) ≡ length streams
+host-count [] = refl
+host-count (s ∷ ss) = ap suc (host-count ss)
 
-  -- a front of its reply was written
-  pub wrote-part : (reply : Option (List ℕ)) → Wrote old b arrivals before mid → ((out : List ℕ) → ServesIn old b arrivals out → ServesIn new b (arrivals ++ a ∷ []) (out ++ line_of reply)) → AppendsFront mid now (line_of reply) → WroteInPart new b arrivals a before now
-  wrote-part reply was step part = record {
-    came = arrivals ++ a ∷ [];
-    which = inr refl;
-    out = was.out ++ line_of reply;
-    ends = serves-ends new b (arrivals ++ a ∷ []) (was.out ++ line_of reply) (step was.out was.serves);
-    wrote = second_part before mid now was.out (line_of reply) was.wrote part;
+module _ (by over : List ℕ) (streams : List Stream) (well : IsWellServed by over streams) where
+  pub are-hosts : AreHosts (hosts_of streams)
+  are-hosts = record {
+    each = λ k h at. (let s = get-host streams k h at in subst IsHostName s.2 (well.hosts k s.0 s.1));
+    apart = λ j k h at_j at_k.
+        let s = get-host streams j h at_j in
+        let t = get-host streams k h at_k in
+        well.apart_hosts j k s.0 t.0 s.1 t.1 (s.2 ∙ sym t.2);
   }
 
-  -- it was not answered
-  pub wrote-none : Wrote old b arrivals before now → ((out : List ℕ) → ServesIn old b arrivals out → EndsIn new b arrivals out [] 3) → WroteInPart new b arrivals a before now
-  wrote-none was step = record { came = arrivals; which = inl refl; out = was.out; ends = step was.out was.serves; wrote = whole-front before now was.out was.wrote }
+  pub some-host : hosts_of streams ≢ []
+  some-host none =
+      let c = host-count streams in
+      let n = ap length none in
+      let some = well.some in
+      absurd (omega (arith, c, n, some))
 
--- it serves on
-pub serving-more : {D : Type 0} {g : Ghosts D} (old new : Hall D g) (host : List ℕ) (a : Arrival) (reply : Option (List ℕ)) → IsServing old host
-    → ((b : Begun D) (arrivals : List Arrival) (out : List ℕ) → b.service ≢ [] → b.host ≡ host → ServesIn old b arrivals out → ServesIn new b (arrivals ++ a ∷ []) (out ++ line_of reply)) → IsServing new host
-serving-more old new host a reply is step = (is.0, is.1 ++ a ∷ [], is.2 ++ line_of reply, is.3, is.4, step is.0 is.1 is.2 is.3 is.4 is.5)
+-- ---- names
 
-module _ {D : Type 0} {g : Ghosts D} (old new : Hall D g) (b : Begun D) (all rest later before mid now : Option (List ℕ)) (ended ended_now : Bool) (count : ℕ) (a : Arrival) (r : Runs old b all rest ended before mid count) where
-  -- one line more was answered
-  pub runs-more : Came a rest later → (ended ≡ true → ended_now ≡ true) → CutAtNewline rest ended_now → (Wrote old b r.arrivals before mid → Wrote new b (r.arrivals ++ a ∷ []) before now) → Runs new b all later ended_now before now (count + 1)
-  runs-more came lasts cut step = record {
-    arrivals = r.arrivals ++ a ∷ [];
-    done = step r.done;
-    number = (let n = r.number in let l = length-append r.arrivals (a ∷ []) in omega (arith, n, l));
-    came = came-more all rest later r.arrivals a r.came came;
-    whole = λ on. each-more all rest later r.arrivals a ended_now on cut came (r.whole (still ended on lasts));
-  }
-    where
-      still : (e : Bool) → ended_now ≡ false → (e ≡ true → ended_now ≡ true) → e ≡ false
-      still true on lasts = absurd (false≢true (sym on ∙ lasts refl))
-      still false on lasts = refl
+others-by : (kind : Kind) (part : Stream → List ℕ) → ((n : List ℕ) (t : Stream) → n ≢ part t → Differs kind n t) → (name : List ℕ) (ss : List Stream)
+    → ((i : ℕ) (t : Stream) → slice_get ss i ≡ Some t → name ≢ part t) → IsOther kind name ss
+others-by kind part differs name [] f = tt
+others-by kind part differs name (t ∷ ts) f = (differs name t (f 0 t refl), others-by kind part differs name ts (λ i u at. f (suc i) u at))
 
-  -- it stopped there
-  pub stops-part : count ≤ 2 ^ 40 → Came a rest later → (Wrote old b r.arrivals before mid → WroteInPart new b r.arrivals a before now) → Stops new b (InPart all before now)
-  stops-part few came step =
-      let p = step r.done in
-      let n = r.number in
-      let l = length-append r.arrivals (a ∷ []) in
-      elim p.which [
-        | inl e ↦ record { arrivals = p.came; out = p.out; ends = p.ends; number = subst (λ (x : List Arrival). length x ≤ 2 ^ 40 + 1) (sym e) (omega (arith, n, few)); shown = record { first = subst (λ (x : List Arrival). AreFirst all x) (sym e) (are-first all rest r.arrivals r.came); wrote = p.wrote } }
-        | inr e ↦ record { arrivals = p.came; out = p.out; ends = p.ends; number = subst (λ (x : List Arrival). length x ≤ 2 ^ 40 + 1) (sym e) (omega (arith, n, l, few)); shown = record { first = subst (λ (x : List Arrival). AreFirst all x) (sym e) (are-first all later (r.arrivals ++ a ∷ []) (came-more all rest later r.arrivals a r.came came)); wrote = p.wrote } }
+tail-apart : (part : Stream → List ℕ) (s : Stream) (ss : List Stream) → AreApartBy part (s ∷ ss) → AreApartBy part ss
+tail-apart part s ss f i j t u at_t at_u e = (let same = f (suc i) (suc j) t u at_t at_u e in omega (arith, same))
+
+head-apart : (part : Stream → List ℕ) (s : Stream) (ss : List Stream) → AreApartBy part (s ∷ ss) → (i : ℕ) (t : Stream) → slice_get ss i ≡ Some t → part s ≢ part t
+head-apart part s ss f i t at e = absurd (let same = f 0 (suc i) s t refl at e in omega (arith, same))
+
+pub are-apart : (streams : List Stream) → AreApartBy (λ s. s.source) streams → AreApartBy (λ s. s.sink) streams → AreApartBy (λ s. s.host) streams → AreApart streams
+are-apart [] so si ho = tt
+are-apart (s ∷ ss) so si ho = (
+  others-by Source (λ t. t.source) (λ n t d. d) s.source ss (head-apart (λ t. t.source) s ss so),
+  others-by Sink (λ t. t.sink) (λ n t d. d) s.sink ss (head-apart (λ t. t.sink) s ss si),
+  others-by Clock (λ t. t.host) (λ n t d. d) s.host ss (head-apart (λ t. t.host) s ss ho),
+  are-apart ss (tail-apart (λ t. t.source) s ss so) (tail-apart (λ t. t.sink) s ss si) (tail-apart (λ t. t.host) s ss ho),
+)
+
+-- ---- streams that are given back as they were opened
+
+same-or-other : {H : Type 0} (old new : List ℕ → H) (name n : List ℕ) → new name ≡ old name → (n ≢ name) ⊎ (new n ≡ old n)
+same-or-other {H} old new name n back = tested (bytes_eq n name) refl
+  where
+    tested : (b : Bool) → bytes_eq n name ≡ b → (n ≢ name) ⊎ (new n ≡ old n)
+    tested true is = inr (subst (λ (m : List ℕ). new m ≡ old m) (sym ((bytes_eq-Decides n name).0 is)) back)
+    tested false is = inl (λ e. let yes : bytes_eq n name ≡ true = (bytes_eq-Decides n name).1 e in cc)
+
+module _ {W S K D C : Type 0} (w : Ghosts W S K D C) {s : SourceGhosts S} (k : SinkGhosts K) (c : ClockGhosts C) (old new : W) where
+  back-source : (n : List ℕ) (streams : List Stream) (ports : List (Port (Lines S s) C K)) → AtEach (IsPortOpened w {r = s} k c old) streams ports
+      → AtEach (IsPortHeld w {r = s} k c new) streams ports → IsOther Source n streams ⊎ (w.sources new n ≡ w.sources old n)
+  back-source n [] [] was is = inl tt
+  back-source n [] (p ∷ ps) was is = absurd was
+  back-source n (x ∷ xs) [] was is = absurd was
+  back-source n (x ∷ xs) (p ∷ ps) was is =
+      elim (same-or-other (w.sources old) (w.sources new) x.source n (held-same _ _ _ _ was.0.held.source is.0.source)) [
+        | inr same ↦ inr same
+        | inl differs ↦ elim (back-source n xs ps was.1 is.1) [ inl others ↦ inl (differs, others) | inr same ↦ inr same ]
       ]
 
-module _ {D : Type 0} {g : Ghosts D} (hall : Hall D g) (b : Begun D) (all rest later before now : Option (List ℕ)) (ended : Bool) (count : ℕ) (r : Runs hall b all rest ended before now count) (few : count ≤ 2 ^ 40) where
-  stops-with : (Shown : List Arrival → List ℕ → Type 0) → Shown r.arrivals r.done.out → Stops hall b Shown
-  stops-with Shown shown = record {
-    arrivals = r.arrivals;
-    out = r.done.out;
-    ends = serves-ends hall b r.arrivals r.done.out r.done.serves;
-    number = (let n = r.number in omega (arith, n, few));
-    shown = shown;
+  back-sink : (n : List ℕ) (streams : List Stream) (ports : List (Port (Lines S s) C K)) → AtEach (IsPortOpened w {r = s} k c old) streams ports
+      → AtEach (IsPortHeld w {r = s} k c new) streams ports → IsOther Sink n streams ⊎ (w.sinks new n ≡ w.sinks old n)
+  back-sink n [] [] was is = inl tt
+  back-sink n [] (p ∷ ps) was is = absurd was
+  back-sink n (x ∷ xs) [] was is = absurd was
+  back-sink n (x ∷ xs) (p ∷ ps) was is =
+      elim (same-or-other (w.sinks old) (w.sinks new) x.sink n (held-same _ _ _ _ was.0.held.sink is.0.sink)) [
+        | inr same ↦ inr same
+        | inl differs ↦ elim (back-sink n xs ps was.1 is.1) [ inl others ↦ inl (differs, others) | inr same ↦ inr same ]
+      ]
+
+  back-clock : (n : List ℕ) (streams : List Stream) (ports : List (Port (Lines S s) C K)) → AtEach (IsPortOpened w {r = s} k c old) streams ports
+      → AtEach (IsPortHeld w {r = s} k c new) streams ports → IsOther Clock n streams ⊎ (w.clocks new n ≡ w.clocks old n)
+  back-clock n [] [] was is = inl tt
+  back-clock n [] (p ∷ ps) was is = absurd was
+  back-clock n (x ∷ xs) [] was is = absurd was
+  back-clock n (x ∷ xs) (p ∷ ps) was is =
+      elim (same-or-other (w.clocks old) (w.clocks new) x.host n (clock-same _ _ _ _ was.0.held.clock is.0.clock)) [
+        | inr same ↦ inr same
+        | inl differs ↦ elim (back-clock n xs ps was.1 is.1) [ inl others ↦ inl (differs, others) | inr same ↦ inr same ]
+      ]
+
+  pub all-back : (streams : List Stream) (ports : List (Port (Lines S s) C K)) → AtEach (IsPortOpened w {r = s} k c old) streams ports
+      → AtEach (IsPortHeld w {r = s} k c new) streams ports → LeavesOthers w streams old new → SameStreams (outside w old) (outside w new)
+  all-back streams ports was is leaves = record {
+    same_sources = λ n. elim (back-source n streams ports was is) [ inl others ↦ leaves.sources n others | inr same ↦ same ];
+    same_sinks = λ n. elim (back-sink n streams ports was is) [ inl others ↦ leaves.sinks n others | inr same ↦ same ];
+    same_clocks = λ n. elim (back-clock n streams ports was is) [ inl others ↦ leaves.clocks n others | inr same ↦ same ];
   }
 
-  -- no line could be read
-  pub stops-still : Stops hall b (InPart all before now)
-  stops-still = stops-with (InPart all before now) (record { first = are-first all rest r.arrivals r.came; wrote = whole-front before now r.done.out r.done.wrote })
+-- ---- what is left alone by both calls
 
-  -- the source failed, or gave all that it may
-  pub stops-ended : (left : Option (List ℕ)) → ended ≡ false → IsWithoutLine rest left → Stops hall b (AllEnded all left before now)
-  stops-ended left on without = stops-with (AllEnded all left before now) (record { came = each-ended all rest left r.arrivals (r.whole on) without; wrote = r.done.wrote })
+module _ {W S K D C : Type 0} (w : Ghosts W S K D C) (streams : List Stream) (old mid new : W) where
+  last-then : (w.last_opening mid ≡ w.last_opening old) ⊎ IsWithin (w.faults old) (w.last_opening mid) (w.faults mid) → OpensNothing w mid new
+      → (w.last_opening new ≡ w.last_opening old) ⊎ IsWithin (w.faults old) (w.last_opening new) (w.faults new)
+  last-then (inl same) nothing = inl (nothing.last ∙ same)
+  last-then (inr within) nothing =
+      inr (subst (λ (n : ℕ). IsWithin (w.faults old) (w.last_opening new) n) (sym nothing.faults)
+      (subst (λ (l : ℕ × ℕ). IsWithin (w.faults old) l (w.faults mid)) (sym nothing.last) within))
 
-  -- no line was left
-  pub ran-all : IsNext End rest later → Ran hall b all before now
-  ran-all next = record { arrivals = r.arrivals; done = r.done; number = (let n = r.number in omega (arith, n, few)); all_came = came-all all rest later r.arrivals r.came next }
+  pub leaves-then : LeavesOthers w streams old mid → LeavesOthers w streams mid new → OpensNothing w mid new → LeavesOthers w streams old new
+  leaves-then first second nothing = record {
+    sources = λ n other. second.sources n other ∙ first.sources n other;
+    sinks = λ n other. second.sinks n other ∙ first.sinks n other;
+    clocks = λ n other. second.clocks n other ∙ first.clocks n other;
+    stores = λ n. second.stores n ∙ first.stores n;
+    lefts = λ n t x. (
+      λ was. (second.lefts n t x).0 ((first.lefts n t x).0 was),
+      λ is. (first.lefts n t x).1 ((second.lefts n t x).1 is),
+    );
+    stay = λ kind n other was. second.stay kind n other (first.stay kind n other was);
+    reported = second.reported ∙ first.reported;
+    later = (let a = first.later in let b = second.later in omega (arith, a, b));
+    last = last-then first.last nothing;
+  }
 
--- before the first line
-pub runs-none : {D : Type 0} {g : Ghosts D} (hall : Hall D g) (b : Begun D) (all written : Option (List ℕ)) → ServesIn hall b [] [] → Runs hall b all all false written written 0
-runs-none hall b all written s = record { arrivals = []; done = record { out = []; serves = s; wrote = none_written written }; number = refl; came = came-none all; whole = λ on. each-none all }
-
--- ---- from turn to turn
-
--- before the first turn
-pub within-first : {D S : Type 0} {g : Ghosts D} {h : SourceGhosts S} (hall : Hall D g) (b : Begun D) (lines : Lines S h) (written : Option (List ℕ)) → IsFresh lines → ServesIn hall b [] [] → RunsWithin hall b (rest_of lines) (rest_of lines) (ended_of lines) written written (budget_of lines)
-within-first hall b lines written fresh s =
-    let given = fresh.given_none in
-    let held = ap length fresh.holds_none in
-    record { count = 0; within = omega (arith, given, held); runs = subst (λ (e : Bool). Runs hall b (rest_of lines) (rest_of lines) e written written 0) (sym fresh.not_ended) (runs-none hall b (rest_of lines) written s) }
-
-module _ {D : Type 0} {g : Ghosts D} (hall : Hall D g) (host : List ℕ) (b : Begun D) (all rest before now : Option (List ℕ)) (ended : Bool) (budget : ℕ) (r : RunsWithin hall b all rest ended before now budget) where
-  pub within-serving : b.service ≢ [] → b.host ≡ host → IsServing hall host
-  within-serving some is = (b, r.runs.arrivals, r.runs.done.out, some, is, r.runs.done.serves)
-
-  pub within-few : steps_of hall < 2 ^ 60
-  within-few =
-      let s = r.runs.done.serves in
-      let n = s.stands.for.state.steps in
-      let f = s.serves.few in
-      let k = r.runs.number in
-      let w = r.within in
-      omega (arith, n, f, k, w)
-
-  -- one turn more
-  pub within-more : (new : Hall D g) (later after : Option (List ℕ)) (ended_now : Bool) (left : ℕ) → left < budget → (Runs hall b all rest ended before now r.count → Runs new b all later ended_now before after (r.count + 1)) → RunsWithin new b all later ended_now before after left
-  within-more new later after ended_now left falls step = record { count = r.count + 1; within = (let w = r.within in omega (arith, w, falls)); runs = step r.runs }
-
-  pub within-count : r.count ≤ 2 ^ 40
-  within-count = (let w = r.within in omega (arith, w))
+  -- the last opening lies before now
+  pub last-before : (w.last_opening mid ≡ w.last_opening old) ⊎ IsWithin (w.faults old) (w.last_opening mid) (w.faults mid)
+      → w.faults old ≤ w.faults mid → (w.last_opening old).1 ≤ w.faults old → (w.last_opening mid).1 ≤ w.faults mid
+  last-before (inl same) later before =
+      subst (λ (l : ℕ × ℕ). l.1 ≤ w.faults mid) (sym same) (omega (arith, later, before))
+  last-before (inr within) later before = within.until

@@ -1,8 +1,9 @@
-pub mod Words
 pub mod Statuses
-pub mod Served
-pub mod Reached
-pub mod Serving
-pub mod Kept
-pub mod Answering
+pub mod Ends
+pub mod Room
+pub mod Outside
+pub mod Crashes
+pub mod Starts
+pub mod Headline
+pub mod Comes
 pub mod Runs

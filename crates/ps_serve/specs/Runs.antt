@@ -1,126 +1,132 @@
 -- What a run does to the world.
-use Rattle.std.specs.Prelude.{ℕ, ◌≡◌, ◌⊎◌, ◌≤◌, List, [], ◌∷◌, ◌++◌, take, Option, Some, None}
+use Rattle.std.specs.Prelude.{◌≡◌, ◌⊎◌, ℕ, List, [], ◌∷◌, ◌++◌, length, map, take, Option, Some, None, slice_get}
 use Rattle.std.specs.Io.KnownBytes.{Appends}
 use Rattle.ps_base.specs.Causes.{Rose}
-use Rattle.ps_outside.specs.Held.{Held, HeldStore, Same, SameBut, SameLeft, SameLefts, SameLeftsBut}
+use Rattle.ps_disk.specs.declared.device.Disk.{Ghosts as DiskGhosts}
+use Rattle.ps_outside.specs.Held.{HeldStore, Same, SameBut, SameLefts, SameLeftsBut}
 use Rattle.ps_outside.specs.World.{ReportsFront}
-use Rattle.ps_outside.specs.declared.world.Kind.TheVariants.{Source, Sink, Store}
+use Rattle.ps_outside.specs.declared.world.Kind.TheVariants.{Source, Sink, Clock, Store}
 use Rattle.ps_outside.specs.declared.world.Opening.{Opening}
-use Rattle.ps_model.specs.At.{IsDamagedAt}
-use Rattle.ps_hall.specs.OpenHall.{PassesBy}
-use Rattle.ps_serve.specs.Answering.{AnswersAll, AnswersPart, AnswersSome}
-use Rattle.ps_serve.specs.Kept.{LacksGone, max_whole}
-use Rattle.ps_serve.specs.Reached.{ReadWhole, ReadLimit}
-use Rattle.ps_serve.specs.Serving.{AllEnded, InPart}
+use Rattle.ps_ports.specs.Ports.{SameOthers, port_openings}
+use Rattle.ps_words.specs.declared.command.Command.{Command}
+use Rattle.ps_words.specs.declared.command.Command.TheVariants.{Serve, Rehearse}
+use Rattle.ps_words.specs.declared.command.Stream.{Stream}
+use Rattle.ps_workers.specs.Headline.{Worked}
+use Rattle.ps_serve.specs.Headline.{Headline, Idle}
+use Rattle.ps_serve.specs.Outside.{IsWorkedIn, Outside, SameStreams, held_as}
 use Rattle.ps_serve.specs.declared.status.Status.{Status}
 use Rattle.ps_serve.specs.declared.status.Status.TheVariants as status
-use Rattle.ps_serve.specs.declared.words.Command.{Command}
-use Rattle.ps_serve.specs.declared.words.Command.TheVariants.{Serve}
-use Rattle.ps_serve.specs.declared.words.Stream.{Stream}
 
--- the service host, the name of its store, and the stream that is served
+-- the service host, the name of its store, and the streams that are served
 pub record Served : Type 0 where
   pub service : List ℕ
   pub store : List ℕ
-  pub stream : Stream
+  pub streams : List Stream
 
 abbrev pub served_by : Option Command → Option Served
 served_by None = None
-served_by (Some (Serve service store [])) = None
-served_by (Some (Serve service store (stream ∷ streams))) = Some (record { service = service; store = store; stream = stream })
+served_by (Some (Serve service store streams)) =
+    Some (record { service = service; store = store; streams = streams })
+served_by (Some (Rehearse seed count)) = None
 
--- each stream's source and sink, in the order of the words; before them the store is opened
-abbrev pub stream_openings : List Stream → List Opening
-stream_openings [] = []
-stream_openings (stream ∷ streams) =
-    record { kind = Source; name = stream.source } ∷ record { kind = Sink; name = stream.sink } ∷ stream_openings streams
+abbrev pub hosts_of : List Stream → List (List ℕ)
+hosts_of streams = map (λ (s : Stream). s.host) streams
 
+-- ---- openings
+
+-- the store is opened first, then each stream's source, sink and clock, in the order of the words
 abbrev pub openings_of : Option Command → List Opening
 openings_of None = []
-openings_of (Some (Serve service store streams)) = record { kind = Store; name = store } ∷ stream_openings streams
+openings_of (Some (Serve service store streams)) = record { kind = Store; name = store } ∷ port_openings streams
+openings_of (Some (Rehearse seed count)) = []
 
 -- what was asked for is a front of these openings
 abbrev pub AsksInOrder : List Opening → List Opening → List Opening → Type 0
 AsksInOrder openings old new = (n : ℕ) × (new ≡ old ++ take n openings)
 
--- the source was read to its end, all its lines were answered, and the store has what they made
-pub record Answers (tells : Type 0) (s : Served) (sources sources_now sinks sinks_now : List ℕ → Held) (old new : HeldStore) (since : ℕ → List ℕ → Type 0) : Type 0 where
-  pub read : ReadWhole (sources s.stream.source).bytes (sources_now s.stream.source).bytes
-  pub answers : AnswersAll tells s.service s.stream.host (sources s.stream.source).bytes (sinks s.stream.sink).bytes (sinks_now s.stream.sink).bytes old new since
+-- ---- what comes of it
 
--- some of its lines were, and a front of their replies was written
-abbrev pub AnswersFirst : Type 0 → Served → (List ℕ → Held) → (List ℕ → Held) → (List ℕ → Held) → HeldStore → HeldStore → (ℕ → List ℕ → Type 0) → Type 0
-AnswersFirst tells s sources sinks sinks_now old new since =
-    AnswersSome tells s.service s.stream.host (InPart (sources s.stream.source).bytes (sinks s.stream.sink).bytes (sinks_now s.stream.sink).bytes) old new since
+-- an opening failed, or memory ran out before the store was touched: nothing has changed
+pub record Untouched (old new : Outside) (lefts lefts_now : List ℕ → ℕ → List ℕ → Type 0) (st : Status) : Type 0 where
+  pub same : SameStreams old new
+  pub stores : Same old.stores new.stores
+  pub lefts_same : SameLefts lefts lefts_now
+  pub status : (st ≡ status.OpenFault) ⊎ (st ≡ status.Memory)
 
--- where the sink has not failed, all of them that a newline ended in what the source gave, and all their replies were written
-abbrev pub AnswersEnded : Type 0 → Served → (List ℕ → Held) → (List ℕ → Held) → (List ℕ → Held) → (List ℕ → Held) → HeldStore → HeldStore → (ℕ → List ℕ → Type 0) → Type 0
-AnswersEnded tells s sources sources_now sinks sinks_now old new since =
-    (Rose (sinks s.stream.sink).faults (sinks_now s.stream.sink).faults → ⊥)
-    → AnswersSome tells s.service s.stream.host (AllEnded (sources s.stream.source).bytes (sources_now s.stream.source).bytes (sinks s.stream.sink).bytes (sinks_now s.stream.sink).bytes) old new since
+-- no line came; the store is told of as it was before and as it is now
+pub record RanIdle (tells : Type 0) (service : List ℕ) (old new : Outside) (before now : HeldStore)
+    (left : ℕ → List ℕ → Type 0) (st : Status) : Type 0 where
+  pub same : SameStreams old new
+  pub idle : Idle tells service before now left st
 
--- some of its lines were, or none came
-abbrev pub AnswersInPart : Type 0 → Served → (List ℕ → Held) → (List ℕ → Held) → (List ℕ → Held) → HeldStore → HeldStore → (ℕ → List ℕ → Type 0) → Type 0
-AnswersInPart tells s sources sinks sinks_now old new since =
-    AnswersPart tells s.service s.stream.host (sources s.stream.source).bytes (sinks s.stream.sink).bytes (sinks_now s.stream.sink).bytes old new since
+-- the streams were served
+pub record RanServing (tells : Type 0) (service : List ℕ) (streams : List Stream) (old new : Outside)
+    (before now : HeldStore) (left : ℕ → List ℕ → Type 0) (st : Status) : Type 0 where
+  pub worked : List Worked
+  pub size : length worked ≡ length streams
+  pub told : (i : ℕ) (stream : Stream) (t : Worked) → slice_get streams i ≡ Some stream
+      → slice_get worked i ≡ Some t → IsWorkedIn old new stream t
+  pub headline : Headline tells service (hosts_of streams) worked before now left st
 
--- no line came, and the store is as it was
-pub record LeavesAsItWas (s : Served) (sinks sinks_now : List ℕ → Held) (stores stores_now : List ℕ → HeldStore) (lefts lefts_now : List ℕ → ℕ → List ℕ → Type 0) : Type 0 where
-  pub unwritten : (sinks_now s.stream.sink).bytes ≡ (sinks s.stream.sink).bytes
-  pub same_store : stores_now s.store ≡ stores s.store
-  pub same_left : SameLeft (lefts s.store) (lefts_now s.store)
+-- the one or the other
+abbrev pub Ran : Type 0 → List ℕ → List Stream → Outside → Outside → HeldStore → HeldStore → (ℕ → List ℕ → Type 0)
+    → Status → Type 0
+Ran tells service streams old new before now left st =
+    RanIdle tells service old new before now left st ⊎ RanServing tells service streams old new before now left st
 
--- the bytes of the store spell no list of accepted entries, and this is the offset of the damage
-abbrev pub IsDamagedStore : Type 0 → HeldStore → ℕ → Type 0
-IsDamagedStore tells old at = tells → IsDamagedAt old.seen at
+-- or nothing was done
+abbrev pub Runs : Type 0 → Outside → Outside → (List ℕ → ℕ → List ℕ → Type 0) → (List ℕ → ℕ → List ℕ → Type 0)
+    → Status → Served → Type 0
+Runs tells old new lefts lefts_now st s =
+    Untouched old new lefts lefts_now st
+    ⊎ Ran tells s.service s.streams old new (old.stores s.store) (new.stores s.store) (lefts_now s.store) st
 
--- the store has no room for the Boot, or for the Gone of the host
-abbrev pub LacksRoomAtAll : Type 0 → Served → HeldStore → HeldStore → Type 0
-LacksRoomAtAll tells s old new = tells → PassesBy old.seen s.service max_whole ⊎ LacksGone new.seen s.stream.host
+-- ---- between the opening of the store and its giving back
 
--- no other source, sink and store is changed
-pub record LeavesOthers (s : Served) (sources sources_now sinks sinks_now : List ℕ → Held) (stores stores_now : List ℕ → HeldStore) (lefts lefts_now : List ℕ → ℕ → List ℕ → Type 0) : Type 0 where
-  pub other_sources : SameBut s.stream.source sources sources_now
-  pub other_sinks : SameBut s.stream.sink sinks sinks_now
-  pub other_stores : SameBut s.store stores stores_now
+-- no stream was opened, and the disk is as it was
+pub record NotOpened {D : Type 0} (old new : Outside) (disk disk_now : D) (st : Status) : Type 0 where
+  pub same : SameStreams old new
+  pub same_disk : disk_now ≡ disk
+  pub status : (st ≡ status.OpenFault) ⊎ (st ≡ status.Memory)
+
+abbrev pub RanOver : {D : Type 0} → DiskGhosts D → List ℕ → List Stream → Outside → Outside → D → D → Status → Type 0
+RanOver g service streams old new disk disk_now st =
+    NotOpened old new disk disk_now st
+    ⊎ Ran g.tells service streams old new (held_as g disk) (held_as g disk_now) (g.left_since disk_now) st
+
+-- ---- what else there is in the world
+
+-- no other source, sink, clock and store has changed
+pub record LeavesOthers (s : Served) (old new : Outside) (lefts lefts_now : List ℕ → ℕ → List ℕ → Type 0) : Type 0 where
+  pub other_sources : SameOthers Source s.streams old.sources new.sources
+  pub other_sinks : SameOthers Sink s.streams old.sinks new.sinks
+  pub other_clocks : SameOthers Clock s.streams old.clocks new.clocks
+  pub other_stores : SameBut s.store old.stores new.stores
   pub other_lefts : SameLeftsBut s.store lefts lefts_now
 
--- where nothing is served, none is
-pub record LeavesAll (sources sources_now sinks sinks_now : List ℕ → Held) (stores stores_now : List ℕ → HeldStore) (lefts lefts_now : List ℕ → ℕ → List ℕ → Type 0) : Type 0 where
-  pub all_sources : Same sources sources_now
-  pub all_sinks : Same sinks sinks_now
-  pub all_stores : Same stores stores_now
+-- where nothing is served, none has
+pub record LeavesAll (old new : Outside) (lefts lefts_now : List ℕ → ℕ → List ℕ → Type 0) : Type 0 where
+  pub same : SameStreams old new
+  pub all_stores : Same old.stores new.stores
   pub all_lefts : SameLefts lefts lefts_now
 
-abbrev pub Leaves : Option Served → (List ℕ → Held) → (List ℕ → Held) → (List ℕ → Held) → (List ℕ → Held) → (List ℕ → HeldStore) → (List ℕ → HeldStore) → (List ℕ → ℕ → List ℕ → Type 0) → (List ℕ → ℕ → List ℕ → Type 0) → Type 0
-Leaves None sources sources_now sinks sinks_now stores stores_now lefts lefts_now = LeavesAll sources sources_now sinks sinks_now stores stores_now lefts lefts_now
-Leaves (Some s) sources sources_now sinks sinks_now stores stores_now lefts lefts_now = LeavesOthers s sources sources_now sinks sinks_now stores stores_now lefts lefts_now
+abbrev pub Leaves : Option Served → Outside → Outside → (List ℕ → ℕ → List ℕ → Type 0)
+    → (List ℕ → ℕ → List ℕ → Type 0) → Type 0
+Leaves None old new lefts lefts_now = LeavesAll old new lefts lefts_now
+Leaves (Some s) old new lefts lefts_now = LeavesOthers s old new lefts lefts_now
 
--- the count of the stream's source or sink rose
-abbrev pub StreamRose : Served → (List ℕ → Held) → (List ℕ → Held) → (List ℕ → Held) → (List ℕ → Held) → Type 0
-StreamRose s sources sources_now sinks sinks_now =
-    Rose (sources s.stream.source).faults (sources_now s.stream.source).faults ⊎ Rose (sinks s.stream.sink).faults (sinks_now s.stream.sink).faults
-
--- the source gave 2^40 bytes
-abbrev pub GaveAll : Served → (List ℕ → Held) → (List ℕ → Held) → Type 0
-GaveAll s sources sources_now = ReadLimit (sources s.stream.source).bytes (sources_now s.stream.source).bytes
-
--- the count rose in the last opening, which came after the start
-pub record OpeningFailed (before : ℕ) (last : ℕ × ℕ) (now : ℕ) : Type 0 where
-  pub since : before ≤ last.0
-  pub rose : Rose last.0 last.1
-  pub until : last.1 ≤ now
+-- ---- reports
 
 -- the world's count of faults before the report, as far as a status tells it: once an opening was done, the count after the last one
 abbrev pub reported_from : Status → ℕ → ℕ × ℕ → ℕ
-reported_from status.Done before last = before
-reported_from status.Usage before last = before
 reported_from status.OpenFault before last = last.1
 reported_from (status.StoreDamaged at) before last = last.1
 reported_from status.StoreFault before last = last.1
 reported_from status.StoreFull before last = last.1
 reported_from status.StreamFault before last = last.1
 reported_from status.StreamLong before last = last.1
+reported_from status.Done before last = before
+reported_from status.Usage before last = before
 reported_from status.Memory before last = before
 
 -- the line is reported, or a front of it where the count has risen since

@@ -57,7 +57,7 @@ impl Status {
         match self {
             Status::Done => "",
             Status::Usage => {
-                "usage: pubsubd serve --service HOST --store PATH HOST IN OUT [HOST IN OUT].. | rehearse SEED COUNT\n"
+                "usage: pubsubd serve --service HOST --store PATH HOST IN OUT [HOST IN OUT]..\n"
             }
             Status::OpenFault => "open fault\n",
             Status::StoreDamaged { at: _ } => "store damaged at ",

@@ -1,26 +1,34 @@
-// A stream over its store.
-ghost use Rattle.std.specs.Prelude.{◌≡◌, ◌≢◌, ◌⊎◌, ◌<◌, ◌≤◌, ◌^◌, [], List, ℕ};
-ghost use Rattle.ps_base.specs.Causes.{Rose};
-ghost use Rattle.ps_journal.specs.Journal.{disk_of};
-ghost use Rattle.ps_model.specs.At.{IsDamagedAt};
+// Streams over the store on a disk.
+ghost use Rattle.std.specs.Prelude.{◌≡◌, ◌≢◌, ◌≤◌, [], List, ℕ, length, map};
+ghost use Rattle.std.specs.Vec.{vec_capacity};
+ghost use Rattle.ps_deeds.specs.Own.{AllDiffer};
 ghost use Rattle.ps_model.specs.Entries.{IsHostName};
-ghost use Rattle.ps_hall.specs.OpenHall.{PassesBy};
-ghost use Rattle.ps_wire.specs.Reading.{source_of, IsFresh};
-ghost use Rattle.ps_serve.specs.Answering.{AnswersAll, AnswersPart, AnswersSome};
-ghost use Rattle.ps_serve.specs.Kept.{held_as, max_whole, LacksGone};
-ghost use Rattle.ps_serve.specs.Reached.{ReadLimit, ReadWhole};
-ghost use Rattle.ps_serve.specs.Serving.{AllEnded, AreCallers, Begun, Finished, InPart, IsFreshIn, LacksGoneIn, ServesIn, Stopped};
+ghost use Rattle.ps_opening.specs.Fresh.{AreHosts};
+ghost use Rattle.ps_shared.specs.Start.{MayStart};
+ghost use Rattle.ps_workers.specs.Teams.{worked_of};
+ghost use Rattle.ps_workers.specs.Working.{clocks, sinks};
+ghost use Rattle.ps_wire.specs.Reading.{IsFresh};
+ghost use Rattle.std.specs.List.{All};
+ghost use Rattle.ps_serve.specs.Comes.{Comes, Lives, not_opened as status_if_not_opened};
+ghost use Rattle.ps_serve.specs.Starts.{Start, start_of};
 
-use crate::ending::end_stream;
+use crate::ends::status_of;
 use crate::status::Status;
-use crate::stream::serve_lines;
-use crate::turn::StreamEnd;
 use ps_disk::Disk;
-use ps_hall::{Hall, HallRefusal, HallWhy, Limits, Pass};
+use ps_journal::Placed;
+use ps_opening::{OpenRefusal, OpenWhy, Opened, open};
+use ps_outside::Clock;
+use ps_ports::Port;
+use ps_shared::{Hall, NoHall, Opening};
+use ps_state::{Limits, State};
+use ps_store::Store;
 use ps_types::Text;
-use ps_wire::{Lines, LinesRefusal, Sink, Source};
+use ps_wire::{Lines, Sink, Source};
+use ps_workers::{Ended, Room, serve};
 use std::alloc::Global;
+use std::marker::Brand;
 use std::random::RandomSource;
+use std::sync::Wait;
 use std::thread::Threads;
 
 /// How many bytes a store has at most: 2^29 by changes, and 2^30 in all.
@@ -29,147 +37,143 @@ const LIMITS: Limits = Limits {
     whole: 1 << 30,
 };
 
-fn status_of(end: StreamEnd) -> Status
-    ensures done { result ≡ Status.Done → end ≡ StreamEnd.Ended }
-    ensures stream { result ≡ Status.StreamFault → (end ≡ StreamEnd.ReadFault) ⊎ (end ≡ StreamEnd.WriteFault) }
-    ensures long { result ≡ Status.StreamLong → end ≡ StreamEnd.Long }
-    ensures store { result ≡ Status.StoreFault → end ≡ StreamEnd.Store }
-    ensures full { result ≡ Status.StoreFull → end ≡ StreamEnd.Full }
-    ensures damaged { (at : ℕ) → result ≡ Status.StoreDamaged at → ⊥ }
-    ensures never { (result ≡ Status.Usage) ⊎ (result ≡ Status.OpenFault) → ⊥ }
-{
-    match end {
-        StreamEnd::Ended => Status::Done,
-        StreamEnd::ReadFault | StreamEnd::WriteFault => Status::StreamFault,
-        StreamEnd::Long => Status::StreamLong,
-        StreamEnd::Store => Status::StoreFault,
-        StreamEnd::Full => Status::StoreFull,
-        StreamEnd::Memory => Status::Memory,
-    }
+/// What comes of serving: how it ended, the disk, and the streams.
+pub(crate) struct Run<D, P> {
+    pub status: Status,
+    pub disk: D,
+    pub ports: Vec<P>,
 }
 
-fn not_opened(why: HallWhy) -> Status
-    ensures damaged { (at : ℕ) → result ≡ Status.StoreDamaged at → why ≡ HallWhy.Damaged at }
-    ensures store { result ≡ Status.StoreFault → why ≡ HallWhy.Store }
-    ensures full { result ≡ Status.StoreFull → why ≡ HallWhy.Full }
-    ensures never { (result ≡ Status.Done) ⊎ (result ≡ Status.Usage) ⊎ (result ≡ Status.OpenFault) ⊎ (result ≡ Status.StreamFault) ⊎ (result ≡ Status.StreamLong) → ⊥ }
+fn not_opened(why: OpenWhy) -> Status
+    ensures { result ≡ status_if_not_opened why }
 {
     match why {
-        HallWhy::Damaged { at } => Status::StoreDamaged { at },
-        HallWhy::Store => Status::StoreFault,
-        HallWhy::Full => Status::StoreFull,
-        HallWhy::Memory => Status::Memory,
+        OpenWhy::Damaged { at } => Status::StoreDamaged { at },
+        OpenWhy::Store => Status::StoreFault,
+        OpenWhy::Full => Status::StoreFull,
+        OpenWhy::Memory => Status::Memory,
     }
 }
 
-// Answers the lines of the host, and ends its stream.
-fn serve_host<R: Threads + Sync, D: Disk, S: Source, K: Sink>(
-    rt: &R,
-    alloc: Global,
-    hall: &mut Hall<D>,
-    reader: &mut Pass,
-    writer: &mut Pass,
-    lines: &mut Lines<S>,
-    sink: &mut K,
-) -> StreamEnd
-    requires callers { AreCallers hall.old reader.old writer.old reader.old.host }
-    requires fresh { IsFresh lines.old }
-    requires serving { IsFreshIn hall.old reader.old.host }
-    ensures done { result ≡ StreamEnd.Ended → (b : Begun D) → b.service ≢ [] → b.host ≡ reader.old.host → ServesIn hall.old b [] [] → Finished hall.new b (S.left (source_of lines.old)) (K.written sink.old) (K.written sink.new) }
-    ensures stopped { (b : Begun D) → b.service ≢ [] → b.host ≡ reader.old.host → ServesIn hall.old b [] [] → Stopped hall.new b (InPart (S.left (source_of lines.old)) (K.written sink.old) (K.written sink.new)) }
-    ensures failed { (result ≡ StreamEnd.ReadFault) ⊎ (result ≡ StreamEnd.Long) → (b : Begun D) → b.service ≢ [] → b.host ≡ reader.old.host → ServesIn hall.old b [] [] → Stopped hall.new b (AllEnded (S.left (source_of lines.old)) (S.left (source_of lines.new)) (K.written sink.old) (K.written sink.new)) }
-    ensures whole { result ≡ StreamEnd.Ended → ReadWhole (S.left (source_of lines.old)) (S.left (source_of lines.new)) }
-    ensures long { result ≡ StreamEnd.Long → ReadLimit (S.left (source_of lines.old)) (S.left (source_of lines.new)) }
-    ensures read { result ≡ StreamEnd.ReadFault → Rose (S.faults (source_of lines.old)) (S.faults (source_of lines.new)) }
-    ensures write { result ≡ StreamEnd.WriteFault → Rose (K.faults sink.old) (K.faults sink.new) }
-    ensures store { result ≡ StreamEnd.Store → (b : Begun D) → b.service ≢ [] → b.host ≡ reader.old.host → ServesIn hall.old b [] [] → Rose (D.faults b.disk) (D.faults (disk_of hall.new.journal)) }
-    ensures full { result ≡ StreamEnd.Full → LacksGoneIn hall.new reader.old.host }
-    ensures store_later { D.faults (disk_of hall.old.journal) ≤ D.faults (disk_of hall.new.journal) }
-    ensures limits { hall.new.limits ≡ hall.old.limits }
+// The streams of workers that have ended.
+fn ports_of<L: Drop, C: Drop, K: Drop>(
+    ended: Vec<Ended<L, C, K>>,
+    mut back: Vec<Port<L, C, K>>,
+) -> Vec<Port<L, C, K>>
+    requires empty { back.items ≡ [] }
+    requires room { length ended.items ≤ vec_capacity back }
+    ensures { result.items ≡ map (λ e. e.port) ended.items }
 {
-    let end = serve_lines(rt, alloc, hall, reader, writer, lines, sink);
-    end_stream(rt, hall, reader, writer, end)
-}
-
-// Opens the store, answers all the lines over it, and hands the disk back.
-fn serve_store<R: RandomSource + Threads + Sync, D: Disk, S: Source, K: Sink>(
-    rt: &R,
-    alloc: Global,
-    service: &Text,
-    host: Text,
-    disk: D,
-    lines: &mut Lines<S>,
-    sink: &mut K,
-) -> (Status, D)
-    requires service { (service.now ≢ []) × IsHostName service.now }
-    requires host { IsHostName host }
-    requires fresh { IsFresh lines.old }
-    ensures done { result.0 ≡ Status.Done → AnswersAll D.tells service.now host (S.left (source_of lines.old)) (K.written sink.old) (K.written sink.new) (held_as D.faults D.seen D.synced D.written D.moment D.syncs disk) (held_as D.faults D.seen D.synced D.written D.moment D.syncs result.1) (D.left_since result.1) }
-    ensures part { AnswersPart D.tells service.now host (S.left (source_of lines.old)) (K.written sink.old) (K.written sink.new) (held_as D.faults D.seen D.synced D.written D.moment D.syncs disk) (held_as D.faults D.seen D.synced D.written D.moment D.syncs result.1) (D.left_since result.1) }
-    ensures some { (result.0 ≡ Status.StreamFault) ⊎ (result.0 ≡ Status.StreamLong) → AnswersSome D.tells service.now host (InPart (S.left (source_of lines.old)) (K.written sink.old) (K.written sink.new)) (held_as D.faults D.seen D.synced D.written D.moment D.syncs disk) (held_as D.faults D.seen D.synced D.written D.moment D.syncs result.1) (D.left_since result.1) }
-    ensures failed { (result.0 ≡ Status.StreamFault) ⊎ (result.0 ≡ Status.StreamLong) → (Rose (K.faults sink.old) (K.faults sink.new) → ⊥) → AnswersSome D.tells service.now host (AllEnded (S.left (source_of lines.old)) (S.left (source_of lines.new)) (K.written sink.old) (K.written sink.new)) (held_as D.faults D.seen D.synced D.written D.moment D.syncs disk) (held_as D.faults D.seen D.synced D.written D.moment D.syncs result.1) (D.left_since result.1) }
-    ensures damaged { (at : ℕ) → result.0 ≡ Status.StoreDamaged at → D.tells → IsDamagedAt (D.seen disk) at }
-    ensures full { result.0 ≡ Status.StoreFull → D.tells → PassesBy (D.seen disk) service.now max_whole ⊎ LacksGone (D.seen result.1) host }
-    ensures store { result.0 ≡ Status.StoreFault → Rose (D.faults disk) (D.faults result.1) }
-    ensures whole { result.0 ≡ Status.Done → ReadWhole (S.left (source_of lines.old)) (S.left (source_of lines.new)) }
-    ensures long { result.0 ≡ Status.StreamLong → ReadLimit (S.left (source_of lines.old)) (S.left (source_of lines.new)) }
-    ensures stream { result.0 ≡ Status.StreamFault → Rose (S.faults (source_of lines.old)) (S.faults (source_of lines.new)) ⊎ Rose (K.faults sink.old) (K.faults sink.new) }
-    ensures never { (result.0 ≡ Status.Usage) ⊎ (result.0 ≡ Status.OpenFault) → ⊥ }
-{
-    match Hall::open(rt, alloc, disk, service, &[host], LIMITS) {
-        Err(HallRefusal { disk, why }) => (not_opened(why), disk),
-        Ok((hall, passes)) => {
-            let mut hall = hall;
-            let mut passes = passes;
-            let own = &mut passes[0];
-            let end = serve_host(
-                rt,
-                alloc,
-                &mut hall,
-                &mut own.reader,
-                &mut own.writer,
-                lines,
-                sink,
-            );
-            (status_of(end), hall.close(passes))
-        }
+    for one in ended {
+        let Ended {
+            port,
+            read: _,
+            wrote: _,
+        } = one;
+        back.push_reserved(port);
     }
+    back
 }
 
-/// Answers all the lines of a source over the store on a disk, and hands both back.
-pub fn serve_stream<R: RandomSource + Threads + Sync, D: Disk, S: Source, K: Sink>(
+fn let_go(_entries: Vec<Placed>) {}
+
+// All streams are served in a hall over what was opened, which is named by the arguments.
+fn live<
+    B: Opening + Send + Sync,
+    D: Disk + Send,
+    R: Wait + Threads + Sync,
+    S: Source + Send + Drop,
+    C: Clock + Send + Drop,
+    K: Sink + Send + Drop,
+>(
     rt: &R,
     alloc: Global,
-    service: &Text,
-    host: &Text,
-    disk: D,
-    source: S,
-    sink: &mut K,
-) -> (Status, D, S)
-    requires service { (service.now ≢ []) × IsHostName service.now }
-    requires host { IsHostName host.now }
-    ensures done { result.0 ≡ Status.Done → AnswersAll D.tells service.now host.now (S.left source) (K.written sink.old) (K.written sink.new) (held_as D.faults D.seen D.synced D.written D.moment D.syncs disk) (held_as D.faults D.seen D.synced D.written D.moment D.syncs result.1) (D.left_since result.1) }
-    ensures part { AnswersPart D.tells service.now host.now (S.left source) (K.written sink.old) (K.written sink.new) (held_as D.faults D.seen D.synced D.written D.moment D.syncs disk) (held_as D.faults D.seen D.synced D.written D.moment D.syncs result.1) (D.left_since result.1) }
-    ensures some { (result.0 ≡ Status.StreamFault) ⊎ (result.0 ≡ Status.StreamLong) → AnswersSome D.tells service.now host.now (InPart (S.left source) (K.written sink.old) (K.written sink.new)) (held_as D.faults D.seen D.synced D.written D.moment D.syncs disk) (held_as D.faults D.seen D.synced D.written D.moment D.syncs result.1) (D.left_since result.1) }
-    ensures failed { (result.0 ≡ Status.StreamFault) ⊎ (result.0 ≡ Status.StreamLong) → (Rose (K.faults sink.old) (K.faults sink.new) → ⊥) → AnswersSome D.tells service.now host.now (AllEnded (S.left source) (S.left result.2) (K.written sink.old) (K.written sink.new)) (held_as D.faults D.seen D.synced D.written D.moment D.syncs disk) (held_as D.faults D.seen D.synced D.written D.moment D.syncs result.1) (D.left_since result.1) }
-    ensures damaged { (at : ℕ) → result.0 ≡ Status.StoreDamaged at → D.tells → IsDamagedAt (D.seen disk) at }
-    ensures full { result.0 ≡ Status.StoreFull → D.tells → PassesBy (D.seen disk) service.now max_whole ⊎ LacksGone (D.seen result.1) host.now }
-    ensures store { result.0 ≡ Status.StoreFault → Rose (D.faults disk) (D.faults result.1) }
-    ensures whole { result.0 ≡ Status.Done → ReadWhole (S.left source) (S.left result.2) }
-    ensures long { result.0 ≡ Status.StreamLong → ReadLimit (S.left source) (S.left result.2) }
-    ensures stream { result.0 ≡ Status.StreamFault → Rose (S.faults source) (S.faults result.2) ⊎ Rose (K.faults sink.old) (K.faults sink.new) }
-    ensures never { (result.0 ≡ Status.Usage) ⊎ (result.0 ≡ Status.OpenFault) → ⊥ }
+    state: State,
+    store: Store<D>,
+    entries: Vec<Placed>,
+    hosts: &[Text],
+    _service: &Text,
+    ports: Vec<Port<Lines<S>, C, K>>,
+    back: Vec<Port<Lines<S>, C, K>>,
+) -> Run<D, Port<Lines<S>, C, K>>
+    requires start { MayStart B.origin state store hosts.now }
+    requires differ { AllDiffer B.origin.hosts }
+    requires fresh { All (λ p. IsFresh p.lines) ports.items }
+    requires size { length ports.items ≡ length hosts.now }
+    requires empty { back.items ≡ [] }
+    requires room { length hosts.now ≤ vec_capacity back }
+    ensures { Lives D.Disk (worked_of (clocks (λ c. C.faults c) (λ c. C.told c))
+        (sinks (λ k. K.faults k) (λ k. K.written k))) B.origin store ports.items result }
 {
-    let own = match host.clone() {
-        Ok(own) => own,
-        Err(_) => return (Status::Memory, disk, source),
+    let_go(entries);
+    let Ok(room) = Room::new(alloc, hosts.len()) else {
+        return Run {
+            status: Status::Memory,
+            disk: store.close(),
+            ports,
+        };
     };
-    match Lines::new(alloc, source) {
-        Err(LinesRefusal { source }) => (Status::Memory, disk, source),
-        Ok(lines) => {
-            let mut lines = lines;
-            let (status, disk) = serve_store(rt, alloc, service, own, disk, &mut lines, sink);
-            (status, disk, lines.close())
+    match Hall::<B, D>::new(alloc, state, store, hosts) {
+        Err(NoHall { state: _, store }) => Run {
+            status: Status::Memory,
+            disk: store.close(),
+            ports,
+        },
+        Ok((hall, passes)) => {
+            let (state, store, ended) = serve(rt, alloc, hall, passes, ports, room);
+            let status = status_of(alloc, &state, &store, &ended);
+            Run {
+                status,
+                disk: store.close(),
+                ports: ports_of(ended, back),
+            }
         }
+    }
+}
+
+/// Serves all streams over the store on a disk, each for the host at its place, and hands all back.
+pub(crate) fn serve_store<
+    D: Disk + Send,
+    R: RandomSource + Wait + Threads + Sync,
+    S: Source + Send + Drop,
+    C: Clock + Send + Drop,
+    K: Sink + Send + Drop,
+>(
+    rt: &R,
+    alloc: Global,
+    service: &Text,
+    hosts: &[Text],
+    disk: D,
+    ports: Vec<Port<Lines<S>, C, K>>,
+    back: Vec<Port<Lines<S>, C, K>>,
+) -> Run<D, Port<Lines<S>, C, K>>
+    ghost start: { Start }
+    requires start { start ≡ start_of D.Disk disk }
+    requires service { (service.now ≢ []) × IsHostName service.now }
+    requires hosts { AreHosts hosts.now }
+    requires some { hosts.now ≢ [] }
+    requires few { length hosts.now ≤ 16 }
+    requires fresh { All (λ p. IsFresh p.lines) ports.items }
+    requires size { length ports.items ≡ length hosts.now }
+    requires empty { back.items ≡ [] }
+    requires room { length hosts.now ≤ vec_capacity back }
+    ensures { Comes D.Disk (worked_of (clocks (λ c. C.faults c) (λ c. C.told c))
+        (sinks (λ k. K.faults k) (λ k. K.written k))) service.now hosts.now disk ports.items result }
+{
+    match open(rt, alloc, disk, service, hosts, LIMITS) {
+        Err(OpenRefusal { disk, why }) => Run {
+            status: not_opened(why),
+            disk,
+            ports,
+        },
+        Ok(
+            Opened {
+                state,
+                store,
+                entries,
+            },
+        ) => live::<Brand, _, _, _, _, _>(
+            rt, alloc, state, store, entries, hosts, service, ports, back,
+        ),
     }
 }

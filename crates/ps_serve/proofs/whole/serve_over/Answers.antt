@@ -1,67 +1,104 @@
-use Rattle.std.proofs.Common.{inl, inr, ap, refl, sym, ◌∙◌}
-use Rattle.ps_outside.specs.Held.{Held}
-use Rattle.ps_serve.proofs.Asking.{asked-both, asked-first, asked-refused}
-use Rattle.ps_serve.proofs.Carried.{all-bytes, ended-bytes, limit-bytes, part-bytes, rose-by, some-bytes, whole-bytes}
+use denote.Param.Send.{given_send, given_sync, param_send, param_sync}
+use Rattle.std.proofs.Common.{◌≢◌, ℕ, List, [], length, refl, sym, ◌∙◌, ap, subst, arith}
+use Rattle.ps_opening.specs.Fresh.{AreHosts}
+use Rattle.ps_workers.specs.Teams.{worked_of}
+use Rattle.ps_serve.proofs.Over.{as-many, not-open, opened-fresh, ran-over}
+use Rattle.ps_serve.proofs.Streams.{are-apart, are-hosts, host-count, leaves-then, some-host}
+use Rattle.ps_serve.proofs.Works.{clock_by, sink_by}
 use Rattle.ps_serve.proofs.whole.serve_over.Goals as goal
 
-pub returns-in-Err-open_sink-clause-asked : goal.returns-in-Err-open_sink-clause-asked
-returns-in-Err-open_sink-clause-asked g c =
-    asked-refused _ _ _ _ _ _ c.in-Ok.ensures.asked c.give_back.ensures.asked c.in-Err-open_sink.why c.in-Err-open_sink.ensures.asked
+pub open_ports-requires-after_bounds : goal.open_ports-requires-after_bounds
+open_ports-requires-after_bounds g c κs within =
+    let well = c.requires.well.1 in
+    are-apart c.args.streams.now well.apart_sources well.apart_sinks well.apart_hosts
 
-pub returns-clause-asked : goal.returns-clause-asked
-returns-clause-asked g c =
-    asked-both _ _ _ _ _ _ c.in-Ok.ensures.asked (c.give_back-2.ensures.asked ∙ c.give_back_sink.ensures.asked) c.in-Ok-open_sink.ensures.asked
+pub serve_store-status-requires : goal.serve_store-status-requires
+serve_store-status-requires g c κs within =
+    let well = c.requires.well.1 in
+    let streams = c.args.streams.now in
+    let hosts = c.deref.ensures.value ∙ c.in-Ok.ensures.hosts in
+    let many = ap length hosts ∙ host-count streams in (
+      within.0,
+      (
+        within.1.0,
+        (
+          within.1.1.0,
+          (
+            within.1.1.1.0,
+            (
+              within.1.1.1.1,
+              (
+                param_send _ _ (given_send 4 _ g.row.W-Store c.type_bounds.send-W-Store),
+                (
+                  param_send _ _ (given_send 2 _ g.row.W-Reading c.type_bounds.send-W-Reading),
+                  (
+                    param_send _ _ (given_send 5 _ g.row.W-Ticking c.type_bounds.send-W-Ticking),
+                    (
+                      param_send _ _ (given_send 3 _ g.row.W-Writing c.type_bounds.send-W-Writing),
+                      (
+                        param_sync _ _ (given_sync 0 g.row.R c.type_bounds.sync-R),
+                        (
+                          refl,
+                          (
+                            (well.service, well.name),
+                            (
+                              subst AreHosts (sym hosts) (are-hosts c.args.service.now c.requires.well.0 streams well),
+                              (
+                                subst (λ (l : List (List ℕ)). l ≢ []) (sym hosts) (some-host c.args.service.now c.requires.well.0 streams well),
+                                (
+                                  (let few = well.few in omega (arith, many, few)),
+                                  (
+                                    opened-fresh g.W.World g.W.Writing.Sink g.W.Ticking.Clock c.args.world.now streams c.in-Ok-open_ports.ports.items c.in-Ok-open_ports.ensures.opened,
+                                    (c.in-Ok-open_ports.ensures.many ∙ sym many, (c.in-Ok.ensures.empty, (let room = c.in-Ok.ensures.room in omega (arith, many, room)))),
+                                  ),
+                                ),
+                              ),
+                            ),
+                          ),
+                        ),
+                      ),
+                    ),
+                  ),
+                ),
+              ),
+            ),
+          ),
+        ),
+      ),
+    )
 
-pub returns-in-Err-clause-asked : goal.returns-in-Err-clause-asked
-returns-in-Err-clause-asked g c = asked-first _ _ _ _ c.in-Err.why c.in-Err.ensures.asked
+pub give_back_ports-requires-clause-apart : goal.give_back_ports-requires-clause-apart
+give_back_ports-requires-clause-apart g c κs within =
+    let well = c.requires.well.1 in
+    are-apart c.args.streams.now well.apart_sources well.apart_sinks well.apart_hosts
 
-pub returns-in-Err-clause-part : goal.returns-in-Err-clause-part
-returns-in-Err-clause-part g c = λ store. inr (ap (λ (h : Held). h.bytes) (c.in-Err.ensures.sinks c.args.stream.now.sink), refl)
+pub give_back_ports-requires-clause-many : goal.give_back_ports-requires-clause-many
+give_back_ports-requires-clause-many g c κs within =
+    as-many g.W.Store.Disk (worked_of (clock_by g.W.Ticking.Clock) (sink_by g.W.Writing.Sink)) c.args.service.now c.deref.result.now c.args.disk
+    c.in-Ok-open_ports.ports.items c.serve_store-status.result c.serve_store-status.ensures
+    ∙ c.in-Ok-open_ports.ensures.many
 
-pub returns-in-Err-open_sink-clause-part : goal.returns-in-Err-open_sink-clause-part
-returns-in-Err-open_sink-clause-part g c = λ store.
-    let sink = c.args.stream.now.sink in
-    inr (ap (λ (h : Held). h.bytes) (c.give_back.ensures.sinks sink ∙ (c.in-Err-open_sink.ensures.refused_sinks sink ∙ c.in-Ok.ensures.sinks sink)), refl)
+pub returns-clause-ran : goal.returns-clause-ran
+returns-clause-ran g c =
+    let w = g.W.World in
+    let streams = c.args.streams.now in
+    let old = c.args.world.now in
+    let new = c.give_back_ports.new.world in
+    let given = c.give_back_ports.ensures in
+    let opened = c.in-Ok-open_ports.ensures in
+    ran-over w g.W.Writing.Sink g.W.Ticking.Clock g.W.Store.Disk c.args.service.now streams c.args.disk old new c.in-Ok-open_ports.ports.items
+    c.serve_store-status.result opened.opened given.held (leaves-then w streams old c.open_ports.new.world new opened.others given.others given.nothing)
+    c.deref.result.now (c.deref.ensures.value ∙ c.in-Ok.ensures.hosts) c.serve_store-status.ensures
 
-pub returns-clause-part : goal.returns-clause-part
-returns-clause-part g c = λ store.
-    let sink = c.args.stream.now.sink in
-    inl (part-bytes _ c.args.service.now c.args.stream.now.host _ _ _ _ _ _ _ _ _ c.in-Ok.ensures.object.same_bytes
-    (c.in-Ok-open_sink.ensures.object.same_bytes ∙ ap (λ (h : Held). h.bytes) (c.in-Ok.ensures.sinks sink)) (c.give_back_sink.ensures.held.same_bytes ∙ sym (ap (λ (h : Held). h.bytes) (c.give_back-2.ensures.sinks sink)))
-    c.serve_stream-status.ensures.part)
+pub returns-clause-open : goal.returns-clause-open
+returns-clause-open g c = λ e.
+    absurd (not-open g.W.Store.Disk (worked_of (clock_by g.W.Ticking.Clock) (sink_by g.W.Writing.Sink)) c.args.service.now c.deref.result.now c.args.disk
+    c.in-Ok-open_ports.ports.items c.serve_store-status.result c.serve_store-status.ensures e)
 
-pub returns-clause-done : goal.returns-clause-done
-returns-clause-done g c = λ e store.
-    let sink = c.args.stream.now.sink in
-    record {
-      read = whole-bytes _ _ _ _ c.in-Ok.ensures.object.same_bytes c.give_back-2.ensures.held.same_bytes (c.serve_stream-status.ensures.whole e);
-      answers = all-bytes _ c.args.service.now c.args.stream.now.host _ _ _ _ _ _ _ _ _ c.in-Ok.ensures.object.same_bytes
-          (c.in-Ok-open_sink.ensures.object.same_bytes ∙ ap (λ (h : Held). h.bytes) (c.in-Ok.ensures.sinks sink)) (c.give_back_sink.ensures.held.same_bytes ∙ sym (ap (λ (h : Held). h.bytes) (c.give_back-2.ensures.sinks sink)))
-          (c.serve_stream-status.ensures.done e);
-    }
+pub returns-clause-others : goal.returns-clause-others
+returns-clause-others g c =
+    let given = c.give_back_ports.ensures in
+    leaves-then g.W.World c.args.streams.now c.args.world.now c.open_ports.new.world c.give_back_ports.new.world c.in-Ok-open_ports.ensures.others given.others given.nothing
 
-pub returns-clause-some : goal.returns-clause-some
-returns-clause-some g c = λ e store.
-    let sink = c.args.stream.now.sink in
-    some-bytes _ c.args.service.now c.args.stream.now.host _ _ _ _ _ _ _ _ _ c.in-Ok.ensures.object.same_bytes
-    (c.in-Ok-open_sink.ensures.object.same_bytes ∙ ap (λ (h : Held). h.bytes) (c.in-Ok.ensures.sinks sink)) (c.give_back_sink.ensures.held.same_bytes ∙ sym (ap (λ (h : Held). h.bytes) (c.give_back-2.ensures.sinks sink)))
-    (c.serve_stream-status.ensures.some e)
-
-pub returns-clause-failed : goal.returns-clause-failed
-returns-clause-failed g c = λ e store still.
-    let sink = c.args.stream.now.sink in
-    ended-bytes _ c.args.service.now c.args.stream.now.host _ _ _ _ _ _ _ _ _ c.in-Ok.ensures.object.same_bytes
-    (c.in-Ok-open_sink.ensures.object.same_bytes ∙ ap (λ (h : Held). h.bytes) (c.in-Ok.ensures.sinks sink)) (c.give_back_sink.ensures.held.same_bytes ∙ sym (ap (λ (h : Held). h.bytes) (c.give_back-2.ensures.sinks sink)))
-    _ _ c.give_back-2.ensures.held.same_bytes
-    (c.serve_stream-status.ensures.failed e (λ r. still (rose-by _ _ _ _ (c.in-Ok-open_sink.ensures.object.same_faults ∙ ap (λ (h : Held). h.faults) (c.in-Ok.ensures.sinks sink)) (c.give_back_sink.ensures.held.same_faults ∙ sym (ap (λ (h : Held). h.faults) (c.give_back-2.ensures.sinks sink))) r)))
-
-pub returns-clause-stream : goal.returns-clause-stream
-returns-clause-stream g c = λ store e.
-    let sink = c.args.stream.now.sink in
-    elim (c.serve_stream-status.ensures.stream e) [
-      | inl r ↦ inl (rose-by _ _ _ _ c.in-Ok.ensures.object.same_faults c.give_back-2.ensures.held.same_faults r)
-      | inr r ↦ inr (rose-by _ _ _ _ (c.in-Ok-open_sink.ensures.object.same_faults ∙ ap (λ (h : Held). h.faults) (c.in-Ok.ensures.sinks sink)) (c.give_back_sink.ensures.held.same_faults ∙ sym (ap (λ (h : Held). h.faults) (c.give_back-2.ensures.sinks sink))) r)
-    ]
-
-pub returns-clause-long : goal.returns-clause-long
-returns-clause-long g c = λ store e. limit-bytes _ _ _ _ c.in-Ok.ensures.object.same_bytes c.give_back-2.ensures.held.same_bytes (c.serve_stream-status.ensures.long e)
+pub returns-clause-stay : goal.returns-clause-stay
+returns-clause-stay g c = λ n was. c.give_back_ports.ensures.stay n (c.in-Ok-open_ports.ensures.stay n was)

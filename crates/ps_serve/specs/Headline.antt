@@ -1,0 +1,100 @@
+-- What comes of serving streams over a store: one list of entries, of which each reply and each notice tells.
+use Rattle.std.specs.Prelude.{◌≡◌, ◌≢◌, ℕ, ◌+◌, ◌≤◌, ◌++◌, ◌∷◌, [], List, Some, length, slice_get}
+use Rattle.ps_base.specs.Causes.{Rose}
+use Rattle.ps_types.specs.declared.entry.Entry.{Entry}
+use Rattle.ps_types.specs.declared.entry.Entry.TheVariants.{Boot}
+use Rattle.ps_types.specs.declared.jid.Jid.{Jid}
+use Rattle.ps_disk.specs.Disk.{MayLeave}
+use Rattle.ps_model.specs.At.{IsDamagedAt, IsStore}
+use Rattle.ps_model.specs.Core.{handed}
+use Rattle.ps_model.specs.CoreLaws.{IsLawful}
+use Rattle.ps_model.specs.Store.{spelled}
+use Rattle.ps_model.specs.TheCore.{the_core}
+use Rattle.ps_model.specs.World.{World, durable}
+use Rattle.ps_opening.specs.Opens.{PassesBy}
+use Rattle.ps_outside.specs.Held.{HeldStore}
+use Rattle.ps_deeds.specs.Own.{IsServed}
+use Rattle.ps_shared.specs.Origin.{Origin}
+use Rattle.ps_shared.specs.declared.answers.EndCause.TheVariants.{Finished}
+use Rattle.ps_state.specs.declared.answers.Limits.{Limits}
+use Rattle.ps_store.specs.Left.{IsFront}
+use Rattle.ps_workers.specs.Headline.{IsAllSaid, ServesStream, Worked, base_of}
+use Rattle.ps_serve.specs.Crashes.{FrontsSince, HasWhole, IsTidy, LeftSince}
+use Rattle.ps_serve.specs.Ends.{IsOfStreams, IsServing, worst_of}
+use Rattle.ps_serve.specs.Room.{LacksRoom, max_whole}
+use Rattle.ps_serve.specs.declared.status.Status.{Status}
+use Rattle.ps_serve.specs.declared.status.Status.TheVariants.{Done, Usage, OpenFault, StoreDamaged, StoreFault, StoreFull, Memory, StreamFault, StreamLong}
+
+-- at most this many bytes are written for changes
+abbrev pub max_changes : ℕ
+max_changes = 536870912
+
+abbrev pub the_limits : Limits
+the_limits = record { changes = max_changes; whole = max_whole }
+
+-- ---- no line came
+
+-- why, by the bytes of the store and the count of its faults
+abbrev pub IdleCause : Type 0 → List ℕ → HeldStore → HeldStore → Status → Type 0
+IdleCause tells service old new (StoreDamaged at) = tells → IsDamagedAt old.seen at
+IdleCause tells service old new StoreFault = Rose old.faults new.faults
+IdleCause tells service old new StoreFull = tells → PassesBy old.seen service max_whole
+IdleCause tells service old new Memory = Unit {0}
+IdleCause tells service old new Done = ⊥
+IdleCause tells service old new Usage = ⊥
+IdleCause tells service old new OpenFault = ⊥
+IdleCause tells service old new StreamFault = ⊥
+IdleCause tells service old new StreamLong = ⊥
+
+-- the entries of the store stand, with or without the Boot
+pub record Idle (tells : Type 0) (service : List ℕ) (old new : HeldStore) (left : ℕ → List ℕ → Type 0)
+    (status : Status) : Type 0 where
+  pub crash : tells → IsTidy old.seen → (E : List Entry) → spelled old.seen E
+      → LeftSince old left (E ++ Boot service ∷ []) (length E)
+  pub fronts : tells → IsTidy old.seen → (E : List Entry) → spelled old.seen E → FrontsSince old new left
+  pub cause : IdleCause tells service old new status
+
+-- ---- streams were served
+
+-- One list of entries: it is lawful, and begins with the entries of the store and the Boot. A crash leaves a front of it that has all durable entries, and at
+-- any moment since the start one that has all entries of the store.
+pub record HasOneList (tells : Type 0) (o : Origin) (w : World) (old new : HeldStore) (left : ℕ → List ℕ → Type 0)
+    : Type 0 where
+  pub was : tells → IsStore old.seen o.list
+  pub lawful : IsLawful the_core w.entries
+  pub since : List Entry
+  pub begins : w.entries ≡ base_of o ++ since
+  pub enough : length (base_of o) ≤ durable w
+  pub lasts : tells → (c : List ℕ) → MayLeave new.synced new.written c → IsFront w.entries (durable w) c
+  pub crash : tells → IsTidy old.seen → LeftSince old left w.entries (length o.list)
+  pub fronts : tells → IsTidy old.seen → FrontsSince old new left
+
+-- why the run ended so
+pub record HasEnded (tells : Type 0) (o : Origin) (w : World) (worked : List Worked) (old new : HeldStore) (len : ℕ)
+    (status : Status) : Type 0 where
+  -- the first of the causes of all workers
+  pub streams : IsOfStreams status → worst_of worked ≡ status
+  -- but for a fault of the disk, and for want of memory, the store has the whole list
+  pub whole : status ≢ StoreFault → status ≢ Memory → tells → HasWhole new w.entries len
+  pub store : status ≡ StoreFault → Rose old.faults new.faults
+  pub full : status ≡ StoreFull → LacksRoom o.hosts len
+  pub served : IsServing status
+
+-- All streams were served over one list of entries, each as `ServesStream` says: its lines stand in the list in their order, and its sink has their replies and
+-- the notices of its host. Where the store took all and memory did not run out, all is said for each stream whose writer finished. An address of another host
+-- keeps its notices.
+pub record Headline (tells : Type 0) (service : List ℕ) (hosts : List (List ℕ)) (worked : List Worked)
+    (old new : HeldStore) (left : ℕ → List ℕ → Type 0) (status : Status) : Type 0 where
+  pub origin : Origin
+  pub hosts_are : origin.hosts ≡ hosts
+  pub boot : origin.boot ≡ service
+  pub limits : origin.limits ≡ the_limits
+  pub world : World
+  pub len : ℕ
+  pub list : HasOneList tells origin world old new left
+  pub streams : (i : ℕ) (h : List ℕ) (t : Worked) → slice_get hosts i ≡ Some h → slice_get worked i ≡ Some t
+      → (s : ServesStream origin (len + 5) world h t)
+      × (IsOfStreams status → t.wrote ≡ Finished → IsAllSaid origin world h (len + 5) t s)
+  pub others : (a : Jid) → (IsServed hosts a.host → ⊥)
+      → handed world.entries a ≡ handed (base_of origin) a
+  pub ended : HasEnded tells origin world worked old new len status

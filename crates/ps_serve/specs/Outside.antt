@@ -1,0 +1,44 @@
+-- What a world tells of its objects.
+use Rattle.std.specs.Prelude.{◌≡◌, ℕ, List}
+use Rattle.ps_disk.specs.declared.device.Disk.{Ghosts as DiskGhosts}
+use Rattle.ps_outside.specs.declared.world.World.{Ghosts}
+use Rattle.ps_outside.specs.Held.{Held, HeldClock, HeldStore, Same}
+use Rattle.ps_words.specs.declared.command.Stream.{Stream}
+use Rattle.ps_workers.specs.Headline.{Worked}
+
+-- what it holds under each name as a source, a sink, a clock and a store
+pub record Outside : Type 0 where
+  pub sources : List ℕ → Held
+  pub sinks : List ℕ → Held
+  pub clocks : List ℕ → HeldClock
+  pub stores : List ℕ → HeldStore
+
+abbrev pub outside : {S R K D C : Type 0} → Ghosts S R K D C → S → Outside
+outside w s = record { sources = w.sources s; sinks = w.sinks s; clocks = w.clocks s; stores = w.stores s }
+
+-- what a disk tells, as it is held under a name
+abbrev pub held_as : {D : Type 0} → DiskGhosts D → D → HeldStore
+held_as g d =
+    record {
+      faults = g.faults d;
+      seen = g.seen d;
+      synced = g.synced d;
+      written = g.written d;
+      moment = g.moment d;
+      syncs = g.syncs d;
+    }
+
+-- no source, sink and clock has changed
+pub record SameStreams (old new : Outside) : Type 0 where
+  pub same_sources : Same old.sources new.sources
+  pub same_sinks : Same old.sinks new.sinks
+  pub same_clocks : Same old.clocks new.clocks
+
+-- what became of a stream's objects, as the world held them before and holds them now
+pub record IsWorkedIn (old new : Outside) (s : Stream) (t : Worked) : Type 0 where
+  pub source : t.source ≡ old.sources s.source
+  pub source_now : t.source_now ≡ new.sources s.source
+  pub clock : t.clock ≡ old.clocks s.host
+  pub clock_now : t.clock_now ≡ new.clocks s.host
+  pub sink : t.sink ≡ old.sinks s.sink
+  pub sink_now : t.sink_now ≡ new.sinks s.sink
