@@ -12,8 +12,7 @@ seconds. Indented below the reply stand the notices that the entry makes, all of
 
     > TO NUMBER [KIND] [from ADDRESS] PARTS
 
-TO is `name@b`, with its resource if it has one, and the stanza's id is `n-NUMBER`. KIND is that of a stanza in make.py, as `message` or
-`iq:get`, and `message:headline` where it is left out; the stanza is from the service host where no address is named.
+TO is `name@b`, with its resource if it has one; the rest is as in make.py.
 
 These lines stand alone. `gone b` ends the stream of that host, `boot` boots the service again, `handed name@b` hands out the first
 notice to that address which wasn't handed out yet, and `not handed name@b` says that there is none.
@@ -50,15 +49,8 @@ def sent(number, text):
 
 def notice(text):
     """The notice, as the line of the table."""
-    match = re.match(r"> (\S+) (\d+)(?: (message|iq)(?::(\S+))?)?(?: from (\S+))? +(.*)$", text)
-    who, number, name, kind, sender, parts = match.groups()
-    name, kind = (name, kind) if name else ("message", "headline")
-    to = whole(who)[0]
-    attributes = {"from": whole(sender)[0] if sender else make.SERVICE, "id": f"n-{number}", "to": to}
-    if kind:
-        attributes["type"] = kind
-    root = notation.Element(name, None, attributes, make.parts_of(parts))
-    return f"> {to} {number} {notation.line_of(root).decode()}"
+    to, number, line = make.notice(text, lambda who: whole(who)[0])
+    return f"> {to} {number} {line.decode()}"
 
 
 def record(head, line=b"", reply=b""):
@@ -107,17 +99,18 @@ def steps(path):
     return found
 
 
-def content(path):
+def content(path, found, script):
     title = path.read_text().splitlines()[0].removeprefix("# ")
-    table = "\n".join(line for step in steps(path) for line in step)
+    table = "\n".join(line for step in found for line in step)
     marks = "#"
     while f'"{marks}' in table:
         marks += "#"
-    return f'// {title}\n// Made by tests/lines/hosts.py from the cases in tests/lines/hosts/{path.name}.\npub const ROWS: &str = r{marks}"{table}\n"{marks};\n'
+    cases_at = path.relative_to(HERE.parent.parent)
+    return f'// {title}\n// Made by {script} from the cases in {cases_at}.\npub const ROWS: &str = r{marks}"{table}\n"{marks};\n'
 
 
-def main():
-    files = {ROWS / f"{path.stem}.rt": content(path).encode() for path in sorted((HERE / "hosts").glob("*.txt"))}
+def write_or_check(files):
+    """Writes each file's text, or says which files differ from it."""
     if "--check" not in sys.argv[1:]:
         for path, text in files.items():
             path.write_bytes(text)
@@ -126,6 +119,12 @@ def main():
     for path in others:
         print(f"{path} isn't what the cases make")
     return 1 if others else 0
+
+
+def main():
+    script = pathlib.Path(__file__).resolve().relative_to(HERE.parent.parent)
+    files = {ROWS / f"{path.stem}.rt": content(path, steps(path), script).encode() for path in sorted((HERE / "hosts").glob("*.txt"))}
+    return write_or_check(files)
 
 
 if __name__ == "__main__":

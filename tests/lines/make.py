@@ -1,9 +1,9 @@
 """Makes the input and the output of the program's own run from the cases, or checks that they are those of the cases.
 
-    python3 tests/lines/make.py            writes crates/pubsubd/data/in.txt and tests/lines/replies.txt
+    python3 tests/lines/make.py            writes crates/pubsubd/data/in.txt, tests/lines/replies.txt and tests/lines/notices.txt
     python3 tests/lines/make.py --check    compares them, and ends with 1 where they differ
 
-A case is a line that is sent and, indented below it, the reply. Lines that begin with `#` are comments. What is sent:
+A case is a line that is sent and, indented below it, the reply and then the notices. Lines that begin with `#` are comments. What is sent:
 
     WHO TYPE [to TARGET] PARTS       an iq of that type, from WHO@a.example/1 (WHO/2: with the resource 2) to the service host
     WHO message[:TYPE] [to T] PARTS  a message, of that type if there is one; so is `presence`
@@ -23,6 +23,14 @@ The reply:
     reply TREE, raw TEXT             this root, this line
 
 ` by ADDRESS` after a result or a denial says whom it is from, where that isn't the target as it was written.
+
+The notices are those that the line makes for addresses of `a.example`, all of them; none where there are none. Those for other hosts,
+which the run doesn't serve, aren't written down:
+
+    > WHO NUMBER [KIND] [from ADDRESS] PARTS
+
+to WHO, with the resource if it has one, and with the id `n-NUMBER`. KIND is that of a stanza above, as `message` or `iq:get`, and
+`message:headline` where it is left out; the stanza is from the service host where no address is named.
 """
 import pathlib
 import re
@@ -121,23 +129,44 @@ def received(number, head, text):
     return notation.line_of(answer_to(head, text))
 
 
+def notice(text, whole):
+    """Whom a notice is to, its number, and its line; `whole` is the address that a name in these files stands for."""
+    match = re.match(r"> (\S+) (\d+)(?: (message|iq)(?::(\S+))?)?(?: from (\S+))? +(.*)$", text)
+    who, number, name, kind, sender, parts = match.groups()
+    name, kind = (name, kind) if name else ("message", "headline")
+    attributes = {"from": whole(sender) if sender else SERVICE, "id": f"n-{number}", "to": whole(who)}
+    if kind:
+        attributes["type"] = kind
+    return whole(who), number, notation.line_of(Element(name, None, attributes, parts_of(parts)))
+
+
+def told_address(who):
+    """The address of one who is told: bare where no resource is named."""
+    name, slash, resource = who.partition("/")
+    return f"{name}@a.example{slash}{resource}"
+
+
 def cases():
-    """All cases in order: where each stands, what is sent and what is received."""
+    """All cases in order: where each stands, what is sent, what is received, and the notices."""
     for path in sorted((HERE / "cases").glob("*.txt")):
-        request = None
+        case = []
         for at, line in enumerate(path.read_text().splitlines(), 1):
             where = f"{path.name}:{at}"
             if line.startswith("#") or not line.strip():
                 continue
             if not line.startswith(" "):
-                if request is not None:
+                if len(case) == 2:
                     raise ValueError(f"{where}: the case before has no reply")
-                request = line
+                if case:
+                    yield case
+                case = [where, line]
                 continue
-            if request is None:
+            if not case:
                 raise ValueError(f"{where}: a reply to nothing")
-            yield where, request, line.strip()
-            request = None
+            if line.lstrip().startswith("> ") != (len(case) > 2):
+                raise ValueError(f"{where}: a case has one reply, and notices below it")
+            case.append(line.strip())
+        yield case
 
 
 def repeated(request, *others):
@@ -152,31 +181,33 @@ def repeated(request, *others):
 
 
 def run_of_cases():
-    """The lines of the run and its replies."""
-    lines, answers = [], []
-    for where, request, reply in cases():
+    """The lines of the run, its replies and its notices."""
+    lines, answers, notices = [], [], []
+    for where, request, *below in cases():
         try:
-            for one, answer in repeated(request, reply):
+            for one, answer, *told in repeated(request, *below):
                 line, head = sent(len(lines) + 1, one)
                 lines.append(line)
                 answers.append(received(len(lines), head, answer))
+                notices += [notice(text, told_address)[2] for text in told]
         except Exception as why:
             raise ValueError(f"{where}: {request}") from why
-    return lines, [answer for answer in answers if answer is not None]
+    return lines, [answer for answer in answers if answer is not None], notices
 
 
 def main():
-    lines, answers = run_of_cases()
+    lines, answers, notices = run_of_cases()
     # The last line has no newline.
     files = {
         PROGRAM / "data" / "in.txt": b"\n".join(lines),
         HERE / "replies.txt": b"".join(answer + b"\n" for answer in answers),
+        HERE / "notices.txt": b"".join(line + b"\n" for line in notices),
     }
     if "--check" not in sys.argv[1:]:
         for path, content in files.items():
             path.write_bytes(content)
         return 0
-    others = [path for path, content in files.items() if path.read_bytes() != content]
+    others = [path for path, content in files.items() if not path.is_file() or path.read_bytes() != content]
     for path in others:
         print(f"{path} isn't what the cases make")
     return 1 if others else 0

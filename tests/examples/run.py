@@ -1,0 +1,103 @@
+#!/usr/bin/env python3
+"""Runs the examples, and compares what comes with what stands beside them.
+
+Usage: run.py PROGRAM [NAME..]
+
+An example is a folder of examples/ with a.in and a.out, and b.in and b.out where it needs a second stream: the lines that are written to the streams of
+a.example and b.example, and those that come. Over both streams the lines are written in the order of their ids, each once those before it are
+answered; one whose id is no number is written behind the line above it. Replies are compared in their order, and of each address the notices; whether a
+notice comes before a reply or behind it is free. What examples/nodes.txt gives stands in README.md.
+"""
+import json
+import pathlib
+import sys
+import tempfile
+
+TOP = pathlib.Path(__file__).resolve().parent.parent.parent
+sys.path.insert(0, str(TOP / "tests" / "streams"))
+from serving import Late, Service, is_notice
+
+
+class Wrong(Exception):
+    """Something else came than is wanted."""
+
+
+def id_of(line):
+    return json.loads(line)["a"].get("id")
+
+
+def parted(lines):
+    """The replies, and of each bare address the notices."""
+    notices = {}
+    for line in filter(is_notice, lines):
+        notices.setdefault(json.loads(line)["a"]["to"].partition("/")[0], []).append(line)
+    return [line for line in lines if not is_notice(line)], notices
+
+
+def in_order(sources):
+    """Each line with the number of its stream, in the order in which they are written."""
+    found = []
+    for at, lines in enumerate(sources):
+        number = 0
+        for place, line in enumerate(lines):
+            number = int(id_of(line)) if id_of(line).isdigit() else number
+            found.append((number, at, place, line))
+    return [(at, line) for _, at, _, line in sorted(found)]
+
+
+def compare(what, got, wanted):
+    (replies, notices), (all_replies, all_notices) = parted(got), parted(wanted)
+    if replies != all_replies:
+        at = next((at for at, pair in enumerate(zip(replies, all_replies)) if pair[0] != pair[1]), min(len(replies), len(all_replies)))
+        raise Wrong(f"{what}: of {len(all_replies)} replies number {at + 1} differs: {replies[at:at + 1]}")
+    if notices != all_notices:
+        raise Wrong(f"{what}: notices that differ: {sorted(set(got) ^ set(wanted))}")
+
+
+def run(program, name, folder):
+    here = TOP / "examples" / name
+    hosts = [letter for letter in "ab" if (here / f"{letter}.in").is_file()]
+    sources = [(here / f"{letter}.in").read_bytes().splitlines() for letter in hosts]
+    wanted = [(here / f"{letter}.out").read_bytes().splitlines() for letter in hosts]
+    with Service(program, folder, [f"{letter}.example" for letter in hosts]) as service:
+        counts = [0] * len(hosts)
+        for at, line in in_order(sources):
+            stream = service.streams[at]
+            stream.send(line)
+            counts[at] += any(not is_notice(reply) and id_of(reply) == id_of(line) for reply in wanted[at])
+            service.pump(lambda: not stream.unsent and len(stream.replies()) >= counts[at], 30, what=f"the reply to {line!r}")
+        status, report = service.end()
+        if (status, report) != (0, b""):
+            raise Wrong(f"the program ended with {status}, and reported {report!r}")
+        for at, stream in enumerate(service.streams):
+            compare(stream.host, stream.lines(), wanted[at])
+
+
+def run_nodes(program, folder):
+    with Service(program, folder, ["a.example"]) as service:
+        service.streams[0].send(*(TOP / "examples" / "nodes.txt").read_bytes().splitlines())
+        service.pump(lambda: service.streams[0].count == 2, 30, what="the replies")
+        service.end()
+        readme = (TOP / "README.md").read_bytes().splitlines()
+        for line in service.streams[0].lines():
+            if line not in readme:
+                raise Wrong(f"README.md doesn't show {line!r}")
+
+
+def main():
+    program = pathlib.Path(sys.argv[1]).resolve()
+    names = sys.argv[2:] or ["nodes.txt"] + sorted(path.name for path in (TOP / "examples").iterdir() if path.is_dir())
+    status = 0
+    for name in names:
+        with tempfile.TemporaryDirectory(prefix="examples-") as folder:
+            try:
+                run_nodes(program, folder) if name == "nodes.txt" else run(program, name, folder)
+                why = "as written"
+            except (Wrong, Late, OSError) as error:
+                why, status = f"{type(error).__name__}: {error}", 1
+        print(f"{name}: {why}", flush=True)
+    return status
+
+
+if __name__ == "__main__":
+    sys.exit(main())
