@@ -1,7 +1,7 @@
 #!/usr/bin/env python3
 """Kills the program while sixteen streams publish to subscribers on all of them, and looks at what was told over all stops.
 
-Usage: streams.py PROGRAM TIMES [FOLDER]
+Usage: streams.py PROGRAM TIMES [LINES [FOLDER]], with LINES (100) publishes of each stream a stop
 
 A subscriber on each of the sixteen hosts hears of sixteen nodes, of which each host has the publisher of one. At each stop every stream gets
 its next publishes, and the program is killed (SIGKILL) at a moment that differs from stop to stop; the last stop has no lines and ends by
@@ -26,7 +26,6 @@ sys.path.insert(0, str(pathlib.Path(__file__).resolve().parent.parent / "streams
 from serving import create, notice, publish, published, result, subscribe, subscribed
 
 HOSTS = [f"h{k}.example" for k in range(16)]
-LINES = 100
 # Of one stream: the replies that wait for its sink, and the one that is being written.
 AHEAD = 64 + 1
 
@@ -62,7 +61,7 @@ def sink_lines(room, host):
 
 def ran(program, room, lines_of):
     write_lines(room, lines_of)
-    ended = subprocess.run(words(program, room), timeout=120, stdout=subprocess.PIPE)
+    ended = subprocess.run(words(program, room), timeout=900, stdout=subprocess.PIPE)
     if ended.returncode != 0 or ended.stdout:
         sys.exit(f"the program ended with {ended.returncode}, and reported {ended.stdout!r}")
 
@@ -83,9 +82,9 @@ def has_begun(room):
     return any(os.path.exists(f"{room}/{host}.out") and os.path.getsize(f"{room}/{host}.out") for host in HOSTS)
 
 
-def kill_once(program, room, stop, rng):
+def kill_once(program, room, lines, stop, rng):
     """Publishes, and kills the program at some moment after its first line."""
-    write_lines(room, lambda at: [publish(sender(at), k, f"node-{at}", f"i{stop}-{k}") for k in range(LINES)])
+    write_lines(room, lambda at: [publish(sender(at), k, f"node-{at}", f"i{stop}-{k}") for k in range(lines)])
     started = subprocess.Popen(words(program, room))
     until = time.monotonic() + 30
     while time.monotonic() < until and not has_begun(room):
@@ -169,11 +168,12 @@ def check_items(told, answered):
 
 def main():
     program, times = os.path.abspath(sys.argv[1]), int(sys.argv[2])
-    with tempfile.TemporaryDirectory(prefix="kill-streams-", dir=sys.argv[3] if len(sys.argv) > 3 else None) as room:
+    lines = int(sys.argv[3]) if len(sys.argv) > 3 else 100
+    with tempfile.TemporaryDirectory(prefix="kill-streams-", dir=sys.argv[4] if len(sys.argv) > 4 else None) as room:
         rng, told, answered, cut = random.Random(1), [Told(at) for at in range(16)], [], []
         prepare(program, room)
         for stop in range(times):
-            kill_once(program, room, stop, rng)
+            kill_once(program, room, lines, stop, rng)
             answered.append(take_stop(room, stop, told, cut))
         ran(program, room, lambda at: [])
         take_stop(room, times, told, cut)
