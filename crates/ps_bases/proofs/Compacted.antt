@@ -16,7 +16,8 @@ use Rattle.ps_model.specs.Numbered.{row_notices}
 use Rattle.ps_model.specs.Replay.{lawful_based, notices_from, of_bare, replay_from, to_address}
 use Rattle.ps_model.specs.Replies.{reply_to, entry_of}
 use Rattle.ps_model.proofs.Going.{notices-append, replay-append}
-use Rattle.ps_bases.specs.Laws.{ReadBack, ServesOn}
+use Rattle.ps_bases.specs.Laws.{ServesOn}
+use Rattle.ps_bases.proofs.Facts.{ReadBack}
 use Rattle.ps_bases.specs.Told.{Told, told_of}
 use Rattle.ps_bases.proofs.Like.{IsAsleep, IsLike}
 use Rattle.std.specs.List.{AllByRecursion as Each}

@@ -13,11 +13,10 @@ use Rattle.ps_model.specs.Book.{Book, State}
 use Rattle.ps_model.specs.Numbered.{row_tallies}
 use Rattle.ps_model.specs.Replay.{IsLawfulFrom, replay_from, row_accepted}
 use Rattle.std.specs.List.{AllByRecursion as Each}
-use Rattle.ps_bases.specs.Laws.{ReadBack}
 use Rattle.ps_bases.proofs.Placed.{AreFresh}
 use Rattle.ps_books.specs.Keys.{AreApart, affil_key}
 use Rattle.ps_books.specs.Rows.{IsAffilRow}
-use Rattle.ps_bases.specs.Laws.{ReadBack}
+use Rattle.ps_bases.proofs.Facts.{ReadBack}
 use Rattle.ps_bases.proofs.Placed.{ArePlaced, base_entries, with_row, with_rows}
 
 -- ---- trees and rows

@@ -1,3 +1,4 @@
+pub mod Facts
 pub mod Placed
 pub mod Like
 pub mod Alike
@@ -13,3 +14,15 @@ pub mod Sorting
 pub mod TallyRows
 pub mod Rooms
 pub mod ServesOn
+pub mod Texts
+pub mod Fitting
+pub mod Printable
+pub mod AskedTexts
+pub mod PrintableKinds
+pub mod Again
+pub mod PrintableEvents
+pub mod Drafts
+pub mod PrintableRead
+pub mod Stored
+pub mod NoticeLines
+pub mod Rereading

@@ -20,6 +20,7 @@ use Rattle.ps_model.proofs.TallyLaws.{handed-kept, handed-made, handed-set, hand
 use Rattle.ps_bases.specs.Told.{Told, told_of}
 use Rattle.std.specs.List.{AllByRecursion as Each}
 use Rattle.ps_books.specs.Keys.{AreApart}
+use Rattle.ps_bases.proofs.Facts.{AreLines}
 use Rattle.ps_bases.proofs.Placed.{ArePlaced, with_row, with_rows}
 use Rattle.ps_bases.proofs.Alike.{map-append}
 use Rattle.ps_bases.proofs.Folds.{accepted-append, with-append}
@@ -117,10 +118,6 @@ module _ (h : Jid → ℕ) where
 
 abbrev pub notice_row : Notice → BaseRow
 notice_row n = notice n.to n.line
-
--- notices for the bare address, each with a line that says what it is
-abbrev pub AreLines : Jid → List Notice → Type 0
-AreLines a ns = Each (λ (n : Notice). (same_bare n.to a ≡ true) × (is_notice_line n.to n.number n.line (line_tree n.line) ≡ true)) ns
 
 next : (a : Jid) (n : Notice) (s : State) (m : ℕ) → same_bare n.to a ≡ true → made_for a s.tallies ≡ m → made_for a (with_row s (notice_row n)).tallies ≡ m + 1
 next a n s m same at = made-more a n.to 1 s.tallies (same_bare-turned a n.to ∙ same) ∙ ap (λ k. k + 1) at

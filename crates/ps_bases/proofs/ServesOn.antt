@@ -21,13 +21,13 @@ use Rattle.ps_model.specs.Core.{handed}
 use Rattle.ps_model.specs.Replay.{IsLawfulFrom, lawful_based, notices_from, of_bare, replay_from, to_address}
 use Rattle.ps_model.specs.Tallies.{made_for, made_in}
 use Rattle.ps_model.proofs.TallyLaws.{same_bare-Decides, same_bare-like, same_bare-turned}
-use Rattle.ps_bases.specs.Laws.{IsStored, ServesOn}
+use Rattle.ps_bases.specs.Laws.{ServesOn}
+use Rattle.ps_bases.proofs.Facts.{AreLines, IsStored}
 use Rattle.std.specs.List.{AllByRecursion as Each}
 use Rattle.ps_bases.proofs.Placed.{IsNumbered, IsItemRow, keeps_items}
 use Rattle.ps_books.specs.Keys.{AreApart}
 use Rattle.ps_books.specs.Rows.{IsCountRow}
 use Rattle.ps_bases.proofs.Compacted.{filter-append, serves-on}
-use Rattle.ps_bases.proofs.Numbering.{AreLines}
 use Rattle.ps_model.proofs.NumberLaws.{handed-is-bare, of-full}
 use Rattle.ps_bases.proofs.Numerals.{handed-few, made-whole}
 use Rattle.ps_bases.proofs.Rooms.{items-keep, items-room}

@@ -24,7 +24,8 @@ use Rattle.ps_model.proofs.NumberLaws.{RiseFrom}
 use Rattle.ps_model.proofs.TallyLaws.{handed-like, made-like, same_bare-Decides}
 use Rattle.std.specs.List.{AllByRecursion as Each}
 use Rattle.ps_books.specs.Keys.{AreApart}
-use Rattle.ps_bases.proofs.Numbering.{AreLines, more_at, number_at}
+use Rattle.ps_bases.proofs.Numbering.{more_at, number_at}
+use Rattle.ps_bases.proofs.Facts.{AreLines}
 use Rattle.ps_bases.proofs.Numerals.{made-whole, unhanded-rise}
 use Rattle.ps_bases.proofs.Whole.{AreSoundNumbers}
 

@@ -33,7 +33,8 @@ use Rattle.ps_books.proofs.Keys.{each-by}
 use Rattle.ps_books.proofs.Naming.{affil-named, apart-named, configured-all, find-named, sub-named}
 use Rattle.ps_bases.proofs.Linking.{linked_book, links-accepted, links-rebuilt}
 use Rattle.ps_bases.proofs.Others.{contacts-accepted, contacts-rebuilt, counts-accepted, counts-rebuilt, items-accepted, items-rebuilt, most_at, nodes-accepted, nodes-rebuilt, subs-accepted, subs-rebuilt, vers-accepted, vers-rebuilt}
-use Rattle.ps_bases.proofs.Numbering.{AreLines, all-accepted, all-handed, all-made, all-told, counters, counters-accepted, counters-handed, counters-made, more_at, notices_by, number_at, rows_for}
+use Rattle.ps_bases.proofs.Facts.{AreLines}
+use Rattle.ps_bases.proofs.Numbering.{all-accepted, all-handed, all-made, all-told, counters, counters-accepted, counters-handed, counters-made, more_at, notices_by, number_at, rows_for}
 
 -- what holds of the Book
 pub record IsSoundBook (b : Book) : Type 0 where
