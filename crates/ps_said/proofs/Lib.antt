@@ -1,0 +1,14 @@
+pub mod Elements
+pub mod Errors
+pub mod Lists
+pub mod Books
+pub mod Configs
+pub mod Children
+pub mod Asked
+pub mod Taking
+pub mod Replying
+pub mod Notes
+pub mod ReadTexts
+pub mod ConfigTexts
+pub mod Reached
+pub mod Telling
