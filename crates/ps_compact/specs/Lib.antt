@@ -1,0 +1,4 @@
+pub mod Refused
+pub mod Stores
+pub mod Trees
+pub mod Written

@@ -1,0 +1,9 @@
+//! What `ps_compact` makes, seen from outside: the rows of tables as entries, and new stores of them, crashed after each call of the disk.
+//!
+//! The tests stand apart since each crate is proved once more with its own. Nothing stands on this crate, and it has no public function.
+#![tactic(auto)]
+
+#[cfg(test)]
+mod rows;
+#[cfg(test)]
+mod stores;
