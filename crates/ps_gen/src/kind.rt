@@ -4,7 +4,7 @@ ghost use Rattle.ps_gen.specs.Dealt.{kind_of as kind_by, type_of};
 
 /// What is asked of a node.
 #[derive(Clone, Copy, Debug, PartialEq, Eq)]
-pub(crate) enum Kind {
+pub enum Kind {
     Create,
     Publish,
     Subscribe,

@@ -14,3 +14,4 @@ mod tests;
 mod trees;
 
 pub use dealt::{Generated, stanza};
+pub use kind::Kind;
