@@ -5,12 +5,14 @@
 //! report answers `Failed` only where the world's own count of faults rose in that call (`specs/World.antt`).
 //!
 //! [`MemWorld`] stands in memory and fails at the calls that it is given. [`RealWorld`] stands over the files, the clock and the standard
-//! output of the system; it tells counts and openings, and nothing of content. A [`Clock`] gives the moment of a line.
+//! output of the system; it tells counts and openings, and nothing of content. It holds a store alone while that is open, and says on the
+//! standard error which object failed, in the system's words ([`Named`]). A [`Clock`] gives the moment of a line.
 #![tactic(auto)]
 
 mod clock;
 mod mem_clock;
 mod mem_world;
+mod named;
 mod real;
 mod shelf;
 mod world;
@@ -18,5 +20,6 @@ mod world;
 pub use clock::{Clock, ConstClock, RealClock};
 pub use mem_clock::MemClock;
 pub use mem_world::MemWorld;
+pub use named::{HoldAlone, Named};
 pub use real::RealWorld;
 pub use world::{Kind, Opening, World, WorldRefusal};

@@ -1,8 +1,10 @@
-// The real outside: files by their paths, the clock of the system, and the standard output for reports. It tells nothing of content.
+// The real outside: files by their paths, the clock of the system, and the standard output for reports. It tells nothing of content; what failed, and why
+// the system says so, stands on the standard error.
 ghost use Rattle.std.specs.Prelude.{◌≡◌, ◌∷◌, ◌++◌, [], List, ℕ, OnOk, OnErr, Some, None};
 ghost use Rattle.ps_outside.specs.Shelf.{at};
 ghost use Rattle.ps_outside.specs.Real.{count_at, held_count, held_clock, held_store, IsLent};
 
+use crate::named::{HoldAlone, Named, tell};
 use crate::shelf::Shelf;
 use crate::{Kind, Opening, RealClock, World, WorldRefusal};
 use ps_base::{Failed, Memory};
@@ -11,13 +13,13 @@ use ps_types::Text;
 use ps_wire::{FileSink, FileSource};
 use std::alloc::Global;
 use std::fs::{OpenFile, OpenOptions};
-use std::io::{Read, Seek, Write};
+use std::io::{Eprint, Read, Seek, Write};
 use std::rt::Files;
 use std::time::Clock;
 use std::{fs, io};
 
-/// The files of a runtime, its clock and its standard output.
-pub struct RealWorld<R: Files + Print + Clock + Copy + Drop> {
+/// The files of a runtime, its clock, its standard output and its standard error.
+pub struct RealWorld<R: Files + Print + Eprint + Clock + Copy + Drop> {
     rt: R,
     alloc: Global,
     sources: Shelf<u64>,
@@ -30,7 +32,7 @@ pub struct RealWorld<R: Files + Print + Clock + Copy + Drop> {
 }
 
 // By hand, so that a world is let go by one call wherever a function ends.
-impl<R: Files + Print + Clock + Copy + Drop> Drop for RealWorld<R> {
+impl<R: Files + Print + Eprint + Clock + Copy + Drop> Drop for RealWorld<R> {
     fn drop(self) {
         let RealWorld {
             rt: _,
@@ -46,7 +48,7 @@ impl<R: Files + Print + Clock + Copy + Drop> Drop for RealWorld<R> {
     }
 }
 
-impl<R: Files + Print + Clock + Copy + Drop> RealWorld<R> {
+impl<R: Files + Print + Eprint + Clock + Copy + Drop> RealWorld<R> {
     /// The outside of this runtime, of which nothing was opened yet.
     pub fn new(alloc: Global, rt: R) -> RealWorld<R> {
         RealWorld {
@@ -83,24 +85,29 @@ fn note(alloc: Global, asked: &mut Vec<Opening>, kind: Kind, name: &Text) -> Res
     Ok(())
 }
 
-// Opens a store for reading and writing; it is made where it is missing, and keeps its bytes.
-fn open_store<R: Files>(rt: &R, name: &str) -> io::Result<R::File> {
-    OpenOptions::new()
+// Opens a store for reading and writing, and holds it alone; it is made where it is missing, and keeps its bytes.
+fn open_store<R: Files>(rt: &R, name: &str) -> io::Result<R::File>
+where
+    R::File: HoldAlone,
+{
+    let file = OpenOptions::new()
         .read(true)
         .write(true)
         .create(true)
-        .open(rt, name)
+        .open(rt, name)?;
+    file.hold_alone()?;
+    Ok(file)
 }
 
-impl<R: Files + Print + Clock + Copy + Drop + Send> World for RealWorld<R>
+impl<R: Files + Print + Eprint + Clock + Copy + Drop + Send> World for RealWorld<R>
 where
-    R::File: Send,
+    R::File: HoldAlone + Send,
 {
-    type Reading = FileSource<R::File>;
+    type Reading = FileSource<Named<R::File, R>>;
 
-    type Writing = FileSink<R::File>;
+    type Writing = FileSink<Named<R::File, R>>;
 
-    type Store = FileDisk<R::File>;
+    type Store = FileDisk<Named<R::File, R>>;
 
     type Ticking = RealClock<R>;
 
@@ -126,57 +133,78 @@ where
 
     ghost faults = { λ w. w.faults };
 
-    fn open_source(&mut self, name: &Text) -> Result<FileSource<R::File>, WorldRefusal> {
+    fn open_source(&mut self, name: &Text) -> Result<FileSource<Named<R::File, R>>, WorldRefusal> {
         if make_place(self.alloc, &mut self.sources, name).is_err() {
             return Err(WorldRefusal::Memory);
         }
+        let Ok(its) = name.clone() else {
+            return Err(WorldRefusal::Memory);
+        };
         if note(self.alloc, &mut self.asked, Kind::Source, name).is_err() {
             return Err(WorldRefusal::Memory);
         }
         let before = self.faults;
         self.opening = (before, before);
-        if let Ok(file) = fs::open(&self.rt, name.as_str()) {
-            if let Some(faults) = self.sources.take(name) {
-                return Ok(FileSource::new(file, faults));
+        match fs::open(&self.rt, name.as_str()) {
+            Ok(file) => {
+                if let Some(faults) = self.sources.take(name) {
+                    let file = Named::new(self.rt, Kind::Source, its, file);
+                    return Ok(FileSource::new(file, faults));
+                }
             }
+            Err(why) => tell(&self.rt, Kind::Source, name, &why),
         }
         self.faults = self.faults.saturating_add(1);
         self.opening = (before, self.faults);
         Err(WorldRefusal::Failed)
     }
 
-    fn open_sink(&mut self, name: &Text) -> Result<FileSink<R::File>, WorldRefusal> {
+    fn open_sink(&mut self, name: &Text) -> Result<FileSink<Named<R::File, R>>, WorldRefusal> {
         if make_place(self.alloc, &mut self.sinks, name).is_err() {
             return Err(WorldRefusal::Memory);
         }
+        let Ok(its) = name.clone() else {
+            return Err(WorldRefusal::Memory);
+        };
         if note(self.alloc, &mut self.asked, Kind::Sink, name).is_err() {
             return Err(WorldRefusal::Memory);
         }
         let before = self.faults;
         self.opening = (before, before);
-        if let Ok(file) = fs::create(&self.rt, name.as_str()) {
-            if let Some(faults) = self.sinks.take(name) {
-                return Ok(FileSink::new(file, faults));
+        match fs::create(&self.rt, name.as_str()) {
+            Ok(file) => {
+                if let Some(faults) = self.sinks.take(name) {
+                    let file = Named::new(self.rt, Kind::Sink, its, file);
+                    return Ok(FileSink::new(file, faults));
+                }
             }
+            Err(why) => tell(&self.rt, Kind::Sink, name, &why),
         }
         self.faults = self.faults.saturating_add(1);
         self.opening = (before, self.faults);
         Err(WorldRefusal::Failed)
     }
 
-    fn open_disk(&mut self, name: &Text) -> Result<FileDisk<R::File>, WorldRefusal> {
+    fn open_disk(&mut self, name: &Text) -> Result<FileDisk<Named<R::File, R>>, WorldRefusal> {
         if make_place(self.alloc, &mut self.disks, name).is_err() {
             return Err(WorldRefusal::Memory);
         }
+        let Ok(its) = name.clone() else {
+            return Err(WorldRefusal::Memory);
+        };
         if note(self.alloc, &mut self.asked, Kind::Store, name).is_err() {
             return Err(WorldRefusal::Memory);
         }
         let before = self.faults;
         self.opening = (before, before);
-        if let Ok(file) = open_store(&self.rt, name.as_str()) {
-            if let Some(faults) = self.disks.take(name) {
-                return Ok(FileDisk::new(file, faults));
+        match open_store(&self.rt, name.as_str()) {
+            Ok(file) => {
+                if let Some(faults) = self.disks.take(name) {
+                    let file = Named::new(self.rt, Kind::Store, its, file);
+                    return Ok(FileDisk::new(file, faults));
+                }
             }
+            Err(why) => tell(&self.rt, Kind::Store, name, &why),
         }
         self.faults = self.faults.saturating_add(1);
         self.opening = (before, self.faults);
@@ -200,15 +228,15 @@ where
         Err(WorldRefusal::Failed)
     }
 
-    fn give_back(&mut self, name: &Text, source: FileSource<R::File>) {
+    fn give_back(&mut self, name: &Text, source: FileSource<Named<R::File, R>>) {
         self.sources.give_back(name, source.faults());
     }
 
-    fn give_back_sink(&mut self, name: &Text, sink: FileSink<R::File>) {
+    fn give_back_sink(&mut self, name: &Text, sink: FileSink<Named<R::File, R>>) {
         self.sinks.give_back(name, sink.faults());
     }
 
-    fn give_back_disk(&mut self, name: &Text, disk: FileDisk<R::File>) {
+    fn give_back_disk(&mut self, name: &Text, disk: FileDisk<Named<R::File, R>>) {
         self.disks.give_back(name, disk.fault_count());
     }
 
