@@ -1,5 +1,5 @@
 -- What the calls of the hall say.
-use Rattle.std.specs.Prelude.{◌≡◌, ◌⊎◌, ℕ, ◌+◌, ◌<◌, ◌≤◌, Bool, true, false, List, [], ◌∷◌, length, Option, Some, None, Result, Ok, Err, slice_get}
+use Rattle.std.specs.Prelude.{◌≡◌, ◌≢◌, ◌⊎◌, ℕ, ◌+◌, ◌<◌, ◌≤◌, Bool, true, false, List, [], ◌∷◌, length, Option, Some, None, Result, Ok, Err, slice_get}
 use Rattle.ps_types.specs.declared.entry.Arrival.{Arrival}
 use Rattle.ps_types.specs.declared.entry.Entry.{Entry}
 use Rattle.ps_types.specs.declared.entry.Entry.TheVariants.{Handed, Gone as GoneEntry}
@@ -158,6 +158,10 @@ pub record HasGone {T : Type 0} (o : Origin) (k : ℕ) (host : List ℕ) (old ne
 module _ {V J : Type 0} where
   abbrev pub HandAt : Origin → Option Jid → List ℕ → TwinSeat V J Deed → Type 0
   HandAt o hand host s = HasHand hand host (world_at o (seen_of s))
+
+  -- what was in hand is so still, but after a fault of the disk
+  abbrev pub KeepsHand : Origin → Option Jid → List ℕ → TwinSeat V J Deed → HandedRefusal → Type 0
+  KeepsHand o hand host s e = e ≢ Store → HandAt o hand host s
 
   abbrev pub SeatArrived : Origin → List ℕ → TwinSeat V J Deed → TwinSeat V J Deed → Arrival → Result Receipt ArriveRefusal → Type 0
   SeatArrived o host old new arrival result = Arrived o (number_of old) host (seen_of old) (seen_of new) arrival result

@@ -53,7 +53,9 @@ impl<B: Opening, D: Disk> Hall<B, D> {
         ensures ok { OnOk result (SeatFlushes B.origin pass.old.seat pass.new.seat) }
         ensures err { OnErr result (SeatNotFlushed B.origin pass.old.seat pass.new.seat) }
     {
-        flush_seat(&self.twin, rt, &mut pass.seat)
+        let flushed = flush_seat(&self.twin, rt, &mut pass.seat);
+        self.ring();
+        flushed
     }
 
     /// Answers one line of the pass's host, and makes durable all that the answer rests on.

@@ -46,7 +46,11 @@ impl<B: Opening, D: Disk> Hall<B, D> {
         requires { ArePasses B.origin self.twin passes.items }
         ensures { HasClosed B.origin result.0 result.1 (seats_in passes.items) }
     {
-        let Hall { twin, room } = self;
+        let Hall {
+            twin,
+            room,
+            bell: _,
+        } = self;
         take_apart(twin, room.into_inner().gather(passes))
     }
 }

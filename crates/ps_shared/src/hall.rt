@@ -6,13 +6,15 @@ use crate::home::{Archive, Home, Opening};
 use ps_disk::Disk;
 use ps_twin::{Twin, TwinSeat};
 use ps_types::{Jid, Text};
-use std::sync::Mutex;
+use std::sync::{Condvar, Mutex};
 
 /// The service over its store, shared by the callers of its hosts.
 pub struct Hall<B: Opening, D: Disk> {
     pub(crate) twin: Twin<Home<B>, Archive<B, D>>,
     // Nobody takes this lock: it lets threads share what they could only send.
     pub(crate) room: Mutex<Room<B, D>>,
+    // Wakes who rests, and nothing more.
+    pub(crate) bell: Condvar,
     ghost two: { seats_of twin ≡ length B.origin.hosts + length B.origin.hosts },
 }
 

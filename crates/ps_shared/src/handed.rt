@@ -1,10 +1,10 @@
 // The notice in a writer's hand is recorded.
-ghost use Rattle.std.specs.Prelude.{◌≡◌, ◌≢◌, None, Some, IfErr, IsSome, OnErr, OnOk};
+ghost use Rattle.std.specs.Prelude.{◌≡◌, None, Some, IfErr, IsSome, OnErr, OnOk};
 ghost use Rattle.ps_types.specs.declared.jid.Jid.{Jid};
 ghost use Rattle.ps_twin.specs.Seats.{seen_of, number_of};
 ghost use Rattle.ps_deeds.specs.Did.{HasInHand};
 ghost use Rattle.ps_deeds.specs.Own.{AllDiffer};
-ghost use Rattle.ps_shared.specs.Calls.{HandAt, IsWriter, RecordDoes, SeatHanded};
+ghost use Rattle.ps_shared.specs.Calls.{HandAt, IsWriter, KeepsHand, RecordDoes, SeatHanded};
 ghost use Rattle.ps_shared.specs.Doing.{Makes};
 ghost use Rattle.ps_shared.specs.Homes.{world_at};
 
@@ -57,7 +57,7 @@ impl<B: Opening, D: Disk> Hall<B, D> {
         ensures free { OnOk result (pass.new.in_hand ≡ None) }
         ensures still { OnErr result (pass.new.in_hand ≡ pass.old.in_hand) }
         ensures hand { OnOk result (HandAt B.origin pass.new.in_hand pass.old.host pass.new.seat) }
-        ensures kept { IfErr result (λ e. e ≢ HandedRefusal.Store → HandAt B.origin pass.new.in_hand pass.old.host pass.new.seat) }
+        ensures kept { IfErr result (KeepsHand B.origin pass.new.in_hand pass.old.host pass.new.seat) }
         ensures handed { (a : Jid) → pass.old.in_hand ≡ Some a
             → SeatHanded B.origin pass.old.host a pass.old.seat pass.new.seat result }
     {
@@ -66,7 +66,9 @@ impl<B: Opening, D: Disk> Hall<B, D> {
             Some(to) => record(&self.twin, rt, &mut pass.seat, pass.at, &pass.host, to),
         };
         recorded?;
-        match flush_seat(&self.twin, rt, &mut pass.seat) {
+        let flushed = flush_seat(&self.twin, rt, &mut pass.seat);
+        self.ring();
+        match flushed {
             Ok(()) => {
                 pass.in_hand = None;
                 Ok(())

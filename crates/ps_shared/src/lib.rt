@@ -2,7 +2,8 @@
 //!
 //! A [`Hall`] has a `Twin` (`ps_twin`) of two values: the state (`ps_state`) in a [`Home`], and the store (`ps_store`) in an [`Archive`]. Each caller has a
 //! [`Pass`], which names its host, and whose seat knows what the caller has seen. A reader's calls are [`Hall::arrive`], which is [`Hall::lay`] and then
-//! [`Hall::flush`], and [`Hall::gone`]; a writer's are [`Hall::next`], [`Hall::handed`] and [`Hall::writer_ended`]. While one caller writes a frame, which
+//! [`Hall::flush`], and [`Hall::gone`]; a writer's are [`Hall::next`], [`Hall::handed`] and [`Hall::writer_ended`], and between them
+//! [`Hall::rest`], which the other calls end by a bell. While one caller writes a frame, which
 //! may have the entries of many, the others go on with the state.
 //!
 //! Both values stand for one list of deeds (`ps_deeds`): the steps of the machine, each with the pass that made it. What a call promises is told by what its
@@ -22,6 +23,7 @@
 
 mod answers;
 mod arrive;
+mod bell;
 mod closing;
 mod flush;
 mod gone;

@@ -13,7 +13,7 @@ use ps_store::Store;
 use ps_twin::{Twin, TwinRefusal, TwinSeat};
 use ps_types::Text;
 use std::alloc::Global;
-use std::sync::Mutex;
+use std::sync::{Condvar, Mutex};
 
 /// Memory ran out, the only refusal of [`Hall::new`]. Both values come back.
 pub struct NoHall<D: Disk> {
@@ -134,6 +134,7 @@ impl<B: Opening, D: Disk> Hall<B, D> {
                 let hall = Hall {
                     twin,
                     room: Mutex::new(room),
+                    bell: Condvar::new(),
                 };
                 let passes = hall.hand_out(names, seats, passes);
                 Ok((hall, passes))

@@ -27,6 +27,7 @@ use std::random::RandomSource;
 use std::sync::Wait;
 use std::test::Fail;
 use std::thread::Threads;
+use std::time::Duration;
 
 // A node with a subscriber, and an item.
 fn publishes<B: Opening, D: Disk>(
@@ -78,6 +79,32 @@ fn serves<B: Opening, D: Disk>(
     ends(rt, hall, &mut passes.writer);
     let reader = &mut passes.reader;
     refuses(rt, alloc, hall, reader, CREATE, ArriveRefusal::Closed)
+}
+
+// The bell rings at the end of each call after which a writer may find something, so a rest that begins behind it ends at once.
+fn rings<B: Opening, D: Disk>(
+    rt: &(impl Abort + Wait + Threads + Sync),
+    alloc: Global,
+    hall: &Hall<B, D>,
+    passes: &mut HostPasses<B, D>,
+) -> Result<(), Fail>
+    requires reader { Reads B.origin hall.now.twin passes.old.reader }
+    requires writer { IsFree B.origin hall.now.twin passes.old.writer }
+    ensures reader { Reads B.origin hall.now.twin passes.new.reader }
+    ensures writer { Writes B.origin hall.now.twin passes.new.writer }
+{
+    let opened = hall.news();
+    publishes(rt, alloc, hall, &mut passes.reader)?;
+    hall.rest(rt, opened, Duration::from_secs(60));
+    let published = hall.news();
+    hears(rt, hall, &mut passes.writer)?;
+    let handed = hall.news();
+    goes(rt, hall, &mut passes.reader);
+    let gone = hall.news();
+    ends(rt, hall, &mut passes.writer);
+    let ended = hall.news();
+    assert!(rt; opened != published && published != handed && handed != gone && gone != ended);
+    Ok(())
 }
 
 // The disk fails as the first frame is written: its line isn't answered, and no other is taken.
@@ -183,6 +210,7 @@ enum Life {
     Failing,
     Second,
     Written,
+    Ringing,
 }
 
 fn lives<B: Opening, D: Disk>(
@@ -203,6 +231,7 @@ fn lives<B: Opening, D: Disk>(
         Life::Failing => fails(rt, alloc, hall, first),
         Life::Second => goes_on(rt, alloc, hall, first),
         Life::Written => writes(rt, alloc, hall, first),
+        Life::Ringing => rings(rt, alloc, hall, first),
     }
 }
 
@@ -289,6 +318,13 @@ fn a_host_is_served_from_the_opening_to_the_end(rt: HostRuntime) -> Result<(), F
 fn the_workers_of_a_stream_answer_all_lines(rt: HostRuntime) -> Result<(), Fail> {
     let disk = MemDisk::new(rt.alloc(), b"", &[])?;
     let _ = served(&rt, rt.alloc(), disk, Life::Written)?;
+    Ok(())
+}
+
+#[test]
+fn the_calls_that_may_give_a_writer_something_ring(rt: HostRuntime) -> Result<(), Fail> {
+    let disk = MemDisk::new(rt.alloc(), b"", &[])?;
+    let _ = served(&rt, rt.alloc(), disk, Life::Ringing)?;
     Ok(())
 }
 

@@ -13,6 +13,7 @@
 //! each Record that it made is flushed, but after a fault of the disk.
 #![tactic(auto)]
 
+mod idle;
 mod read;
 mod write;
 

@@ -10,6 +10,7 @@ ghost use Rattle.ps_shared.specs.Calls.{IsReader, SeatArrived};
 ghost use Rattle.ps_streams.specs.Speaking.{FindsBroken, IsSamePass};
 ghost use Rattle.ps_streams.specs.Reading.{ClockGives, Comes, FoundClosed, FoundNoEnd, NoneComes, SaidGone, SeatNextRead, SeatReads, SeatStreamRead, SeatTakes, WasAsked, brings_all, says_gone};
 
+use crate::idle::{FOR_ROOM, Idle};
 use ps_disk::Disk;
 use ps_outside::Clock;
 use ps_shared::{ArriveRefusal, Hall, HandedRefusal, Opening, Pass, Receipt};
@@ -17,7 +18,7 @@ use ps_types::Arrival;
 use ps_wire::{Lines, NextLine, NextLineRefusal, Source};
 use std::alloc::Global;
 use std::sync::Wait;
-use std::thread::{Threads, yield_now};
+use std::thread::Threads;
 
 /// Why a reader ended.
 #[derive(Clone, Copy, Debug, PartialEq, Eq)]
@@ -160,12 +161,14 @@ fn arrive_once<B: Opening, D: Disk, R: Wait + Threads + Sync>(
     ensures same { IsSamePass pass.old pass.new }
     ensures arrived { SeatArrived B.origin pass.old.host pass.old.seat pass.new.seat arrival.now result }
 {
+    let mut idle = Idle::new();
     for _ in rt.forever() {
+        let heard = hall.news();
         let answer = hall.arrive(rt, pass, arrival);
         if !must_wait(&answer) {
             return answer;
         }
-        yield_now();
+        idle.wait(rt, hall, heard, FOR_ROOM);
     }
     unreachable!()
 }
@@ -294,7 +297,8 @@ pub fn read_stream<B: Opening, D: Disk, R: Wait + Threads + Sync, S: Source, C: 
     ensures store { result ≡ ReadEnd.Store → FindsBroken B.origin pass.new.seat }
     ensures closed { result ≡ ReadEnd.Closed → FoundClosed B.origin pass.old.host (seen_of pass.new.seat) }
     ensures full { result ≡ ReadEnd.Full → FoundNoEnd B.origin pass.old.host (seen_of pass.new.seat) }
-    ensures gone { says_gone result ≡ true → SaidGone pass.old.host (number_of pass.old.seat) (seen_of pass.new.seat) }
+    ensures gone { says_gone result ≡ true
+        → SaidGone pass.old.host (number_of pass.old.seat) (seen_of pass.new.seat) }
     ensures gave { Gave (S.left (source_of lines.old)) (S.left (source_of lines.new))
         (given_of lines.old) (given_of lines.new) }
     ensures early { result ≡ ReadEnd.Ended → given_of lines.new < 2 ^ 40 }

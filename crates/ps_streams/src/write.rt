@@ -5,12 +5,13 @@ ghost use Rattle.ps_deeds.specs.Own.{AllDiffer};
 ghost use Rattle.ps_shared.specs.Calls.{IsWriter};
 ghost use Rattle.ps_streams.specs.Speaking.{FindsBroken, FindsLanded, FindsOver, FoundNoRoom, IsSamePass, IsWriterDone, MaySpeak, SeatSpeaks};
 
+use crate::idle::{FOR_LINES, Idle};
 use ps_disk::Disk;
 use ps_shared::{EndCause, Hall, Next, Opening, Pass};
 use ps_state::HandedRefusal;
 use ps_wire::{Sink, write_line};
 use std::sync::Wait;
-use std::thread::{Threads, yield_now};
+use std::thread::Threads;
 
 fn end_of(refusal: HandedRefusal) -> EndCause
     ensures unfinished { result ≡ EndCause.Finished → ⊥ }
@@ -26,12 +27,13 @@ fn end_of(refusal: HandedRefusal) -> EndCause
     }
 }
 
-// Writes one line, or finds that there is none now. False: all is said.
+// Writes one line, or waits where there is none now. False: all is said.
 fn write_next<B: Opening, D: Disk, R: Wait + Threads + Sync, K: Sink>(
     rt: &R,
     hall: &Hall<B, D>,
     pass: &mut Pass<B, D>,
     sink: &mut K,
+    idle: &mut Idle,
 ) -> Result<bool, EndCause>
     requires ready { MaySpeak B.origin hall.now.twin pass.old }
     requires differ { AllDiffer B.origin.hosts }
@@ -48,20 +50,27 @@ fn write_next<B: Opening, D: Disk, R: Wait + Threads + Sync, K: Sink>(
     ensures full { IsErrOf result EndCause.Full → FoundNoRoom B.origin pass.old.host pass.new.seat }
     ensures landed { (IsErrOf result EndCause.Store → ⊥) → FindsLanded B.origin pass.old.host pass.new.seat }
 {
+    let heard = hall.news();
     match hall.next(rt, pass) {
-        Ok(Next::Reply(line)) => match write_line(sink, line.as_slice()) {
-            Ok(()) => Ok(true),
-            Err(_) => Err(EndCause::WriteFault),
-        },
-        Ok(Next::Notice(line)) => match write_line(sink, line.as_slice()) {
-            Ok(()) => match hall.handed(rt, pass) {
+        Ok(Next::Reply(line)) => {
+            idle.end();
+            match write_line(sink, line.as_slice()) {
                 Ok(()) => Ok(true),
-                Err(refusal) => Err(end_of(refusal)),
-            },
-            Err(_) => Err(EndCause::WriteFault),
-        },
+                Err(_) => Err(EndCause::WriteFault),
+            }
+        }
+        Ok(Next::Notice(line)) => {
+            idle.end();
+            match write_line(sink, line.as_slice()) {
+                Ok(()) => match hall.handed(rt, pass) {
+                    Ok(()) => Ok(true),
+                    Err(refusal) => Err(end_of(refusal)),
+                },
+                Err(_) => Err(EndCause::WriteFault),
+            }
+        }
         Ok(Next::NotYet) => {
-            yield_now();
+            idle.wait(rt, hall, heard, FOR_LINES);
             Ok(true)
         }
         Ok(Next::Over) => Ok(false),
@@ -89,8 +98,9 @@ fn write_lines<B: Opening, D: Disk, R: Wait + Threads + Sync, K: Sink>(
     ensures full { result ≡ EndCause.Full → FoundNoRoom B.origin pass.old.host pass.new.seat }
     ensures landed { (result ≡ EndCause.Store → ⊥) → FindsLanded B.origin pass.old.host pass.new.seat }
 {
+    let mut idle = Idle::new();
     for _ in rt.forever() {
-        match write_next(rt, hall, pass, sink) {
+        match write_next(rt, hall, pass, sink, &mut idle) {
             Ok(true) => {}
             Ok(false) => return EndCause::Finished,
             Err(why) => return why,

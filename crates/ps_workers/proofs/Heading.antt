@@ -27,11 +27,12 @@ use Rattle.ps_shared.specs.declared.answers.EndCause.TheVariants.{Finished}
 use Rattle.ps_shared.proofs.Logs.{none_of}
 use Rattle.ps_streams.specs.Reading.{Lined}
 use Rattle.ps_workers.specs.Headline.{IsAllSaid, ServesStream, Worked, base_of}
-use Rattle.ps_workers.specs.Told.{IsAcknowledged}
+use Rattle.ps_workers.specs.Told.{AreOurs, IsAcknowledged}
 use Rattle.ps_workers.specs.Working.{ReaderMade, WriterMade}
 use Rattle.ps_workers.proofs.Acknowledging.{acknowledged}
 use Rattle.ps_workers.proofs.Filling.{full-run}
 use Rattle.ps_workers.proofs.Leaving.{has-gone}
+use Rattle.ps_workers.proofs.Ours.{words-ours}
 
 -- the deeds at the end begin with what the pass has seen, and have nothing of its making after that
 pub record HasSeen (k : ℕ) (seen log : List Deed) : Type 0 where
@@ -97,6 +98,7 @@ module _ (o : Origin) (log : List Deed) (lawful : IsLawful the_core o.list) (nam
           few = spoke.few;
           cut = w.speaks.cut;
           front = subst (IsFront the_core base h at cs) words_are (is-front the_core the-laws o.boot named o.list lawful o.hosts h log owned);
+          ours = subst (AreOurs h) words_are (words-ours the_core h o.boot first (steps_in log));
           recorded = λ a there. (
               let few = recorded-few the_core the-laws o.boot a first (steps_in log) quiet in
               let own = own-records o.hosts differ h (i + i + 1) (i, here, refl) a there log owned in

@@ -8,3 +8,4 @@ pub mod Teaming
 pub mod LastFrame
 pub mod Streams
 pub mod Sending
+pub mod Ours

@@ -112,4 +112,4 @@ module _ (B D : RattleType) (g : Disk.Ghosts D.Denot) (b : IsSend B) (d : IsSend
     room = declared_send (Room.the_type B D o g) (search (seated, std.crosses, sendable) depth 20, tt)
 
     pub hall : IsSync (Hall.the_row B D o g)
-    hall = declared_sync (Hall.the_type B D o g) (twin.the_sync (Home.the_row B) (Archive.the_row B D g) Deed.the_row _ (record { stands = _; maker = λ d. d.by; firm = _; mark = _ }) (home B b) stored, (search (room, std.crosses, sendable) depth 20, tt))
+    hall = declared_sync (Hall.the_type B D o g) (twin.the_sync (Home.the_row B) (Archive.the_row B D g) Deed.the_row _ (record { stands = _; maker = λ d. d.by; firm = _; mark = _ }) (home B b) stored, (search (room, std.crosses, sendable) depth 20, (search (std.crosses, sendable) depth 20, tt)))

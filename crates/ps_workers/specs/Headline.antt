@@ -26,7 +26,7 @@ use Rattle.ps_streams.specs.Reading.{Lined, says_gone}
 use Rattle.ps_streams.specs.Speaking.{IsFew, Written}
 use Rattle.ps_streams.specs.declared.read.ReadEnd.{ReadEnd}
 use Rattle.ps_streams.specs.declared.read.ReadEnd.TheVariants.{Ended, Long, ReadFault, Store as ReaderStore}
-use Rattle.ps_workers.specs.Told.{AreFull, HasGoneBehind, IsAcknowledged}
+use Rattle.ps_workers.specs.Told.{AreFull, AreOurs, HasGoneBehind, IsAcknowledged}
 
 -- ---- a stream
 
@@ -63,7 +63,8 @@ module _ (o : Origin) where
   base_of = o.list ++ Boot o.boot ∷ []
 
   -- The stream's lines stand in the list in their order, each answered at its place; its sink has a front of their replies, and of each address's notices
-  -- those after the ones that were recorded before, all that are recorded since and at most one more; and all that was written is durable.
+  -- those after the ones that were recorded before, all that are recorded since and at most one more, and no notice to another host; and all that was written is
+  -- durable.
   pub record ServesStream (bytes : ℕ) (w : World) (h : List ℕ) (t : Worked) : Type 0 where
     pub lines : List Came
     pub whole : List Word
@@ -75,6 +76,7 @@ module _ (o : Origin) where
     pub few : IsFew last
     pub cut : (last ≡ []) ⊎ (t.wrote ≡ WriteFault)
     pub front : IsFront the_core base_of h w lines (whole ++ last)
+    pub ours : AreOurs h (whole ++ last)
     pub recorded : (a : Jid) → a.host ≡ h → handed w.entries a ≤ handed base_of a + length (notes_in a whole)
     pub acknowledged : IsAcknowledged (durable w) h lines (whole ++ last)
     pub gone : says_gone t.read ≡ true → HasGoneBehind base_of w.entries h

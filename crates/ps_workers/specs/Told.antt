@@ -7,7 +7,7 @@ use Rattle.ps_types.specs.declared.entry.Notice.{Notice}
 use Rattle.ps_model.specs.Entries.{spelling}
 use Rattle.ps_model.specs.TheCore.{the_core}
 use Rattle.ps_deeds.specs.Lines.{Came}
-use Rattle.ps_deeds.specs.Words.{Word, notes_in, replies_in}
+use Rattle.ps_deeds.specs.Words.{Note, Reply, Word, notes_in, replies_in}
 
 -- the entry that the line would have made passes the limit behind so many bytes
 pub record PassesLimit (limit bytes : ℕ) (E : List Entry) (h : List ℕ) (k : ℕ) (c : Came) : Type 0 where
@@ -28,6 +28,12 @@ if_replied (Some r) c cs = c ∷ cs
 abbrev pub replied : List Came → List Came
 replied [] = []
 replied (c ∷ cs) = if_replied c.reply c (replied cs)
+
+-- each notice among these words is to an address of the host
+abbrev pub AreOurs : List ℕ → List Word → Type 0
+AreOurs h [] = Unit {0}
+AreOurs h (Reply text ∷ ws) = AreOurs h ws
+AreOurs h (Note a n ∷ ws) = (a.host ≡ h) × AreOurs h ws
 
 -- how many entries a line rests on: those before its place, and the one that it made
 abbrev pub made_by : Option Entry → ℕ

@@ -38,3 +38,12 @@ writes-requires-clause-writer g c κs within = first_free g.B.Opening.origin c.a
 
 pub returns-in-Written : goal.returns-in-Written
 returns-in-Written g c = kept g.B.Opening.origin c.args.hall.now.twin c.args.passes.now.items c.writes.new.passes c.requires.some c.requires.fresh.all c.writes.ensures.reader c.writes.ensures.writer
+
+pub rings-requires-clause-reader : goal.rings-requires-clause-reader
+rings-requires-clause-reader g c κs within = first_reads g.B.Opening.origin c.args.hall.now.twin c.args.passes.now.items c.index_mut-first.result.now (slice_get_read _ _ _ _ refl c.requires.some c.index_mut-first.ensures.value) c.requires.fresh
+
+pub rings-requires-clause-writer : goal.rings-requires-clause-writer
+rings-requires-clause-writer g c κs within = first_free g.B.Opening.origin c.args.hall.now.twin c.args.passes.now.items c.index_mut-first.result.now (slice_get_read _ _ _ _ refl c.requires.some c.index_mut-first.ensures.value) c.requires.fresh
+
+pub returns-in-Ringing : goal.returns-in-Ringing
+returns-in-Ringing g c = kept g.B.Opening.origin c.args.hall.now.twin c.args.passes.now.items c.rings.new.passes c.requires.some c.requires.fresh.all c.rings.ensures.reader c.rings.ensures.writer

@@ -13,7 +13,7 @@ returns-in-Ok-clause-hand g c =
     let x = c.in_ok-recorded.ensures in
     let old = c.args.pass.now.seat in
     let mid = c.record-recorded.new.seat in
-    let new = c.flush_seat.new.seat in
+    let new = c.flush_seat-flushed.new.seat in
     let host = c.args.pass.now.host in
     let hand = subst (λ (h : Option Jid). HasHand h host (world_at o (seen_of old))) c.in-Some.is c.requires.hand in
     hand_landed o (number_of old) host c.in-Some.to c.in_ok-recorded.field-0 (seen_of old) (seen_of mid) (seen_of new) x.differ (c.args.pass.now.at, c.requires.writer.pass.here, c.requires.writer.number) hand x.does
