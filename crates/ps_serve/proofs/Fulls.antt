@@ -1,5 +1,5 @@
 -- Rows of hosts that find no room.
-use Rattle.std.proofs.Common.{◌≡◌, inl, inr, ℕ, suc, ◌<◌, ◌≤◌, ◌^◌, List, ◌∷◌, Option, Some, None, length, refl, sym, ap, arith, length-append}
+use Rattle.std.proofs.Common.{◌≡◌, inl, inr, ℕ, suc, ◌<◌, ◌≤◌, ◌^◌, List, ◌∷◌, Option, Some, None, length, refl, sym, ◌∙◌, ap, arith, length-append}
 use Rattle.std.specs.Int.{to_be_bytes, w16}
 use Rattle.ps_types.specs.Address.{jid_text}
 use Rattle.ps_types.specs.declared.jid.Jid.{Jid}
@@ -13,7 +13,7 @@ use Rattle.ps_state.specs.Stand.{RowStands, Stands}
 use Rattle.ps_state.specs.declared.state.Hand.{Hand}
 use Rattle.ps_state.specs.declared.state.HostRow.{HostRow}
 use Rattle.ps_state.specs.declared.state.State.{State}
-use Rattle.ps_serve.specs.Room.{AreNamed, HasHandOver, IsHandOver, IsOver, LacksRoom}
+use Rattle.ps_serve.specs.Room.{AreNamed, HasHandOver, IsHandOver, IsNamed, IsOver, LacksRoom}
 
 -- of the first row
 pub first-gone : (row : HostRow) (rows : List HostRow) (len : ℕ) → IsOver (Gone row.host) len → LacksRoom (names (row ∷ rows)) len
@@ -39,6 +39,13 @@ pub are-named : (v : State) (w : World) → Stands v w → AreNamed v.rows.items
 are-named v w is k row here =
     let stands = of-row v.rows.items k (λ (r : HostRow). RowStands r (w.hosts r.host)) row here (is.rows.each k) in
     record { name = stands.name; hand = stands.hand }
+
+-- of rows that are named, the first is, and the others are
+pub first-named : (row : HostRow) (rows all : List HostRow) → all ≡ row ∷ rows → AreNamed all → IsNamed row
+first-named row rows all is named = named 0 row (ap (λ (l : List HostRow). slice_get l 0) is)
+
+pub rest-named : (row : HostRow) (rows all : List HostRow) → all ≡ row ∷ rows → AreNamed all → AreNamed rows
+rest-named row rows all is named k r at = named (suc k) r (ap (λ (l : List HostRow). slice_get l (suc k)) is ∙ at)
 
 -- a bare address is spelled in few bytes
 pub handed-short : (to : Jid) → IsBare to → length (spelling (Handed to)) ≤ 2 ^ 30

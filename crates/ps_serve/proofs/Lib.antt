@@ -8,3 +8,5 @@ mod Opened
 mod Over
 mod Streams
 mod Asking
+pub mod Fronts
+pub mod Rehearsals

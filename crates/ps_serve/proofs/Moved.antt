@@ -1,5 +1,7 @@
 -- What is told of a world holds of one that tells the same.
-use Rattle.std.proofs.Common.{◌≡◌, inl, inr, ℕ, List, refl, sym, ◌∙◌, subst}
+use Rattle.std.proofs.Common.{◌≡◌, ◌≢◌, ◌⊎◌, inl, inr, ℕ, Bool, true, false, List, refl, sym, ◌∙◌, subst}
+use Rattle.std.specs.Str.{bytes_eq}
+use Rattle.std.proofs.lemmas.Slice.Eq.{bytes_eq-Decides}
 use Rattle.ps_outside.specs.Held.{HeldStore}
 use Rattle.ps_words.specs.declared.command.Stream.{Stream}
 use Rattle.ps_workers.specs.Headline.{Worked}
@@ -7,6 +9,14 @@ use Rattle.ps_serve.specs.Headline.{Headline, Idle}
 use Rattle.ps_serve.specs.Outside.{IsWorkedIn, Outside, SameStreams}
 use Rattle.ps_serve.specs.Runs.{Ran}
 use Rattle.ps_serve.specs.declared.status.Status.{Status}
+
+-- a name is this one, or another
+pub is-or-not : (n name : List ℕ) → (n ≡ name) ⊎ (n ≢ name)
+is-or-not n name = tested (bytes_eq n name) refl
+  where
+    tested : (b : Bool) → bytes_eq n name ≡ b → (n ≡ name) ⊎ (n ≢ name)
+    tested true is = inl ((bytes_eq-Decides n name).0 is)
+    tested false is = inr (λ e. let yes : bytes_eq n name ≡ true = (bytes_eq-Decides n name).1 e in cc)
 
 pub same-refl : (o : Outside) → SameStreams o o
 same-refl o = record { same_sources = λ n. refl; same_sinks = λ n. refl; same_clocks = λ n. refl }

@@ -12,6 +12,7 @@ use Rattle.ps_wire.specs.declared.lines.Lines.{Lines}
 use Rattle.ps_wire.specs.declared.streams.Sink.{Ghosts as SinkGhosts}
 use Rattle.ps_wire.specs.declared.streams.Source.{Ghosts as SourceGhosts}
 use Rattle.ps_words.specs.declared.command.Stream.{Stream}
+use Rattle.ps_words.specs.Words.{hosts_of}
 use Rattle.ps_workers.specs.Headline.{Worked}
 use Rattle.ps_workers.specs.Teams.{worked_of}
 use Rattle.ps_workers.specs.declared.serving.Ended.{Ended}
@@ -19,7 +20,7 @@ use Rattle.ps_serve.specs.Comes.{Comes, ComesServed}
 use Rattle.ps_serve.specs.Ends.{IsServing}
 use Rattle.ps_serve.specs.Headline.{Headline, IdleCause}
 use Rattle.ps_serve.specs.Outside.{held_as, outside}
-use Rattle.ps_serve.specs.Runs.{RanOver, RanServing, hosts_of}
+use Rattle.ps_serve.specs.Runs.{RanOver, RanServing}
 use Rattle.ps_serve.specs.declared.status.Status.{Status}
 use Rattle.ps_serve.specs.declared.status.Status.TheVariants.{OpenFault}
 use Rattle.ps_serve.specs.declared.storing.Run.{Run}

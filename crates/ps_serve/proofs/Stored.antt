@@ -1,8 +1,6 @@
 -- A store that was opened in a world, served, and given back; and then a report.
-use Rattle.std.proofs.Common.{◌≡◌, ◌≢◌, inl, inr, ℕ, Bool, true, false, List, Option, Some, None, refl, sym, ◌∙◌, ap, subst}
+use Rattle.std.proofs.Common.{◌≡◌, inl, inr, ℕ, List, Option, Some, None, refl, sym, ◌∙◌, ap, subst}
 use Rattle.std.specs.Prelude.{IfSome}
-use Rattle.std.specs.Str.{bytes_eq}
-use Rattle.std.proofs.lemmas.Slice.Eq.{bytes_eq-Decides}
 use Rattle.ps_disk.specs.declared.device.Disk.{Ghosts as DiskGhosts}
 use Rattle.ps_outside.specs.Held.{IsHeldStore, Same, SameBut, SameLeft, SameLefts, SameLeftsBut}
 use Rattle.ps_outside.specs.declared.world.World.{Ghosts}
@@ -10,17 +8,15 @@ use Rattle.ps_ports.proofs.Back.{returned}
 use Rattle.ps_serve.specs.Outside.{Outside, SameStreams, held_as, outside}
 use Rattle.ps_serve.specs.Runs.{Leaves, RanOver, Runs, Served}
 use Rattle.ps_serve.specs.declared.status.Status.{Status}
-use Rattle.ps_serve.proofs.Moved.{ran-moved, same-moved, same-refl, same-trans}
+use Rattle.ps_serve.proofs.Moved.{is-or-not, ran-moved, same-moved, same-refl, same-trans}
 use Rattle.ps_serve.proofs.Works.{store-is}
 
 lefts-back : (name : List ℕ) (old new : List ℕ → ℕ → List ℕ → Type 0) → SameLeftsBut name old new → SameLeft (old name) (new name) → SameLefts old new
-lefts-back name old new others back n = tested (bytes_eq n name) refl
-  where
-    tested : (b : Bool) → bytes_eq n name ≡ b → SameLeft (old n) (new n)
-    tested true is = subst (λ (m : List ℕ). SameLeft (old m) (new m)) (sym ((bytes_eq-Decides n name).0 is)) back
-    tested false is =
-        let differ : n ≢ name = λ e. let yes : bytes_eq n name ≡ true = (bytes_eq-Decides n name).1 e in cc in
-        others n differ
+lefts-back name old new others back n =
+    elim (is-or-not n name) [
+      | inl same ↦ subst (λ (m : List ℕ). SameLeft (old m) (new m)) (sym same) back
+      | inr differs ↦ others n differs
+    ]
 
 lefts-trans : (a b c : ℕ → List ℕ → Type 0) → SameLeft a b → SameLeft b c → SameLeft a c
 lefts-trans a b c p q t x = (λ was. (q t x).0 ((p t x).0 was), λ is. (p t x).1 ((q t x).1 is))

@@ -1,24 +1,23 @@
 -- The streams of a command: their hosts, and their objects from the opening to the giving back.
-use Rattle.std.proofs.Common.{◌≡◌, ◌≢◌, ◌⊎◌, inl, inr, ℕ, zero, suc, ◌≤◌, Bool, true, false, List, [], ◌∷◌, Some, length, refl, sym, ◌∙◌, ap, subst, arith}
+use Rattle.std.proofs.Common.{◌≡◌, ◌≢◌, ◌⊎◌, inl, inr, ℕ, zero, suc, ◌≤◌, List, [], ◌∷◌, Some, length, refl, sym, ◌∙◌, ap, subst, arith}
 use Rattle.std.specs.Prelude.{slice_get}
-use Rattle.std.specs.Str.{bytes_eq}
-use Rattle.std.proofs.lemmas.Slice.Eq.{bytes_eq-Decides}
 use Rattle.ps_model.specs.Entries.{IsHostName}
 use Rattle.ps_opening.specs.Fresh.{AreHosts}
 use Rattle.ps_outside.specs.declared.clock.Clock.{Ghosts as ClockGhosts}
 use Rattle.ps_outside.specs.declared.world.Kind.{Kind}
 use Rattle.ps_outside.specs.declared.world.Kind.TheVariants.{Source, Sink, Clock}
 use Rattle.ps_outside.specs.declared.world.World.{Ghosts}
-use Rattle.ps_ports.specs.Ports.{AreApart, AtEach, Differs, IsOther, IsPortHeld, IsPortOpened, IsWithin, LeavesOthers, OpensNothing}
+use Rattle.ps_ports.specs.Ports.{AreApart, AtEach, Differs, IsOther, IsPortHeld, IsPortOpened, IsWithin, LeavesOthers, OpensNothing, SameOthers}
 use Rattle.ps_ports.specs.declared.port.Port.{Port}
 use Rattle.ps_ports.proofs.Back.{clock-same, held-same}
 use Rattle.ps_wire.specs.declared.lines.Lines.{Lines}
 use Rattle.ps_wire.specs.declared.streams.Sink.{Ghosts as SinkGhosts}
 use Rattle.ps_wire.specs.declared.streams.Source.{Ghosts as SourceGhosts}
 use Rattle.ps_words.specs.Well.{AreApart as AreApartBy, IsWellServed}
+use Rattle.ps_words.specs.Words.{hosts_of}
 use Rattle.ps_words.specs.declared.command.Stream.{Stream}
 use Rattle.ps_serve.specs.Outside.{SameStreams, outside}
-use Rattle.ps_serve.specs.Runs.{hosts_of}
+use Rattle.ps_serve.proofs.Moved.{is-or-not}
 
 -- ---- hosts
 
@@ -72,53 +71,43 @@ are-apart (s ∷ ss) so si ho = (
 
 -- ---- streams that are given back as they were opened
 
-same-or-other : {H : Type 0} (old new : List ℕ → H) (name n : List ℕ) → new name ≡ old name → (n ≢ name) ⊎ (new n ≡ old n)
-same-or-other {H} old new name n back = tested (bytes_eq n name) refl
-  where
-    tested : (b : Bool) → bytes_eq n name ≡ b → (n ≢ name) ⊎ (new n ≡ old n)
-    tested true is = inr (subst (λ (m : List ℕ). new m ≡ old m) (sym ((bytes_eq-Decides n name).0 is)) back)
-    tested false is = inl (λ e. let yes : bytes_eq n name ≡ true = (bytes_eq-Decides n name).1 e in cc)
+-- the objects of one kind, by what the streams hold before and after
+module _ {P H : Type 0} (kind : Kind) (part : Stream → List ℕ) (differs : (n : List ℕ) (t : Stream) → n ≢ part t → Differs kind n t)
+    (old new : List ℕ → H) (Was Is : Stream → P → Type 0) (back : (t : Stream) (p : P) → Was t p → Is t p → new (part t) ≡ old (part t)) where
+  first-back : (n : List ℕ) (t : Stream) (ts : List Stream) → new (part t) ≡ old (part t) → IsOther kind n ts ⊎ (new n ≡ old n)
+      → IsOther kind n (t ∷ ts) ⊎ (new n ≡ old n)
+  first-back n t ts here (inr same) = inr same
+  first-back n t ts here (inl others) =
+      elim (is-or-not n (part t)) [
+        | inl same ↦ inr (subst (λ (m : List ℕ). new m ≡ old m) (sym same) here)
+        | inr other ↦ inl (differs n t other, others)
+      ]
+
+  kind-back : (n : List ℕ) (streams : List Stream) (ports : List P) → AtEach Was streams ports → AtEach Is streams ports
+      → IsOther kind n streams ⊎ (new n ≡ old n)
+  kind-back n [] [] was is = inl tt
+  kind-back n [] (p ∷ ps) was is = absurd was
+  kind-back n (t ∷ ts) [] was is = absurd was
+  kind-back n (t ∷ ts) (p ∷ ps) was is = first-back n t ts (back t p was.0 is.0) (kind-back n ts ps was.1 is.1)
+
+  -- each name has what it had
+  same-back : (streams : List Stream) (ports : List P) → AtEach Was streams ports → AtEach Is streams ports → SameOthers kind streams old new
+      → (n : List ℕ) → new n ≡ old n
+  same-back streams ports was is others n = elim (kind-back n streams ports was is) [ inl other ↦ others n other | inr same ↦ same ]
 
 module _ {W S K D C : Type 0} (w : Ghosts W S K D C) {s : SourceGhosts S} (k : SinkGhosts K) (c : ClockGhosts C) (old new : W) where
-  back-source : (n : List ℕ) (streams : List Stream) (ports : List (Port (Lines S s) C K)) → AtEach (IsPortOpened w {r = s} k c old) streams ports
-      → AtEach (IsPortHeld w {r = s} k c new) streams ports → IsOther Source n streams ⊎ (w.sources new n ≡ w.sources old n)
-  back-source n [] [] was is = inl tt
-  back-source n [] (p ∷ ps) was is = absurd was
-  back-source n (x ∷ xs) [] was is = absurd was
-  back-source n (x ∷ xs) (p ∷ ps) was is =
-      elim (same-or-other (w.sources old) (w.sources new) x.source n (held-same _ _ _ _ was.0.held.source is.0.source)) [
-        | inr same ↦ inr same
-        | inl differs ↦ elim (back-source n xs ps was.1 is.1) [ inl others ↦ inl (differs, others) | inr same ↦ inr same ]
-      ]
-
-  back-sink : (n : List ℕ) (streams : List Stream) (ports : List (Port (Lines S s) C K)) → AtEach (IsPortOpened w {r = s} k c old) streams ports
-      → AtEach (IsPortHeld w {r = s} k c new) streams ports → IsOther Sink n streams ⊎ (w.sinks new n ≡ w.sinks old n)
-  back-sink n [] [] was is = inl tt
-  back-sink n [] (p ∷ ps) was is = absurd was
-  back-sink n (x ∷ xs) [] was is = absurd was
-  back-sink n (x ∷ xs) (p ∷ ps) was is =
-      elim (same-or-other (w.sinks old) (w.sinks new) x.sink n (held-same _ _ _ _ was.0.held.sink is.0.sink)) [
-        | inr same ↦ inr same
-        | inl differs ↦ elim (back-sink n xs ps was.1 is.1) [ inl others ↦ inl (differs, others) | inr same ↦ inr same ]
-      ]
-
-  back-clock : (n : List ℕ) (streams : List Stream) (ports : List (Port (Lines S s) C K)) → AtEach (IsPortOpened w {r = s} k c old) streams ports
-      → AtEach (IsPortHeld w {r = s} k c new) streams ports → IsOther Clock n streams ⊎ (w.clocks new n ≡ w.clocks old n)
-  back-clock n [] [] was is = inl tt
-  back-clock n [] (p ∷ ps) was is = absurd was
-  back-clock n (x ∷ xs) [] was is = absurd was
-  back-clock n (x ∷ xs) (p ∷ ps) was is =
-      elim (same-or-other (w.clocks old) (w.clocks new) x.host n (clock-same _ _ _ _ was.0.held.clock is.0.clock)) [
-        | inr same ↦ inr same
-        | inl differs ↦ elim (back-clock n xs ps was.1 is.1) [ inl others ↦ inl (differs, others) | inr same ↦ inr same ]
-      ]
-
   pub all-back : (streams : List Stream) (ports : List (Port (Lines S s) C K)) → AtEach (IsPortOpened w {r = s} k c old) streams ports
       → AtEach (IsPortHeld w {r = s} k c new) streams ports → LeavesOthers w streams old new → SameStreams (outside w old) (outside w new)
   all-back streams ports was is leaves = record {
-    same_sources = λ n. elim (back-source n streams ports was is) [ inl others ↦ leaves.sources n others | inr same ↦ same ];
-    same_sinks = λ n. elim (back-sink n streams ports was is) [ inl others ↦ leaves.sinks n others | inr same ↦ same ];
-    same_clocks = λ n. elim (back-clock n streams ports was is) [ inl others ↦ leaves.clocks n others | inr same ↦ same ];
+    same_sources =
+        same-back Source (λ t. t.source) (λ n t d. d) (w.sources old) (w.sources new) (IsPortOpened w {r = s} k c old) (IsPortHeld w {r = s} k c new)
+        (λ t p was is. held-same _ _ _ _ was.held.source is.source) streams ports was is leaves.sources;
+    same_sinks =
+        same-back Sink (λ t. t.sink) (λ n t d. d) (w.sinks old) (w.sinks new) (IsPortOpened w {r = s} k c old) (IsPortHeld w {r = s} k c new)
+        (λ t p was is. held-same _ _ _ _ was.held.sink is.sink) streams ports was is leaves.sinks;
+    same_clocks =
+        same-back Clock (λ t. t.host) (λ n t d. d) (w.clocks old) (w.clocks new) (IsPortOpened w {r = s} k c old) (IsPortHeld w {r = s} k c new)
+        (λ t p was is. clock-same _ _ _ _ was.held.clock is.clock) streams ports was is leaves.clocks;
   }
 
 -- ---- what is left alone by both calls

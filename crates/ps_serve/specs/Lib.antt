@@ -7,3 +7,5 @@ pub mod Starts
 pub mod Headline
 pub mod Comes
 pub mod Runs
+pub mod Numbers
+pub mod Came

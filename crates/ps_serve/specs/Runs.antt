@@ -1,5 +1,5 @@
 -- What a run does to the world.
-use Rattle.std.specs.Prelude.{◌≡◌, ◌⊎◌, ℕ, List, [], ◌∷◌, ◌++◌, length, map, take, Option, Some, None, slice_get}
+use Rattle.std.specs.Prelude.{◌≡◌, ◌⊎◌, ℕ, List, [], ◌∷◌, ◌++◌, length, take, Option, Some, None, slice_get}
 use Rattle.std.specs.Io.KnownBytes.{Appends}
 use Rattle.ps_base.specs.Causes.{Rose}
 use Rattle.ps_disk.specs.declared.device.Disk.{Ghosts as DiskGhosts}
@@ -11,6 +11,7 @@ use Rattle.ps_ports.specs.Ports.{SameOthers, port_openings}
 use Rattle.ps_words.specs.declared.command.Command.{Command}
 use Rattle.ps_words.specs.declared.command.Command.TheVariants.{Serve, Rehearse}
 use Rattle.ps_words.specs.declared.command.Stream.{Stream}
+use Rattle.ps_words.specs.Words.{hosts_of}
 use Rattle.ps_workers.specs.Headline.{Worked}
 use Rattle.ps_serve.specs.Headline.{Headline, Idle}
 use Rattle.ps_serve.specs.Outside.{IsWorkedIn, Outside, SameStreams, held_as}
@@ -28,9 +29,6 @@ served_by None = None
 served_by (Some (Serve service store streams)) =
     Some (record { service = service; store = store; streams = streams })
 served_by (Some (Rehearse seed count)) = None
-
-abbrev pub hosts_of : List Stream → List (List ℕ)
-hosts_of streams = map (λ (s : Stream). s.host) streams
 
 -- ---- openings
 

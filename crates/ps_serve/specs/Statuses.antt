@@ -15,7 +15,7 @@ code_of StreamLong = 8
 code_of OpenFault = 9
 
 abbrev pub usage_line : List ℕ
-usage_line = codes "usage: pubsubd serve --service HOST --store PATH HOST IN OUT [HOST IN OUT].."
+usage_line = codes "usage: pubsubd serve --service HOST --store PATH HOST IN OUT [HOST IN OUT].. | rehearse SEED COUNT"
 
 -- the words of what is reported; where all was done, nothing is
 abbrev pub words_of : Status → List ℕ

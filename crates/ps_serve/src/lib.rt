@@ -11,6 +11,9 @@
 //! `IsAllSaid`: nothing is left to say, where the store took all and the stream's writer finished. `HasEnded`: the cause of each status. Where no line came
 //! (`RanIdle`) the entries of the store stand, with or without the Boot; where an opening failed nothing has changed (`Untouched`).
 //!
+//! A rehearsal (ps_rehearse) is a run of two streams in memory, of which five numbers are reported; `specs/Numbers.antt` has their lines, `specs/Came.antt` what
+//! is told of each command (`IsTold`). It touches nothing of the world but its reports.
+//!
 //! `specs/Ends.antt` says which cause of the workers comes first, `specs/Room.antt` when a store is full, `specs/Crashes.antt` what a crash leaves,
 //! `specs/Outside.antt` what a world tells.
 #![tactic(auto)]
@@ -18,6 +21,7 @@
 mod ends;
 mod status;
 mod storing;
+mod telling;
 mod whole;
 
 pub use ps_words::{Command, Stream, WordsRefusal, read_words};

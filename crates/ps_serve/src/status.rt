@@ -8,7 +8,7 @@ use itoa::Buffer;
 /// How a run ended.
 #[derive(Clone, Copy, Debug, PartialEq, Eq)]
 pub enum Status {
-    /// Every source was read to its end, and every reply was written.
+    /// Every source was read to its end, and every reply was written; or a rehearsal has told its numbers.
     Done,
     /// The words are no command.
     Usage,
@@ -20,7 +20,7 @@ pub enum Status {
     StoreFault,
     /// The store has no room for what begins or ends a run.
     StoreFull,
-    /// A source or a sink failed.
+    /// A source or a sink failed, or a report of a rehearsal's numbers.
     StreamFault,
     /// A source gave 2^40 bytes.
     StreamLong,
@@ -57,7 +57,7 @@ impl Status {
         match self {
             Status::Done => "",
             Status::Usage => {
-                "usage: pubsubd serve --service HOST --store PATH HOST IN OUT [HOST IN OUT]..\n"
+                "usage: pubsubd serve --service HOST --store PATH HOST IN OUT [HOST IN OUT].. | rehearse SEED COUNT\n"
             }
             Status::OpenFault => "open fault\n",
             Status::StoreDamaged { at: _ } => "store damaged at ",

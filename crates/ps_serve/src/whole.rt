@@ -5,17 +5,20 @@ ghost use Rattle.ps_outside.specs.Held.{Same, SameLefts};
 ghost use Rattle.ps_outside.specs.declared.world.Kind.{Kind};
 ghost use Rattle.ps_ports.specs.Ports.{FailedToOpen, LeavesOthers as LeavesOtherPorts, port_openings};
 ghost use Rattle.ps_words.specs.Well.{IsWellServed};
-ghost use Rattle.ps_words.specs.Words.{command_of};
+ghost use Rattle.ps_words.specs.Words.{command_of, hosts_of};
 ghost use Rattle.ps_words.specs.declared.command.Command.{Command};
+ghost use Rattle.ps_serve.specs.Came.{IsCame, IsTold, status_in};
 ghost use Rattle.ps_serve.specs.Outside.{outside};
-ghost use Rattle.ps_serve.specs.Runs.{AsksInOrder, IsReported, Leaves, LeavesOthers, RanOver, Runs, hosts_of, openings_of, reported_from, served_by};
+ghost use Rattle.ps_serve.specs.Runs.{AsksInOrder, IsReported, Leaves, LeavesOthers, RanOver, Runs, openings_of, reported_from, served_by};
 ghost use Rattle.ps_serve.specs.Statuses.{report_of};
 
 use crate::status::Status;
 use crate::storing::{Run, serve_store};
+use crate::telling::tell_numbers;
 use ps_base::Memory;
 use ps_outside::{World, WorldRefusal};
 use ps_ports::{give_back_ports, open_ports};
+use ps_rehearse::{Numbers, rehearse};
 use ps_types::Text;
 use ps_words::{Command, Stream, WordsRefusal, read_words};
 use std::alloc::Global;
@@ -126,23 +129,47 @@ fn serve<R: RandomSource + Wait + Threads + Sync, W: World>(
     status
 }
 
+// What came of a command, before it is told: how it ended, or the numbers of a rehearsal.
+#[derive(Clone, Copy)]
+pub(crate) enum Came {
+    Ended(Status),
+    Rehearsed(Numbers),
+}
+
+fn rehearsed<R: RandomSource + Wait + Threads + Sync>(
+    rt: &R,
+    alloc: Global,
+    seed: u64,
+    count: u64,
+) -> Came
+    requires { count ≤ 100000 }
+    ensures { IsCame (Some (Command.Rehearse seed count)) result }
+{
+    match rehearse(rt, alloc, seed, count) {
+        Ok(numbers) => Came::Rehearsed(numbers),
+        Err(Memory) => Came::Ended(Status::Memory),
+    }
+}
+
 fn run_words<R: RandomSource + Wait + Threads + Sync, W: World>(
     rt: &R,
     alloc: Global,
     words: &[Text],
     world: &mut W,
-) -> Status
-    ensures usage_only { result ≡ Status.Usage → served_by (command_of words.now) ≡ None }
-    ensures usage { served_by (command_of words.now) ≡ None
-        → (result ≡ Status.Usage) ⊎ (result ≡ Status.Memory) }
+) -> Came
+    ensures usage_only { status_in result ≡ Status.Usage → command_of words.now ≡ None }
+    ensures usage { command_of words.now ≡ None
+        → (status_in result ≡ Status.Usage) ⊎ (status_in result ≡ Status.Memory) }
     ensures runs { IfSome (served_by (command_of words.now)) (Runs W.Store.tells (outside W.World world.old)
-        (outside W.World world.new) (W.lefts world.old) (W.lefts world.new) result) }
-    ensures open { result ≡ Status.OpenFault → FailedToOpen W.World world.old world.new }
+        (outside W.World world.new) (W.lefts world.old) (W.lefts world.new) (status_in result)) }
+    ensures came { IsCame (command_of words.now) result }
+    ensures open { status_in result ≡ Status.OpenFault → FailedToOpen W.World world.old world.new }
     ensures asked { AsksInOrder (openings_of (command_of words.now)) (W.asked world.old) (W.asked world.new) }
     ensures others { Leaves (served_by (command_of words.now)) (outside W.World world.old)
         (outside W.World world.new) (W.lefts world.old) (W.lefts world.new) }
     ensures reported { W.reported world.new ≡ W.reported world.old }
-    ensures since { reported_from result (W.faults world.old) (W.last_opening world.new) ≤ W.faults world.new }
+    ensures since { reported_from (status_in result) (W.faults world.old) (W.last_opening world.new)
+        ≤ W.faults world.new }
 {
     match read_words(alloc, words) {
         Ok(
@@ -151,9 +178,10 @@ fn run_words<R: RandomSource + Wait + Threads + Sync, W: World>(
                 store,
                 streams,
             },
-        ) => serve(rt, alloc, &service, &store, streams.as_slice(), world),
-        Ok(Command::Rehearse { seed: _, count: _ }) | Err(WordsRefusal::Usage) => Status::Usage,
-        Err(WordsRefusal::Memory) => Status::Memory,
+        ) => Came::Ended(serve(rt, alloc, &service, &store, streams.as_slice(), world)),
+        Ok(Command::Rehearse { seed, count }) => rehearsed(rt, alloc, seed, count),
+        Err(WordsRefusal::Usage) => Came::Ended(Status::Usage),
+        Err(WordsRefusal::Memory) => Came::Ended(Status::Memory),
     }
 }
 
@@ -182,27 +210,34 @@ fn tell<W: World>(status: Status, world: &mut W)
 /// The store is opened, then each stream's source, sink and clock, and a Boot is appended to the entries that the store has. Each stream has a reader and a
 /// writer of its own, and all work beside one another. However they interleave, the store holds one list of entries; each reply is the access rules' answer
 /// at a prefix of it, no older than its stream's earlier replies; each address is handed, in the order of the entries, exactly the notices that the rules
-/// grant; and a crash at any moment leaves a prefix that holds every entry on which something rests that was written, and repeats at most one notice an
-/// address (`Runs`, `Headline`, `ServesStream`). Each other answer than [`Status::Done`] has its cause, but for want of memory.
+/// grant, after a stop at most one of them again (`Runs`, `Headline`, `ServesStream`). A crash at any moment of the run leaves a prefix that holds all entries
+/// that the store had at its start; one at its end leaves a prefix that holds every entry on which something rests that was written (`HasOneList`,
+/// `IsAcknowledged`). Each other answer than [`Status::Done`] has its cause, but for want of memory.
+///
+/// A rehearsal touches nothing of the world but its reports: the five lines of its numbers, which are those of a run of two streams in memory (`IsTold`,
+/// `Rehearsed` of ps_rehearse). Where one of these reports fails nothing is reported after it, and the answer is [`Status::StreamFault`].
 pub fn run<R: RandomSource + Wait + Threads + Sync, W: World>(
     rt: &R,
     alloc: Global,
     words: &[Text],
     world: &mut W,
 ) -> Status
-    ensures usage_only { result ≡ Status.Usage → served_by (command_of words.now) ≡ None }
-    ensures usage { served_by (command_of words.now) ≡ None
-        → (result ≡ Status.Usage) ⊎ (result ≡ Status.Memory) }
+    ensures usage_only { result ≡ Status.Usage → command_of words.now ≡ None }
+    ensures usage { command_of words.now ≡ None → (result ≡ Status.Usage) ⊎ (result ≡ Status.Memory) }
     ensures runs { IfSome (served_by (command_of words.now)) (Runs W.Store.tells (outside W.World world.old)
         (outside W.World world.new) (W.lefts world.old) (W.lefts world.new) result) }
     ensures open { result ≡ Status.OpenFault → FailedToOpen W.World world.old world.new }
     ensures asked { AsksInOrder (openings_of (command_of words.now)) (W.asked world.old) (W.asked world.new) }
     ensures others { Leaves (served_by (command_of words.now)) (outside W.World world.old)
         (outside W.World world.new) (W.lefts world.old) (W.lefts world.new) }
-    ensures reported { IsReported (W.reported world.old) (W.reported world.new) (report_of result)
-        (reported_from result (W.faults world.old) (W.last_opening world.new)) (W.faults world.new) }
+    ensures reported { IsTold (command_of words.now) (W.reported world.old) (W.reported world.new) (W.faults world.old)
+        (reported_from result (W.faults world.old) (W.last_opening world.new)) (W.faults world.new) result }
 {
-    let status = run_words(rt, alloc, words, world);
-    tell(status, world);
-    status
+    match run_words(rt, alloc, words, world) {
+        Came::Ended(status) => {
+            tell(status, world);
+            status
+        }
+        Came::Rehearsed(numbers) => tell_numbers(&numbers, world),
+    }
 }

@@ -16,7 +16,7 @@ use std::test::Fail;
 use std::thread::Threads;
 
 const USAGE: &str =
-    "usage: pubsubd serve --service HOST --store PATH HOST IN OUT [HOST IN OUT]..\n2";
+    "usage: pubsubd serve --service HOST --store PATH HOST IN OUT [HOST IN OUT].. | rehearse SEED COUNT\n2";
 
 #[test]
 fn other_words_are_no_command(rt: HostRuntime) -> Result<(), Fail> {
@@ -25,7 +25,7 @@ fn other_words_are_no_command(rt: HostRuntime) -> Result<(), Fail> {
         "",
         "serve --store s",
         "serve --service pubsub.example --store s",
-        "rehearse 0 4",
+        "rehearse 0",
         "serve --service a.example --store s A.EXAMPLE i1 o1",
         "serve --service pubsub.example --store s ann@a.example i1 o1",
         "serve --service pubsub.example --store s a.example/1 i1 o1",

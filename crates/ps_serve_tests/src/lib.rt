@@ -14,6 +14,8 @@ mod lines;
 #[cfg(test)]
 mod many;
 #[cfg(test)]
+mod rehearsals;
+#[cfg(test)]
 mod runs;
 #[cfg(test)]
 mod stores;

@@ -1,0 +1,4 @@
+pub mod Forward
+pub mod Hosts
+pub mod Sinks
+pub mod Run

@@ -1,0 +1,10 @@
+pub mod Clocks
+pub mod Making
+pub mod Pairs
+pub mod Room
+pub mod Clean
+pub mod Arrived
+pub mod Both
+pub mod Hosts
+pub mod Empty
+pub mod Ending

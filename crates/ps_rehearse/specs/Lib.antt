@@ -1,0 +1,5 @@
+pub mod Still
+pub mod Entries
+pub mod Running
+pub mod Streams
+pub mod Rehearsed

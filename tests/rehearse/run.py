@@ -1,0 +1,48 @@
+#!/usr/bin/env python3
+"""Runs rehearsals with the program, and compares what they report and their statuses.
+
+Usage: run.py PROGRAM
+"""
+import subprocess
+import sys
+
+USAGE = "usage: pubsubd serve --service HOST --store PATH HOST IN OUT [HOST IN OUT].. | rehearse SEED COUNT\n"
+
+# A node is made by the first stanza; the other three ask of nodes that aren't there.
+CASES = [
+    (("0", "4"), "stanzas 4\ncommits 1\nresults 1\nerrors 3\nnotices 0\n", 0),
+    (("0", "0"), USAGE, 2),
+    (("0", "100001"), USAGE, 2),
+    (("18446744073709551616", "1"), USAGE, 2),
+    (("0",), USAGE, 2),
+]
+
+
+def rehearse(program, words):
+    """What it reports, and its status."""
+    told = subprocess.run([program, "rehearse", *words], capture_output=True, text=True, timeout=110, check=False)
+    return told.stdout, told.returncode
+
+
+def numbers(report):
+    return {name: int(number) for name, number in (line.split() for line in report.splitlines())}
+
+
+def main(program):
+    wrong = 0
+    for words, report, status in CASES:
+        told = rehearse(program, words)
+        if told != (report, status):
+            wrong += 1
+            print(f"rehearse {' '.join(words)}: {told}")
+    one, other = rehearse(program, ("7", "2000")), rehearse(program, ("7", "2000"))
+    told = numbers(one[0])
+    if one != other or one[1] != 0 or told["stanzas"] != 2000 or told["results"] + told["errors"] != 2000 or not told["notices"]:
+        wrong += 1
+        print(f"rehearse 7 2000: {one}, {other}")
+    print(f"rehearsals: {len(CASES) + 1 - wrong} passed, {wrong} failed")
+    return 1 if wrong else 0
+
+
+if __name__ == "__main__":
+    sys.exit(main(sys.argv[1]))
