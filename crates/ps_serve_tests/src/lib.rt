@@ -14,8 +14,6 @@ mod lines;
 #[cfg(test)]
 mod many;
 #[cfg(test)]
-mod rehearsals;
-#[cfg(test)]
 mod runs;
 #[cfg(test)]
 mod stores;
