@@ -1,97 +1,111 @@
 """The lines of the measurements, as phases: a name, and its lines."""
+import pathlib
+import sys
+
+sys.path.insert(0, str(pathlib.Path(__file__).resolve().parents[2] / "tests" / "lines"))
+import stanzas
 
 ADDRESS = "user%d@a.example"
 OWNER = ADDRESS % 0
 ROWS = 1000
 
 
-def line(who, number, kind, part, namespace=""):
-    return (
-        '{"a":{"from":"%s/1","id":"%d","to":"pubsub.example","type":"%s"},'
-        '"c":[{"c":[%s],"n":"pubsub","ns":"http://jabber.org/protocol/pubsub%s"}],"n":"iq"}\n'
-    ) % (who, number, kind, part, namespace)
+def text(line):
+    return line.decode() + "\n"
+
+
+def line(who, number, kind, parts, target=stanzas.SERVICE):
+    return text(stanzas.asked(who + "/1", number, kind, parts, target=target))
+
+
+def owning(who, number, parts):
+    """Of what only an owner may do (XEP-0060 §8)."""
+    return text(stanzas.asked(who + "/1", number, "set", parts, stanzas.OWNER))
+
+
+def publishing_to(who, number, node, name, words, target=stanzas.SERVICE):
+    return text(stanzas.publish(who + "/1", number, node, name, words, target))
 
 
 def create(k):
     """Each makes another node, by senders who make at most 5,000 each."""
-    return line(ADDRESS % (k // 5000), k, "set", '{"a":{"node":"node-%d"},"n":"create"}' % k)
+    return line(ADDRESS % (k // 5000), k, "set", "create{node=node-%d}" % k)
 
 
 def publish(k, nodes):
     """To the nodes in turn, each by its owner."""
     node = k % nodes
-    item = '{"a":{"id":"item-%d"},"c":[{"c":["%d"],"n":"entry","ns":"urn:t"}],"n":"item"}' % (k, k)
-    return line(ADDRESS % (node // 5000), k, "set", '{"a":{"node":"node-%d"},"c":[%s],"n":"publish"}' % (node, item))
+    return publishing_to(ADDRESS % (node // 5000), k, "node-%d" % node, "item-%d" % k, str(k))
 
 
 def retrieve(k, nodes):
-    return line("reader@a.example", k, "get", '{"a":{"node":"node-%d"},"n":"items"}' % (k % nodes))
+    return line("reader@a.example", k, "get", "items{node=node-%d}" % (k % nodes))
 
 
 def subscribe(k, nodes):
     """Each by another address."""
     who = "reader%d@a.example" % k
-    return line(who, k, "set", '{"a":{"jid":"%s","node":"node-%d"},"n":"subscribe"}' % (who, k % nodes))
+    return line(who, k, "set", "subscribe{jid=%s node=node-%d}" % (who, k % nodes))
 
 
 def subscriptions(k):
     """What a reader is subscribed to."""
-    return line("reader%d@a.example" % k, k, "get", '{"n":"subscriptions"}')
+    return line("reader%d@a.example" % k, k, "get", "subscriptions")
 
 
 def unsubscribe(k, nodes):
     who = "reader%d@a.example" % k
-    return line(who, k, "set", '{"a":{"jid":"%s","node":"node-%d"},"n":"unsubscribe"}' % (who, k % nodes))
+    return line(who, k, "set", "unsubscribe{jid=%s node=node-%d}" % (who, k % nodes))
 
 
 def publish_to(node, k):
-    item = '{"a":{"id":"more-%d"},"c":[{"c":["%d"],"n":"entry","ns":"urn:t"}],"n":"item"}' % (k, k)
-    return line(ADDRESS % (node // 5000), k, "set", '{"a":{"node":"node-%d"},"c":[%s],"n":"publish"}' % (node, item))
+    return publishing_to(ADDRESS % (node // 5000), k, "node-%d" % node, "more-%d" % k, str(k))
 
 
 def retract(node, k):
     """The item of `publish_to`."""
-    part = '{"a":{"node":"node-%d"},"c":[{"a":{"id":"more-%d"},"n":"item"}],"n":"retract"}' % (node, k)
-    return line(ADDRESS % (node // 5000), k, "set", part)
+    return line(ADDRESS % (node // 5000), k, "set", "retract{node=node-%d}(item{id=more-%d})" % (node, k))
 
 
 def create_by(who, k):
-    return line("%s%d@a.example" % (who, k % 10), k, "set", '{"a":{"node":"%s-%d"},"n":"create"}' % (who, k))
+    return line("%s%d@a.example" % (who, k % 10), k, "set", "create{node=%s-%d}" % (who, k))
 
 
 def delete_by(who, k):
-    return line("%s%d@a.example" % (who, k % 10), k, "set", '{"a":{"node":"%s-%d"},"n":"delete"}' % (who, k), "#owner")
+    return owning("%s%d@a.example" % (who, k % 10), k, "delete{node=%s-%d}" % (who, k))
 
 
 def affiliate(k, nodes, affiliation="member"):
     """Each makes another address a member."""
     node = k % nodes
-    row = '{"a":{"affiliation":"%s","jid":"reader%d@a.example"},"n":"affiliation"}' % (affiliation, k)
-    part = '{"a":{"node":"node-%d"},"c":[%s],"n":"affiliations"}' % (node, row)
-    return line(ADDRESS % (node // 5000), k, "set", part, "#owner")
+    row = "affiliation{affiliation=%s jid=reader%d@a.example}" % (affiliation, k)
+    return owning(ADDRESS % (node // 5000), k, "affiliations{node=node-%d}(%s)" % (node, row))
+
+
+def subscribing(node, k, name, numbers):
+    """So many addresses are subscribed to the owner's node by a line."""
+    rows = " ".join("subscription{jid=%s%d@a.example subscription=subscribed}" % (name, n) for n in numbers)
+    return owning(OWNER, k, "subscriptions{node=%s}(%s)" % (node, rows))
 
 
 def subscribers(k, last):
     """Of the subscribers of the first node up to the last, a line's rows."""
-    row = '{"a":{"jid":"sub%d@a.example","subscription":"subscribed"},"n":"subscription"}'
-    rows = ",".join(row % n for n in range(k * ROWS, min((k + 1) * ROWS, last)))
-    return line(OWNER, k, "set", '{"a":{"node":"node-0"},"c":[%s],"n":"subscriptions"}' % rows, "#owner")
+    return subscribing("node-0", k, "sub", range(k * ROWS, min((k + 1) * ROWS, last)))
 
 
 def affiliations(rows):
-    part = '{"a":{"node":"node-0"},"c":[%s],"n":"affiliations"}' % ",".join(rows)
-    return line(OWNER, 0, "set", part, "#owner")
+    return owning(OWNER, 0, "affiliations{node=node-0}(%s)" % " ".join(rows))
 
 
 def members(k, last):
     """Of the members of the first node up to the last, a line's rows."""
-    row = '{"a":{"affiliation":"member","jid":"m%d@a.example"},"n":"affiliation"}'
+    row = "affiliation{affiliation=member jid=m%d@a.example}"
     return affiliations([row % n for n in range(k * ROWS, min((k + 1) * ROWS, last))])
 
 
 def nobody(count):
     """A line that takes the affiliations of so many addresses away, which have none."""
-    row = '{"a":{"affiliation":"none","jid":"%x"},"n":"affiliation"}'
+    row = "affiliation{affiliation=none jid=%x}"
     return affiliations([row % (n + 0x1000) for n in range(count)])
 
 

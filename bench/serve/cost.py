@@ -14,28 +14,24 @@ import corpus
 
 READER = "reader@a.example"
 OTHER = "other@a.example"
-FORM = '{"c":[%s],"n":"x","ns":"jabber:x:data","a":{"type":"submit"}}'
-FIELD = '{"a":{"var":"%s"},"c":[{"c":["%s"],"n":"value"}],"n":"field"}'
 
 
 def create(k):
-    return corpus.line(corpus.OWNER, k, "set", '{"a":{"node":"made-%d"},"n":"create"}' % k)
+    return corpus.line(corpus.OWNER, k, "set", "create{node=made-%d}" % k)
 
 
 def item(k, ids, size):
     """To the first node, by its owner; the item has so many bytes of text."""
-    made = '{"a":{"id":"item-%d"},"c":[{"c":["%s"],"n":"entry","ns":"urn:t"}],"n":"item"}' % (k % ids, "x" * size)
-    return corpus.line(corpus.OWNER, k, "set", '{"a":{"node":"node-0"},"c":[%s],"n":"publish"}' % made)
+    return corpus.publishing_to(corpus.OWNER, k, "node-0", "item-%d" % (k % ids), "x" * size)
 
 
 def retrieve(k, one):
-    asked = '"c":[{"a":{"id":"item-1"},"n":"item"}],' if one else ""
-    return corpus.line(READER, k, "get", '{"a":{"node":"node-0"},%s"n":"items"}' % asked)
+    return corpus.line(READER, k, "get", "items{node=node-0}" + ("(item{id=item-1})" if one else ""))
 
 
 def denied(k):
     """The reader doesn't own the node."""
-    return corpus.line(READER, k, "set", '{"a":{"node":"node-0"},"n":"delete"}', "#owner")
+    return corpus.owning(READER, k, "delete{node=node-0}")
 
 
 def malformed(k):
@@ -44,16 +40,12 @@ def malformed(k):
 
 def kept_items(most):
     """The first node, which keeps so many items."""
-    form = FORM % (FIELD % ("FORM_TYPE", "http://jabber.org/protocol/pubsub#node_config") + "," + FIELD % ("pubsub#max_items", most))
-    configure = corpus.line(corpus.OWNER, 1, "set", '{"a":{"node":"node-0"},"c":[%s],"n":"configure"}' % form, "#owner")
-    return [corpus.create(0), configure]
+    return [corpus.create(0), corpus.owning(corpus.OWNER, 1, "configure{node=node-0}(@node_config{max_items=%d})" % most)]
 
 
 def heard(count):
     """So many are subscribed to the first node."""
-    row = '{"a":{"jid":"sub%d@a.example","subscription":"subscribed"},"n":"subscription"}'
-    rows = ",".join(row % n for n in range(count))
-    return [corpus.line(corpus.OWNER, 1, "set", '{"a":{"node":"node-0"},"c":[%s],"n":"subscriptions"}' % rows, "#owner")]
+    return [corpus.subscribing("node-0", 1, "sub", range(count))]
 
 
 def kinds(lines):

@@ -14,12 +14,11 @@ import sys
 import corpus
 import many
 import measure
+import stanzas
+from notation import Element, line_of, read
 
 ACCOUNTS = measure.numbers("ACCOUNTS", "10000")[0]
 REQUESTS = many.REQUESTS
-ROSTER = '{"a":{"from":"%s/1","id":"%d","type":"set"},"c":[{"c":[{"a":{"jid":"%s","subscription":"%s"},"n":"item"}],"n":"query","ns":"jabber:iq:roster"}],"n":"iq"}\n'
-PRESENT = '{"a":{"from":"%s/1"},"c":[{"a":{"hash":"sha-1","node":"urn:n","ver":"%s"},"n":"c","ns":"http://jabber.org/protocol/caps"}],"n":"presence"}\n'
-ABSENT = '{"a":{"from":"%s/1","type":"unavailable"},"n":"presence"}\n'
 INFO = "http://jabber.org/protocol/disco#info"
 ITEMS = "http://jabber.org/protocol/disco#items"
 
@@ -28,22 +27,33 @@ def account(k):
     return "home%d@a.example" % k
 
 
-def at_home(line, target):
-    return line.replace('"to":"pubsub.example"', '"to":"%s"' % target)
+def asked_of(k, kind, parts, target):
+    return corpus.text(stanzas.iq(account(k) + "/1", k, kind, parts, target))
+
+
+def stanza(parts):
+    """A stanza that is no iq of `pubsub`."""
+    return corpus.text(line_of(read(parts)[0]))
+
+
+def present(who, ver):
+    return stanza("presence{from=%s/1}(c:K{hash=sha-1 node=urn:n ver=%s})" % (who, ver))
+
+
+def absent(who):
+    return stanza("presence{from=%s/1 type=unavailable}" % who)
 
 
 def publish(k, node):
-    item = '{"a":{"id":"m"},"c":[{"n":"entry","ns":"urn:t"}],"n":"item"}'
-    return at_home(corpus.line(account(k), k, "set", '{"a":{"node":"%s"},"c":[%s],"n":"publish"}' % (node, item)), account(k))
+    return corpus.publishing_to(account(k), k, node, "m", "", account(k))
 
 
 def contact(k, who, state):
-    return ROSTER % (account(k), k, who, state)
+    return asked_of(k, "set", "query:RO(item{jid=%s subscription=%s})" % (who, state), None)
 
 
 def discover(k, target, namespace, node=""):
-    named = '"a":{"node":"%s"},' % node if node else ""
-    return '{"a":{"from":"%s/1","id":"%d","to":"%s","type":"get"},"c":[{%s"n":"query","ns":"%s"}],"n":"iq"}\n' % (account(k), k, target, named, namespace)
+    return asked_of(k, "get", [Element("query", namespace, {"node": node} if node else {}, [])], target)
 
 
 def features(count, kind=0):
@@ -57,15 +67,14 @@ def ver(count, kind=0):
 
 
 def answer(who, count, kind=0):
-    told = ",".join('{"a":{"var":"%s"},"n":"feature"}' % it for it in features(count, kind))
-    query = '{"a":{"node":"urn:n#%s"},"c":[%s],"n":"query","ns":"%s"}' % (ver(count, kind), told, INFO)
-    return '{"a":{"from":"%s/1","id":"n-1","to":"pubsub.example","type":"result"},"c":[%s],"n":"iq"}\n' % (who, query)
+    told = " ".join("feature{var=%s}" % it for it in features(count, kind))
+    return corpus.text(stanzas.iq(who + "/1", "n-1", "result", "query:DI{node=urn:n#%s}(%s)" % (ver(count, kind), told)))
 
 
 def client(k):
     """A new resource of a kind of client that nobody had, which is present and answers with 256 features."""
     who = "client%d@a.example" % k
-    return PRESENT % (who, ver(256, k + 1)) + answer(who, 256, k + 1)
+    return present(who, ver(256, k + 1)) + answer(who, 256, k + 1)
 
 
 def silent(lines):
@@ -74,16 +83,14 @@ def silent(lines):
 
 
 def kept_in(collection, k):
-    form = '"c":[{"a":{"var":"FORM_TYPE"},"c":[{"c":["http://jabber.org/protocol/pubsub#node_config"],"n":"value"}],"n":"field"},{"a":{"var":"pubsub#%s"},"c":[{"c":["%s"],"n":"value"}],"n":"field"}]'
     field = ("node_type", "collection") if k is None else ("collection", collection)
     node = collection if k is None else "%s-%d" % (collection, k)
-    made = '{"a":{"node":"%s"},"n":"create"},{"c":[{"a":{"type":"submit"},%s,"n":"x","ns":"jabber:x:data"}],"n":"configure"}' % (node, form % field)
-    return corpus.line(account(0), 0, "set", made)
+    return corpus.line(account(0), 0, "set", "create{node=%s} configure(@node_config{%s=%s})" % (node, *field))
 
 
 def rows_before(accounts):
     first = [corpus.phase("", accounts, lambda k: publish(k, "urn:t")), corpus.phase("", accounts, lambda k: contact(k, account(k + 1), "both"))]
-    first.append(("", silent([PRESENT % (account(k), ver(3)) for k in range(accounts)] + [answer(account(0), 3)])))
+    first.append(("", silent([present(account(k), ver(3)) for k in range(accounts)] + [answer(account(0), 3)])))
     return first + [("", [kept_in("shelf", None)]), corpus.phase("", accounts // 10, lambda k: kept_in("shelf", k))]
 
 
@@ -95,10 +102,10 @@ def asked(accounts):
         corpus.phase("contact removed", REQUESTS, lambda k: contact(who(k), "friend%d@a.example" % k, "remove")),
         corpus.phase("node made", REQUESTS, lambda k: publish(who(k), "urn:n%d" % k)),
         corpus.phase("publish", REQUESTS, lambda k: publish(who(k), "urn:t")),
-        corpus.phase("retrieve", REQUESTS, lambda k: at_home(corpus.line(account(who(k)), k, "get", '{"a":{"node":"urn:t"},"n":"items"}'), account(who(k)))),
-        ("present", silent([PRESENT % ("new%d@a.example" % k, "AAAA") for k in some])),
-        ("absent", silent([ABSENT % ("new%d@a.example" % k) for k in some])),
-        ("present, known", silent([PRESENT % ("new%d@a.example" % k, ver(3)) for k in some])),
+        corpus.phase("retrieve", REQUESTS, lambda k: corpus.line(account(who(k)), k, "get", "items{node=urn:t}", account(who(k)))),
+        ("present", silent([present("new%d@a.example" % k, "AAAA") for k in some])),
+        ("absent", silent([absent("new%d@a.example" % k) for k in some])),
+        ("present, known", silent([present("new%d@a.example" % k, ver(3)) for k in some])),
         ("answer, 256", silent([client(k) for k in range(REQUESTS // 10)])),
         corpus.phase("info", REQUESTS, lambda k: discover(k, "pubsub.example", INFO, "shelf")),
         corpus.phase("nodes", REQUESTS, lambda k: discover(who(k), account(who(k)), ITEMS)),

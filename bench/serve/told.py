@@ -23,29 +23,25 @@ NODE = home.features(3)[0].removesuffix("+notify")
 
 def rows(node, name, count):
     """Lines of the node's owner that subscribe so many addresses."""
-    row = '{"a":{"jid":"%s%d@a.example","subscription":"subscribed"},"n":"subscription"}'
     for first in range(0, count, corpus.ROWS):
-        told = ",".join(row % (name, n) for n in range(first, min(first + corpus.ROWS, count)))
-        yield corpus.line(corpus.OWNER, first, "set", '{"a":{"node":"%s"},"c":[%s],"n":"subscriptions"}' % (node, told), "#owner")
+        yield corpus.subscribing(node, first, name, range(first, min(first + corpus.ROWS, count)))
 
 
 def item(k, node, size):
-    made = '{"a":{"id":"item-%d"},"c":[{"c":["%s"],"n":"entry","ns":"urn:t"}],"n":"item"}' % (k % 10, "x" * size)
-    return corpus.line(corpus.OWNER, k, "set", '{"a":{"node":"%s"},"c":[%s],"n":"publish"}' % (node, made))
+    return corpus.publishing_to(corpus.OWNER, k, node, "item-%d" % (k % 10), "x" * size)
 
 
 def personal(k, who, node, size):
     """To the personal node of the account, which the first publish makes."""
-    made = '{"a":{"id":"item-%d"},"c":[{"c":["%s"],"n":"entry","ns":"urn:t"}],"n":"item"}' % (k % 10, "x" * size)
-    return home.at_home(corpus.line(who, k, "set", '{"a":{"node":"%s"},"c":[%s],"n":"publish"}' % (node, made)), who)
+    return corpus.publishing_to(who, k, node, "item-%d" % (k % 10), "x" * size, who)
 
 
 def audience(count, others):
     """A node without an audience and one with it, beside other rows."""
-    yield corpus.line(corpus.OWNER, 1, "set", '{"a":{"node":"quiet"},"n":"create"}')
-    yield corpus.line(corpus.OWNER, 2, "set", '{"a":{"node":"loud"},"n":"create"}')
+    yield corpus.line(corpus.OWNER, 1, "set", "create{node=quiet}")
+    yield corpus.line(corpus.OWNER, 2, "set", "create{node=loud}")
     if others:
-        yield corpus.line(corpus.OWNER, 3, "set", '{"a":{"node":"busy"},"n":"create"}')
+        yield corpus.line(corpus.OWNER, 3, "set", "create{node=busy}")
         yield from rows("busy", "other", 10 * others)
         for k in range(others):
             yield corpus.create_by("maker", k)
@@ -59,7 +55,7 @@ def contacts(count):
     yield personal(0, owner, "urn:quiet", 1)
     for k in range(count):
         yield home.contact(0, home.account(k + 1), "both")
-    present = [home.PRESENT % (home.account(k + 1), home.ver(3)) for k in range(count)]
+    present = [home.present(home.account(k + 1), home.ver(3)) for k in range(count)]
     yield present[0] + home.answer(home.account(1), 3) + "".join(present[1:]) + home.discover(0, "pubsub.example", home.INFO)
 
 

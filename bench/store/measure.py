@@ -1,45 +1,41 @@
 #!/usr/bin/env python3
 """measure.py PROGRAM LIMIT STORE FAST: publishes a second over a file in the folder STORE beside the disk's limit, and what opening a store costs."""
-import json
 import os
-import resource
+import pathlib
 import statistics
 import subprocess
 import sys
 import time
 
-PUBSUB = "http://jabber.org/protocol/pubsub"
+sys.path.insert(0, str(pathlib.Path(__file__).resolve().parents[2] / "tests" / "lines"))
+import stanzas
+
 program, limit, store, fast = sys.argv[1:5]
 rounds = int(os.environ.get("ROUNDS", "3"))
 publishes = int(os.environ.get("PUBLISHES", "2000"))
 changes = [int(it) for it in os.environ.get("CHANGES", "10000 100000").split()]
 
 
-def line(number, sender, child):
-    child = {"n": "pubsub", "ns": PUBSUB, "c": [child]}
-    stanza = {"n": "iq", "a": {"from": f"{sender}@a.example/1", "id": str(number), "to": "pubsub.example", "type": "set"}, "c": [child]}
-    return json.dumps(stanza, separators=(",", ":")) + "\n"
+def address(name):
+    return f"{name}@a.example/1"
 
 
-def create(number, sender, node):
-    return line(number, sender, {"n": "create", "a": {"node": node}})
+def create(number, name, node):
+    return stanzas.create(address(name), number, node)
 
 
 def publish(number):
-    item = {"n": "item", "a": {"id": f"i{number}"}, "c": [{"n": "entry", "ns": "urn:t", "c": ["hi"]}]}
-    return line(number, "ann", {"n": "publish", "a": {"node": "news"}, "c": [item]})
+    return stanzas.publish(address("ann"), number, "news", f"i{number}")
 
 
 def publish_to(number, nodes):
     """An item at the nodes in turn."""
-    item = {"n": "item", "a": {"id": f"i{number}"}, "c": [{"n": "entry", "ns": "urn:t", "c": ["hi"]}]}
     node = number % nodes
-    return line(number, f"maker{node % 100}", {"n": "publish", "a": {"node": f"node-{node}"}, "c": [item]})
+    return stanzas.publish(address(f"maker{node % 100}"), number, f"node-{node}", f"i{number}")
 
 
 def subscribe(number, nodes):
-    who = f"reader{number}"
-    return line(number, who, {"n": "subscribe", "a": {"jid": f"{who}@a.example", "node": f"node-{number % nodes}"}})
+    return stanzas.subscribe(address(f"reader{number}"), number, f"node-{number % nodes}")
 
 
 def made(number):
@@ -48,8 +44,8 @@ def made(number):
 
 def run(room, lines):
     """Serves the lines over the store in the room; returns seconds, peak megabytes and seconds of the processor."""
-    with open(f"{room}/in", "w") as it:
-        it.writelines(lines)
+    with open(f"{room}/in", "wb") as it:
+        it.writelines(line + b"\n" for line in lines)
     words = [program, "serve", "--service", "pubsub.example", "--store", f"{room}/store", "a.example", f"{room}/in", f"{room}/out"]
     start = time.monotonic()
     started = subprocess.Popen(words)

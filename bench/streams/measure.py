@@ -11,7 +11,8 @@ import time
 
 HERE = pathlib.Path(__file__).resolve().parent
 sys.path.insert(0, str(HERE.parent.parent / "tests" / "streams"))
-from serving import Service, create, line_of, publish, subscribe
+from serving import Service
+from stanzas import create, publish, retrieve, subscribe
 
 PROGRAM, LIMIT, STORE, FAST = sys.argv[1:5]
 
@@ -107,7 +108,7 @@ def beside(streams, make):
 
 
 def publishing(count):
-    """Publishes a second of so many streams, bytes of a publish, and entries a frame."""
+    """Publishes a second of so many streams, bytes of a publish, entries a frame, and syncs a publish: each frame has two."""
     with tempfile.TemporaryDirectory(dir=STORE) as folder, served(count, folder) as service:
         senders = [f"pub@h{k}.example/1" for k in range(count)]
         for at in range(count):
@@ -116,7 +117,7 @@ def publishing(count):
         done, took = beside(service.streams, lambda at, k: publish(senders[at], k, f"node-{at}", f"i{k % 20}"))
         size = os.path.getsize(f"{folder}/store") - 1 - before
         frames = frames_of(f"{folder}/store", before)
-        return done / took, size // max(done, 1), sum(frames) / max(len(frames), 1)
+        return done / took, size // max(done, 1), sum(frames) / max(len(frames), 1), 2 * len(frames) / max(done, 1)
 
 
 def limit(size, folder=STORE):
@@ -126,14 +127,14 @@ def limit(size, folder=STORE):
 
 
 def publishes():
-    print(f"{'streams':>8} {'publishes/s':>12} {'of one':>7} {'limit/s':>9} {'ratio':>6} {'entries a frame':>16}")
+    print(f"{'streams':>8} {'publishes/s':>12} {'of one':>7} {'limit/s':>9} {'ratio':>6} {'entries a frame':>16} {'syncs a publish':>16}")
     first = None
     for count in STREAMS:
         runs = [publishing(count) for _ in range(ROUNDS)]
-        rate, frame = median(run[0] for run in runs), median(run[2] for run in runs)
+        rate, frame, syncs = (median(run[at] for run in runs) for at in (0, 2, 3))
         most = median(limit(runs[0][1]) for _ in range(ROUNDS))
         first = first or rate
-        print(f"{count:8} {rate:12.0f} {rate / first:7.2f} {most:9.0f} {rate / most:6.2f} {frame:16.2f}", flush=True)
+        print(f"{count:8} {rate:12.0f} {rate / first:7.2f} {most:9.0f} {rate / most:6.2f} {frame:16.2f} {syncs:16.2f}", flush=True)
 
 
 def audience(service, count):
@@ -195,7 +196,7 @@ def nothing():
         with tempfile.TemporaryDirectory(dir=FAST) as room, served(count, room) as service:
             ask(service, 0, [create("pub@h0.example/1", 0, "quiet")])
             each = 20000 // count
-            lines = [[line_of(f"who@h{at}.example/1", k, "get", {"a": {"node": "quiet"}, "n": "items"}) for k in range(each)] for at in range(count)]
+            lines = [[retrieve(f"who@h{at}.example/1", k, "quiet") for k in range(each)] for at in range(count)]
             wanted = [stream.count + each for stream in service.streams]
             start = time.monotonic()
             for stream, some in zip(service.streams, lines):

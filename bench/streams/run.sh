@@ -3,7 +3,7 @@
 # Usage: run.sh [publishes|notices|latency|nothing|idle|memory].. All of them where none is named. Wants `rt`, `python3` and `cc`. It proves and builds
 # crates/pubsubd where it stands, unless PROGRAM names a program.
 #   publishes  one publish at a time on each of STREAMS (1 2 4 16) streams, SECONDS (3) each, over a file in STORE, beside two syncs a publish; and the
-#              entries that a frame holds, told by the store's bytes
+#              entries that a frame holds and the syncs that a publish takes, told by the store's bytes
 #   notices    notices a second, from one publish's line to the last byte of the last notice in a pipe, to AUDIENCE (2000 65536) subscribers
 #   latency    from a publish's line to its notice's line, on another stream: median and 99th of 100
 #   nothing    lines a second that commit nothing, on 1, 2, 4 and 16 streams

@@ -15,7 +15,8 @@ import tempfile
 
 TOP = pathlib.Path(__file__).resolve().parent.parent.parent
 sys.path.insert(0, str(TOP / "tests" / "streams"))
-from serving import Late, Service, is_notice
+from serving import Late, Service
+from stanzas import is_notice
 
 
 class Wrong(Exception):

@@ -11,37 +11,37 @@ is named.
 """
 import json
 import os
+import pathlib
 import random
 import subprocess
 import sys
 import tempfile
 import time
 
-PUBSUB = "http://jabber.org/protocol/pubsub"
-INFO = "http://jabber.org/protocol/disco#info"
+sys.path.insert(0, str(pathlib.Path(__file__).resolve().parent.parent / "lines"))
+import stanzas
+
 LINES = 4000
 # Of one stream: the replies that wait for its sink, and the one that is being written.
 AHEAD = 64 + 1
 
 
-def line(number, kind, child):
-    sender = f"maker{number % 97}@a.example/1"
-    stanza = {"n": "iq", "a": {"from": sender, "id": str(number), "to": "pubsub.example", "type": kind}, "c": [child]}
-    return json.dumps(stanza, separators=(",", ":")) + "\n"
+def sender(number):
+    return f"maker{number % 97}@a.example/1"
 
 
 def create(number):
-    return line(number, "set", {"n": "pubsub", "ns": PUBSUB, "c": [{"n": "create", "a": {"node": f"node-{number}"}}]})
+    return stanzas.create(sender(number), number, f"node-{number}")
 
 
 def ask(number):
     """What the node is: a result where it stands, and else an error."""
-    return line(number, "get", {"n": "query", "ns": INFO, "a": {"node": f"node-{number}"}})
+    return stanzas.iq(sender(number), number, "get", "query:DI{node=node-%d}" % number)
 
 
 def write_lines(path, make, first):
-    with open(path, "w") as it:
-        it.writelines(make(number) for number in range(first, first + LINES))
+    with open(path, "wb") as it:
+        it.writelines(make(number) + b"\n" for number in range(first, first + LINES))
 
 
 def words(program, room, sink="out"):

@@ -22,8 +22,8 @@ import sys
 import tempfile
 import time
 
-sys.path.insert(0, str(pathlib.Path(__file__).resolve().parent.parent / "streams"))
-from serving import create, notice, publish, published, result, subscribe, subscribed
+sys.path.insert(0, str(pathlib.Path(__file__).resolve().parent.parent / "lines"))
+from stanzas import create, notice, publish, published, result, subscribe, subscribed
 
 HOSTS = [f"h{k}.example" for k in range(16)]
 # Of one stream: the replies that wait for its sink, and the one that is being written.

@@ -20,7 +20,8 @@ import hosts
 
 HERE = pathlib.Path(__file__).resolve().parent
 sys.path.insert(0, str(HERE.parent / "streams"))
-from serving import Late, Service, is_notice
+from serving import Late, Service
+from stanzas import is_notice
 
 HOSTS = ["a.example", "b.example"]
 ASK = '{"a":{"from":"barrier@%s/1","id":"barrier","to":"pubsub.example","type":"get"},"c":[{"n":"query","ns":"http://jabber.org/protocol/disco#info"}],"n":"iq"}'

@@ -4,75 +4,20 @@
 there is room for it; `pump` writes and reads, until what is waited for has come. Nothing here waits without an end: what takes longer than it may is `Late`.
 """
 import fcntl
-import json
 import os
+import pathlib
 import select
 import signal
 import subprocess
+import sys
 import time
 
-SERVICE = "pubsub.example"
-PUBSUB = "http://jabber.org/protocol/pubsub"
+sys.path.insert(0, str(pathlib.Path(__file__).resolve().parent.parent / "lines"))
+from stanzas import SERVICE, is_notice
 
 
 class Late(Exception):
     """What was waited for didn't come in time."""
-
-
-def line_of(sender, number, kind, child, namespace=PUBSUB, target=SERVICE):
-    """The line of an iq to the service host with `pubsub` and this child."""
-    attributes = {"from": sender, "id": str(number), "to": target, "type": kind}
-    stanza = {"a": attributes, "c": [{"c": [child], "n": "pubsub", "ns": namespace}], "n": "iq"}
-    return json.dumps(stanza, separators=(",", ":")).encode()
-
-
-def create(sender, number, node):
-    return line_of(sender, number, "set", {"a": {"node": node}, "n": "create"})
-
-
-def subscribe(sender, number, node):
-    return line_of(sender, number, "set", {"a": {"jid": sender.partition("/")[0], "node": node}, "n": "subscribe"})
-
-
-def item_of(item, text):
-    return {"a": {"id": item}, "c": [{"c": [text], "n": "entry", "ns": "urn:t"}], "n": "item"}
-
-
-def publish(sender, number, node, item, text="hi"):
-    return line_of(sender, number, "set", {"a": {"node": node}, "c": [item_of(item, text)], "n": "publish"})
-
-
-def retrieve(sender, number, node):
-    return line_of(sender, number, "get", {"a": {"node": node}, "n": "items"})
-
-
-def result(sender, number, *children):
-    """The line of a result."""
-    stanza = {"a": {"from": SERVICE, "id": str(number), "to": sender, "type": "result"}, "n": "iq"}
-    if children:
-        stanza = {"a": stanza["a"], "c": [{"c": list(children), "n": "pubsub", "ns": PUBSUB}], "n": "iq"}
-    return json.dumps(stanza, separators=(",", ":")).encode()
-
-
-def subscribed(sender, number, node):
-    attributes = {"jid": sender.partition("/")[0], "node": node, "subscription": "subscribed"}
-    return result(sender, number, {"a": attributes, "n": "subscription"})
-
-
-def published(sender, number, node, item):
-    return result(sender, number, {"a": {"node": node}, "c": [{"a": {"id": item}, "n": "item"}], "n": "publish"})
-
-
-def notice(to, number, node, item, text="hi"):
-    """The line that tells of an item that was published."""
-    event = {"c": [{"a": {"node": node}, "c": [item_of(item, text)], "n": "items"}], "n": "event", "ns": PUBSUB + "#event"}
-    stanza = {"a": {"from": SERVICE, "id": f"n-{number}", "to": to, "type": "headline"}, "c": [event], "n": "message"}
-    return json.dumps(stanza, separators=(",", ":")).encode()
-
-
-def is_notice(line):
-    """Whether the service sends it of its own accord: its id is `n-` and a number, which no id in these tests is."""
-    return json.loads(line)["a"].get("id", "").startswith("n-")
 
 
 class Stream:

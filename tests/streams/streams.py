@@ -20,7 +20,8 @@ import tempfile
 import time
 
 import serving
-from serving import Service, create, notice, publish, published, result, retrieve, subscribe, subscribed
+from serving import Service
+from stanzas import create, notice, publish, published, result, retrieve, subscribe, subscribed
 
 ANN, BOB = "ann@a.example/1", "bob@b.example/1"
 

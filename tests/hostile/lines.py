@@ -1,136 +1,14 @@
 """Hostile and malformed lines, and each denial that a tree alone can have, with the replies that the tables of docs/STANZAS.md give.
 
-Usage: lines.py FOLDER. It writes FOLDER/in.txt, the lines of the stream of a.example for the service host pubsub.example, and
-FOLDER/out.txt, the replies in line order. No line here gets as far as asking whether its node stands, so the replies are the same
-whatever the service holds. The replies are made from the tables below and from nothing that the program printed.
+`made` gives the lines of the stream of a.example for the service host pubsub.example, and the replies in line order. No line here gets as far as asking whether
+its node stands, so the replies are the same whatever the service holds.
 """
-import json
-import sys
+from answered import HOST, SERVICE, Out, address, line_of, printed, tree
+from notation import NAMESPACES, PUBSUB as P, Element
 
-HOST, SERVICE = "a.example", "pubsub.example"
-CLIENT = "jabber:client"
-P = "http://jabber.org/protocol/pubsub"
-O = P + "#owner"
-X = "jabber:x:data"
-INFO, ITEMS = "http://jabber.org/protocol/disco#info", "http://jabber.org/protocol/disco#items"
-ROSTER = "jabber:iq:roster"
-STANZAS = "urn:ietf:params:xml:ns:xmpp-stanzas"
-ERRORS = P + "#errors"
+O, X, ROSTER = NAMESPACES["O"], NAMESPACES["X"], NAMESPACES["RO"]
+INFO, ITEMS = NAMESPACES["DI"], NAMESPACES["DT"]
 LONGEST = 262144
-
-# the conditions that these lines get: name, special condition, type
-CONDITIONS = {
-    1: ("bad-request", "", "modify"),
-    2: ("bad-request", "invalid-jid", "modify"),
-    3: ("bad-request", "nodeid-required", "modify"),
-    11: ("forbidden", "", "auth"),
-    13: ("jid-malformed", "", "modify"),
-    14: ("not-acceptable", "", "modify"),
-    25: ("service-unavailable", "", "cancel"),
-    26: ("feature-not-implemented", "", "cancel"),
-    27: ("not-acceptable", "nodeid-required", "modify"),
-}
-
-
-# ---- trees and their print
-
-
-def tree(name, ns=None, attrs=None, *kids):
-    """A tree; without a namespace it is in its parent's."""
-    return {"a": attrs or {}, "c": list(kids), "n": name, "ns": ns}
-
-
-def shape(t, above):
-    """The JSON of a tree: members in order, what is empty or the parent's left out."""
-    if isinstance(t, str):
-        return t
-    ns = above if t["ns"] is None else t["ns"]
-    made = {}
-    if t["a"]:
-        made["a"] = {k: t["a"][k] for k in sorted(t["a"], key=lambda name: name.encode())}
-    if t["c"]:
-        made["c"] = [shape(kid, ns) for kid in t["c"]]
-    made["n"] = t["n"]
-    if ns != above:
-        made["ns"] = ns
-    return made
-
-
-def text(value):
-    return json.dumps(value, ensure_ascii=False, separators=(",", ":"))
-
-
-def line_of(t):
-    return text(shape(t, CLIENT)).encode()
-
-
-# ---- addresses
-
-
-def labels(host):
-    return all(label and all(c.isascii() and (c.isalnum() or c in "-_") for c in label) for label in host.split("."))
-
-
-def address(spelled):
-    """The address that a text spells, as (local, host, resource), or None."""
-    front, slash, resource = spelled.partition("/")
-    local, at, host = front.partition("@")
-    if not at:
-        local, host = "", front
-    if (slash and not resource) or (at and not local) or not labels(host):
-        return None
-    if any(not 0x21 <= ord(c) <= 0x7E or c in "\"&'/:<>@" for c in local):
-        return None
-    if any(not 0x20 <= ord(c) <= 0x7E for c in resource):
-        return None
-    if any(len(part.encode()) > 1023 for part in (local, host, resource)):
-        return None
-    return (local.lower(), host.lower(), resource)
-
-
-def printed(who):
-    local, host, resource = who
-    return (local + "@" if local else "") + host + ("/" + resource if resource else "")
-
-
-def bare(who):
-    return (who[0], who[1], "")
-
-
-# ---- what is written
-
-
-class Out:
-    def __init__(self):
-        self.lines, self.replies = [], []
-
-    def put(self, line, reply=None):
-        assert b"\n" not in line
-        self.lines.append(line)
-        if reply is not None:
-            self.replies.append(line_of(reply))
-
-    def silent(self, line):
-        self.put(line)
-
-    def refuse(self, line, why):
-        number = str(len(self.lines) + 1)
-        self.put(line, tree("refused", "urn:pubsubd:line", {"line": number, "why": why}))
-
-    def deny(self, t, number, line=None):
-        """The stanza is denied: the reply is from its target, or from the service host where that is no address."""
-        name, extra, kind = CONDITIONS[number]
-        attrs = t["a"]
-        sender = address(attrs["from"])
-        to = attrs.get("to", "")
-        target = (address(to) or ("", SERVICE, "")) if to else bare(sender)
-        head = {"from": printed(target), "to": printed(sender), "type": "error"}
-        if attrs.get("id", ""):
-            head["id"] = attrs["id"]
-        parts = [tree(name, STANZAS)] + ([tree(extra, ERRORS)] if extra else [])
-        self.put(line or line_of(t), tree(t["n"], None, head, tree("error", None, {"type": kind}, *parts)))
-
-
 out = Out()
 ANN = "ann@a.example/1"
 turn = 0
@@ -151,9 +29,8 @@ def iq(kind, child, **attrs):
 
 def changed(t, **attrs):
     """The same stanza with other attributes; one given as None is taken away."""
-    given = dict(t["a"])
-    given.update(attrs)
-    return {**t, "a": {k: v for k, v in given.items() if v is not None}}
+    given = {**t.attributes, **attrs}
+    return Element(t.name, t.namespace, {k: v for k, v in given.items() if v is not None}, t.children)
 
 
 # ---- lines that are no tree
@@ -229,7 +106,7 @@ def blank_and_long():
     out.deny(t, 25, b"\r" + line + b"\r")
     out.refuse(line + b" " * (LONGEST + 1 - len(line)), "too-long")
     wide = stanza("message", None, *[tree("t") for _ in range(5000)])
-    wide["a"].update({"x%d" % k: "" for k in range(2000)})
+    wide.attributes.update({"x%d" % k: "" for k in range(2000)})
     out.deny(wide, 25)
 
 
@@ -315,8 +192,8 @@ def shapes():
     child = tree("pubsub", P)
     good = iq("get", child)
     for t in [
-        tree("foo", None, good["a"], child), tree("IQ", None, good["a"], child), tree("iq", "", good["a"], child), tree("iq", "jabber:server", good["a"], child), tree("message", P, good["a"]),
-        tree("presence", "urn:t", good["a"]), tree("t", None, good["a"]), changed(good, id=None), changed(good, id=""), changed(good, type=None), changed(good, type=""), changed(good, type="Get"),
+        tree("foo", None, good.attributes, child), tree("IQ", None, good.attributes, child), tree("iq", "", good.attributes, child), tree("iq", "jabber:server", good.attributes, child), tree("message", P, good.attributes),
+        tree("presence", "urn:t", good.attributes), tree("t", None, good.attributes), changed(good, id=None), changed(good, id=""), changed(good, type=None), changed(good, type=""), changed(good, type="Get"),
         changed(good, type="got"), iq("get", "text"), stanza("iq", "get"), stanza("iq", "set"), stanza("iq", "get", child, child), stanza("iq", "set", child, "text", tree("t")),
         changed(stanza("iq", "result"), id=None), changed(stanza("iq", "error"), id=""), changed(stanza("iq", "result", child), id=None),
     ]:
@@ -500,15 +377,9 @@ def answers():
     out.silent(line_of(stanza("presence", None, to="bob@b.example")))
 
 
-def main():
+def made():
+    """The lines, the last of which ends with the input, and the replies."""
     for part in (not_json, not_a_tree, too_deep, odd_but_read, addresses, shapes, targets, namespaces, kinds, discovery, rosters, approvals, answers, blank_and_long):
         part()
     out.deny(stanza("message", None), 25)
-    folder = sys.argv[1]
-    with open(folder + "/in.txt", "wb") as sink:
-        sink.write(b"\n".join(out.lines))  # the last line ends with the input
-    with open(folder + "/out.txt", "wb") as sink:
-        sink.write(b"".join(reply + b"\n" for reply in out.replies))
-
-
-main()
+    return b"\n".join(out.lines), b"".join(reply + b"\n" for reply in out.replies)
