@@ -15,8 +15,6 @@ mod ends;
 mod links;
 mod seeded;
 mod small;
-#[cfg(test)]
-mod tests;
 
 pub use chains::Chains;
 pub use ends::Ends;

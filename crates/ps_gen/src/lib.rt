@@ -9,8 +9,6 @@
 
 mod dealt;
 mod kind;
-#[cfg(test)]
-mod tests;
 mod trees;
 
 pub use dealt::{Generated, stanza};

@@ -12,8 +12,6 @@
 
 mod port;
 mod ports;
-#[cfg(test)]
-mod tests;
 
 pub use port::{Port, PortOf};
 pub use ports::{give_back_ports, open_ports};

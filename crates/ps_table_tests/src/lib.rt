@@ -1,10 +1,12 @@
-//! Tests of the tables of nodes, and of what stands on a node: each call once, and what stays.
+//! Tests of the tables of nodes, of what stands on a node, and of the chains that index them: each call once, and what stays.
 //!
 //! They stand in a crate of their own, since a crate with tests is proved twice. Nothing stands on this crate, and it has no public function.
 #![tactic(auto)]
 
 #[cfg(test)]
 mod affils;
+#[cfg(test)]
+mod chains;
 #[cfg(test)]
 mod counts;
 #[cfg(test)]

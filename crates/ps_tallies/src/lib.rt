@@ -8,8 +8,6 @@
 
 mod asks;
 mod tallies;
-#[cfg(test)]
-mod tests;
 
 pub use asks::Tally;
 pub use tallies::Tallies;

@@ -16,8 +16,6 @@ mod apart;
 mod command;
 mod digits;
 mod refusal;
-#[cfg(test)]
-mod tests;
 mod words;
 
 pub use command::{Command, Stream};
