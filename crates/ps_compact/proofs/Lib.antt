@@ -1,3 +1,2 @@
-pub mod Kids
 pub mod Rows
 pub mod Stores

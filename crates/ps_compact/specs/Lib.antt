@@ -1,4 +1,3 @@
 pub mod Refused
 pub mod Stores
-pub mod Trees
 pub mod Written

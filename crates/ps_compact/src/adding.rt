@@ -1,15 +1,18 @@
 // The rows of each table, added to the entries.
-ghost use Rattle.std.specs.Prelude.{◌≡◌, ◌++◌, ◌∷◌, [], OnOk, slice_get};
+ghost use Rattle.std.specs.Prelude.{◌≡◌, ◌++◌, ◌∷◌, [], IfOk, OnOk, slice_get};
 ghost use Rattle.ps_types.specs.declared.entry.Entry.TheVariants as entry;
 ghost use Rattle.ps_model.specs.Base.{unlinked};
 ghost use Rattle.ps_model.specs.BaseRows as base;
+ghost use Rattle.ps_nodes.specs.NodeRows.{row_seen};
 ghost use Rattle.ps_compact.specs.Written.{all_written, if_written};
 
-use crate::people::{contact_tree, ver_tree};
-use crate::trees::{affil_tree, count_tree, item_tree, link_tree, node_tree, sub_tree};
 use ps_access::Tables;
 use ps_base::Memory;
-use ps_types::{Elem, Entry};
+use ps_nodes::NodeRef;
+use ps_row_trees::{
+    affil_tree, contact_tree, count_tree, item_tree, link_tree, node_tree, sub_tree, ver_tree,
+};
+use ps_types::{Elem, Entry, Text};
 use std::alloc::Global;
 
 fn add(entries: &mut Vec<Entry>, row: Elem) -> Result<(), Memory>
@@ -19,12 +22,21 @@ fn add(entries: &mut Vec<Entry>, row: Elem) -> Result<(), Memory>
     Ok(())
 }
 
+// A node without its collection, which its link brings.
+fn unlinked_tree(alloc: Global, node: &NodeRef<'_>) -> Result<Elem, Memory>
+    ensures { IfOk result (λ t. t ≡ base.row_tree (unlinked (row_seen node.now))) }
+{
+    let mut config = node.config.clone()?;
+    config.collection = Text::of(alloc, "")?;
+    node_tree(alloc, node.key, node.creator, &config)
+}
+
 fn add_node(alloc: Global, entries: &mut Vec<Entry>, tables: &Tables, at: u64) -> Result<(), Memory>
     ensures { OnOk result (entries.new.items
         ≡ entries.old.items ++ if_written unlinked (slice_get tables.now.nodes.rows at)) }
 {
     match tables.nodes.row(at) {
-        Some(node) => add(entries, node_tree(alloc, &node)?),
+        Some(node) => add(entries, unlinked_tree(alloc, &node)?),
         None => Ok(()),
     }
 }

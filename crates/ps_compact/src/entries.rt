@@ -8,9 +8,9 @@ ghost use Rattle.ps_compact.specs.Written.{written};
 use crate::adding::{
     add_affils, add_contacts, add_counts, add_items, add_links, add_nodes, add_subs, add_vers,
 };
-use crate::people::{counter_tree, notice_tree};
 use ps_access::Tables;
 use ps_base::Memory;
+use ps_row_trees::{counter_tree, notice_tree};
 use ps_types::{Entry, Jid, Text};
 use std::alloc::Global;
 

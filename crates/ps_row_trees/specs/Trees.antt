@@ -1,17 +1,10 @@
 -- Parts of the tree of a row.
 use Rattle.std.specs.Prelude.{ℕ, List, [], Option, Some, None, codes, decimal}
-use Rattle.ps_types.specs.declared.config.NodeConfig.{NodeConfig}
 use Rattle.ps_types.specs.declared.attrs.Attr.{Attr}
 use Rattle.ps_types.specs.Attrs.{with_attr}
-use Rattle.ps_types.specs.Config.{config_form}
-use Rattle.ps_types.specs.Forms.{form_tree}
 use Rattle.ps_types.specs.Tree.{Tree, none}
 use Rattle.ps_model.specs.BaseRows.{group_words, row}
 use Rattle.ps_model.specs.NoticeTrees.{one}
-
--- a configuration as a form, without the collection, which a link brings
-abbrev pub unlinked_form : NodeConfig → Tree
-unlinked_form config = form_tree (config_form (record config { collection = [] }))
 
 -- the attributes with the moment, if there is one
 abbrev pub with_moment : Option ℕ → List Attr → List Attr

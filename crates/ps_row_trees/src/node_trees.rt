@@ -1,48 +1,52 @@
 // The rows of nodes, as trees.
 ghost use Rattle.std.specs.Prelude.{◌≡◌, IfOk, OnOk};
+ghost use Rattle.ps_types.specs.Config as configs;
 ghost use Rattle.ps_types.specs.Elem.{nodes};
-ghost use Rattle.ps_model.specs.Base.{unlinked};
+ghost use Rattle.ps_types.specs.Forms as forms;
 ghost use Rattle.ps_model.specs.BaseRows as base;
 ghost use Rattle.ps_model.specs.BaseRows.{row_tree};
 ghost use Rattle.ps_model.specs.NoticeTrees.{payload_nodes};
-ghost use Rattle.ps_nodes.specs.NodeRows.{row_seen};
-ghost use Rattle.ps_compact.specs.Trees.{unlinked_form, with_moment};
+ghost use Rattle.ps_row_trees.specs.Trees.{with_moment};
 
-use crate::words::{depth_text, put_jid, put_number, row, type_text};
-use ps_access::{affil_text, sub_text};
+use crate::build::{put_jid, put_number, row};
+use crate::words::{affil_text, depth_text, sub_text, type_text};
 use ps_base::Memory;
 use ps_config::config_form;
 use ps_forms::form_tree;
 use ps_names::{only, put};
-use ps_nodes::NodeRef;
 use ps_types::{
-    AffilRow, Attrs, Child, CountRow, Elem, ItemRow, Kids, LinkRow, NodeConfig, SubRow, Text,
+    AffilRow, Attrs, CountRow, Elem, ItemRow, Jid, Kids, LinkRow, NodeConfig, NodeKey, SubRow,
 };
 use std::alloc::Global;
 
 fn config_tree(alloc: Global, config: &NodeConfig) -> Result<Elem, Memory>
-    ensures { IfOk result (λ t. t ≡ unlinked_form config.now) }
+    ensures { IfOk result (λ t. t ≡ forms.form_tree (configs.config_form config.now)) }
 {
-    let mut unlinked = config.clone()?;
-    unlinked.collection = Text::of(alloc, "")?;
-    let form = config_form(alloc, &unlinked)?;
+    let form = config_form(alloc, config)?;
     form_tree(alloc, &form)
 }
 
-/// A node, without its collection.
-pub(crate) fn node_tree(alloc: Global, node: &NodeRef<'_>) -> Result<Elem, Memory>
-    ensures { IfOk result (λ t. t ≡ row_tree (unlinked (row_seen node.now))) }
+/// The row of a node, by its parts. Its configuration is written as a form with all its fields (XEP-0060 §16.4.3), the collection too.
+pub fn node_tree(
+    alloc: Global,
+    key: &NodeKey,
+    creator: &Jid,
+    config: &NodeConfig,
+) -> Result<Elem, Memory>
+    ensures tree { IfOk result (λ t. t
+        ≡ row_tree (base.node (record { key = key.now; creator = creator.now; config = config.now }))) }
 {
     let mut attrs = Attrs::new(alloc);
-    put_jid(alloc, &mut attrs, "creator", node.creator)?;
-    put(alloc, &mut attrs, "name", node.key.name.as_str())?;
-    put_jid(alloc, &mut attrs, "service", &node.key.service)?;
-    let kids = only(alloc, config_tree(alloc, node.config)?)?;
+    put_jid(alloc, &mut attrs, "creator", creator)?;
+    put(alloc, &mut attrs, "name", key.name.as_str())?;
+    put_jid(alloc, &mut attrs, "service", &key.service)?;
+    let kids = only(alloc, config_tree(alloc, config)?)?;
     row(alloc, "node", attrs, kids)
 }
 
-pub(crate) fn affil_tree(alloc: Global, affil: &AffilRow) -> Result<Elem, Memory>
-    ensures { IfOk result (λ t. t ≡ row_tree (base.affiliation affil.now)) }
+/// The row of an affiliation.
+pub fn affil_tree(alloc: Global, affil: &AffilRow) -> Result<Elem, Memory>
+    ensures tree { IfOk result (λ t. t ≡ row_tree (base.affiliation affil.now)) }
 {
     let mut attrs = Attrs::new(alloc);
     put(alloc, &mut attrs, "affiliation", affil_text(affil.affil))?;
@@ -52,8 +56,9 @@ pub(crate) fn affil_tree(alloc: Global, affil: &AffilRow) -> Result<Elem, Memory
     row(alloc, "affiliation", attrs, Kids::new(alloc))
 }
 
-pub(crate) fn sub_tree(alloc: Global, sub: &SubRow) -> Result<Elem, Memory>
-    ensures { IfOk result (λ t. t ≡ row_tree (base.subscription sub.now)) }
+/// The row of a subscription.
+pub fn sub_tree(alloc: Global, sub: &SubRow) -> Result<Elem, Memory>
+    ensures tree { IfOk result (λ t. t ≡ row_tree (base.subscription sub.now)) }
 {
     let mut attrs = Attrs::new(alloc);
     put(alloc, &mut attrs, "depth", depth_text(sub.options.deep))?;
@@ -83,8 +88,9 @@ fn put_moment(alloc: Global, attrs: &mut Attrs, moment: Option<u64>) -> Result<(
     }
 }
 
-pub(crate) fn item_tree(alloc: Global, item: &ItemRow) -> Result<Elem, Memory>
-    ensures { IfOk result (λ t. t ≡ row_tree (base.item item.now)) }
+/// The row of an item, whose moment and payload may be missing.
+pub fn item_tree(alloc: Global, item: &ItemRow) -> Result<Elem, Memory>
+    ensures tree { IfOk result (λ t. t ≡ row_tree (base.item item.now)) }
 {
     let mut attrs = Attrs::new(alloc);
     put(alloc, &mut attrs, "id", item.id.as_str())?;
@@ -95,23 +101,21 @@ pub(crate) fn item_tree(alloc: Global, item: &ItemRow) -> Result<Elem, Memory>
     row(alloc, "item", attrs, payload_kids(alloc, &item.payload)?)
 }
 
-pub(crate) fn link_tree(alloc: Global, link: &LinkRow) -> Result<Elem, Memory>
-    ensures { IfOk result (λ t. t ≡ row_tree (base.link link.now)) }
+/// The row of a link. It names the collection alone, which is of the child's service.
+pub fn link_tree(alloc: Global, link: &LinkRow) -> Result<Elem, Memory>
+    ensures tree { IfOk result (λ t. t ≡ row_tree (base.link link.now)) }
 {
     let mut attrs = Attrs::new(alloc);
-    put(
-        alloc,
-        &mut attrs,
-        "collection",
-        link.collection.name.as_str(),
-    )?;
+    let collection = link.collection.name.as_str();
+    put(alloc, &mut attrs, "collection", collection)?;
     put(alloc, &mut attrs, "name", link.child.name.as_str())?;
     put_jid(alloc, &mut attrs, "service", &link.child.service)?;
     row(alloc, "link", attrs, Kids::new(alloc))
 }
 
-pub(crate) fn count_tree(alloc: Global, count: &CountRow) -> Result<Elem, Memory>
-    ensures { IfOk result (λ t. t ≡ row_tree (base.made count.now)) }
+/// The row of a count of ids that were made.
+pub fn count_tree(alloc: Global, count: &CountRow) -> Result<Elem, Memory>
+    ensures tree { IfOk result (λ t. t ≡ row_tree (base.made count.now)) }
 {
     let mut attrs = Attrs::new(alloc);
     put_number(alloc, &mut attrs, "count", count.made)?;

@@ -2,9 +2,9 @@ use Rattle.std.proofs.Common.{arith, ◌≡◌, map, ap, ◌∙◌}
 use Rattle.std.proofs.lemmas.Grind.{common_steps}
 use Rattle.ps_types.specs.Elem.{nodes}
 use Rattle.ps_forms.proofs.Printed.{trees, nodes-trees}
-use Rattle.ps_compact.specs.Trees.{feature_tree}
-use Rattle.ps_compact.proofs.Kids.{features-held}
-use Rattle.ps_compact.proofs.people.feature_kids.Goals as goal
+use Rattle.ps_row_trees.specs.Trees.{feature_tree}
+use Rattle.ps_row_trees.proofs.Kids.{features-held}
+use Rattle.ps_row_trees.proofs.people_trees.feature_kids.Goals as goal
 
 pub returns : goal.returns
 returns c =

@@ -2,9 +2,9 @@ use Rattle.std.proofs.Common.{arith, ◌≡◌, map, ap, ◌∙◌}
 use Rattle.std.proofs.lemmas.Grind.{common_steps}
 use Rattle.ps_types.specs.Elem.{nodes}
 use Rattle.ps_forms.proofs.Printed.{trees, nodes-trees}
-use Rattle.ps_compact.specs.Trees.{group_tree}
-use Rattle.ps_compact.proofs.Kids.{groups-held}
-use Rattle.ps_compact.proofs.people.group_kids.Goals as goal
+use Rattle.ps_row_trees.specs.Trees.{group_tree}
+use Rattle.ps_row_trees.proofs.Kids.{groups-held}
+use Rattle.ps_row_trees.proofs.people_trees.group_kids.Goals as goal
 
 pub returns : goal.returns
 returns c =

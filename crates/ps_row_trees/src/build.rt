@@ -1,4 +1,4 @@
-// The words of a row, and what its tree is made of.
+// What the tree of a row is made of.
 ghost use Rattle.std.specs.Prelude.{◌≡◌, ◌≢◌, [], IfOk, OnOk, decimal};
 ghost use Rattle.ps_types.specs.Address.{jid_text};
 ghost use Rattle.ps_types.specs.Attrs.{with_attr};
@@ -7,34 +7,11 @@ ghost use Rattle.ps_model.specs.BaseRows as model;
 
 use ps_base::Memory;
 use ps_names::{element, put};
-use ps_types::{Attrs, Elem, Jid, Kids, RosterState};
+use ps_types::{Attrs, Elem, Jid, Kids};
 use std::alloc::Global;
 
 /// The namespace of rows.
 pub(crate) const BASE: &str = "urn:pubsubd:base";
-
-pub(crate) fn roster_text(state: RosterState) -> &'static str
-    ensures { result.now ≡ model.roster_text state }
-{
-    match state {
-        RosterState::Nothing => "none",
-        RosterState::To => "to",
-        RosterState::From => "from",
-        RosterState::Both => "both",
-    }
-}
-
-pub(crate) fn depth_text(deep: bool) -> &'static str
-    ensures { result.now ≡ model.depth_text deep }
-{
-    if deep { "all" } else { "1" }
-}
-
-pub(crate) fn type_text(items: bool) -> &'static str
-    ensures { result.now ≡ model.type_text items }
-{
-    if items { "items" } else { "nodes" }
-}
 
 /// Sets an attribute to an address.
 pub(crate) fn put_jid(alloc: Global, attrs: &mut Attrs, name: &str, who: &Jid) -> Result<(), Memory>
