@@ -1,0 +1,4 @@
+pub mod Levels
+pub mod NoticeLines
+pub mod Places
+pub mod Said
