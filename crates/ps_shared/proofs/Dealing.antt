@@ -1,5 +1,5 @@
 -- The seats of a new hall are dealt out to its hosts.
-use Rattle.std.proofs.Common.{◌≡◌, ℕ, suc, ◌+◌, inl, inr, List, [], ◌∷◌, ◌++◌, map, Some, None, length, refl, ap, sym, ◌∙◌, subst, arith, length-append}
+use Rattle.std.proofs.Common.{◌≡◌, ℕ, suc, ◌+◌, inl, inr, List, [], ◌∷◌, ◌++◌, map, Some, None, false, length, refl, ap, sym, ◌∙◌, subst, arith, length-append}
 use Rattle.std.specs.Prelude.{slice_get}
 use Rattle.ps_disk.specs.declared.device.Disk.{Ghosts}
 use Rattle.ps_world.proofs.Lists.{get-snoc}
@@ -87,7 +87,7 @@ module _ {B D : Type 0} {g : Ghosts D} (o : Origin) (t : OurTwin B D g) where
       heads (r ∷ w ∷ ss) d = (r, w, ss, refl)
 
   abbrev pub pass_of : ℕ → List ℕ → TwinSeat (Home B) (Archive B D g) Deed → Pass B D g
-  pass_of at host s = record { seat = s; at = at; host = host; in_hand = None }
+  pass_of at host s = record { seat = s; at = at; host = host; in_hand = None; concerns_others = false }
 
   abbrev pub passes_of : ℕ → Names → TwinSeat (Home B) (Archive B D g) Deed → TwinSeat (Home B) (Archive B D g) Deed → HostPasses B D g
   passes_of at n r w = record { reader = pass_of at n.reader r; writer = pass_of at n.writer w }

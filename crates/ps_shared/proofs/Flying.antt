@@ -1,5 +1,5 @@
 -- What a writer has in hand, over what others do and what it does itself.
-use Rattle.std.proofs.Common.{◌≡◌, ℕ, List, [], ◌∷◌, ◌++◌, Some, None, ap, sym, ◌∙◌, subst}
+use Rattle.std.proofs.Common.{◌≡◌, ℕ, ⊎_elim, List, [], ◌∷◌, ◌++◌, Some, None, length, ap, sym, ◌∙◌, subst}
 use Rattle.std.specs.Prelude.{slice_get, OnErr, Result, Ok, Err}
 use Rattle.ps_model.specs.TheCore.{the_core}
 use Rattle.ps_model.specs.World.{World}
@@ -12,7 +12,7 @@ use Rattle.ps_deeds.specs.Did.{HasInHand, NoneInHand}
 use Rattle.ps_deeds.specs.Own.{AllDiffer, AreOwned, IsWriterOf, deeds}
 use Rattle.ps_deeds.specs.declared.deed.Deed.{Deed}
 use Rattle.ps_deeds.proofs.Flying.{free-run, hand-run}
-use Rattle.ps_deeds.proofs.Landing.{record-lands-flushed}
+use Rattle.ps_deeds.proofs.Landing.{covered-free, did-record, passed-lands, record-lands-flushed}
 use Rattle.ps_state.specs.Stand.{flight_of}
 use Rattle.ps_state.specs.declared.state.HostRow.{HostRow}
 use Rattle.ps_state.specs.declared.state.State.{State}
@@ -61,5 +61,7 @@ did_less o k old new one two less did = record { between = did.between; none = d
 -- once its Record is flushed nothing is in hand
 pub hand_landed : {T : Type 0} (o : Origin) (k : ℕ) (host : List ℕ) (a : Jid) (t : T) (old mid new : List Deed) → AllDiffer o.hosts → IsWriterOf o.hosts k host → HasInHand host a (world_at o old) → Does o k old mid (RecordDoes o host a (Ok t)) → Flushes o k mid new → NoneInHand host (world_at o new)
 hand_landed o k host a t old mid new differ writes hand did flush =
-    record-lands-flushed the_core the-laws o.boot o.list o.hosts differ host k writes a old mid flush.found new hand
-    (did_less o k old mid (RecordDoes o host a (Ok t)) (λ w steps. steps ≡ Record a ∷ []) (λ w steps is. is.2) did) flush.passed flush.added
+    let one = did_less o k old mid (RecordDoes o host a (Ok t)) (λ w steps. steps ≡ Record a ∷ []) (λ w steps is. is.2) did in
+    let lands = passed-lands the_core the-laws o.boot o.list o.hosts differ host k writes (length mid) mid flush.found flush.passed (did-record the_core the-laws o.boot o.list o.hosts differ host k writes a old mid hand one) in
+    ⊎_elim (λ others. subst (λ (l : List Deed). NoneInHand host (world_at o l)) (sym others.0) (covered-free host (length mid) (world_at o flush.found) others.1 lands))
+    (λ added. record-lands-flushed the_core the-laws o.boot o.list o.hosts differ host k writes a old mid flush.found new hand one flush.passed added) flush.flush

@@ -29,7 +29,7 @@ use Rattle.ps_store.specs.Stand.{StoreStands}
 use Rattle.ps_store.specs.declared.store.Frame.{Frame}
 use Rattle.ps_store.specs.declared.store.Store.{Store}
 use Rattle.ps_shared.specs.Doing.{Adds}
-use Rattle.ps_shared.specs.Flush.{FrameBegun, FrameRefused, IsBrokenAt, IsFrameOf, IsWritten}
+use Rattle.ps_shared.specs.Flush.{FrameBegun, FrameRefused, FrameSpared, IsBrokenAt, IsFrameOf, IsWritten, NoFrame}
 use Rattle.ps_shared.specs.Homes.{HomeStands, state_mark, world_at}
 use Rattle.ps_shared.specs.Origin.{Origin}
 use Rattle.ps_shared.specs.Seat.{HasLeft, HoldsStore}
@@ -55,6 +55,9 @@ same_bytes (Some es) = refl
 -- the entries of all steps so far
 pub all_entries : (w : World) (m : ℕ) → Sound the_core w → m ≡ w.steps → ends m w.made ≡ length w.entries
 all_entries w m sound e = ends-all m w.steps w.made sound.by (omega (arith, e)) ∙ sound.sizes
+
+seen_as_was : {V J : Type 0} (t : Twin V J Deed) (s1 s2 : TwinSeat V J Deed) (v : State) → HasLeft t s1 s2 v [] → seen_of s2 ≡ seen_of s1
+seen_as_was t s1 s2 v left = left.seen ∙ nil-right (seen_of s1)
 
 module _ {D : Type 0} {g : Ghosts D} where
   pub loaded_ok : (o : Origin) (v now : State) (y : Store D g) (f : Frame) (w u : World) → StoreStands o.at y w → Stands v u → Follows w u → state_mark v ≡ store.mark_of y → v.broken ≡ false → IsFrameOf v now f → Loaded o.at y f w u
@@ -99,9 +102,9 @@ module _ {D : Type 0} {g : Ghosts D} where
         }
 
     -- and one in which none is
-    pub frame_refused : (s0 s1 s2 : TwinSeat V J Deed) (v : State) (y : Store D g) → HoldsStore o t s0 y → TookState s0 s1 → HomeStands o v (seen_of s1) → Prefix (list_of s0) (seen_of s1) → state_mark v ≡ mark_of s0 → v.broken ≡ true → HasLeft t s1 s2 v [] → FrameRefused o t s2 y
-    frame_refused s0 s1 s2 v y holds took stands front mark broken left =
-        let seen : seen_of s2 ≡ seen_of s1 = left.seen ∙ nil-right (seen_of s1) in
+    pub no_frame : (s0 s1 s2 : TwinSeat V J Deed) (v : State) (y : Store D g) → HoldsStore o t s0 y → TookState s0 s1 → Prefix (list_of s0) (seen_of s1) → state_mark v ≡ mark_of s0 → HasLeft t s1 s2 v [] → NoFrame o t s2 y
+    no_frame s0 s1 s2 v y holds took front mark left =
+        let seen = seen_as_was t s1 s2 v left in
         let l : list_of s2 ≡ list_of s0 = list_kept t s0 s1 s2 v [] took left in
         record {
           twin = left.twin;
@@ -110,8 +113,18 @@ module _ {D : Type 0} {g : Ghosts D} where
           stands = subst (λ (log : List Deed). StoreStands o.at y (world_at o log)) (sym l) holds.stands;
           firm = firm_kept t s0 s1 s2 v [] took left ∙ holds.firm;
           mark = left.mark ∙ (mark ∙ holds.mark);
-          broken = ap (λ log. (world_at o log).broken) seen ∙ (sym stands.stands.broken ∙ broken);
         }
+
+    pub frame_refused : (s0 s1 s2 : TwinSeat V J Deed) (v : State) (y : Store D g) → HoldsStore o t s0 y → TookState s0 s1 → HomeStands o v (seen_of s1) → Prefix (list_of s0) (seen_of s1) → state_mark v ≡ mark_of s0 → v.broken ≡ true → HasLeft t s1 s2 v [] → FrameRefused o t s2 y
+    frame_refused s0 s1 s2 v y holds took stands front mark broken left = record {
+      as_was = no_frame s0 s1 s2 v y holds took front mark left;
+      broken = ap (λ log. (world_at o log).broken) (seen_as_was t s1 s2 v left) ∙ (sym stands.stands.broken ∙ broken);
+    }
+
+    pub frame_spared : (s0 s1 s2 : TwinSeat V J Deed) (v : State) (y : Store D g) (m : ℕ) → HoldsStore o t s0 y → TookState s0 s1 → HomeStands o v (seen_of s1) → Prefix (list_of s0) (seen_of s1) → state_mark v ≡ mark_of s0 → m ≤ v.flushed → v.flushed ≤ known_of s1 → HasLeft t s1 s2 v [] → FrameSpared o t s2 y m
+    frame_spared s0 s1 s2 v y m holds took stands front mark low firm left =
+        let e : (world_at o (seen_of s2)).flushed ≡ v.flushed = ap (λ log. (world_at o log).flushed) (seen_as_was t s1 s2 v left) ∙ sym stands.stands.flushed in
+        record { as_was = no_frame s0 s1 s2 v y holds took front mark left; flushed = omega (arith, e, low); known = (let same = left.known in omega (arith, low, firm, same)) }
 
     -- the frame has all steps that the seat has seen
     pub frame_steps : (s : TwinSeat V J Deed) (y : Store D g) (f : Frame) → FrameBegun o t s y f → f.steps ≡ length (seen_of s)
@@ -135,6 +148,9 @@ module _ {D : Type 0} {g : Ghosts D} where
           count_is = ap (λ log. ends f.steps (world_at o log).made) seen ∙ (all_entries w f.steps is.loaded.sound is.loaded.steps ∙ sym is.loaded.count);
           known = omega (arith, firm, known);
         }
+
+    pub written_known : (s s' s'' : TwinSeat V J Deed) (old new : Store D g) (f : Frame) → FrameBegun o t s old f → store.firm_of new ≡ f.steps → store.firm_of new ≤ known_of s' → known_of s' ≤ known_of s'' → length (seen_of s) ≤ known_of s''
+    written_known s s' s'' old new f is firm known more = let n = frame_steps s old f is in omega (arith, n, firm, known, more)
 
     -- the store after the fault was told
     pub failed_stands : (s s' : TwinSeat V J Deed) (old torn new : Store D g) (f : Frame) (steps k : ℕ) → FrameBegun o t s old f → Tears old torn f → NotesFault torn new steps → steps ≡ length (seen_of s') → Adds o k (seen_of s) (seen_of s') Broken → IsBrokenAt o (seen_of s')

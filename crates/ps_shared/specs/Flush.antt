@@ -50,15 +50,25 @@ module _ {V J : Type 0} where
     pub mark : mark_of s ≡ (f.count, f.length)
     pub some : HasSome f
 
-  -- a frame had been begun before, and failed
-  pub record FrameRefused {D : Type 0} {g : Ghosts D} (o : Origin) (t : Twin V J Deed) (s : TwinSeat V J Deed) (y : Store D g) : Type 0 where
+  -- no frame is begun, and the journal is as it was taken
+  pub record NoFrame {D : Type 0} {g : Ghosts D} (o : Origin) (t : Twin V J Deed) (s : TwinSeat V J Deed) (y : Store D g) : Type 0 where
     pub twin : IsSeatOf t s
     pub held : HasJournal s
     pub front : Prefix (list_of s) (seen_of s)
     pub stands : store.StoreStands o.at y (world_at o (list_of s))
     pub firm : firm_of s ≡ store.firm_of y
     pub mark : mark_of s ≡ store.mark_of y
+
+  -- since one had been begun before, and failed
+  pub record FrameRefused {D : Type 0} {g : Ghosts D} (o : Origin) (t : Twin V J Deed) (s : TwinSeat V J Deed) (y : Store D g) : Type 0 where
+    pub as_was : NoFrame o t s y
     pub broken : (world_at o (seen_of s)).broken ≡ true
+
+  -- since the first m steps are flushed
+  pub record FrameSpared {D : Type 0} {g : Ghosts D} (o : Origin) (t : Twin V J Deed) (s : TwinSeat V J Deed) (y : Store D g) (m : ℕ) : Type 0 where
+    pub as_was : NoFrame o t s y
+    pub flushed : m ≤ (world_at o (seen_of s)).flushed
+    pub known : m ≤ known_of s
 
   -- all that the seat has seen is on the disk, and no crash takes it away
   pub record IsWritten (o : Origin) (t : Twin V J Deed) (s : TwinSeat V J Deed) (upto count : ℕ) : Type 0 where
@@ -81,11 +91,15 @@ pub record IsBrokenAt (o : Origin) (log : List Deed) : Type 0 where
 
 -- ---- what a flush does
 
--- what the pass found when the frame was begun, and in a later holding the Flush of all of that
+-- of the first m steps: others had flushed them, or a frame is begun and in a later holding the pass adds the Flush of all that it found
+abbrev pub FlushesAll : Origin → ℕ → ℕ → List Deed → List Deed → Type 0
+FlushesAll o k m found new = ((new ≡ found) × (m ≤ (world_at o found).flushed)) ⊎ Adds o k found new (Flush (length found))
+
+-- what the pass found with the journal in its hand, and then a Flush of all that it had seen before, of its own or another's
 pub record Flushes (o : Origin) (k : ℕ) (old new : List Deed) : Type 0 where
   pub found : List Deed
   pub passed : Passes o k old found
-  pub added : Adds o k found new (Flush (length found))
+  pub flush : FlushesAll o k (length old) found new
 
 -- the frame was not written: a fault had been told of, or the pass tells of one
 abbrev pub TellsFault : Origin → ℕ → List Deed → List Deed → Type 0

@@ -9,3 +9,4 @@ pub mod Calls
 pub mod Start
 pub mod Passes
 pub mod Closed
+pub mod History

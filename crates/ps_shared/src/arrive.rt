@@ -6,6 +6,7 @@ ghost use Rattle.ps_shared.specs.Calls.{IsPass, IsReader, LayDoes, SeatArrived};
 ghost use Rattle.ps_shared.specs.Doing.{Makes};
 ghost use Rattle.ps_shared.specs.Flush.{SeatFlushes, SeatNotFlushed};
 
+use crate::bell::concerns_others;
 use crate::flush::{FlushRefusal, flush_seat};
 use crate::hall::{Hall, Pass};
 use crate::home::Opening;
@@ -33,6 +34,7 @@ impl<B: Opening, D: Disk> Hall<B, D> {
     {
         let mut home = self.twin.enter(rt, &mut pass.seat);
         let outcome = home.state.lay(rt, pass.at, arrival);
+        pass.concerns_others = concerns_others(&home.state, pass.at, &outcome);
         leave_laid(
             &self.twin,
             &mut pass.seat,
@@ -54,7 +56,7 @@ impl<B: Opening, D: Disk> Hall<B, D> {
         ensures err { OnErr result (SeatNotFlushed B.origin pass.old.seat pass.new.seat) }
     {
         let flushed = flush_seat(&self.twin, rt, &mut pass.seat);
-        self.ring();
+        self.ring_for(pass, flushed.is_err());
         flushed
     }
 

@@ -49,7 +49,7 @@ impl<B: Opening, D: Disk> Hall<B, D> {
         let Hall {
             twin,
             room,
-            bell: _,
+            bells: _,
         } = self;
         take_apart(twin, room.into_inner().gather(passes))
     }

@@ -1,10 +1,10 @@
 // A flush: the entries that wait are written as one frame, while others go on with the state.
-ghost use Rattle.std.specs.Prelude.{◌≡◌, ℕ, ◌≤◌, length, IfNone, IfSome, OnOk, OnErr};
+ghost use Rattle.std.specs.Prelude.{◌≡◌, ℕ, ◌≤◌, length, IfNone, IfOk, IfSome, OnOk, OnErr};
 ghost use Rattle.ps_model.specs.declared.steps.Step.{Step};
 ghost use Rattle.ps_state.specs.Stand.{IsStanding};
-ghost use Rattle.ps_twin.specs.Seats.{seen_of, number_of, HasJournal, IsSeatOf};
+ghost use Rattle.ps_twin.specs.Seats.{seen_of, number_of, known_of, HasJournal, IsSeatOf};
 ghost use Rattle.ps_shared.specs.Doing.{MakesOne, Passes};
-ghost use Rattle.ps_shared.specs.Flush.{FrameBegun, FrameRefused, IsBrokenAt, IsFrameOf, IsSameJournal, IsWritten, SeatFlushes, SeatNotFlushed};
+ghost use Rattle.ps_shared.specs.Flush.{FrameBegun, FrameRefused, FrameSpared, IsBrokenAt, IsFrameOf, IsSameJournal, IsWritten, SeatFlushes, SeatNotFlushed};
 ghost use Rattle.ps_shared.specs.Seat.{HoldsStore, MayCall};
 
 use crate::home::{Archive, Home, Opening};
@@ -35,27 +35,35 @@ fn frame_of(state: &mut State) -> Frame
     }
 }
 
-// In a holding of the state a frame is begun, unless one has failed.
+// In a holding of the state a frame is begun, unless one has failed, or the first `upto` steps are flushed.
 fn begin_frame<B: Opening, D: Disk, R: Wait>(
     twin: &Twin<Home<B>, Archive<B, D>>,
     rt: &R,
     seat: &mut TwinSeat<Home<B>, Archive<B, D>>,
     archive: &Archive<B, D>,
-) -> Option<Frame>
+    upto: u64,
+) -> Result<Option<Frame>, FlushRefusal>
     requires { HoldsStore B.origin twin.now seat.old archive.now.store }
     ensures number { number_of seat.new ≡ number_of seat.old }
     ensures passed { Passes B.origin (number_of seat.old) (seen_of seat.old) (seen_of seat.new) }
-    ensures none { IfNone result (FrameRefused B.origin twin.now seat.new archive.now.store) }
-    ensures some { IfSome result (λ f. FrameBegun B.origin twin.now seat.new archive.now.store f) }
+    ensures err { OnErr result (FrameRefused B.origin twin.now seat.new archive.now.store) }
+    ensures none { IfOk result (λ begun. IfNone begun
+        (FrameSpared B.origin twin.now seat.new archive.now.store upto)) }
+    ensures some { IfOk result (λ begun. IfSome begun
+        (λ f. FrameBegun B.origin twin.now seat.new archive.now.store f)) }
 {
     let mut home = twin.enter(rt, seat);
     if home.state.broken {
         leave_as_was(twin, seat, home);
-        return None;
+        return Err(FlushRefusal::Store);
+    }
+    if upto <= home.state.flushed {
+        leave_as_was(twin, seat, home);
+        return Ok(None);
     }
     let frame = frame_of(&mut home.state);
     leave_as_was(twin, seat, home);
-    Some(frame)
+    Ok(Some(frame))
 }
 
 // In a later holding of the state the Flush of the first `upto` steps is added, which made so many entries.
@@ -69,6 +77,7 @@ fn end_frame<B: Opening, D: Disk, R: Wait>(
     requires { IsWritten B.origin twin.now seat.old upto count }
     ensures number { number_of seat.new ≡ number_of seat.old }
     ensures call { MayCall twin.now seat.new }
+    ensures known { known_of seat.old ≤ known_of seat.new }
     ensures added { MakesOne B.origin seat.old seat.new (Step.Flush upto) }
 {
     let mut home = twin.enter(rt, seat);
@@ -76,8 +85,8 @@ fn end_frame<B: Opening, D: Disk, R: Wait>(
     leave_flushed(twin, seat, home, upto);
 }
 
-// In a later holding of the state it is told that a frame failed. The answer is the number of steps then.
-fn tell_fault<B: Opening, D: Disk, R: Wait>(
+/// In a later holding of the state it is told that a frame failed. The answer is the number of steps then.
+pub(crate) fn tell_fault<B: Opening, D: Disk, R: Wait>(
     twin: &Twin<Home<B>, Archive<B, D>>,
     rt: &R,
     seat: &mut TwinSeat<Home<B>, Archive<B, D>>,
@@ -111,6 +120,7 @@ fn write_frame<B: Opening, D: Disk, R: Wait>(
     ensures number { number_of seat.new ≡ number_of seat.old }
     ensures call { MayCall twin.now seat.new }
     ensures ok { OnOk result (MakesOne B.origin seat.old seat.new (Step.Flush (length (seen_of seat.old)))) }
+    ensures known { OnOk result (length (seen_of seat.old) ≤ known_of seat.new) }
     ensures err { OnErr result (MakesOne B.origin seat.old seat.new Step.Broken) }
 {
     match archive.store.append(&frame) {
@@ -128,7 +138,7 @@ fn write_frame<B: Opening, D: Disk, R: Wait>(
     }
 }
 
-/// Makes durable all that the seat has seen.
+/// Makes durable all that the seat has seen, where others have not done so.
 pub(crate) fn flush_seat<B: Opening, D: Disk, R: Wait>(
     twin: &Twin<Home<B>, Archive<B, D>>,
     rt: &R,
@@ -138,14 +148,20 @@ pub(crate) fn flush_seat<B: Opening, D: Disk, R: Wait>(
     ensures number { number_of seat.new ≡ number_of seat.old }
     ensures call { MayCall twin.now seat.new }
     ensures ok { OnOk result (SeatFlushes B.origin seat.old seat.new) }
+    ensures known { OnOk result (length (seen_of seat.old) ≤ known_of seat.new) }
     ensures err { OnErr result (SeatNotFlushed B.origin seat.old seat.new) }
 {
+    let seen = twin.seen(seat);
     let archive = twin.enter_journal(rt, seat);
-    match begin_frame(twin, rt, seat, &archive) {
-        None => {
+    match begin_frame(twin, rt, seat, &archive, seen) {
+        Ok(Some(frame)) => write_frame(twin, rt, seat, archive, frame),
+        Ok(None) => {
             twin.leave_journal(seat, archive);
-            Err(FlushRefusal::Store)
+            Ok(())
         }
-        Some(frame) => write_frame(twin, rt, seat, archive, frame),
+        Err(refusal) => {
+            twin.leave_journal(seat, archive);
+            Err(refusal)
+        }
     }
 }

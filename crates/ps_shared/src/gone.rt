@@ -80,7 +80,7 @@ impl<B: Opening, D: Disk> Hall<B, D> {
     {
         let outcome = self.record_gone(rt, pass);
         self.end_reader(rt, pass);
-        self.ring();
+        self.bells.ring_all();
         outcome
     }
 
@@ -95,6 +95,6 @@ impl<B: Opening, D: Disk> Hall<B, D> {
         let mut home = self.twin.enter(rt, &mut pass.seat);
         home.state.writer_ended(pass.at);
         leave_ended(&self.twin, &mut pass.seat, home, &pass.host, Role::Writer);
-        self.ring();
+        self.bells.ring_all();
     }
 }

@@ -2,19 +2,19 @@
 ghost use Rattle.std.specs.Prelude.{◌≡◌, ◌≤◌, ◌+◌, [], length, vec_capacity};
 ghost use Rattle.ps_twin.specs.Seats.{seats_of};
 
+use crate::bell::Bells;
 use crate::home::{Archive, Home, Opening};
 use ps_disk::Disk;
 use ps_twin::{Twin, TwinSeat};
 use ps_types::{Jid, Text};
-use std::sync::{Condvar, Mutex};
+use std::sync::Mutex;
 
 /// The service over its store, shared by the callers of its hosts.
 pub struct Hall<B: Opening, D: Disk> {
     pub(crate) twin: Twin<Home<B>, Archive<B, D>>,
     // Nobody takes this lock: it lets threads share what they could only send.
     pub(crate) room: Mutex<Room<B, D>>,
-    // Wakes who rests, and nothing more.
-    pub(crate) bell: Condvar,
+    pub(crate) bells: Bells,
     ghost two: { seats_of twin ≡ length B.origin.hosts + length B.origin.hosts },
 }
 
@@ -33,6 +33,8 @@ pub struct Pass<B: Opening, D: Disk> {
     pub(crate) at: usize,
     pub(crate) host: Text,
     pub(crate) in_hand: Option<Jid>,
+    // Whether other hosts may have something to say since the last line that it laid.
+    pub(crate) concerns_others: bool,
 }
 
 impl<B: Opening, D: Disk> Drop for Pass<B, D> {
@@ -42,6 +44,7 @@ impl<B: Opening, D: Disk> Drop for Pass<B, D> {
             at: _,
             host: _,
             in_hand: _,
+            concerns_others: _,
         } = self;
     }
 }
@@ -55,6 +58,7 @@ impl<B: Opening, D: Disk> Pass<B, D> {
             at: _,
             host: _,
             in_hand: _,
+            concerns_others: _,
         } = self;
         seat
     }

@@ -67,13 +67,15 @@ impl<B: Opening, D: Disk> Hall<B, D> {
         };
         recorded?;
         let flushed = flush_seat(&self.twin, rt, &mut pass.seat);
-        self.ring();
         match flushed {
             Ok(()) => {
                 pass.in_hand = None;
                 Ok(())
             }
-            Err(FlushRefusal::Store) => Err(HandedRefusal::Store),
+            Err(FlushRefusal::Store) => {
+                self.bells.ring_all();
+                Err(HandedRefusal::Store)
+            }
         }
     }
 }

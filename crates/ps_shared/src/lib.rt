@@ -4,18 +4,19 @@
 //! [`Pass`], which names its host, and whose seat knows what the caller has seen. A reader's calls are [`Hall::arrive`], which is [`Hall::lay`] and then
 //! [`Hall::flush`], and [`Hall::gone`]; a writer's are [`Hall::next`], [`Hall::handed`] and [`Hall::writer_ended`], and between them
 //! [`Hall::rest`], which the other calls end by a bell. While one caller writes a frame, which
-//! may have the entries of many, the others go on with the state.
+//! may have the entries of many, the others go on with the state; whose entries it has made durable writes none.
 //!
 //! Both values stand for one list of deeds (`ps_deeds`): the steps of the machine, each with the pass that made it. What a call promises is told by what its
 //! pass had seen before and has seen since (`specs/Calls.antt`): what others had added, and then the steps that the call made, of which the answer tells at
 //! the world that the call found. So no clause speaks of the state before and after, which other callers change.
 //!
 //! - `specs/Origin.antt`: what stood when the hall was opened, which [`Opening`] names. `specs/Homes.antt`: when the two values stand for a list of deeds.
-//! - `specs/Doing.antt`: `Passes`, others added deeds; `Does` and `Adds`, and then the pass its own. `specs/Flush.antt`: `Flushes`, all that was found is
-//!   durable; `NotFlushed`, the disk failed.
+//! - `specs/Doing.antt`: `Passes`, others added deeds; `Does` and `Adds`, and then the pass its own. `specs/Flush.antt`: `Flushes`, all that the pass
+//!   had seen is durable; `NotFlushed`, the disk failed.
 //! - `specs/Calls.antt`: `IsReader` and `IsWriter`, whose pass it is; `HasHand`, what a writer has in hand; `LayDoes`, `NextDoes`, `RecordDoes` and `GoneDoes`,
 //!   the steps of one holding by its answer, with the cause of each refusal; `Arrived`, `HasHanded` and `HasGone`, whole calls.
 //! - `specs/Start.antt`: what a hall is opened over. `specs/Passes.antt`: the passes of all hosts, from [`Hall::new`] to [`Hall::close`].
+//! - `specs/History.antt`: the list of entries, read again by [`Hall::history`].
 //! - `specs/Closed.antt`: what the two values say together once all passes are back.
 //!
 //! Nothing is promised of waiting: not that a caller's turn comes, nor when.
@@ -29,6 +30,7 @@ mod flush;
 mod gone;
 mod hall;
 mod handed;
+mod history;
 mod home;
 mod leaving;
 mod next;
@@ -39,4 +41,5 @@ pub use flush::FlushRefusal;
 pub use hall::{Hall, HostPasses, Pass};
 pub use home::{Archive, Home, Opening};
 pub use opening::NoHall;
+pub use ps_journal::EntriesRefusal;
 pub use ps_state::{ArriveRefusal, HandedRefusal, Limits, Outcome, Receipt};

@@ -4,6 +4,7 @@ ghost use Rattle.ps_twin.specs.Seats.{AreNew};
 ghost use Rattle.ps_shared.specs.Passes.{AreFresh, named};
 ghost use Rattle.ps_shared.specs.Start.{MayStart};
 
+use crate::bell::Bells;
 use crate::hall::{Hall, HostPasses, Pass, Room};
 use crate::home::{Archive, Home, Opening};
 use ps_base::Memory;
@@ -13,7 +14,7 @@ use ps_store::Store;
 use ps_twin::{Twin, TwinRefusal, TwinSeat};
 use ps_types::Text;
 use std::alloc::Global;
-use std::sync::{Condvar, Mutex};
+use std::sync::Mutex;
 
 /// Memory ran out, the only refusal of [`Hall::new`]. Both values come back.
 pub struct NoHall<D: Disk> {
@@ -53,6 +54,7 @@ struct Ready<B: Opening, D: Disk> {
     names: Vec<Names>,
     passes: Vec<HostPasses<B, D>>,
     room: Room<B, D>,
+    bells: Bells,
 }
 
 fn make_ready<B: Opening, D: Disk>(alloc: Global, hosts: &[Text]) -> Result<Ready<B, D>, Memory>
@@ -65,10 +67,12 @@ fn make_ready<B: Opening, D: Disk>(alloc: Global, hosts: &[Text]) -> Result<Read
     let names = names_of(alloc, hosts)?;
     let passes = Vec::with_capacity(alloc, hosts.len())?;
     let seats = Vec::with_capacity(alloc, hosts.len() * 2)?;
+    let bells = Bells::new(alloc, hosts.len())?;
     Ok(Ready {
         names,
         passes,
         room: Room { seats },
+        bells,
     })
 }
 
@@ -95,12 +99,14 @@ impl<B: Opening, D: Disk> Hall<B, D> {
                 at,
                 host: reader,
                 in_hand: None,
+                concerns_others: false,
             };
             let writer = Pass {
                 seat: seats.next().unwrap(),
                 at,
                 host: writer,
                 in_hand: None,
+                concerns_others: false,
             };
             passes.push_reserved(HostPasses { reader, writer });
         }
@@ -127,6 +133,7 @@ impl<B: Opening, D: Disk> Hall<B, D> {
             names,
             passes,
             room,
+            bells,
         } = ready;
         let seats = hosts.len() as u32 * 2;
         match Twin::new(alloc, Home::new(state), Archive::new(store), seats) {
@@ -134,7 +141,7 @@ impl<B: Opening, D: Disk> Hall<B, D> {
                 let hall = Hall {
                     twin,
                     room: Mutex::new(room),
-                    bell: Condvar::new(),
+                    bells,
                 };
                 let passes = hall.hand_out(names, seats, passes);
                 Ok((hall, passes))

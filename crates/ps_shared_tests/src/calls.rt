@@ -75,6 +75,27 @@ pub fn refuses<B: Opening, D: Disk>(
     Ok(())
 }
 
+/// So many entries are read again, after which the pass has seen so many steps.
+pub fn recalls<B: Opening, D: Disk>(
+    rt: &(impl Abort + Wait),
+    alloc: Global,
+    hall: &Hall<B, D>,
+    pass: &mut Pass<B, D>,
+    count: usize,
+    steps: u64,
+) -> Result<(), Fail>
+    requires { Reads B.origin hall.now.twin pass.old }
+    ensures { Reads B.origin hall.now.twin pass.new }
+{
+    match hall.history(rt, alloc, pass) {
+        Ok(entries) => {
+            assert_eq!(rt; (entries.len(), hall.seen(pass)), (count, steps));
+            Ok(())
+        }
+        Err(_) => Err(Fail::new("no list")),
+    }
+}
+
 /// The host's reader ends, and its Gone is durable.
 pub fn goes<B: Opening, D: Disk>(
     rt: &(impl Abort + Wait + Threads + Sync),

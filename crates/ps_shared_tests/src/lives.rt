@@ -7,7 +7,7 @@ ghost use Rattle.ps_shared.specs.Start.{MayStart};
 ghost use Rattle.ps_shared_tests.specs.Begun.{are_one};
 ghost use Rattle.ps_shared_tests.specs.Passes.{IsFree, Reads, Writes};
 
-use crate::calls::{commits, ends, goes, is_over, refuses, replies, tells, waits};
+use crate::calls::{commits, ends, goes, is_over, recalls, refuses, replies, tells, waits};
 use crate::lines::{CREATE, MADE, PUBLISH, PUBLISHED, SUBSCRIBE, SUBSCRIBED, TOLD, TOLD_NEXT};
 use crate::opened::{host_names, opens, service_name};
 use ps_disk::{Disk, MemDisk};
@@ -74,6 +74,8 @@ fn serves<B: Opening, D: Disk>(
 {
     publishes(rt, alloc, hall, &mut passes.reader)?;
     hears(rt, hall, &mut passes.writer)?;
+    // The Boot, the three lines and what was handed. Each line has two steps, each reply one, and the notice three.
+    recalls(rt, alloc, hall, &mut passes.reader, 5, 12)?;
     goes(rt, hall, &mut passes.reader);
     is_over(rt, hall, &mut passes.writer)?;
     ends(rt, hall, &mut passes.writer);
@@ -81,7 +83,7 @@ fn serves<B: Opening, D: Disk>(
     refuses(rt, alloc, hall, reader, CREATE, ArriveRefusal::Closed)
 }
 
-// The bell rings at the end of each call after which a writer may find something, so a rest that begins behind it ends at once.
+// The bell of the host rings at the end of each call after which its writer may find something, so a rest that begins behind it ends at once.
 fn rings<B: Opening, D: Disk>(
     rt: &(impl Abort + Wait + Threads + Sync),
     alloc: Global,
@@ -93,17 +95,17 @@ fn rings<B: Opening, D: Disk>(
     ensures reader { Reads B.origin hall.now.twin passes.new.reader }
     ensures writer { Writes B.origin hall.now.twin passes.new.writer }
 {
-    let opened = hall.news();
+    let opened = hall.news(&passes.writer);
     publishes(rt, alloc, hall, &mut passes.reader)?;
-    hall.rest(rt, opened, Duration::from_secs(60));
-    let published = hall.news();
+    hall.rest(rt, &passes.writer, opened, Duration::from_secs(60));
+    let published = hall.news(&passes.writer);
     hears(rt, hall, &mut passes.writer)?;
-    let handed = hall.news();
+    assert_eq!(rt; hall.news(&passes.writer), published);
     goes(rt, hall, &mut passes.reader);
-    let gone = hall.news();
+    let gone = hall.news(&passes.writer);
     ends(rt, hall, &mut passes.writer);
-    let ended = hall.news();
-    assert!(rt; opened != published && published != handed && handed != gone && gone != ended);
+    let ended = hall.news(&passes.writer);
+    assert!(rt; opened != published && published != gone && gone != ended);
     Ok(())
 }
 

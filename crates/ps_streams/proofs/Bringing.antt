@@ -1,5 +1,5 @@
 -- What holdings of a pass leave of what it brought.
-use Rattle.std.proofs.Common.{◌≡◌, ◌≢◌, ℕ, ◌⊎◌, inl, inr, List, [], ◌∷◌, ◌++◌, Result, Ok, Err, length, refl, ap, sym, ◌∙◌, subst}
+use Rattle.std.proofs.Common.{◌≡◌, ◌≢◌, ℕ, ◌⊎◌, ⊎_elim, inl, inr, List, [], ◌∷◌, ◌++◌, Result, Ok, Err, length, ap, sym, ◌∙◌, subst}
 use Rattle.ps_types.specs.declared.entry.Arrival.{Arrival}
 use Rattle.ps_model.specs.TheCore.{the_core}
 use Rattle.ps_model.specs.World.{World}
@@ -7,9 +7,10 @@ use Rattle.ps_model.specs.declared.steps.Step.{Step}
 use Rattle.ps_model.proofs.TheLaws.{the-laws}
 use Rattle.ps_world.proofs.Lists.{assoc, nil-right}
 use Rattle.ps_deeds.specs.declared.deed.Deed.{Deed}
+use Rattle.ps_deeds.specs.Did.{IsKept}
 use Rattle.ps_deeds.specs.Own.{AreOwned, HasNoEnd, arrivals_in, own_steps}
 use Rattle.ps_deeds.proofs.Doing.{did-own}
-use Rattle.ps_deeds.proofs.Keeping.{did-kept, flush-keeps, no-end-append}
+use Rattle.ps_deeds.proofs.Keeping.{covered-kept, did-kept, flush-keeps, no-end-append}
 use Rattle.ps_deeds.proofs.Owning.{arrivals-append}
 use Rattle.ps_deeds.proofs.Passing.{did-after, passed-by, passed-own}
 use Rattle.ps_state.specs.declared.answers.ArriveRefusal.{ArriveRefusal}
@@ -19,7 +20,7 @@ use Rattle.ps_state.specs.declared.answers.HandedRefusal.TheVariants.{Store as N
 use Rattle.ps_state.specs.declared.answers.Receipt.{Receipt}
 use Rattle.ps_shared.specs.Calls.{Arrived, GoneThen, HasGone, IsGone, LaidThen}
 use Rattle.ps_shared.specs.Doing.{Does, Passes}
-use Rattle.ps_shared.specs.Flush.{Flushes, NotFlushed, TellsFault}
+use Rattle.ps_shared.specs.Flush.{Flushes, FlushesAll, NotFlushed, TellsFault}
 use Rattle.ps_shared.specs.Origin.{Origin}
 use Rattle.ps_streams.specs.declared.read.ReadEnd.{ReadEnd}
 use Rattle.ps_streams.specs.declared.read.ReadEnd.TheVariants.{Store}
@@ -54,8 +55,18 @@ module _ (o : Origin) (k : ℕ) where
   quiet : {Did : World → List Step → Type 0} (old new : List Deed) (did : Does o k old new Did) → did.steps ≡ [] → Brought o k old new [] × Keeps o k old new
   quiet old new did none = (brought-passed old new (passed-by the_core the-laws o.boot o.list o.hosts k old new did none), did-kept the_core the-laws o.boot o.list o.hosts k old new did none)
 
+  brought-all : (m : ℕ) (found new : List Deed) → AreOwned o.hosts found → FlushesAll o k m found new → Brought o k found new []
+  brought-all m found new owned (inl others) = subst (λ (l : List Deed). Brought o k found l []) (sym others.0) (brought-none found owned)
+  brought-all m found new owned (inr added) = brought-did found new added [] (ap arrivals_in added.does) (subst HasNoEnd (sym added.does) (tt, tt))
+
   brought-flushes : (old new : List Deed) → Flushes o k old new → Brought o k old new []
-  brought-flushes old new f = brought-more old f.found new [] [] (brought-passed old f.found f.passed) (brought-did f.found new f.added [] (ap arrivals_in f.added.does) (subst HasNoEnd (sym f.added.does) (tt, tt)))
+  brought-flushes old new f = brought-more old f.found new [] [] (brought-passed old f.found f.passed) (brought-all (length old) f.found new f.passed.owned f.flush)
+
+  -- whoever made the Flush, all that the pass laid is flushed
+  flushes-keep : (old new : List Deed) → Flushes o k old new → IsKept the_core o.boot o.list o.hosts k new
+  flushes-keep old new f =
+      ⊎_elim (λ others. subst (IsKept the_core o.boot o.list o.hosts k) (sym others.0) (covered-kept the_core the-laws o.boot o.list o.hosts k old f.found f.passed others.1))
+      (λ added. flush-keeps the_core the-laws o.boot o.list o.hosts k f.found new added) f.flush
 
   brought-fault : (found new : List Deed) → AreOwned o.hosts found → TellsFault o k found new → Brought o k found new []
   brought-fault found new owned (inl same) = subst (λ (l : List Deed). Brought o k found l []) (sym same.0) (brought-none found owned)
@@ -71,7 +82,7 @@ module _ (o : Origin) (k : ℕ) where
     laid old new r Then after l = brought-more old l.mid new (a ∷ []) [] (brought-did old l.mid l.laid (a ∷ []) (ap arrivals_in l.laid.does.1) (subst HasNoEnd (sym l.laid.does.1) (tt, tt))) (after l.mid l.after)
 
     pub takes-ok : (old new : List Deed) (r : Receipt) → Arrived o k h old new a (Ok r) → Brought o k old new (a ∷ []) × Keeps o k old new
-    takes-ok old new r l = (laid old new r (Flushes o k) (λ mid f. brought-flushes mid new f) l, λ kept. flush-keeps the_core the-laws o.boot o.list o.hosts k l.after.found new l.after.added)
+    takes-ok old new r l = (laid old new r (Flushes o k) (λ mid f. brought-flushes mid new f) l, λ kept. flushes-keep l.mid new l.after)
 
     pub takes-err : (old new : List Deed) (refusal : ArriveRefusal) (e : ReadEnd) → (refusal ≡ NoStore → e ≡ Store) → Arrived o k h old new a (Err refusal) → (Brought o k old new [] ⊎ Brought o k old new (a ∷ [])) × (e ≢ Store → Keeps o k old new)
     takes-err old new refusal e stored (inl did) = let q = quiet old new did did.does.1 in (inl q.0, λ other. q.1)
@@ -103,7 +114,7 @@ module _ (o : Origin) (k : ℕ) where
     gone-brought old new (Err e) (inr l) = gone-laid old new (NotFlushed o k) (λ mid f. brought-not-flushed mid new f) l.1
 
     pub gone-keeps : {T : Type 0} (old new : List Deed) (r : Result T HandedRefusal) → (r ≡ Err NotStored → ⊥) → IsGone o k h old new r → Keeps o k old new
-    gone-keeps old new (Ok t) other l = λ kept. flush-keeps the_core the-laws o.boot o.list o.hosts k l.after.found new l.after.added
+    gone-keeps old new (Ok t) other l = λ kept. flushes-keep l.mid new l.after
     gone-keeps old new (Err e) other (inl did) = (quiet old new did did.does.1).1
     gone-keeps {T} old new (Err e) other (inr l) = absurd (other (ap (λ (x : HandedRefusal). the_err T x) l.0))
 

@@ -1,5 +1,5 @@
 -- Why a writer ended.
-use Rattle.std.proofs.Common.{◌≡◌, ℕ, ◌⊎◌, inl, inr, Bool, true, false, List, [], ◌∷◌, ◌++◌, Option, Some, None, Result, Ok, Err, refl, ap, sym, ◌∙◌, subst}
+use Rattle.std.proofs.Common.{◌≡◌, ℕ, ◌⊎◌, ⊎_elim, inl, inr, Bool, true, false, List, [], ◌++◌, Option, Some, None, Result, Ok, Err, refl, ap, sym, ◌∙◌, subst}
 use Rattle.ps_types.specs.declared.entry.Arrival.{Arrival}
 use Rattle.ps_types.specs.declared.entry.Entry.TheVariants.{Handed}
 use Rattle.ps_types.specs.declared.jid.Jid.{Jid}
@@ -11,7 +11,7 @@ use Rattle.ps_model.specs.TheCore.{the_core}
 use Rattle.ps_model.specs.World.{Flight, Nothing, Unrecorded, World}
 use Rattle.ps_model.specs.declared.steps.Role.TheVariants.{Writer}
 use Rattle.ps_model.specs.declared.steps.Step.{Step}
-use Rattle.ps_model.specs.declared.steps.Step.TheVariants.{Broken, Ended}
+use Rattle.ps_model.specs.declared.steps.Step.TheVariants.{Ended}
 use Rattle.ps_model.proofs.TheLaws.{the-laws}
 use Rattle.ps_world.proofs.Lists.{assoc, nil-right}
 use Rattle.ps_deeds.specs.declared.deed.Deed.{Deed}
@@ -25,7 +25,7 @@ use Rattle.ps_state.specs.declared.answers.HandedRefusal.{HandedRefusal}
 use Rattle.ps_state.specs.declared.answers.HandedRefusal.TheVariants.{Full, Store}
 use Rattle.ps_shared.specs.Calls.{Arrived, HasGone, HasHand, HasHanded, IsGone, IsTooLong}
 use Rattle.ps_shared.specs.Doing.{Adds, Does, Passes}
-use Rattle.ps_shared.specs.Flush.{Flushes, NotFlushed, TellsFault}
+use Rattle.ps_shared.specs.Flush.{Flushes, TellsFault}
 use Rattle.ps_shared.specs.Homes.{world_at}
 use Rattle.ps_shared.specs.Origin.{Origin}
 use Rattle.ps_streams.specs.Speaking.{HadNoRoom, HasLanded}
@@ -112,7 +112,9 @@ module _ (o : Origin) (k : ℕ) (h : List ℕ) where
   passed-broken old new p e = (passed-follows the_core the-laws o.boot o.list o.hosts k old new p).broken e
 
   flushes-broken : (old new : List Deed) → Flushes o k old new → (world_at o old).broken ≡ true → (world_at o new).broken ≡ true
-  flushes-broken old new f e = broken-on o k f.found new f.added (passed-broken old f.found f.passed e)
+  flushes-broken old new f e =
+      let found = passed-broken old f.found f.passed e in
+      ⊎_elim (λ others. ap (λ (l : List Deed). (world_at o l).broken) others.0 ∙ found) (λ added. broken-on o k f.found new added found) f.flush
 
   gone-on : {T : Type 0} (old new : List Deed) (r : Result T HandedRefusal) → IsGone o k h old new r → (world_at o old).broken ≡ true → (world_at o new).broken ≡ true
   gone-on old new (Ok t) g e = flushes-broken g.mid new g.after (broken-on o k old g.mid g.gone e)

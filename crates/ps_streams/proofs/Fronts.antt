@@ -1,12 +1,11 @@
 -- What a reader had found before its end.
-use Rattle.std.proofs.Common.{◌≡◌, ℕ, inl, inr, true, List, [], ◌∷◌, ◌++◌, Result, Ok, Err, length, refl, ap, sym, ◌∙◌, subst}
+use Rattle.std.proofs.Common.{◌≡◌, ℕ, inl, inr, List, [], ◌∷◌, ◌++◌, Result, Ok, Err, length, ap, sym, ◌∙◌, subst}
 use Rattle.ps_types.specs.declared.entry.Arrival.{Arrival}
-use Rattle.ps_types.specs.declared.entry.Entry.TheVariants.{Gone as GoneEntry}
 use Rattle.ps_model.specs.TheCore.{the_core}
 use Rattle.ps_model.specs.World.{World}
 use Rattle.ps_model.specs.declared.steps.Role.TheVariants.{Reader}
 use Rattle.ps_model.specs.declared.steps.Step.{Step}
-use Rattle.ps_model.specs.declared.steps.Step.TheVariants.{Ended, Flush, Gone}
+use Rattle.ps_model.specs.declared.steps.Step.TheVariants.{Ended, Gone}
 use Rattle.ps_model.proofs.TheLaws.{the-laws}
 use Rattle.ps_world.proofs.Lists.{assoc, nil-right}
 use Rattle.ps_deeds.specs.declared.deed.Deed.{Deed}
@@ -17,9 +16,9 @@ use Rattle.ps_state.specs.declared.answers.ArriveRefusal.{ArriveRefusal}
 use Rattle.ps_state.specs.declared.answers.ArriveRefusal.TheVariants.{Closed}
 use Rattle.ps_state.specs.declared.answers.HandedRefusal.{HandedRefusal}
 use Rattle.ps_state.specs.declared.answers.HandedRefusal.TheVariants.{Full}
-use Rattle.ps_shared.specs.Calls.{Arrived, HasGone, IsGone, IsTooLong}
+use Rattle.ps_shared.specs.Calls.{Arrived, HasGone, IsGone}
 use Rattle.ps_shared.specs.Doing.{Does, Passes}
-use Rattle.ps_shared.specs.Flush.{Flushes, NotFlushed, TellsFault}
+use Rattle.ps_shared.specs.Flush.{Flushes, FlushesAll, NotFlushed, TellsFault}
 use Rattle.ps_shared.specs.Origin.{Origin}
 use Rattle.ps_streams.specs.Reading.{FoundAt, FoundClosed, FoundNoEnd, SaidGone}
 use Rattle.ps_streams.proofs.Looping.{the_err}
@@ -41,11 +40,18 @@ module _ (o : Origin) (k : ℕ) where
   grows-passed : (old new : List Deed) → Passes o k old new → Grows old new
   grows-passed old new p = (p.between, p.is)
 
+  grows-same : (found new : List Deed) → new ≡ found → Grows found new
+  grows-same found new same = ([], same ∙ sym (nil-right found))
+
+  grows-all : (m : ℕ) (found new : List Deed) → FlushesAll o k m found new → Grows found new
+  grows-all m found new (inl others) = grows-same found new others.0
+  grows-all m found new (inr added) = grows-did found new added
+
   grows-flushes : (old new : List Deed) → Flushes o k old new → Grows old new
-  grows-flushes old new f = grow-more old f.found new (grows-passed old f.found f.passed) (grows-did f.found new f.added)
+  grows-flushes old new f = grow-more old f.found new (grows-passed old f.found f.passed) (grows-all (length old) f.found new f.flush)
 
   grows-fault : (found new : List Deed) → TellsFault o k found new → Grows found new
-  grows-fault found new (inl same) = ([], same.0 ∙ sym (nil-right found))
+  grows-fault found new (inl same) = grows-same found new same.0
   grows-fault found new (inr added) = grows-did found new added
 
   grows-not-flushed : (old new : List Deed) → NotFlushed o k old new → Grows old new
@@ -78,12 +84,17 @@ module _ (o : Origin) (k : ℕ) where
 
     -- ---- the Gone
 
-    said-by : {T : Type 0} (old new : List Deed) (t : T) → IsGone o k h old new (Ok t) → (m : ℕ) × (own_steps k new ≡ (own_steps k old ++ Gone h ∷ []) ++ Flush m ∷ [])
+    -- the pass adds a Flush of its own, or nothing
+    flush-own : (m : ℕ) (found new : List Deed) → FlushesAll o k m found new → (rest : List Step) × (own_steps k new ≡ own_steps k found ++ rest)
+    flush-own m found new (inl others) = ([], ap (own_steps k) others.0 ∙ sym (nil-right (own_steps k found)))
+    flush-own m found new (inr added) = (added.steps, did-own the_core the-laws o.boot o.list o.hosts k found new added)
+
+    said-by : {T : Type 0} (old new : List Deed) (t : T) → IsGone o k h old new (Ok t) → (rest : List Step) × (own_steps k new ≡ (own_steps k old ++ Gone h ∷ []) ++ rest)
     said-by old new t g =
         let first = did-own the_core the-laws o.boot o.list o.hosts k old g.mid g.gone ∙ ap (λ ss. own_steps k old ++ ss) g.gone.does.1 in
         let second = passed-own the_core the-laws o.boot o.list o.hosts k g.mid g.after.found g.after.passed in
-        let third = did-own the_core the-laws o.boot o.list o.hosts k g.after.found new g.after.added ∙ ap (λ ss. own_steps k g.after.found ++ ss) g.after.added.does in
-        (length g.after.found, third ∙ ap (λ l. l ++ Flush (length g.after.found) ∷ []) (second ∙ first))
+        let third = flush-own (length g.mid) g.after.found new g.after.flush in
+        (third.0, third.1 ∙ ap (λ l. l ++ third.0) (second ∙ first))
 
     pub said-gone : {T : Type 0} (old new : List Deed) (r : Result T HandedRefusal) → HasGone o k h old new r → (t : T) → r ≡ Ok t → SaidGone h k new
     said-gone {T} old new r g t e =
@@ -92,6 +103,6 @@ module _ (o : Origin) (k : ℕ) where
         let end = Ended h Reader ∷ [] in
         record {
           front = own_steps k old;
-          rest = Flush said.0 ∷ end;
-          is = last ∙ (ap (λ l. l ++ end) said.1 ∙ (assoc (own_steps k old ++ Gone h ∷ []) (Flush said.0 ∷ []) end ∙ assoc (own_steps k old) (Gone h ∷ []) (Flush said.0 ∷ end)));
+          rest = said.0 ++ end;
+          is = last ∙ (ap (λ l. l ++ end) said.1 ∙ (assoc (own_steps k old ++ Gone h ∷ []) said.0 end ∙ assoc (own_steps k old) (Gone h ∷ []) (said.0 ++ end)));
         }

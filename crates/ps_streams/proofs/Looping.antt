@@ -1,5 +1,5 @@
 -- Parts of a loop, and the last step of a writer.
-use Rattle.std.proofs.Common.{◌≡◌, ℕ, ◌+◌, inl, inr, List, [], ◌++◌, Option, Result, Err, length, length-append, refl, ap, sym, ◌∙◌, subst, arith}
+use Rattle.std.proofs.Common.{◌≡◌, ℕ, inl, inr, List, [], ◌++◌, Option, Result, Err, length, length-append, refl, ap, sym, ◌∙◌, subst, arith}
 use Rattle.ps_model.specs.TheCore.{the_core}
 use Rattle.ps_model.specs.declared.steps.Role.TheVariants.{Writer}
 use Rattle.ps_model.specs.declared.steps.Step.TheVariants.{Ended}

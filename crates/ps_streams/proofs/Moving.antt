@@ -15,7 +15,7 @@ use Rattle.ps_deeds.proofs.Passing.{passed-by, passed-own, passed-words}
 use Rattle.ps_state.specs.declared.answers.HandedRefusal.{HandedRefusal}
 use Rattle.ps_shared.specs.Calls.{HasHanded, RecordedThen}
 use Rattle.ps_shared.specs.Doing.{Does, Passes}
-use Rattle.ps_shared.specs.Flush.{Flushes, NotFlushed, TellsFault}
+use Rattle.ps_shared.specs.Flush.{Flushes, FlushesAll, NotFlushed, TellsFault}
 use Rattle.ps_shared.specs.Homes.{world_at}
 use Rattle.ps_shared.specs.Origin.{Origin}
 use Rattle.ps_streams.specs.Speaking.{said_in}
@@ -64,12 +64,18 @@ module _ (o : Origin) (k : ℕ) where
   moved-one old new did s e silent zero =
       moved-did old new did [] none (ap (says the_core o.boot (world_at o (old ++ did.between))) e ∙ silent) (λ a. (let x = ap (records_in a) e in let z = zero a in omega (arith, x, z)))
 
+  moved-same : (found new : List Deed) → AreOwned o.hosts found → new ≡ found → Moved o k found new [] none
+  moved-same found new owned same = subst (λ (l : List Deed). Moved o k found l [] none) (sym same) (record { words = sym (nil-right (said_in o k found)); records = λ a. omega arith; owned = owned })
+
+  moved-all : (m : ℕ) (found new : List Deed) → AreOwned o.hosts found → FlushesAll o k m found new → Moved o k found new [] none
+  moved-all m found new owned (inl others) = moved-same found new owned others.0
+  moved-all m found new owned (inr added) = moved-one found new added (Flush (length found)) added.does refl (λ a. refl)
+
   pub moved-flushes : (old new : List Deed) → Flushes o k old new → Moved o k old new [] none
-  moved-flushes old new f =
-      moved-more old f.found new [] [] none none none (λ a. omega arith) (moved-passed old f.found f.passed) (moved-one f.found new f.added (Flush (length f.found)) f.added.does refl (λ a. refl))
+  moved-flushes old new f = moved-more old f.found new [] [] none none none (λ a. omega arith) (moved-passed old f.found f.passed) (moved-all (length old) f.found new f.passed.owned f.flush)
 
   moved-fault : (found new : List Deed) → AreOwned o.hosts found → TellsFault o k found new → Moved o k found new [] none
-  moved-fault found new owned (inl same) = subst (λ (l : List Deed). Moved o k found l [] none) (sym same.0) (record { words = sym (nil-right (said_in o k found)); records = λ a. omega arith; owned = owned })
+  moved-fault found new owned (inl same) = moved-same found new owned same.0
   moved-fault found new owned (inr added) = moved-one found new added Broken added.does refl (λ a. refl)
 
   pub moved-not-flushed : (old new : List Deed) → NotFlushed o k old new → Moved o k old new [] none

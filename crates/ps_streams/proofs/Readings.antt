@@ -1,5 +1,5 @@
 -- Lines that are read one after another, and the end of a stream.
-use Rattle.std.proofs.Common.{◌≡◌, ◌≢◌, ℕ, ◌⊎◌, inl, inr, Bool, true, List, [], ◌∷◌, ◌++◌, Option, Result, Err, refl, ap, sym, ◌∙◌, subst}
+use Rattle.std.proofs.Common.{◌≡◌, ◌≢◌, ℕ, ◌⊎◌, inl, inr, true, List, [], ◌∷◌, ◌++◌, Option, Result, Err, refl, ap, sym, ◌∙◌, subst}
 use Rattle.ps_types.specs.declared.entry.Arrival.{Arrival}
 use Rattle.ps_model.specs.TheCore.{the_core}
 use Rattle.ps_model.proofs.TheLaws.{the-laws}
@@ -16,7 +16,7 @@ use Rattle.ps_shared.specs.Origin.{Origin}
 use Rattle.ps_wire.specs.Reading.{IsWithoutLine}
 use Rattle.ps_streams.specs.declared.read.ReadEnd.{ReadEnd}
 use Rattle.ps_streams.specs.declared.read.ReadEnd.TheVariants.{Ended, Long, ReadFault, Store}
-use Rattle.ps_streams.specs.Reading.{Brought, CameOf, Comes, IsEnd, Keeps, Lined, NoneComes, Reads, SoRead, StreamRead, WasAsked, brings_all}
+use Rattle.ps_streams.specs.Reading.{Brought, CameOf, Comes, IsEnd, Keeps, NoneComes, Reads, SoRead, StreamRead, WasAsked, brings_all}
 use Rattle.ps_streams.proofs.Bringing.{brought-more, brought-none, gone-brought, gone-keeps}
 use Rattle.ps_streams.proofs.Lines.{asked-more, asked-none, came-more, came-none, end-of}
 

@@ -1,5 +1,5 @@
 -- What a call of `next`, and then of `handed`, leaves of what a writer said.
-use Rattle.std.proofs.Common.{◌≡◌, ℕ, zero, suc, ◌+◌, ◌<◌, ◌≤◌, inl, inr, Bool, true, false, cond, List, [], ◌∷◌, ◌++◌, Option, Some, None, Result, Ok, Err, length, refl, ap, sym, ◌∙◌, subst, arith}
+use Rattle.std.proofs.Common.{◌≡◌, ℕ, zero, suc, ◌+◌, ◌<◌, ◌≤◌, inl, inr, Bool, true, false, cond, List, [], ◌∷◌, ◌++◌, Option, Some, None, Result, Ok, length, refl, ap, sym, ◌∙◌, subst, arith}
 use Rattle.std.specs.Io.KnownBytes.{Appends}
 use Rattle.std.specs.List.{list_any}
 use Rattle.std.specs.Prelude.{◌||◌, if◌then◌else◌, nat_le, nat_lt, not, slice_get}
@@ -14,7 +14,7 @@ use Rattle.ps_model.specs.Machine.{run}
 use Rattle.ps_model.specs.TheCore.{the_core}
 use Rattle.ps_model.specs.World.{Flight, Nothing, Said, World, durable}
 use Rattle.ps_model.specs.declared.steps.Step.{Step}
-use Rattle.ps_model.specs.declared.steps.Step.TheVariants.{Emit, Record, Take}
+use Rattle.ps_model.specs.declared.steps.Step.TheVariants.{Emit, Take}
 use Rattle.ps_model.proofs.TheLaws.{the-laws}
 use Rattle.ps_world.proofs.Lists.{nil-right}
 use Rattle.ps_deeds.specs.declared.deed.Deed.{Deed}
@@ -32,7 +32,7 @@ use Rattle.ps_shared.specs.Homes.{world_at}
 use Rattle.ps_shared.specs.Origin.{Origin}
 use Rattle.ps_shared.specs.Passes.{OurTwin}
 use Rattle.ps_shared.specs.declared.answers.Next.{Next}
-use Rattle.ps_shared.specs.declared.answers.Next.TheVariants.{NotYet, Notice, Over, Reply}
+use Rattle.ps_shared.specs.declared.answers.Next.TheVariants.{Notice, Over, Reply}
 use Rattle.ps_shared.specs.declared.hall.Pass.{Pass}
 use Rattle.ps_streams.specs.Speaking.{IsFew, MaySpeak, Speaks, Spoke, Written}
 use Rattle.ps_streams.proofs.Bytes.{written-none, written-part, written-whole}

@@ -10,7 +10,7 @@ ghost use Rattle.ps_shared.specs.Calls.{IsReader, SeatArrived};
 ghost use Rattle.ps_streams.specs.Speaking.{FindsBroken, IsSamePass};
 ghost use Rattle.ps_streams.specs.Reading.{ClockGives, Comes, FoundClosed, FoundNoEnd, NoneComes, SaidGone, SeatNextRead, SeatReads, SeatStreamRead, SeatTakes, WasAsked, brings_all, says_gone};
 
-use crate::idle::{FOR_ROOM, Idle};
+use crate::idle::{FOR_ROOM, await_news};
 use ps_disk::Disk;
 use ps_outside::Clock;
 use ps_shared::{ArriveRefusal, Hall, HandedRefusal, Opening, Pass, Receipt};
@@ -161,14 +161,13 @@ fn arrive_once<B: Opening, D: Disk, R: Wait + Threads + Sync>(
     ensures same { IsSamePass pass.old pass.new }
     ensures arrived { SeatArrived B.origin pass.old.host pass.old.seat pass.new.seat arrival.now result }
 {
-    let mut idle = Idle::new();
     for _ in rt.forever() {
-        let heard = hall.news();
+        let heard = hall.news(pass);
         let answer = hall.arrive(rt, pass, arrival);
         if !must_wait(&answer) {
             return answer;
         }
-        idle.wait(rt, hall, heard, FOR_ROOM);
+        await_news(rt, hall, pass, heard, FOR_ROOM);
     }
     unreachable!()
 }

@@ -5,7 +5,7 @@ ghost use Rattle.ps_deeds.specs.Own.{AllDiffer};
 ghost use Rattle.ps_shared.specs.Calls.{IsWriter};
 ghost use Rattle.ps_streams.specs.Speaking.{FindsBroken, FindsLanded, FindsOver, FoundNoRoom, IsSamePass, IsWriterDone, MaySpeak, SeatSpeaks};
 
-use crate::idle::{FOR_LINES, Idle};
+use crate::idle::{FOR_LINES, await_news};
 use ps_disk::Disk;
 use ps_shared::{EndCause, Hall, Next, Opening, Pass};
 use ps_state::HandedRefusal;
@@ -33,7 +33,6 @@ fn write_next<B: Opening, D: Disk, R: Wait + Threads + Sync, K: Sink>(
     hall: &Hall<B, D>,
     pass: &mut Pass<B, D>,
     sink: &mut K,
-    idle: &mut Idle,
 ) -> Result<bool, EndCause>
     requires ready { MaySpeak B.origin hall.now.twin pass.old }
     requires differ { AllDiffer B.origin.hosts }
@@ -50,27 +49,21 @@ fn write_next<B: Opening, D: Disk, R: Wait + Threads + Sync, K: Sink>(
     ensures full { IsErrOf result EndCause.Full → FoundNoRoom B.origin pass.old.host pass.new.seat }
     ensures landed { (IsErrOf result EndCause.Store → ⊥) → FindsLanded B.origin pass.old.host pass.new.seat }
 {
-    let heard = hall.news();
+    let heard = hall.news(pass);
     match hall.next(rt, pass) {
-        Ok(Next::Reply(line)) => {
-            idle.end();
-            match write_line(sink, line.as_slice()) {
+        Ok(Next::Reply(line)) => match write_line(sink, line.as_slice()) {
+            Ok(()) => Ok(true),
+            Err(_) => Err(EndCause::WriteFault),
+        },
+        Ok(Next::Notice(line)) => match write_line(sink, line.as_slice()) {
+            Ok(()) => match hall.handed(rt, pass) {
                 Ok(()) => Ok(true),
-                Err(_) => Err(EndCause::WriteFault),
-            }
-        }
-        Ok(Next::Notice(line)) => {
-            idle.end();
-            match write_line(sink, line.as_slice()) {
-                Ok(()) => match hall.handed(rt, pass) {
-                    Ok(()) => Ok(true),
-                    Err(refusal) => Err(end_of(refusal)),
-                },
-                Err(_) => Err(EndCause::WriteFault),
-            }
-        }
+                Err(refusal) => Err(end_of(refusal)),
+            },
+            Err(_) => Err(EndCause::WriteFault),
+        },
         Ok(Next::NotYet) => {
-            idle.wait(rt, hall, heard, FOR_LINES);
+            await_news(rt, hall, pass, heard, FOR_LINES);
             Ok(true)
         }
         Ok(Next::Over) => Ok(false),
@@ -98,9 +91,8 @@ fn write_lines<B: Opening, D: Disk, R: Wait + Threads + Sync, K: Sink>(
     ensures full { result ≡ EndCause.Full → FoundNoRoom B.origin pass.old.host pass.new.seat }
     ensures landed { (result ≡ EndCause.Store → ⊥) → FindsLanded B.origin pass.old.host pass.new.seat }
 {
-    let mut idle = Idle::new();
     for _ in rt.forever() {
-        match write_next(rt, hall, pass, sink, &mut idle) {
+        match write_next(rt, hall, pass, sink) {
             Ok(true) => {}
             Ok(false) => return EndCause::Finished,
             Err(why) => return why,

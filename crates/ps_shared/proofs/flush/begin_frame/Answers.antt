@@ -1,6 +1,6 @@
 use Rattle.std.proofs.Common.{refl, ap, ◌∙◌, arith, inl}
 use Rattle.ps_twin.specs.Seats.{seen_of}
-use Rattle.ps_shared.proofs.Framing.{frame_begun, frame_refused}
+use Rattle.ps_shared.proofs.Framing.{frame_begun, frame_refused, frame_spared}
 use Rattle.ps_shared.proofs.Homing.{bytes_given, home_standing, notes_none, passed_by}
 use Rattle.ps_shared.proofs.Seating.{holds_on}
 use Rattle.ps_world.proofs.Lists.{nil-right}
@@ -8,6 +8,13 @@ use Rattle.ps_shared.proofs.flush.begin_frame.Goals as goal
 
 pub leave_as_was-requires-clause-may : goal.leave_as_was-requires-clause-may
 leave_as_was-requires-clause-may g c =
+    let e = c.enter-home.ensures in
+    let s = c.enter-home.new.seat in
+    let v = c.enter-home.result.state in
+    notes_none g.B.Opening.origin c.args.twin.now s v v e.twin e.held e.value refl refl (omega arith) refl e.firm (inl (holds_on c.args.seat.now s e.hand c.requires.held.1)) (λ service some w is. is)
+
+pub leave_as_was-requires-then-upto-home-clause-may : goal.leave_as_was-requires-then-upto-home-clause-may
+leave_as_was-requires-then-upto-home-clause-may g c =
     let e = c.enter-home.ensures in
     let s = c.enter-home.new.seat in
     let v = c.enter-home.result.state in
@@ -45,8 +52,20 @@ returns-then-home-clause-passed g c =
     let s = c.enter-home.new.seat in
     passed_by g.B.Opening.origin c.args.seat.now s c.leave_as_was.new.seat e.later e.value.owned (c.leave_as_was.ensures.seen ∙ nil-right (seen_of s))
 
-pub returns-then-home-clause-none : goal.returns-then-home-clause-none
-returns-then-home-clause-none g c =
+pub returns-then-home-clause-err : goal.returns-then-home-clause-err
+returns-then-home-clause-err g c =
     let e = c.enter-home.ensures in
     let s = c.enter-home.new.seat in
     frame_refused g.B.Opening.origin c.args.twin.now c.args.seat.now s c.leave_as_was.new.seat c.enter-home.result.state c.args.archive.now.store c.requires e.hand e.value (e.front c.requires.held.1) (e.marked c.requires.held.1) c.if-home.true c.leave_as_was.ensures
+
+pub returns-then-upto-home-clause-passed : goal.returns-then-upto-home-clause-passed
+returns-then-upto-home-clause-passed g c =
+    let e = c.enter-home.ensures in
+    let s = c.enter-home.new.seat in
+    passed_by g.B.Opening.origin c.args.seat.now s c.leave_as_was-then-upto-home.new.seat e.later e.value.owned (c.leave_as_was-then-upto-home.ensures.seen ∙ nil-right (seen_of s))
+
+pub returns-then-upto-home-clause-none : goal.returns-then-upto-home-clause-none
+returns-then-upto-home-clause-none g c =
+    let e = c.enter-home.ensures in
+    let s = c.enter-home.new.seat in
+    frame_spared g.B.Opening.origin c.args.twin.now c.args.seat.now s c.leave_as_was-then-upto-home.new.seat c.enter-home.result.state c.args.archive.now.store c.args.upto c.requires e.hand e.value (e.front c.requires.held.1) (e.marked c.requires.held.1) c.if-upto-home.true e.firm c.leave_as_was-then-upto-home.ensures

@@ -3,7 +3,7 @@ use Rattle.ps_model.specs.declared.steps.Step.TheVariants.{Flush}
 use Rattle.ps_twin.specs.Seats.{seen_of, number_of, list_of}
 use Rattle.ps_world.proofs.Lists.{nil-right}
 use Rattle.ps_shared.specs.Homes.{world_at}
-use Rattle.ps_shared.proofs.Framing.{adds_as, failed_front, failed_stands, frame_steps, is_written, written_firm}
+use Rattle.ps_shared.proofs.Framing.{adds_as, failed_front, failed_stands, frame_steps, is_written, written_firm, written_known}
 use Rattle.ps_shared.proofs.flush.write_frame.Goals as goal
 
 pub append-requires : goal.append-requires
@@ -37,6 +37,10 @@ returns-in-Ok-clause-ok g c =
     let left = c.leave_journal.ensures in
     adds_as o (number_of c.leave_journal.new.seat) (number_of c.args.seat.now) (seen_of c.leave_journal.new.seat) (seen_of c.args.seat.now) (seen_of c.end_frame.new.seat) (Flush c.args.frame.steps) (Flush _) left.number left.seen
     (ap Flush (frame_steps o c.args.twin.now c.args.seat.now c.args.archive.store c.args.frame c.requires)) c.end_frame.ensures.added
+
+pub returns-in-Ok-clause-known : goal.returns-in-Ok-clause-known
+returns-in-Ok-clause-known g c =
+    written_known g.B.Opening.origin c.args.twin.now c.args.seat.now c.leave_journal.new.seat c.end_frame.new.seat c.args.archive.store c.append.new.self c.args.frame c.requires c.in-Ok.ensures.firm c.leave_journal.ensures.firm c.end_frame.ensures.known
 
 pub leave_journal-requires-in-Err : goal.leave_journal-requires-in-Err
 leave_journal-requires-in-Err g c =
