@@ -8,7 +8,6 @@ use Rattle.ps_types.specs.Tree.{Tree}
 use Rattle.ps_types.specs.declared.entry.Entry.{Entry}
 use Rattle.ps_types.specs.declared.entry.Entry.TheVariants.{Boot}
 use Rattle.ps_disk.specs.declared.device.Disk.{Ghosts}
-use Rattle.ps_model.specs.Core.{handed}
 use Rattle.ps_model.specs.TheCore.{the_core}
 use Rattle.ps_model.specs.World.{World}
 use Rattle.ps_deeds.specs.Lines.{Came, HasLines}
@@ -88,14 +87,14 @@ module _ {D : Type 0} {g : Ghosts D} (o : Origin) (v : State) (y : Store D g) (o
   begins = s.begins ∙ ap (λ (l : List Entry). l ++ s.since) base-is
 
   told : (h : List ℕ) (t : Worked) (trees : List Tree) (out : List ℕ)
-      → ((x : ServesStream o (v.length + 5) w h t) × (NoneBroke (one ∷ two ∷ []) → t.wrote ≡ Finished → IsAllSaid o w h (v.length + 5) t x))
-      → NoneBroke (one ∷ two ∷ []) → IsStream t trees out → AllByRecursion IsShort trees → length trees < 2 ^ 64 - 1 → length h ≤ 100 → AreMade s.since → Told w h trees out
-  told h t trees out p broke is short few name made =
+      → ((x : ServesStream o g.tells (v.length + 5) w h t) × (NoneBroke (one ∷ two ∷ []) → t.wrote ≡ Finished → IsAllSaid o g.tells w h (v.length + 5) t x))
+      → NoneBroke (one ∷ two ∷ []) → IsStream t trees out → AllByRecursion IsShort trees → length trees < 2 ^ 64 - 1 → length h ≤ 100 → Told w h trees out
+  told h t trees out p broke is short few name =
       let x = p.0 in
       let words = x.whole ++ x.last in
       let none = none-last t x.last is.wrote x.cut in
       let stand = subst (λ (b : List Entry). HasLines the_core b h w x.lines) base-is x.stand in
-      let all = subst (λ (b : List Entry). IsComplete the_core b h w x.lines words) base-is (p.1 broke is.wrote) in
+      let all = subst (λ (b : List Entry). IsComplete the_core b h w x.lines words) base-is (p.1 broke is.wrote).complete in
       let came =
       lined-are t.read t.source.bytes t.source_now.bytes t.clock.told t.clock_now.told is.asked (map (λ (c : Came). c.arrival) x.lines) trees
       is.read is.source is.clock is.now short few x.lined in
@@ -111,9 +110,7 @@ module _ {D : Type 0} {g : Ghosts D} (o : Origin) (v : State) (y : Store D g) (o
           all = all;
           ours = x.ours;
         };
-        are =
-            ap whole_lines out-is
-            ∙ whole-words h the_service w.entries s.since x.lines words (length the_base) (handed the_base) stand.lines all.replies begins made all.notes x.ours;
+        are = ap whole_lines out-is ∙ whole-words words x.one_line;
       }
 
   none-broke : one.read ≡ ReadAll → one.wrote ≡ Finished → two.read ≡ ReadAll → two.wrote ≡ Finished → NoneBroke (one ∷ two ∷ [])
@@ -137,13 +134,13 @@ module _ {D : Type 0} {g : Ghosts D} (o : Origin) (v : State) (y : Store D g) (o
     broke : NoneBroke (one ∷ two ∷ [])
     broke = none-broke is.read is.wrote is_too.read is_too.wrote
 
-    first-told : AreMade s.since → Told w first_host (dealt 0 seed count) out
-    first-told made =
-        told first_host one (dealt 0 seed count) out (s.streams 0 first_host one (ap (λ (l : List (List ℕ)). slice_get l 0) hosts) refl) broke is short (small 0) (omega arith) made
+    first-told : Told w first_host (dealt 0 seed count) out
+    first-told =
+        told first_host one (dealt 0 seed count) out (s.streams 0 first_host one (ap (λ (l : List (List ℕ)). slice_get l 0) hosts) refl) broke is short (small 0) (omega arith)
 
-    second-told : AreMade s.since → Told w second_host (dealt 1 seed count) out_too
-    second-told made =
-        told second_host two (dealt 1 seed count) out_too (s.streams 1 second_host two (ap (λ (l : List (List ℕ)). slice_get l 1) hosts) refl) broke is_too short_too (small 1) (omega arith) made
+    second-told : Told w second_host (dealt 1 seed count) out_too
+    second-told =
+        told second_host two (dealt 1 seed count) out_too (s.streams 1 second_host two (ap (λ (l : List (List ℕ)). slice_get l 1) hosts) refl) broke is_too short_too (small 1) (omega arith)
 
     pub rehearsed : (n : Numbers) (m : Made) → HasMade w.entries m → n.commits ≡ m.commits → n.notices ≡ m.handed → n.results + n.errors ≡ count → n.stanzas ≡ count
         → n.results ≡ how_many is_result (whole_lines out) + how_many is_result (whole_lines out_too)
@@ -152,8 +149,8 @@ module _ {D : Type 0} {g : Ghosts D} (o : Origin) (v : State) (y : Store D g) (o
     rehearsed n m has commits handed replied stanzas results errors notices =
         let behind : drop 1 w.entries ≡ s.since = ap (drop 1) begins in
         let made = subst AreMade behind has.made in
-        let p = first-told made in
-        let q = second-told made in
+        let p = first-told in
+        let q = second-told in
         record {
           world = w;
           lawful = s.stands.sound.lawful;

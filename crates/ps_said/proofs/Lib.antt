@@ -11,4 +11,5 @@ pub mod Notes
 pub mod ReadTexts
 pub mod ConfigTexts
 pub mod Reached
+pub mod OneLine
 pub mod Telling

@@ -1,5 +1,5 @@
--- What was said for a host is told apart.
-use Rattle.std.proofs.Common.{◌≡◌, ℕ, ◌+◌, Bool, true, false, cond, List, [], ◌∷◌, ◌++◌, append_assoc, length, map, take, drop, Option, Some, None, option_map, refl, sym, ap, ◌∙◌, subst}
+-- What a list gives is told apart.
+use Rattle.std.proofs.Common.{◌≡◌, ℕ, Bool, true, false, cond, List, [], ◌∷◌, ◌++◌, append_assoc, map, take, Option, Some, None, option_map, refl, sym, ap, ◌∙◌}
 use Rattle.std.specs.Prelude.{◌&&◌, bytes_eq}
 use Rattle.std.specs.List.{AllByRecursion as Each}
 use Rattle.std.proofs.lemmas.Bool.{and_parts}
@@ -11,29 +11,23 @@ use Rattle.ps_types.specs.Lines.{NoNewline, joined}
 use Rattle.ps_types.specs.Print.{print}
 use Rattle.ps_types.specs.Same.{same_bare, same_jid}
 use Rattle.ps_types.specs.Tree.{Tree}
-use Rattle.ps_types.proofs.Same.{same_jid-Decides}
-use Rattle.ps_model.specs.Core.{handed}
 use Rattle.ps_model.specs.Entries.{AreEntries}
 use Rattle.ps_model.specs.Replay.{lawful, notices, replay}
 use Rattle.ps_model.specs.Replies.{reply_to}
 use Rattle.ps_model.specs.Streams as sink
 use Rattle.ps_model.specs.Streams.{IsSaying, Saying, is_reply, line_of}
 use Rattle.ps_model.specs.TheCore.{the_core}
-use Rattle.ps_model.specs.World.{World}
-use Rattle.ps_model.proofs.OneLine.{print-line}
 use Rattle.ps_model.proofs.StreamLaws.{notes-kept, replies-kept}
 use Rattle.ps_model.proofs.TheLaws.{todays-places}
 use Rattle.ps_books.proofs.Keys.{each-by}
-use Rattle.ps_deeds.specs.Lines.{AreLines, Came, onto, replies_of, size}
-use Rattle.ps_deeds.specs.Over.{IsFront}
 use Rattle.ps_deeds.specs.Words.{Note, Reply, Word, bytes_of, notes_in, replies_in}
-use Rattle.ps_said.specs.Laws.{IsOneLine, IsSaidFor, IsTo, IsToldApart, lines_to}
-use Rattle.ps_said.proofs.Lists.{each-drop, each-front, each-take}
+use Rattle.ps_said.specs.Laws.{AreGiven, IsGiven, IsToldApart, lines_to}
+use Rattle.ps_said.proofs.Lists.{each-at}
 use Rattle.ps_said.proofs.Notes.{IsNoteTo, owed-notes}
 use Rattle.ps_said.proofs.Reached.{reached}
 use Rattle.ps_said.proofs.Replying.{IsReply, ReplyIs, reply-is}
 
--- ---- the words of a host
+-- ---- words
 
 pub record IsReplyText (text : List ℕ) : Type 0 where
   pub tree : Tree
@@ -69,10 +63,6 @@ unfolding saying sayings
 replies-are [] are = refl
 replies-are (Reply text ∷ ws) are = rw (are.0.line, replies-are ws are.1) refl
 replies-are (Note a n ∷ ws) are = replies-are ws are.1
-
-word-line : (v : Word) → Shown v → IsOneLine v
-word-line (Reply text) is = subst NoNewline is.line (print-line is.tree)
-word-line (Note a n) is = subst NoNewline is.note.line (print-line is.note.tree)
 
 -- ---- the notices to a bare address
 
@@ -111,53 +101,23 @@ told-apart ws rest are clean =
       notes = λ a bare. ap (λ (l : List ℕ). sink.notes l a) (sym same) ∙ (notes-kept said rest a (are-sayings ws are) clean ∙ notes-are a bare ws are);
     }
 
--- ---- what was said for a host
+-- ---- what a list gives
 
-tail-notes : (P : Notice → Type 0) (b : Bool) (n : Notice) (ns : List Notice) → Each P (cond b (n ∷ ns) ns) → Each P ns
-tail-notes P true n ns ps = ps.1
-tail-notes P false n ns ps = ps
+reply-text : (o : Option Tree) (text : List ℕ) → option_map print o ≡ Some text → ReplyIs o → IsReplyText text
+reply-text None text e is = absurd (cc e)
+reply-text (Some t) text e is = let same : print t ≡ text = cc e in record { tree = t; line = same; is = is }
 
-head-note : (P : Notice → Type 0) (b : Bool) (n : Notice) (ns : List Notice) → b ≡ true → Each P (cond b (n ∷ ns) ns) → P n
-head-note P true n ns is ps = ps.0
-head-note P false n ns is ps = absurd (cc is)
+module _ (E : List Entry) (ok : lawful E) (own : AreEntries E) where
+  given-shown : (v : Word) → IsGiven E v → Shown v
+  unfolding the_core
+  given-shown (Reply text) is =
+      let book = (replay (take is.place E)).book in
+      reply-text (reply_to is.host book is.number is.arrival is.full) text is.is (reply-is is.host book (reached E is.place ok own) is.number is.full is.arrival)
+  given-shown (Note a n) is = each-at (IsNoteTo a) (notices E a) is.0 n (owed-notes E a ok own) is.1
 
-all-shown : (h : List ℕ) (ws : List Word) → Each (IsTo h) ws → Each IsReplyText (replies_in ws) → ((a : Jid) → a.host ≡ h → Each (IsNoteTo a) (notes_in a ws)) → Each Shown ws
-all-shown h [] own told notes = tt
-all-shown h (Reply text ∷ ws) own told notes = (told.0, all-shown h ws own.1 told.1 (λ a at. notes a at))
-all-shown h (Note b n ∷ ws) own told notes = (
-  head-note (IsNoteTo b) (same_jid b b) n (notes_in b ws) ((same_jid-Decides b b).1 refl) (notes b own.0),
-  all-shown h ws own.1 told (λ a at. tail-notes (IsNoteTo a) (same_jid a b) n (notes_in a ws) (notes a at)),
-)
+module _ (E : List Entry) (ws : List Word) (are : AreGiven E ws) where
+  all-shown : Each Shown ws
+  all-shown = each-by Shown (IsGiven E) ws (given-shown E (todays-places E are.lawful) are.spelled) are.each
 
-onto-told : (o : Option Tree) (r : Option (List ℕ)) (more : List (List ℕ)) → option_map print o ≡ r → ReplyIs o → Each IsReplyText more → Each IsReplyText (onto r more)
-onto-told None r more e is told = subst (λ (x : Option (List ℕ)). Each IsReplyText (onto x more)) e told
-onto-told (Some t) r more e is told = subst (λ (x : Option (List ℕ)). Each IsReplyText (onto x more)) e (record { tree = t; line = refl; is = is }, told)
-
-replies-told : (h : List ℕ) (E : List Entry) (k from : ℕ) (cs : List Came) → lawful E → AreEntries E → AreLines the_core h E k from cs → Each IsReplyText (replies_of cs)
-unfolding the_core
-replies-told h E k from [] ok own lines = tt
-replies-told h E k from (c ∷ cs) ok own lines =
-    let book = (replay (take c.place E)).book in
-    onto-told (reply_to h book k c.arrival c.full) c.reply (replies_of cs) lines.1.reply (reply-is h book (reached E c.place ok own) k c.full c.arrival)
-    (replies-told h E (k + 1) (c.place + size c.entry) cs ok own lines.2)
-
-front-notes : (base : List Entry) (h : List ℕ) (w : World) (cs : List Came) (ws : List Word) → lawful w.entries → AreEntries w.entries → IsFront the_core base h w cs ws
-    → (a : Jid) → a.host ≡ h → Each (IsNoteTo a) (notes_in a ws)
-unfolding the_core
-front-notes base h w cs ws ok own front a at =
-    subst (Each (IsNoteTo a)) (sym (front.notes a at))
-    (each-take (IsNoteTo a) (length (notes_in a ws)) (drop (handed base a) (notices w.entries a)) (each-drop (IsNoteTo a) (handed base a) (notices w.entries a) (owed-notes w.entries a ok own)))
-
-module _ (base : List Entry) (w : World) (h : List ℕ) (cs : List Came) (ws : List Word) (said : IsSaidFor base w h cs ws) where
-  said-shown : Each Shown ws
-  said-shown =
-      let ok = todays-places w.entries said.lawful in
-      let told = replies-told h w.entries 1 (length base) cs ok said.spelled said.lines.lines in
-      let front = each-front IsReplyText (replies_in ws) said.front.replies.0 (subst (Each IsReplyText) said.front.replies.1 told) in
-      all-shown h ws said.own front (front-notes base h w cs ws ok said.spelled said.front)
-
-  pub said-lines : Each IsOneLine ws
-  said-lines = each-by IsOneLine Shown ws word-line said-shown
-
-pub said-apart : (base : List Entry) (w : World) (h : List ℕ) (cs : List Came) (ws last : List Word) (rest : List ℕ) → IsSaidFor base w h cs (ws ++ last) → NoNewline rest → IsToldApart ws rest
-said-apart base w h cs ws last rest said clean = told-apart ws rest (each-front Shown ws last (said-shown base w h cs (ws ++ last) said)) clean
+  pub given-apart : (rest : List ℕ) → NoNewline rest → IsToldApart ws rest
+  given-apart rest clean = told-apart ws rest all-shown clean

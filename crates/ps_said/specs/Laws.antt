@@ -1,7 +1,8 @@
 -- That the lines of a sink are told apart: each reads as the reply or as the notice that was said.
-use Rattle.std.specs.Prelude.{◌≡◌, ℕ, ◌++◌, [], List, map}
+use Rattle.std.specs.Prelude.{◌≡◌, ℕ, ◌++◌, [], Bool, List, Some, map, slice_get, take}
 use Rattle.std.specs.List.{AllByRecursion}
 use Rattle.ps_types.specs.Lines.{NoNewline}
+use Rattle.ps_types.specs.declared.entry.Arrival.{Arrival}
 use Rattle.ps_types.specs.declared.entry.Entry.{Entry}
 use Rattle.ps_types.specs.declared.entry.Notice.{Notice}
 use Rattle.ps_types.specs.declared.jid.Jid.{Jid}
@@ -9,23 +10,27 @@ use Rattle.ps_model.specs.CoreLaws.{IsLawful}
 use Rattle.ps_model.specs.Entries.{AreEntries}
 use Rattle.ps_model.specs.Streams as sink
 use Rattle.ps_model.specs.TheCore.{the_core}
-use Rattle.ps_model.specs.World.{World}
-use Rattle.ps_deeds.specs.Lines.{Came, HasLines}
-use Rattle.ps_deeds.specs.Over.{IsFront}
 use Rattle.ps_deeds.specs.Words.{Note, Reply, Word, bytes_of, notes_in, replies_in, text_of}
 
--- a notice goes to an address of the host
-abbrev pub IsTo : List ℕ → Word → Type 0
-IsTo host (Reply text) = Unit {0}
-IsTo host (Note to notice) = to.host ≡ host
+-- the reply to a line at a place of the list
+pub record IsReplyIn (E : List Entry) (text : List ℕ) : Type 0 where
+  pub place : ℕ
+  pub host : List ℕ
+  pub number : ℕ
+  pub arrival : Arrival
+  pub full : Bool
+  pub is : the_core.reply (take place E) host number arrival full ≡ Some text
 
--- These words were said for the host, of whose lines these came. The list of entries is lawful, and each entry has a spelling, as each entry of a store has.
-pub record IsSaidFor (base : List Entry) (w : World) (h : List ℕ) (cs : List Came) (ws : List Word) : Type 0 where
-  pub lawful : IsLawful the_core w.entries
-  pub spelled : AreEntries w.entries
-  pub lines : HasLines the_core base h w cs
-  pub front : IsFront the_core base h w cs ws
-  pub own : AllByRecursion (IsTo h) ws
+-- what the list gives: the reply to a line, or a notice to the address
+abbrev pub IsGiven : List Entry → Word → Type 0
+IsGiven E (Reply text) = IsReplyIn E text
+IsGiven E (Note a n) = (k : ℕ) × (slice_get (the_core.notices E a) k ≡ Some n)
+
+-- A list gives these words. It is lawful, and each of its entries has a spelling, as each entry of a store has.
+pub record AreGiven (E : List Entry) (ws : List Word) : Type 0 where
+  pub lawful : IsLawful the_core E
+  pub spelled : AreEntries E
+  pub each : AllByRecursion (IsGiven E) ws
 
 -- the lines of the notices to the address
 abbrev pub lines_to : Jid → List Word → List (List ℕ)
@@ -39,14 +44,12 @@ pub record IsToldApart (ws : List Word) (rest : List ℕ) : Type 0 where
 -- a sink has the replies and the notices of the words that were written whole
 abbrev pub EachSinkIsToldApart : Type 0
 EachSinkIsToldApart =
-    (base : List Entry) (w : World) (h : List ℕ) (cs : List Came) (ws last : List Word) (rest : List ℕ)
-    → IsSaidFor base w h cs (ws ++ last) → NoNewline rest → IsToldApart ws rest
+    (E : List Entry) (ws : List Word) (rest : List ℕ) → AreGiven E ws → NoNewline rest → IsToldApart ws rest
 
 abbrev pub IsOneLine : Word → Type 0
 IsOneLine v = NoNewline (text_of v)
 
--- each word is one line
+-- each word that a lawful list gives is one line
 abbrev pub EachWordIsOneLine : Type 0
 EachWordIsOneLine =
-    (base : List Entry) (w : World) (h : List ℕ) (cs : List Came) (ws : List Word)
-    → IsSaidFor base w h cs ws → AllByRecursion IsOneLine ws
+    (E : List Entry) (ws : List Word) → IsLawful the_core E → AllByRecursion (IsGiven E) ws → AllByRecursion IsOneLine ws

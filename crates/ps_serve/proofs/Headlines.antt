@@ -146,6 +146,7 @@ module _ {D : Type 0} {g : DiskGhosts D} (disk : D) (service : List ℕ) (hosts 
         since = l.serves.since;
         begins = l.serves.begins;
         enough = enough-durable;
+        are_entries = l.serves.are_entries;
         lasts = λ tells c may. subst (λ (n : ℕ). IsFront w.entries (ends n w.made) c) l.serves.stands.flushed ((l.serves.kept tells).now c may);
         crash = λ tells tidy c left. elim (((l.serves.kept tells).since_start tidy).left c left) [
           | inl may ↦ inl may

@@ -57,6 +57,7 @@ module _ (tells : Type 0) (service : List ℕ) (st : Status) (left left1 : ℕ �
       since = h.list.since;
       begins = h.list.begins;
       enough = h.list.enough;
+      are_entries = h.list.are_entries;
       lasts = h.list.lasts;
       crash = λ told tidy c l. h.list.crash told tidy c (less b.moment c l);
       fronts = λ told tidy pending c l. h.list.fronts told tidy pending c (less b.moment c l);

@@ -1,5 +1,5 @@
 -- What comes of serving streams over a store: one list of entries, of which each reply and each notice tells.
-use Rattle.std.specs.Prelude.{◌≡◌, ◌≢◌, ℕ, ◌+◌, ◌≤◌, ◌++◌, ◌∷◌, [], List, Some, length, slice_get}
+use Rattle.std.specs.Prelude.{◌≡◌, ◌≢◌, ℕ, ◌+◌, ◌≤◌, ◌++◌, ◌∷◌, [], List, Some, length, slice_get, take}
 use Rattle.ps_base.specs.Causes.{Rose}
 use Rattle.ps_types.specs.declared.entry.Entry.{Entry}
 use Rattle.ps_types.specs.declared.entry.Entry.TheVariants.{Boot}
@@ -8,6 +8,7 @@ use Rattle.ps_disk.specs.Disk.{MayLeave}
 use Rattle.ps_model.specs.At.{IsDamagedAt, IsStore}
 use Rattle.ps_model.specs.Core.{handed}
 use Rattle.ps_model.specs.CoreLaws.{IsLawful}
+use Rattle.ps_model.specs.Entries.{AreEntries}
 use Rattle.ps_model.specs.Store.{spelled}
 use Rattle.ps_model.specs.TheCore.{the_core}
 use Rattle.ps_model.specs.World.{World, durable}
@@ -56,8 +57,8 @@ pub record Idle (tells : Type 0) (service : List ℕ) (old new : HeldStore) (lef
 
 -- ---- streams were served
 
--- One list of entries: it is lawful, and begins with the entries of the store and the Boot. A crash leaves a front of it that has all durable entries, and at
--- any moment since the start one that has all entries of the store.
+-- One list of entries: it is lawful, and begins with the entries of the store and the Boot. A crash leaves a front of it that has all durable entries, each with
+-- a spelling, and at any moment since the start one that has all entries of the store.
 pub record HasOneList (tells : Type 0) (o : Origin) (w : World) (old new : HeldStore) (left : ℕ → List ℕ → Type 0)
     : Type 0 where
   pub was : tells → IsStore old.seen o.list
@@ -65,6 +66,7 @@ pub record HasOneList (tells : Type 0) (o : Origin) (w : World) (old new : HeldS
   pub since : List Entry
   pub begins : w.entries ≡ base_of o ++ since
   pub enough : length (base_of o) ≤ durable w
+  pub are_entries : tells → AreEntries (take (durable w) w.entries)
   pub lasts : tells → (c : List ℕ) → MayLeave new.synced new.written c → IsFront w.entries (durable w) c
   pub crash : tells → IsTidy old.seen → LeftSince old left w.entries (length o.list)
   pub fronts : tells → IsTidy old.seen → FrontsSince old new left
@@ -81,8 +83,8 @@ pub record HasEnded (tells : Type 0) (o : Origin) (w : World) (worked : List Wor
   pub served : IsServing status
 
 -- All streams were served over one list of entries, each as `ServesStream` says: its lines stand in the list in their order, and its sink has their replies and
--- the notices of its host. Where the store took all and memory did not run out, all is said for each stream whose writer finished. An address of another host
--- keeps its notices.
+-- the notices of its host, which are read back from its bytes. Where the store took all and memory did not run out, all is said for each stream whose writer
+-- finished. An address of another host keeps its notices.
 pub record Headline (tells : Type 0) (service : List ℕ) (hosts : List (List ℕ)) (worked : List Worked)
     (old new : HeldStore) (left : ℕ → List ℕ → Type 0) (status : Status) : Type 0 where
   pub origin : Origin
@@ -93,8 +95,8 @@ pub record Headline (tells : Type 0) (service : List ℕ) (hosts : List (List �
   pub len : ℕ
   pub list : HasOneList tells origin world old new left
   pub streams : (i : ℕ) (h : List ℕ) (t : Worked) → slice_get hosts i ≡ Some h → slice_get worked i ≡ Some t
-      → (s : ServesStream origin (len + 5) world h t)
-      × (IsOfStreams status → t.wrote ≡ Finished → IsAllSaid origin world h (len + 5) t s)
+      → (s : ServesStream origin tells (len + 5) world h t)
+      × (IsOfStreams status → t.wrote ≡ Finished → IsAllSaid origin tells world h (len + 5) t s)
   pub others : (a : Jid) → (IsServed hosts a.host → ⊥)
       → handed world.entries a ≡ handed (base_of origin) a
   pub ended : HasEnded tells origin world worked old new len status

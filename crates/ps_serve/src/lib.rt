@@ -7,8 +7,8 @@
 //! says. `HasOneList`: there is one list of entries, lawful, which begins with the entries of the store and a Boot; a crash leaves a front of it that has all
 //! that is durable, and a crash at any moment since the run's start a front that has all entries of the store. `ServesStream` (of ps_workers), for each
 //! stream: its lines that came are the first of its source, each answered at its place, no older than the stream's earlier ones; its sink has a front of
-//! their replies, and of each address's notices just those after the ones that were recorded before; what was written rests on durable entries.
-//! `IsAllSaid`: nothing is left to say, where the store took all and the stream's writer finished. `HasEnded`: the cause of each status. Where no line came
+//! their replies, and of each address's notices just those after the ones that were recorded before; what was written rests on durable entries; and so it
+//! reads, the replies and the other stanzas to each address told apart by the bytes of the sink (`ReadsBack`). `IsAllSaid`: nothing is left to say, where the store took all and the stream's writer finished. `HasEnded`: the cause of each status. Where no line came
 //! (`RanIdle`) the entries of the store stand, with or without the Boot; where an opening failed nothing has changed (`Untouched`).
 //!
 //! A rehearsal (ps_rehearse) is a run of two streams in memory, of which five numbers are reported; `specs/Numbers.antt` has their lines, `specs/Came.antt` what

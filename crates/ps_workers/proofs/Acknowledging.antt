@@ -37,7 +37,7 @@ replied-append : (cs ds : List Came) → replied (cs ++ ds) ≡ replied cs ++ re
 replied-append [] ds = refl
 replied-append (c ∷ cs) ds = ap (λ l. if_replied c.reply c l) (replied-append cs ds) ∙ if-append c.reply c (replied cs) (replied ds)
 
-take-get : {X : Type 0} (n : ℕ) (xs : List X) (k : ℕ) (x : X) → slice_get (take n xs) k ≡ Some x → (k < n) × (slice_get xs k ≡ Some x)
+pub take-get : {X : Type 0} (n : ℕ) (xs : List X) (k : ℕ) (x : X) → slice_get (take n xs) k ≡ Some x → (k < n) × (slice_get xs k ≡ Some x)
 take-get zero xs k x e = absurd (cc e)
 take-get (suc n) [] k x e = absurd (cc e)
 take-get (suc n) (y ∷ xs) zero x e = (omega arith, e)

@@ -2,6 +2,9 @@ pub mod Acknowledging
 pub mod Leaving
 pub mod Filling
 pub mod Heading
+pub mod Spelled
+pub mod Given
+pub mod ReadBack
 pub mod Jobs
 pub mod Parting
 pub mod Teaming

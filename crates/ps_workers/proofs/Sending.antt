@@ -41,6 +41,7 @@ use Rattle.ps_state.specs.contracts.state.State as State
 use Rattle.ps_disk.specs.declared.device.Disk as Disk
 use Rattle.ps_twin.proofs.twin.Twin.TheSendSync as twin
 use Rattle.ps_twin.proofs.twin.TwinSeat.TheSendSync as seat
+use Rattle.ps_shared.proofs.bell.Bells.TheSendSync as bells
 use Rattle.ps_shared.proofs.home.Archive.TheSendSync as archive
 use Rattle.ps_shared.specs.contracts.hall.Hall as Hall
 use Rattle.ps_shared.specs.contracts.hall.Pass as Pass
@@ -105,11 +106,11 @@ module _ (B D : RattleType) (g : Disk.Ghosts D.Denot) (b : IsSend B) (d : IsSend
   seated = seat.the_send (Home.the_row B) (Archive.the_row B D g) Deed.the_row (home B b) stored
 
   pub pass : IsSend (Pass.the_row B D g)
-  pass = declared_send (Pass.the_type B D g) (seated, (search (std.crosses, sendable), (text.the_send, (search (jid.the_send, std.crosses, sendable) depth 20, tt))))
+  pass = declared_send (Pass.the_type B D g) (seated, (search (std.crosses, sendable), (text.the_send, (search (jid.the_send, std.crosses, sendable) depth 20, (search (std.crosses, sendable) depth 20, tt)))))
 
   module _ (o : Opening.Ghosts B.Denot) where
     room : IsSend (Room.the_row B D o g)
     room = declared_send (Room.the_type B D o g) (search (seated, std.crosses, sendable) depth 20, tt)
 
     pub hall : IsSync (Hall.the_row B D o g)
-    hall = declared_sync (Hall.the_type B D o g) (twin.the_sync (Home.the_row B) (Archive.the_row B D g) Deed.the_row _ (record { stands = _; maker = λ d. d.by; firm = _; mark = _ }) (home B b) stored, (search (room, std.crosses, sendable) depth 20, (search (std.crosses, sendable) depth 20, tt)))
+    hall = declared_sync (Hall.the_type B D o g) (twin.the_sync (Home.the_row B) (Archive.the_row B D g) Deed.the_row _ (record { stands = _; maker = λ d. d.by; firm = _; mark = _ }) (home B b) stored, (search (room, std.crosses, sendable) depth 20, (bells.the_sync, tt)))

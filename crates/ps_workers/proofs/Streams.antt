@@ -10,8 +10,10 @@ use Rattle.ps_wire.specs.declared.lines.Lines.{Lines}
 use Rattle.ps_wire.specs.declared.streams.Source.{Ghosts as SourceGhosts}
 use Rattle.ps_outside.specs.Held.{Held, HeldClock}
 use Rattle.ps_ports.specs.declared.port.Port.{Port}
+use Rattle.ps_model.specs.Entries.{AreEntries}
 use Rattle.ps_model.specs.Machine.{start}
 use Rattle.ps_model.specs.TheCore.{the_core}
+use Rattle.ps_model.specs.World.{durable}
 use Rattle.ps_model.proofs.TheLaws.{the-laws}
 use Rattle.ps_world.proofs.Following.{run_follows}
 use Rattle.ps_twin.specs.Seats.{number_of, seen_of}
@@ -26,6 +28,7 @@ use Rattle.ps_shared.specs.Passes.{AreFresh, ArePasses, OurTwin, seats_in}
 use Rattle.ps_shared.specs.declared.hall.HostPasses.{HostPasses}
 use Rattle.ps_shared.specs.declared.hall.Pass.{Pass}
 use Rattle.ps_state.specs.declared.state.State.{State}
+use Rattle.ps_store.specs.Stand.{disk_in}
 use Rattle.ps_store.specs.declared.store.Store.{Store}
 use Rattle.ps_workers.specs.Closing.{HasEnded}
 use Rattle.ps_workers.specs.Headline.{NoneBroke, Serves, Worked}
@@ -34,6 +37,7 @@ use Rattle.ps_workers.specs.Working.{DidWork, IsReady, ReaderMade, WriterMade}
 use Rattle.ps_workers.specs.declared.serving.Ended.{Ended}
 use Rattle.ps_workers.specs.declared.work.Worker.{Worker}
 use Rattle.ps_workers.proofs.Heading.{HasSeen, has_seen, serves_stream}
+use Rattle.ps_workers.proofs.Spelled.{durable-spelled}
 use Rattle.ps_workers.proofs.Teaming.{AllDid, all_did, are_paired, ended_size, made_at, passes_back, seats_at, team_length, team_ready, worked_size}
 
 get_there : {X : Type 0} (xs : List X) (k : ℕ) → k < length xs → (x : X) × (slice_get xs k ≡ Some x)
@@ -83,6 +87,9 @@ module _ {B D S C K : Type 0} {g : Ghosts D} {s : SourceGhosts S} (o : Origin) (
         (record { seen = seen_of m.1.reader.seat; after = kept.after; done = m.3.reader.read.done (none i x.0 x.1).0 tt tt; is = kept.is; none = kept.none });
   }
 
+  spelled : g.tells → AreEntries (take (durable (world_at o ended.log)) (world_at o ended.log).entries)
+  spelled tells = durable-spelled g o.at (disk_in y) v.flushed (world_at o ended.log) (ended.kept tells) ended.stands.flushed
+
   pub serves : Serves o v y worked
   serves =
       let w = world_at o ended.log in
@@ -93,6 +100,7 @@ module _ {B D S C K : Type 0} {g : Ghosts D} {s : SourceGhosts S} (o : Origin) (
         since = on.more;
         begins = on.entries;
         kept = ended.kept;
+        are_entries = spelled;
         whole = ended.whole;
         length_is = ended.length_is;
         limits = ended.limits;
@@ -105,7 +113,7 @@ module _ {B D S C K : Type 0} {g : Ghosts D} {s : SourceGhosts S} (o : Origin) (
         streams = λ i h x here there.
             let m = made_at o t clock_of sink_of ps ports ws same all passes i x there in
             let host : m.0 ≡ h = some_same m.0 h (sym m.3.here ∙ here) in
-            let r = serves_stream o ended.log ended.lawful ended.named ended.owned differ (v.length + 5) ended.full i h here x (seen_of m.1.reader.seat) (seen_of m.1.writer.seat)
+            let r = serves_stream o ended.log ended.lawful ended.named ended.owned differ (v.length + 5) ended.full i h here g.tells spelled x (seen_of m.1.reader.seat) (seen_of m.1.writer.seat)
             (subst (λ (k : List ℕ). ReaderMade o k (i + i) (seen_of m.1.reader.seat) x.source x.source_now x.clock x.clock_now x.read) host m.3.reader) (seen_reader i m.1 m.2)
             (subst (λ (k : List ℕ). WriterMade o k (i + i + 1) (seen_of m.1.writer.seat) x.sink x.sink_now x.wrote) host m.3.writer) (seen_writer i m.1 m.2) in
             (r.0, λ none finished. r.1 (all_read none) finished);

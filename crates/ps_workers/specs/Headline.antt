@@ -1,12 +1,14 @@
 -- What is served of the streams of a hall, by the world at its end.
-use Rattle.std.specs.Prelude.{◌≡◌, ◌≢◌, ◌⊎◌, ℕ, ◌+◌, ◌<◌, ◌≤◌, ◌^◌, ◌++◌, ◌∷◌, [], true, false, List, Option, Some, None, is_some, length, map, slice_get}
+use Rattle.std.specs.Prelude.{◌≡◌, ◌≢◌, ◌⊎◌, ℕ, ◌+◌, ◌<◌, ◌≤◌, ◌^◌, ◌++◌, ◌∷◌, [], true, false, List, Option, Some, None, is_some, length, map, slice_get, take}
 use Rattle.std.specs.Io.KnownBytes.{Consumes}
+use Rattle.std.specs.List.{AllByRecursion}
 use Rattle.ps_base.specs.Causes.{Rose}
 use Rattle.ps_types.specs.declared.jid.Jid.{Jid}
 use Rattle.ps_types.specs.declared.entry.Entry.{Entry}
 use Rattle.ps_types.specs.declared.entry.Entry.TheVariants.{Boot}
 use Rattle.ps_disk.specs.declared.device.Disk.{Ghosts}
 use Rattle.ps_model.specs.Core.{handed}
+use Rattle.ps_model.specs.Entries.{AreEntries}
 use Rattle.ps_model.specs.TheCore.{the_core}
 use Rattle.ps_model.specs.World.{World, durable}
 use Rattle.ps_outside.specs.Held.{Held, HeldClock}
@@ -14,6 +16,7 @@ use Rattle.ps_deeds.specs.Lines.{Came, HasLines}
 use Rattle.ps_deeds.specs.Over.{IsComplete, IsFront}
 use Rattle.ps_deeds.specs.Own.{IsServed}
 use Rattle.ps_deeds.specs.Words.{Word, notes_in}
+use Rattle.ps_said.specs.Laws.{IsOneLine}
 use Rattle.ps_shared.specs.Origin.{Origin}
 use Rattle.ps_shared.specs.declared.answers.EndCause.{EndCause}
 use Rattle.ps_shared.specs.declared.answers.EndCause.TheVariants.{WriteFault, Finished, Store as WriterStore}
@@ -26,6 +29,7 @@ use Rattle.ps_streams.specs.Reading.{Lined, says_gone}
 use Rattle.ps_streams.specs.Speaking.{IsFew, Written}
 use Rattle.ps_streams.specs.declared.read.ReadEnd.{ReadEnd}
 use Rattle.ps_streams.specs.declared.read.ReadEnd.TheVariants.{Ended, Long, ReadFault, Store as ReaderStore}
+use Rattle.ps_workers.specs.Sinks.{OfGained, ReadsBack, ReadsWhole}
 use Rattle.ps_workers.specs.Told.{AreFull, AreOurs, HasGoneBehind, IsAcknowledged}
 
 -- ---- a stream
@@ -57,34 +61,37 @@ pub record HasCauses (t : Worked) : Type 0 where
   pub write_later : t.sink.faults ≤ t.sink_now.faults
   pub write_fault : t.wrote ≡ WriteFault → Rose t.sink.faults t.sink_now.faults
 
-module _ (o : Origin) where
-  -- the list that the store had, and the Boot
-  abbrev pub base_of : List Entry
-  base_of = o.list ++ Boot o.boot ∷ []
+-- the list that the store had, and the Boot
+abbrev pub base_of : Origin → List Entry
+base_of o = o.list ++ Boot o.boot ∷ []
 
+module _ (o : Origin) (tells : Type 0) where
   -- The stream's lines stand in the list in their order, each answered at its place; its sink has a front of their replies, and of each address's notices
   -- those after the ones that were recorded before, all that are recorded since and at most one more, and no notice to another host; and all that was written is
-  -- durable.
+  -- durable. Where the disk tells its bytes, what the sink has gained reads so.
   pub record ServesStream (bytes : ℕ) (w : World) (h : List ℕ) (t : Worked) : Type 0 where
     pub lines : List Came
     pub whole : List Word
     pub last : List Word
-    pub stand : HasLines the_core base_of h w lines
+    pub stand : HasLines the_core (base_of o) h w lines
     pub lined : Lined t.read t.source.bytes t.source_now.bytes t.clock.told t.clock_now.told (map (λ (c : Came). c.arrival) lines)
     pub full : AreFull o.limits.changes bytes w.entries h 1 lines
     pub written : Written t.sink.bytes t.sink_now.bytes whole last
     pub few : IsFew last
     pub cut : (last ≡ []) ⊎ (t.wrote ≡ WriteFault)
-    pub front : IsFront the_core base_of h w lines (whole ++ last)
+    pub front : IsFront the_core (base_of o) h w lines (whole ++ last)
     pub ours : AreOurs h (whole ++ last)
-    pub recorded : (a : Jid) → a.host ≡ h → handed w.entries a ≤ handed base_of a + length (notes_in a whole)
+    pub recorded : (a : Jid) → a.host ≡ h → handed w.entries a ≤ handed (base_of o) a + length (notes_in a whole)
     pub acknowledged : IsAcknowledged (durable w) h lines (whole ++ last)
-    pub gone : says_gone t.read ≡ true → HasGoneBehind base_of w.entries h
+    pub one_line : AllByRecursion IsOneLine (whole ++ last)
+    pub reads_back : tells → OfGained t.sink.bytes t.sink_now.bytes (ReadsBack (base_of o) w.entries h lines)
+    pub gone : says_gone t.read ≡ true → HasGoneBehind (base_of o) w.entries h
     pub causes : HasCauses t
 
-  -- nothing is left to say or to record for it
-  abbrev pub IsAllSaid : (w : World) (h : List ℕ) (bytes : ℕ) (t : Worked) → ServesStream bytes w h t → Type 0
-  IsAllSaid w h bytes t s = IsComplete the_core base_of h w s.lines (s.whole ++ s.last)
+  -- nothing is left to say or to record for it, and all of it is read back
+  pub record IsAllSaid (w : World) (h : List ℕ) (bytes : ℕ) (t : Worked) (s : ServesStream bytes w h t) : Type 0 where
+    pub complete : IsComplete the_core (base_of o) h w s.lines (s.whole ++ s.last)
+    pub reads_whole : tells → OfGained t.sink.bytes t.sink_now.bytes (ReadsWhole (base_of o) w.entries h s.lines)
 
 -- ---- all streams
 
@@ -92,15 +99,16 @@ module _ (o : Origin) where
 abbrev pub NoneBroke : List Worked → Type 0
 NoneBroke worked = (i : ℕ) (t : Worked) → slice_get worked i ≡ Some t → (t.read ≢ ReaderStore) × (t.wrote ≢ WriterStore)
 
--- The list of entries is lawful and begins with what the store had and the Boot. A crash leaves a front of it that has all durable entries, and where nothing
--- failed the store has all of it. Each stream is served so, and where no worker met a fault of the disk, all is said for a stream whose writer finished. An
--- address of a host that is not served keeps its notices.
+-- The list of entries is lawful and begins with what the store had and the Boot. A crash leaves a front of it that has all durable entries, each of which has a
+-- spelling, and where nothing failed the store has all of it. Each stream is served so, and where no worker met a fault of the disk, all is said for a stream
+-- whose writer finished. An address of a host that is not served keeps its notices.
 pub record Serves {D : Type 0} {g : Ghosts D} (o : Origin) (v : State) (y : Store D g) (worked : List Worked) : Type 0 where
   pub world : World
   pub stands : Stands v world
   pub since : List Entry
   pub begins : world.entries ≡ base_of o ++ since
   pub kept : g.tells → IsKept g o.at (disk_in y) v.flushed world
+  pub are_entries : g.tells → AreEntries (take (durable world) world.entries)
   pub whole : v.broken ≡ false → broken_in y ≡ None → IsWhole y world
   pub length_is : v.broken ≡ false → broken_in y ≡ None → v.length ≡ length_in y
   pub limits : v.limits ≡ o.limits
@@ -111,5 +119,6 @@ pub record Serves {D : Type 0} {g : Ghosts D} (o : Origin) (v : State) (y : Stor
   pub grows : o.at.bytes ≤ length_in y
   pub size : length worked ≡ length o.hosts
   pub streams : (i : ℕ) (h : List ℕ) (t : Worked) → slice_get o.hosts i ≡ Some h → slice_get worked i ≡ Some t
-      → (s : ServesStream o (v.length + 5) world h t) × (NoneBroke worked → t.wrote ≡ Finished → IsAllSaid o world h (v.length + 5) t s)
+      → (s : ServesStream o g.tells (v.length + 5) world h t)
+      × (NoneBroke worked → t.wrote ≡ Finished → IsAllSaid o g.tells world h (v.length + 5) t s)
   pub others : (a : Jid) → (IsServed o.hosts a.host → ⊥) → handed world.entries a ≡ handed (base_of o) a

@@ -1,4 +1,5 @@
 pub mod Told
+pub mod Sinks
 pub mod Headline
 pub mod Working
 pub mod Teams

@@ -8,15 +8,17 @@
 //! What it promises (`specs/Headline.antt`, `Serves`) is told of the world at the end and of what each source, clock and sink told before and after, and of
 //! nothing between:
 //!
-//! - The list of entries is lawful and begins with what the store had and a Boot. A crash leaves a front of it that has all durable entries; where nothing
-//!   failed the store has all of it.
+//! - The list of entries is lawful and begins with what the store had and a Boot. A crash leaves a front of it that has all durable entries, each with a
+//!   spelling; where nothing failed the store has all of it.
 //! - `ServesStream`: the lines of a stream stand in the list in their order, each answered at its place; its sink has a front of their replies, and of each
 //!   address's notices those after the ones that were recorded before, all that are recorded since and at most one more; `IsAcknowledged`, all that was written
 //!   rests on durable entries; `AreFull`, a line that found no room would have passed the limit; `HasCauses`, why its workers ended.
-//! - `IsAllSaid`: where no worker met a fault of the disk, nothing is left to say or to record for a stream whose writer finished.
+//! - `ReadsBack`: where the disk and the sink tell, the replies that stand in the bytes that the sink has gained are a front of those of the lines, and the other
+//!   stanzas to each address of the host are just those notices. Each of both is one line.
+//! - `IsAllSaid`: where no worker met a fault of the disk, nothing is left to say or to record for a stream whose writer finished; its sink has all (`ReadsWhole`).
 //! - An address of a host that is not served keeps its notices.
 //!
-//! `specs/Told.antt` has the words for a host's lines, `specs/Working.antt` what one worker is given and makes, `specs/Teams.antt` the workers of all hosts,
+//! `specs/Told.antt` has the words for a host's lines, `specs/Sinks.antt` those for the bytes of its sink, `specs/Working.antt` what one worker is given and makes, `specs/Teams.antt` the workers of all hosts,
 //! `specs/Closing.antt` what the state and the store are at the end.
 //!
 //! Nothing is promised of waiting: not that a worker comes to its end, nor when.
