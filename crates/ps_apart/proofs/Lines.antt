@@ -19,7 +19,7 @@ use Rattle.ps_types.proofs.Same.{same_jid-Decides}
 use Rattle.ps_model.specs.Book.{empty_state}
 use Rattle.ps_model.specs.NoticeTrees.{with_id}
 use Rattle.ps_model.specs.Numbers.{counter_of}
-use Rattle.ps_model.specs.Replay.{lawful_based, notices, of_bare}
+use Rattle.ps_model.specs.Replay.{lawful, notices, of_bare}
 use Rattle.ps_model.specs.Stanza.{has_type, is_iq, is_message}
 use Rattle.ps_model.proofs.NumberLaws.{numbers-rise}
 use Rattle.ps_deeds.specs.Words.{Word, Reply, Note, notes_in, replies_in}
@@ -127,7 +127,7 @@ bare-few : (r : List ℕ) (ns : List Notice) → length (of_bare r ns) ≤ lengt
 bare-few [] ns = omega arith
 bare-few (x ∷ r) ns = omega arith
 
-module _ (seed : ℕ) (service : List ℕ) (F : List Entry) (are : Each (IsDealt seed) F) (based : lawful_based (Boot service ∷ F)) where
+module _ (seed : ℕ) (service : List ℕ) (F : List Entry) (are : Each (IsDealt seed) F) (based : lawful (Boot service ∷ F)) where
   abbrev E : List Entry
   E = Boot service ∷ F
 

@@ -14,7 +14,7 @@ use Rattle.ps_model.specs.Check.{check}
 use Rattle.ps_model.specs.Commits.{commits}
 use Rattle.ps_model.specs.Outcome.{Outcome}
 use Rattle.ps_model.specs.Outcome as outcome
-use Rattle.ps_model.specs.Replay.{AreAcceptedFrom, accepted, replay, replay_from}
+use Rattle.ps_model.specs.Replay.{IsLawfulFrom, accepted, replay, replay_from}
 use Rattle.ps_model.specs.Replies.{entry_by, entry_of, outcome_entry}
 use Rattle.ps_model.specs.Taken.{Taken}
 use Rattle.ps_model.specs.Taken as taken
@@ -126,6 +126,6 @@ each-dealt seed (Change g line m t ∷ F) are a b =
     by (suc zero) e = first (let same : host_name 1 ≡ g = cc e in sym same)
     by (suc (suc i)) e = absurd (cc e)
 
-pub sound-of : (seed : ℕ) (F : List Entry) (s : State) → AreAcceptedFrom accepted s F → Each (IsDealt seed) F → Sound seed s F
+pub sound-of : (seed : ℕ) (F : List Entry) (s : State) → IsLawfulFrom s F → Each (IsDealt seed) F → Sound seed s F
 sound-of seed [] s ok are = tt
 sound-of seed (e ∷ F) s ok are = (ok.0, are.0, sound-of seed F (after s e) ok.1 are.1)

@@ -9,10 +9,10 @@ use Rattle.ps_types.specs.declared.entry.Notice.{Notice}
 use Rattle.ps_types.specs.declared.jid.Jid.{Jid}
 use Rattle.ps_model.specs.After.{after, notices_at}
 use Rattle.ps_model.specs.Book.{State, empty_state}
-use Rattle.ps_model.specs.Replay.{lawful, lawful_based, notices_from, of_bare, replay}
+use Rattle.ps_model.specs.Replay.{lawful, notices_from, of_bare, replay}
 use Rattle.ps_model.specs.TheCore.{the_core}
 use Rattle.ps_model.specs.World.{World}
-use Rattle.ps_model.proofs.TheLaws.{todays-lawful, todays-places}
+use Rattle.ps_model.proofs.TheLaws.{places-of}
 use Rattle.ps_deeds.specs.Lines.{AreLines, Came, changes_of, entries_of}
 use Rattle.ps_deeds.specs.Over.{IsComplete}
 use Rattle.ps_deeds.specs.Words.{Word, notes_in, replies_in}
@@ -129,7 +129,7 @@ module _ (seed count : ℕ) (short : count < 2 ^ 64) (w : World) (cs ds : List C
 
   sound : Sound seed (replay begun) is.first.stand.since
   sound =
-      let ok : lawful (begun ++ is.first.stand.since) = subst lawful is.first.stand.list (todays-places w.entries is.lawful) in
+      let ok : lawful (begun ++ is.first.stand.since) = subst lawful is.first.stand.list (places-of w.entries is.lawful) in
       sound-of seed is.first.stand.since (replay begun) ok.1 are
 
   stands-a : Stands seed count short true begun is.first.stand.since 1 0 cs
@@ -217,8 +217,8 @@ module _ (seed count : ℕ) (short : count < 2 ^ 64) (w : World) (cs ds : List C
       let y = tally-low false seed count (omega (arith, short)) in
       omega (arith, h, a, b, x, y, short)
 
-  based : lawful_based (begun ++ is.first.stand.since)
-  based = todays-lawful (begun ++ is.first.stand.since) (subst lawful is.first.stand.list (todays-places w.entries is.lawful))
+  based : lawful (begun ++ is.first.stand.since)
+  based = subst lawful is.first.stand.list (places-of w.entries is.lawful)
 
   read : (host : List ℕ) (xs : List Came) (us : List Word) → IsComplete the_core begun host w xs us → Each (IsTo host) us → AreNotices us
   unfolding the_core

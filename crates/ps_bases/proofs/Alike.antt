@@ -15,7 +15,7 @@ use Rattle.ps_model.specs.BaseRead.{row_of}
 use Rattle.ps_model.specs.BaseRows.{BaseRow, node, affiliation, subscription, item, link, contact, ver, made, counter, notice}
 use Rattle.ps_model.specs.Book.{Book, State}
 use Rattle.ps_model.specs.Numbered.{numbered, tallied, row_notices, row_tallies, notice_of}
-use Rattle.ps_model.specs.Replay.{IsLawfulFrom, accepted_at, notices_from, of_bare, replay_from, request_accepted, row_accepted, to_address}
+use Rattle.ps_model.specs.Replay.{IsLawfulFrom, accepted, notices_from, of_bare, replay_from, request_accepted, row_accepted, to_address}
 use Rattle.ps_model.specs.Taking.{request_in, tree_taken}
 use Rattle.ps_model.specs.Tallies.{handed_to, made_for, more_made, one_handed, tallies_with, is_next_line}
 use Rattle.ps_model.proofs.TallyLaws.{handed-kept, handed-made, handed-one, handed-set, made-handed, made-kept, made-more, made-set}
@@ -135,7 +135,7 @@ row-accepts-same : (o : Option BaseRow) (s t : State) → IsLike s t → row_acc
 row-accepts-same None s t like = refl
 row-accepts-same (Some r) s t like = accepts-same r s t like
 
-pub accepted-same : (e : Entry) (s t : State) → IsLike s t → accepted_at s e ≡ accepted_at t e
+pub accepted-same : (e : Entry) (s t : State) → IsLike s t → accepted s e ≡ accepted t e
 accepted-same (Boot service) s t like = refl
 accepted-same (Change host line moment tr) s t like =
     ap₂ (λ (b : Book) (ls : List LineRow). nat_lt 0 (length b.service) && request_accepted (request_in (tree_taken host b.service tr)) b && is_next_line host line ls) like.book like.lines

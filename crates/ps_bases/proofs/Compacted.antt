@@ -13,7 +13,7 @@ use Rattle.ps_model.specs.BaseRows.{BaseRow, row_tree}
 use Rattle.ps_model.specs.Book.{Book, State, empty_state}
 use Rattle.ps_model.specs.Core.{handed}
 use Rattle.ps_model.specs.Numbered.{row_notices}
-use Rattle.ps_model.specs.Replay.{lawful_based, notices_from, of_bare, replay_from, to_address}
+use Rattle.ps_model.specs.Replay.{lawful, notices_from, of_bare, replay_from, to_address}
 use Rattle.ps_model.specs.Replies.{reply_to, entry_of}
 use Rattle.ps_model.proofs.Going.{notices-append, replay-append}
 use Rattle.ps_bases.specs.Laws.{ServesOn}
@@ -83,7 +83,7 @@ boot-told service F s t a like =
     ap (λ (ns : List Notice). map told_of (ns ++ x)) (to-none a.resource) ∙ like-told F (step.after t (Boot service)) (step.after s (Boot service)) like a
     ∙ sym (ap (λ (ns : List Notice). map told_of (ns ++ y)) (to-none a.resource))
 
-pub serves-on : (E : List Entry) → lawful_based E → IsSoundBook (replay_from empty_state E).book → AreSoundNumbers (replay_from empty_state E).tallies (unhanded E) → Each ReadBack (rows_of E) → Each (λ r. is_well_formed r ≡ true) (rows_of E)
+pub serves-on : (E : List Entry) → lawful E → IsSoundBook (replay_from empty_state E).book → AreSoundNumbers (replay_from empty_state E).tallies (unhanded E) → Each ReadBack (rows_of E) → Each (λ r. is_well_formed r ≡ true) (rows_of E)
     → ((a : Jid) → handed E a ≤ length (notices_from empty_state E a))
     → ((a : Jid) → to_address a (flat_map (unhanded E) (told_addresses (replay_from empty_state E).tallies)) ≡ unhanded E a)
     → ServesOn E (base E)
@@ -95,7 +95,7 @@ serves-on E is sound numbers reads formed few own =
     let t = replay_from empty_state B in
     let at : t ≡ with_rows empty_state rows = rows-replay rows empty_state reads in
     let asleep : IsAsleep s t = subst (λ (x : State). IsAsleep s x) (sym at) whole.asleep in
-    let lawful-base : lawful_based B = rows-lawful rows empty_state refl reads formed whole.accepted in
+    let lawful-base : lawful B = rows-lawful rows empty_state refl reads formed whole.accepted in
     let like : (service : List ℕ) → IsLike (step.after s (Boot service)) (step.after t (Boot service)) = λ service. woken service s t asleep in
     let ekil : (service : List ℕ) → IsLike (step.after t (Boot service)) (step.after s (Boot service)) = λ service. woken service t s (turned-asleep s t asleep) in
     let books : (service : List ℕ) (F : List Entry) → (replay_from empty_state (E ++ Boot service ∷ F)).book ≡ (replay_from empty_state (B ++ Boot service ∷ F)).book =

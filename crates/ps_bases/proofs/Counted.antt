@@ -17,7 +17,7 @@ use Rattle.ps_model.specs.Book.{State, empty_state}
 use Rattle.ps_model.specs.Core.{handed}
 use Rattle.ps_model.specs.Numbered.{row_tallies, tallied}
 use Rattle.ps_model.specs.Numbers.{counter_in, counter_of}
-use Rattle.ps_model.specs.Replay.{IsLawfulFrom, accepted_at, is_booted, lawful_based, replay, replay_from, row_accepted}
+use Rattle.ps_model.specs.Replay.{IsLawfulFrom, accepted, is_booted, lawful, replay, replay_from, row_accepted}
 use Rattle.ps_model.specs.Tallies.{handed_to, made_for, more_made, one_handed}
 use Rattle.ps_model.proofs.NumberLaws.{handed-has-one, handed-is-bare}
 use Rattle.ps_model.proofs.TallyLaws.{handed-kept, handed-made, handed-one, handed-set, made-handed, made-kept, made-like, made-more, made-set, same_bare-Decides, same_bare-turned}
@@ -111,7 +111,7 @@ module _ (a : Jid) (bare : a.resource ≡ []) where
       let same : b ≡ a = (same_jid-Decides b a).0 f in
       absurd (true≢false (sym ((same_bare-Decides a b).1 (ap (λ (j : Jid). j.local) (sym same), ap (λ (j : Jid). j.host) (sym same))) ∙ e))
 
-  handed-more : (b : Jid) (s : State) → accepted_at s (Handed b) ≡ true → handed_to a (one_handed b s.tallies) ≡ handed_to a s.tallies + cond (same_jid b a) 1 0
+  handed-more : (b : Jid) (s : State) → accepted s (Handed b) ≡ true → handed_to a (one_handed b s.tallies) ≡ handed_to a s.tallies + cond (same_jid b a) 1 0
   handed-more b s ok = handed-one a b s.tallies (same_bare a b) refl ∙ ap (λ t. handed_to a s.tallies + cond t 1 0) (bare-test b (handed-is-bare s b ok) (same_bare a b) (same_jid b a) refl refl)
 
   count-one : (t : Bool) (x n : ℕ) → x + cond t 1 0 + n ≡ x + cond t (suc n) n
@@ -173,7 +173,7 @@ module _ (a : Jid) (bare : a.resource ≡ []) where
       let kept = p.handed ∙ none in
       rest-on E (step.after s (Base row)) is kept (λ still. more still kept) (made_for a (row_tallies (row_of row) s.tallies)) refl ∙ ap (λ n. n + handed E a) (sym (p.skips (counter_of E a)))
 
-  handed-none : (b : Jid) (E : List Entry) (s : State) → accepted_at s (Handed b) ≡ true → made_for a s.tallies ≡ 0 → handed_to a s.tallies ≡ 0 → (t : Bool) → same_jid b a ≡ t
+  handed-none : (b : Jid) (E : List Entry) (s : State) → accepted s (Handed b) ≡ true → made_for a s.tallies ≡ 0 → handed_to a s.tallies ≡ 0 → (t : Bool) → same_jid b a ≡ t
       → (made_for a (step.after s (Handed b)).tallies ≡ 0 → handed_to a (step.after s (Handed b)).tallies ≡ 0 → None-on (step.after s (Handed b)) E) → None-on s (Handed b ∷ E)
   unfolding None-on
   handed-none b E s ok nought none true e more =
@@ -199,6 +199,6 @@ module _ (a : Jid) (bare : a.resource ≡ []) where
   none-on (Base row ∷ E) s is nought none =
       base-none row E s is.1 none (row-kind (row_of row) s (and_parts (not (is_booted s)) (row_accepted (row_of row) s) is.0).1) (λ still kept. none-on E (step.after s (Base row)) is.1 still kept)
 
-  pub handed-counted : (E : List Entry) → lawful_based E → handed_to a (replay E).tallies ≡ counter_of E a + handed E a
+  pub handed-counted : (E : List Entry) → lawful E → handed_to a (replay E).tallies ≡ counter_of E a + handed E a
   unfolding None-on
   handed-counted E is = none-on E empty_state is refl refl

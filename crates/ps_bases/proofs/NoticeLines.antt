@@ -31,9 +31,10 @@ use Rattle.ps_model.specs.Entries.{AreEntries, IsEntry}
 use Rattle.ps_model.specs.Given.{given, asked as asked_by}
 use Rattle.ps_model.specs.NoticeTrees.{notice_id, with_id}
 use Rattle.ps_model.specs.Numbered.{numbered, row_notices, row_tallies, tallied}
-use Rattle.ps_model.specs.Replay.{IsLawfulFrom, accepted_at, is_booted, lawful_based, notices_from, of_bare, replay_from, row_accepted, to_address}
+use Rattle.ps_model.specs.Replay.{IsLawfulFrom, accepted, is_booted, lawful, notices_from, of_bare, replay_from, row_accepted, to_address}
 use Rattle.ps_model.specs.Sorted.{sorted}
 use Rattle.ps_model.specs.Tallies.{handed_to, is_tally_of, made_for, more_made, tallies_with}
+use Rattle.ps_model.specs.Streams.{is_reply}
 use Rattle.ps_model.proofs.LineLaws.{reads-line}
 use Rattle.ps_books.proofs.Addressed.{addresses-after, empty-addresses, events-early, events-named}
 use Rattle.ps_books.proofs.AddressedKinds.{bare-is}
@@ -81,19 +82,21 @@ pub record NoticeIs (n : Notice) : Type 0 where
   pub to : IsAddress n.to
   pub line : is_notice_line n.to n.number n.line (line_tree n.line) ≡ true
 
-three : (a b c : Bool) → a ≡ true → b ≡ true → c ≡ true → (a && b && c) ≡ true
-three true true true e f g = refl
-three true true false e f g = absurd (cc g)
-three true false c e f g = absurd (cc f)
-three false b c e f g = absurd (cc e)
+four : (a b c d : Bool) → a ≡ true → b ≡ true → c ≡ true → d ≡ false → (a && (b && c && not d)) ≡ true
+four true true true false e f g h = refl
+four true true true true e f g h = absurd (cc h)
+four true true false d e f g h = absurd (cc g)
+four true false c d e f g h = absurd (cc f)
+four false b c d e f g h = absurd (cc e)
 
 draft-line : (to : Jid) (t : Tree) (n : ℕ) → IsDraft to t → is_notice_line to n (print (with_id n t)) (line_tree (print (with_id n t))) ≡ true
 draft-line to t n is =
     let u = with_id n t in
     let reads = reads-line (print u) u (print_reads u (is-tree u (is.fits n))) in
     ap (λ (r : Result Tree LineRefusal). is_notice_line to n (print u) r) reads
-    ∙ three (bytes_eq (print u) (print u)) (bytes_eq (attr_text (codes "to") u) (jid_text to)) (bytes_eq (attr_text (codes "id") u) (notice_id n))
+    ∙ four (bytes_eq (print u) (print u)) (bytes_eq (attr_text (codes "to") u) (jid_text to)) (bytes_eq (attr_text (codes "id") u) (notice_id n)) (is_reply u)
     ((bytes_eq-Decides (print u) (print u)).1 refl) ((bytes_eq-Decides (attr_text (codes "to") u) (jid_text to)).1 (is.to_is n)) ((bytes_eq-Decides (attr_text (codes "id") u) (notice_id n)).1 (is.id_is n))
+    (is.no_reply n)
 
 numbered-are : (due : List (Jid × Tree)) (place : ℕ) (T : List TallyRow) → Each DueIs due → Each NoticeIs (numbered place T due)
 unfolding DueIs
@@ -151,7 +154,7 @@ pub record StateIs (s : State) : Type 0 where
 early-items : (b : Book) → IsPrintable b → HasEarlyItems b
 early-items b is = each-by (λ (r : ItemRow). is_early r.moment ≡ true) ItemIs b.items (λ r h. h.early) is.items
 
-module _ (s : State) (e : Entry) (ok : accepted_at s e ≡ true) (own : IsEntry e) (is : StateIs s) where
+module _ (s : State) (e : Entry) (ok : accepted s e ≡ true) (own : IsEntry e) (is : StateIs s) where
   pub given-out : Each DueIs (step.handed_out s e)
   given-out =
       let later = printable-after s e ok own is.rows in
@@ -162,24 +165,24 @@ module _ (s : State) (e : Entry) (ok : accepted_at s e ≡ true) (own : IsEntry 
       (all-asked s.book (step.book_after s.book e) evs is.names.audience names.audience (events-named s e ok is.names)))
       (texts-after s e own) (events-early s e ok (timely e own) (early-items s.book is.rows))
 
-base-ok : (s : State) (row : Tree) → accepted_at s (Base row) ≡ true → row_accepted (row_of row) s ≡ true
+base-ok : (s : State) (row : Tree) → accepted s (Base row) ≡ true → row_accepted (row_of row) s ≡ true
 base-ok s row ok = (and_parts (not (is_booted s)) (row_accepted (row_of row) s) ok).1
 
-notices-are : (s : State) (e : Entry) → accepted_at s e ≡ true → IsEntry e → StateIs s → Each NoticeIs (step.notices_at s e)
+notices-are : (s : State) (e : Entry) → accepted s e ≡ true → IsEntry e → StateIs s → Each NoticeIs (step.notices_at s e)
 notices-are s (Boot service) ok own is = tt
 notices-are s (Change host line moment t) ok own is = numbered-are (step.handed_out s (Change host line moment t)) s.count s.tallies (given-out s (Change host line moment t) ok own is)
 notices-are s (Handed to) ok own is = tt
 notices-are s (Gone host) ok own is = tt
 notices-are s (Base row) ok own is = row-notices (row_of row) s (row-read row (tree-fits row own.tree)) (base-ok s row ok)
 
-tallies-are : (s : State) (e : Entry) → accepted_at s e ≡ true → IsEntry e → StateIs s → Each TallyIs (step.tallies_after s e)
+tallies-are : (s : State) (e : Entry) → accepted s e ≡ true → IsEntry e → StateIs s → Each TallyIs (step.tallies_after s e)
 tallies-are s (Boot service) ok own is = is.tallies
 tallies-are s (Change host line moment t) ok own is = tallied-are (step.handed_out s (Change host line moment t)) s.tallies (given-out s (Change host line moment t) ok own is) is.tallies
 tallies-are s (Handed to) ok own is = set-tally to (made_for to s.tallies) (handed_to to s.tallies + 1) s.tallies own.address is.tallies
 tallies-are s (Gone host) ok own is = is.tallies
 tallies-are s (Base row) ok own is = row-tallies (row_of row) s.tallies (row-read row (tree-fits row own.tree)) is.tallies
 
-pub state-after : (s : State) (e : Entry) → accepted_at s e ≡ true → IsEntry e → StateIs s → StateIs (step.after s e)
+pub state-after : (s : State) (e : Entry) → accepted s e ≡ true → IsEntry e → StateIs s → StateIs (step.after s e)
 state-after s e ok own is = record { rows = printable-after s e ok own is.rows; names = addresses-after s e ok is.names; tallies = tallies-are s e ok own is }
 
 -- ---- a list
@@ -191,7 +194,7 @@ replay-is : (E : List Entry) (s : State) → IsLawfulFrom s E → AreEntries E �
 replay-is [] s ok own is = is
 replay-is (e ∷ E) s ok own is = replay-is E (step.after s e) ok.1 own.1 (state-after s e ok.0 own.0 is)
 
-pub stored-is : (E : List Entry) → lawful_based E → AreEntries E → StateIs (replay_from empty_state E)
+pub stored-is : (E : List Entry) → lawful E → AreEntries E → StateIs (replay_from empty_state E)
 stored-is E ok own = replay-is E empty_state ok own empty-is
 
 -- a notice among those of the bare address
@@ -223,5 +226,5 @@ each-drop a zero ns are = are
 each-drop a (suc k) [] are = tt
 each-drop a (suc k) (n ∷ ns) are = each-drop a k ns are.1
 
-pub unhanded-are : (E : List Entry) (a : Jid) (k : ℕ) → lawful_based E → AreEntries E → Each (OwnIs a) (drop k (notices_from empty_state E a))
+pub unhanded-are : (E : List Entry) (a : Jid) (k : ℕ) → lawful E → AreEntries E → Each (OwnIs a) (drop k (notices_from empty_state E a))
 unhanded-are E a k ok own = each-drop a k (notices_from empty_state E a) (replay-notices E empty_state a ok own empty-is)

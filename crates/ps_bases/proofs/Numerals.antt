@@ -10,7 +10,7 @@ use Rattle.ps_types.proofs.Same.{same_jid-Decides}
 use Rattle.ps_model.specs.Book.{State, empty_state}
 use Rattle.ps_model.specs.Core.{handed}
 use Rattle.ps_model.specs.Numbers.{counter_of}
-use Rattle.ps_model.specs.Replay.{IsLawfulFrom, accepted_at, lawful_based, notices, notices_from, replay}
+use Rattle.ps_model.specs.Replay.{IsLawfulFrom, accepted, lawful, notices, notices_from, replay}
 use Rattle.ps_model.specs.Tallies.{handed_to, made_for}
 use Rattle.ps_bases.proofs.Placed.{lawful-join}
 use Rattle.ps_model.proofs.Going.{notices-append, replay-append}
@@ -38,7 +38,7 @@ handed-append (Base row ∷ E) F a = handed-append E F a
 
 module _ (a : Jid) (bare : a.resource ≡ []) where
   -- a Handed that is accepted has a notice to tell of
-  has-one : (E : List Entry) (b : Jid) (t : Bool) → same_jid b a ≡ t → lawful_based E → accepted_at (replay E) (Handed b) ≡ true → handed E a ≤ length (notices E a)
+  has-one : (E : List Entry) (b : Jid) (t : Bool) → same_jid b a ≡ t → lawful E → accepted (replay E) (Handed b) ≡ true → handed E a ≤ length (notices E a)
       → handed E a + cond t 1 0 ≤ length (notices E a)
   has-one E b true e is ok few =
       let t = totals a bare E is in
@@ -49,14 +49,14 @@ module _ (a : Jid) (bare : a.resource ≡ []) where
       omega (arith, less, made, was)
   has-one E b false e is ok few = omega (arith, few)
 
-  few-one : (E : List Entry) (e : Entry) → lawful_based E → accepted_at (replay E) e ≡ true → handed E a ≤ length (notices E a) → handed E a + handed (e ∷ []) a ≤ length (notices E a)
+  few-one : (E : List Entry) (e : Entry) → lawful E → accepted (replay E) e ≡ true → handed E a ≤ length (notices E a) → handed E a + handed (e ∷ []) a ≤ length (notices E a)
   few-one E (Handed b) is ok few = has-one E b (same_jid b a) refl is ok few
   few-one E (Boot service) is ok few = omega (arith, few)
   few-one E (Change host line moment t) is ok few = omega (arith, few)
   few-one E (Gone host) is ok few = omega (arith, few)
   few-one E (Base row) is ok few = omega (arith, few)
 
-  few-on : (E xs : List Entry) → lawful_based xs → IsLawfulFrom (replay xs) E → handed xs a ≤ length (notices xs a) → handed (xs ++ E) a ≤ length (notices (xs ++ E) a)
+  few-on : (E xs : List Entry) → lawful xs → IsLawfulFrom (replay xs) E → handed xs a ≤ length (notices xs a) → handed (xs ++ E) a ≤ length (notices (xs ++ E) a)
   few-on [] xs is more few = subst (λ (E : List Entry). handed E a ≤ length (notices E a)) (sym (append-nil xs)) few
   few-on (e ∷ E) xs is more few =
       let f = few-one xs e is more.0 few in
@@ -66,7 +66,7 @@ module _ (a : Jid) (bare : a.resource ≡ []) where
       subst (λ (F : List Entry). handed F a ≤ length (notices F a)) (append_assoc xs (e ∷ []) E)
       (few-on E (xs ++ e ∷ []) (lawful-join xs (e ∷ []) empty_state is (more.0, tt)) (subst (λ (s : State). IsLawfulFrom s E) (sym (replay-append xs (e ∷ []) empty_state)) more.1) (omega (arith, f, h, n, l)))
 
-  pub handed-few : (E : List Entry) → lawful_based E → handed E a ≤ length (notices E a)
+  pub handed-few : (E : List Entry) → lawful E → handed E a ≤ length (notices E a)
   handed-few E is = few-on E [] tt is (omega arith)
 
   -- ---- numbers
@@ -84,14 +84,14 @@ module _ (a : Jid) (bare : a.resource ≡ []) where
   rise-drop (suc k) m (n ∷ ns) is = let e : m + 1 + k ≡ m + suc k = omega arith in subst (λ x. RiseFrom x (drop k ns)) e (rise-drop k (m + 1) ns is.1)
 
   -- the notices that aren't handed are numbered from the number of those that are
-  pub unhanded-rise : (E : List Entry) → lawful_based E → RiseFrom (handed_to a (replay E).tallies) (drop (handed E a) (notices E a))
+  pub unhanded-rise : (E : List Entry) → lawful E → RiseFrom (handed_to a (replay E).tallies) (drop (handed E a) (notices E a))
   unhanded-rise E is =
       let rise = rise-drop (handed E a) (counter_of E a) (notices E a) (rise-by (notices E a) (counter_of E a) (λ k n at. numbers-rise E a is k n at)) in
       let at : counter_of E a + handed E a ≡ handed_to a (replay E).tallies = sym (handed-counted a bare E is) in
       subst (λ m. RiseFrom m (drop (handed E a) (notices E a))) at rise
 
   -- as many are made as are handed and aren't
-  pub made-whole : (E : List Entry) → lawful_based E → made_for a (replay E).tallies ≡ handed_to a (replay E).tallies + length (drop (handed E a) (notices E a))
+  pub made-whole : (E : List Entry) → lawful E → made_for a (replay E).tallies ≡ handed_to a (replay E).tallies + length (drop (handed E a) (notices E a))
   made-whole E is =
       let t = totals a bare E is in
       let made = t.1 in

@@ -31,7 +31,7 @@ use Rattle.ps_model.specs.BaseRows.{BaseRow}
 use Rattle.ps_model.specs.Book.{Book, empty_state}
 use Rattle.ps_model.specs.Core.{handed}
 use Rattle.ps_model.specs.Entries.{AreEntries}
-use Rattle.ps_model.specs.Replay.{lawful_based, replay_from}
+use Rattle.ps_model.specs.Replay.{lawful, replay_from}
 use Rattle.ps_model.specs.Tallies.{handed_to}
 use Rattle.ps_books.proofs.Kept.{lawful-kept}
 use Rattle.ps_books.proofs.Keys.{each-all, each-both, each-by, each-map}
@@ -187,7 +187,7 @@ shallow-is : (payload : Option Tree) → PayloadIs payload → is_shallow payloa
 shallow-is None is = refl
 shallow-is (Some p) is = grind (arith, nat_tests, is.low)
 
-pub stored-gives : (E : List Entry) → lawful_based E → AreEntries E → FewMade E → FewHanded E → IsStored E
+pub stored-gives : (E : List Entry) → lawful E → AreEntries E → FewMade E → FewHanded E → IsStored E
 stored-gives E ok own made few =
     let s = replay_from empty_state E in
     let is = stored-is E ok own in

@@ -18,7 +18,7 @@ use Rattle.ps_model.specs.Base.{base, told_addresses, unhanded}
 use Rattle.ps_model.specs.BaseAfter.{is_early, is_shallow}
 use Rattle.ps_model.specs.Book.{State, empty_state}
 use Rattle.ps_model.specs.Core.{handed}
-use Rattle.ps_model.specs.Replay.{IsLawfulFrom, lawful_based, notices_from, of_bare, replay_from, to_address}
+use Rattle.ps_model.specs.Replay.{IsLawfulFrom, lawful, notices_from, of_bare, replay_from, to_address}
 use Rattle.ps_model.specs.Tallies.{made_for, made_in}
 use Rattle.ps_model.proofs.TallyLaws.{same_bare-Decides, same_bare-like, same_bare-turned}
 use Rattle.ps_bases.specs.Laws.{ServesOn}
@@ -120,11 +120,11 @@ handed-full a x resource full (Handed to ∷ E) s is = by (same_jid to a) refl (
         clash : to ≡ a → to.resource ≡ [] → ⊥
         clash one bare = let differ : [] ≡ x ∷ resource = sym bare ∙ ap (λ (j : Jid). j.resource) one ∙ full in cc differ
 
-few-by : (E : List Entry) → lawful_based E → (a : Jid) (resource : List ℕ) → a.resource ≡ resource → handed E a ≤ length (notices_from empty_state E a)
+few-by : (E : List Entry) → lawful E → (a : Jid) (resource : List ℕ) → a.resource ≡ resource → handed E a ≤ length (notices_from empty_state E a)
 few-by E is a [] bare = handed-few a bare E is
 few-by E is a (x ∷ resource) full = let none = handed-full a x resource full E empty_state is in omega (arith, none)
 
-own-by : (E : List Entry) → lawful_based E → IsStored E → (a : Jid) (resource : List ℕ) → a.resource ≡ resource
+own-by : (E : List Entry) → lawful E → IsStored E → (a : Jid) (resource : List ℕ) → a.resource ≡ resource
     → to_address a (flat_map (unhanded E) (told_addresses (replay_from empty_state E).tallies)) ≡ unhanded E a
 own-by E is stored a [] bare =
     let T = (replay_from empty_state E).tallies in
@@ -139,7 +139,7 @@ own-by E is stored a [] bare =
 own-by E is stored a (x ∷ resource) full = ap (λ (r : List ℕ). of_bare r (filter (λ n. same_bare n.to a) (flat_map (unhanded E) (told_addresses (replay_from empty_state E).tallies)))) full ∙ (sym (ap (drop (handed E a)) (of-full E empty_state a x resource full) ∙ drop-none (handed E a)))
 
 -- the law
-pub base-serves-on : (E : List Entry) → lawful_based E → IsStored E → ServesOn E (base E)
+pub base-serves-on : (E : List Entry) → lawful E → IsStored E → ServesOn E (base E)
 base-serves-on E is stored =
     let b = (replay_from empty_state E).book in
     let sound = lawful-sound E is in

@@ -17,7 +17,7 @@ use Rattle.ps_types.proofs.Same.{same_parts}
 use Rattle.ps_model.specs.Base.{told_addresses, unhanded}
 use Rattle.ps_model.specs.BaseAfter.{is_bare}
 use Rattle.ps_model.specs.Book.{empty_state}
-use Rattle.ps_model.specs.Replay.{lawful_based, replay_from}
+use Rattle.ps_model.specs.Replay.{lawful, replay_from}
 use Rattle.ps_model.specs.Sorted.{put_sorted, sorted}
 use Rattle.ps_model.specs.Tallies.{handed_in, handed_to, is_tally_of, made_for, made_in}
 use Rattle.ps_model.proofs.NumberLaws.{RiseFrom}
@@ -154,7 +154,7 @@ pub not-found : (b : Jid) (T : List TallyRow) → Each (λ (j : Jid). same_bare 
 not-found b [] far = refl
 not-found b (r ∷ T) far = rw far.0 (not-found b T far.1)
 
-module _ (E : List Entry) (is : lawful_based E) where
+module _ (E : List Entry) (is : lawful E) where
   told : List TallyRow
   told = (replay_from empty_state E).tallies
 

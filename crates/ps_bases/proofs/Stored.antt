@@ -31,7 +31,7 @@ use Rattle.ps_model.specs.Book.{Book, State, empty_book}
 use Rattle.ps_model.specs.CheckForms.{is_collection}
 use Rattle.ps_model.specs.Entries.{IsEntry, IsMoment}
 use Rattle.ps_model.specs.Given.{asked as asked_by}
-use Rattle.ps_model.specs.Replay.{accepted_at, is_booted, row_accepted}
+use Rattle.ps_model.specs.Replay.{accepted, is_booted, row_accepted}
 use Rattle.ps_model.specs.Stanza.{host_jid}
 use Rattle.ps_model.specs.Steps.{is_short}
 use Rattle.ps_model.specs.Taken.{Taken, silent, refused, denied, asked}
@@ -149,7 +149,7 @@ timely (Handed to) is = tt
 timely (Gone host) is = tt
 timely (Base row) is = tt
 
-pub printable-after : (s : State) (e : Entry) → accepted_at s e ≡ true → IsEntry e → IsPrintable s.book → IsPrintable (step.after s e).book
+pub printable-after : (s : State) (e : Entry) → accepted s e ≡ true → IsEntry e → IsPrintable s.book → IsPrintable (step.after s e).book
 printable-after s (Boot service) ok own is = record { service = jid-utf8 (host_jid service) own; nodes = is.nodes; items = is.items; links = is.links; rosters = is.rosters; counts = is.counts }
 printable-after s (Change host line moment t) ok own is = tree-printable host t moment s.book (moment-early moment own.2) (tree-fits t own.3.tree) (tree_taken host s.book.service t) refl is
 printable-after s (Handed to) ok own is = is

@@ -10,7 +10,7 @@ use Rattle.ps_model.specs.Base.{base}
 use Rattle.ps_model.specs.Book.{empty_state}
 use Rattle.ps_model.specs.Core.{handed}
 use Rattle.ps_model.specs.Entries.{AreEntries}
-use Rattle.ps_model.specs.Replay.{lawful_based, notices_from, replay, replay_from}
+use Rattle.ps_model.specs.Replay.{lawful, notices_from, replay, replay_from}
 use Rattle.ps_model.specs.Replies.{reply_to, entry_of}
 use Rattle.ps_model.specs.Tallies.{handed_to}
 use Rattle.ps_bases.specs.Told.{told_of}
@@ -18,8 +18,8 @@ use Rattle.ps_bases.specs.Told.{told_of}
 -- what a compacted list is to the list
 pub record ServesOn (E B : List Entry) : Type 0 where
   -- lawful exactly where the other is
-  pub forth : (service : List ℕ) (F : List Entry) → lawful_based (E ++ Boot service ∷ F) → lawful_based (B ++ Boot service ∷ F)
-  pub back : (service : List ℕ) (F : List Entry) → lawful_based (B ++ Boot service ∷ F) → lawful_based (E ++ Boot service ∷ F)
+  pub forth : (service : List ℕ) (F : List Entry) → lawful (E ++ Boot service ∷ F) → lawful (B ++ Boot service ∷ F)
+  pub back : (service : List ℕ) (F : List Entry) → lawful (B ++ Boot service ∷ F) → lawful (E ++ Boot service ∷ F)
   -- after each prefix that isn't empty: the same replies and entries
   pub replies : (service : List ℕ) (F : List Entry) (host : List ℕ) (line : ℕ) (arrival : Arrival) (full : Bool)
       → reply_to host (replay_from empty_state (E ++ Boot service ∷ F)).book line arrival full ≡ reply_to host (replay_from empty_state (B ++ Boot service ∷ F)).book line arrival full
@@ -39,4 +39,4 @@ FewHanded E = (a : Jid) → handed_to a (replay E).tallies < 2 ^ 62
 
 -- the entries that a lawful list is compacted to serve on as the list would, where each entry of the list has a spelling and the numbers are such as a row may have
 abbrev pub EachCompactedServesOn : Type 0
-EachCompactedServesOn = (E : List Entry) → lawful_based E → AreEntries E → FewMade E → FewHanded E → ServesOn E (base E)
+EachCompactedServesOn = (E : List Entry) → lawful E → AreEntries E → FewMade E → FewHanded E → ServesOn E (base E)

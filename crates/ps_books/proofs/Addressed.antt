@@ -20,7 +20,7 @@ use Rattle.ps_model.specs.BaseRows.{BaseRow}
 use Rattle.ps_model.specs.Book.{Book, State, empty_book, empty_state}
 use Rattle.ps_model.specs.Changes.{changed}
 use Rattle.ps_model.specs.CheckForms.{is_collection}
-use Rattle.ps_model.specs.Replay.{IsLawfulFrom, accepted_at, is_booted, lawful_based, replay_from, row_accepted}
+use Rattle.ps_model.specs.Replay.{IsLawfulFrom, accepted, is_booted, lawful, replay_from, row_accepted}
 use Rattle.ps_model.specs.Taken.{Taken, silent, refused, denied, asked}
 use Rattle.ps_model.specs.Taking.{request_in, tree_taken}
 use Rattle.ps_books.specs.Addressed.{HasEarlyItems, IsTimely, NamesAddresses}
@@ -43,7 +43,7 @@ row-named (base.made r) b own is = record { subs = is.subs; resources = is.resou
 row-named (base.counter who handed) b own is = is
 row-named (base.notice to line) b own is = is
 
-base-named : (row : Tree) (o : Option BaseRow) (b : Book) → row_of row ≡ o → NamesAddresses b → NamesAddresses (step.book_based o b)
+pub base-named : (row : Tree) (o : Option BaseRow) (b : Book) → row_of row ≡ o → NamesAddresses b → NamesAddresses (step.book_based o b)
 base-named row None b e is = is
 base-named row (Some r) b e is = names-of (book_with r b) (row-named r b (row-addresses row r e) (rows-named b is))
 
@@ -112,28 +112,28 @@ same-named b service is = record { audience = record { subs = is.audience.subs; 
 gone-named : (host : List ℕ) (b : Book) → IsNamed b → IsNamed (step.book_after b (Gone host))
 gone-named host b is = record { subs = is.subs; resources = each-filter ResourceIs (λ x. not (is_resource_on host x)) b.resources is.resources; affils = is.affils }
 
-pub addresses-after : (s : State) (e : Entry) → accepted_at s e ≡ true → NamesAddresses s.book → NamesAddresses (step.after s e).book
+pub addresses-after : (s : State) (e : Entry) → accepted s e ≡ true → NamesAddresses s.book → NamesAddresses (step.after s e).book
 addresses-after s (Boot service) ok is = same-named s.book service is
 addresses-after s (Change host line moment t) ok is = tree-named host t moment s.book (tree_taken host s.book.service t) refl is
 addresses-after s (Handed to) ok is = is
 addresses-after s (Gone host) ok is = names-of (step.book_after s.book (Gone host)) (gone-named host s.book (rows-named s.book is))
 addresses-after s (Base row) ok is = base-named row (row_of row) s.book refl is
 
-pub early-after : (s : State) (e : Entry) → accepted_at s e ≡ true → IsTimely e → HasEarlyItems s.book → HasEarlyItems (step.after s e).book
+pub early-after : (s : State) (e : Entry) → accepted s e ≡ true → IsTimely e → HasEarlyItems s.book → HasEarlyItems (step.after s e).book
 early-after s (Boot service) ok own is = is
 early-after s (Change host line moment t) ok own is = tree-early host t moment s.book (tree_taken host s.book.service t) own is
 early-after s (Handed to) ok own is = is
 early-after s (Gone host) ok own is = is
 early-after s (Base row) ok own is = base-early (row_of row) s (and_parts (not (is_booted s)) (row_accepted (row_of row) s) ok).1 is
 
-pub events-named : (s : State) (e : Entry) → accepted_at s e ≡ true → NamesAddresses s.book → AreNamed (step.events s.book e)
+pub events-named : (s : State) (e : Entry) → accepted s e ≡ true → NamesAddresses s.book → AreNamed (step.events s.book e)
 events-named s (Boot service) ok is = tt
 events-named s (Change host line moment t) ok is = tree-events host t moment s.book (tree_taken host s.book.service t) refl is
 events-named s (Handed to) ok is = tt
 events-named s (Gone host) ok is = tt
 events-named s (Base row) ok is = tt
 
-pub events-early : (s : State) (e : Entry) → accepted_at s e ≡ true → IsTimely e → HasEarlyItems s.book → AreEarly (step.events s.book e)
+pub events-early : (s : State) (e : Entry) → accepted s e ≡ true → IsTimely e → HasEarlyItems s.book → AreEarly (step.events s.book e)
 events-early s (Boot service) ok own is = tt
 events-early s (Change host line moment t) ok own is = tree-lasts host t moment s.book (tree_taken host s.book.service t) own is
 events-early s (Handed to) ok own is = tt
@@ -149,12 +149,12 @@ replay-addresses (e ∷ E) s ok is = replay-addresses E (step.after s e) ok.1 (a
 pub empty-addresses : NamesAddresses empty_book
 empty-addresses = record { audience = record { subs = tt; resources = tt }; affils = tt }
 
-pub lawful-addresses : (E : List Entry) → lawful_based E → NamesAddresses (replay_from empty_state E).book
+pub lawful-addresses : (E : List Entry) → lawful E → NamesAddresses (replay_from empty_state E).book
 lawful-addresses E h = replay-addresses E empty_state h empty-addresses
 
 replay-early : (E : List Entry) (s : State) → IsLawfulFrom s E → Each IsTimely E → HasEarlyItems s.book → HasEarlyItems (replay_from s E).book
 replay-early [] s ok own is = is
 replay-early (e ∷ E) s ok own is = replay-early E (step.after s e) ok.1 own.1 (early-after s e ok.0 own.0 is)
 
-pub lawful-early : (E : List Entry) → lawful_based E → Each IsTimely E → HasEarlyItems (replay_from empty_state E).book
+pub lawful-early : (E : List Entry) → lawful E → Each IsTimely E → HasEarlyItems (replay_from empty_state E).book
 lawful-early E h own = replay-early E empty_state h own tt

@@ -26,7 +26,7 @@ use Rattle.ps_model.specs.BaseRead.{row_of}
 use Rattle.ps_model.specs.BaseRows as base
 use Rattle.ps_model.specs.BaseRows.{BaseRow}
 use Rattle.ps_model.specs.Book.{Book, State, empty_state}
-use Rattle.ps_model.specs.Replay.{IsLawfulFrom, accepted_at, is_booted, lawful_based, replay_from, row_accepted}
+use Rattle.ps_model.specs.Replay.{IsLawfulFrom, accepted, is_booted, lawful, replay_from, row_accepted}
 use Rattle.ps_model.specs.Spelled.{IsAsk, SpellsRequest}
 use Rattle.ps_model.specs.Stanza.{host_jid, is_served}
 use Rattle.ps_model.specs.Taken.{Taken, silent, refused, denied, asked}
@@ -106,7 +106,7 @@ base-formed (Some r) s ok is = row-formed r s.book (and_parts (is_well_formed r)
 
 -- ---- an entry, and a list
 
-entry-formed : (s : State) (e : Entry) → accepted_at s e ≡ true → IsFormed s.book → IsFormed (step.book_after s.book e)
+entry-formed : (s : State) (e : Entry) → accepted s e ≡ true → IsFormed s.book → IsFormed (step.book_after s.book e)
 entry-formed s (Boot service) ok is = record { nodes = is.nodes; items = is.items; links = is.links; rosters = is.rosters; counts = is.counts }
 entry-formed s (Change host line moment t) ok is = request-formed host s.book.service t (tree_taken host s.book.service t) moment s.book refl is
 entry-formed s (Handed to) ok is = is
@@ -117,7 +117,7 @@ replay-formed : (E : List Entry) (s : State) → IsLawfulFrom s E → IsFormed s
 replay-formed [] s ok is = is
 replay-formed (e ∷ E) s ok is = replay-formed E (step.after s e) ok.1 (entry-formed s e ok.0 is)
 
-pub lawful-formed : (E : List Entry) → lawful_based E → IsFormed (replay_from empty_state E).book
+pub lawful-formed : (E : List Entry) → lawful E → IsFormed (replay_from empty_state E).book
 lawful-formed E h = replay-formed E empty_state h (record { nodes = tt; items = tt; links = tt; rosters = tt; counts = tt })
 
 -- ---- the rows that a compacted store is written with
@@ -161,6 +161,6 @@ all-formed E is =
     each-both Good (book_rows s.book) (counter_rows s.tallies ++ notice_rows E s.tallies) (book-formed s.book is)
     (each-both Good (counter_rows s.tallies) (notice_rows E s.tallies) (counters-formed s.tallies (told_addresses s.tallies)) (notices-formed (flat_map (unhanded E) (told_addresses s.tallies))))
 
-pub rows-formed : (E : List Entry) → lawful_based E → Each (λ r. is_well_formed r ≡ true) (rows_of E)
+pub rows-formed : (E : List Entry) → lawful E → Each (λ r. is_well_formed r ≡ true) (rows_of E)
 unfolding Good
 rows-formed E h = all-formed E (lawful-formed E h)

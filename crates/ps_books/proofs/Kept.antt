@@ -26,7 +26,7 @@ use Rattle.ps_model.specs.BaseRows.{BaseRow, node, affiliation, subscription, it
 use Rattle.ps_model.specs.Book.{Book, State, empty_book, empty_state}
 use Rattle.ps_model.specs.Bounds.{IsBounded, item_bound}
 use Rattle.ps_model.specs.CheckForms.{is_collection}
-use Rattle.ps_model.specs.Replay.{IsLawfulFrom, accepted_at, is_booted, lawful_based, request_accepted, row_accepted, replay_from}
+use Rattle.ps_model.specs.Replay.{IsLawfulFrom, accepted, is_booted, lawful, request_accepted, row_accepted, replay_from}
 use Rattle.ps_model.specs.Taking.{request_in, tree_taken}
 use Rattle.ps_model.specs.Tallies.{is_next_line}
 use Rattle.ps_model.proofs.ChangedBounded.{changed-bounded}
@@ -129,7 +129,7 @@ base-kept : (o : Option BaseRow) (s : State) → row_accepted o s ≡ true → I
 base-kept None s h reach is = is
 base-kept (Some r) s h reach is = row-kept r s (and_parts (is_well_formed r) (has_place r s) h).1 reach is
 
-entry-kept : (s : State) (e : Entry) → accepted_at s e ≡ true → IsReachable s.book → HoldsItems s.book → HoldsItems (step.book_after s.book e)
+entry-kept : (s : State) (e : Entry) → accepted s e ≡ true → IsReachable s.book → HoldsItems s.book → HoldsItems (step.book_after s.book e)
 entry-kept s (Boot service) h reach is = record { leaves = is.leaves; bounded = is.bounded }
 entry-kept s (Change host line moment t) h reach is =
     let o = request_in (tree_taken host s.book.service t) in
@@ -145,5 +145,5 @@ replay-kept (e ∷ E) s h reach is = replay-kept E (step.after s e) h.1 (entry-r
 empty-kept : HoldsItems empty_book
 empty-kept = record { leaves = tt; bounded = λ n. omega arith }
 
-pub lawful-kept : (E : List Entry) → lawful_based E → HoldsItems (replay_from empty_state E).book
+pub lawful-kept : (E : List Entry) → lawful E → HoldsItems (replay_from empty_state E).book
 lawful-kept E h = replay-kept E empty_state h empty-reachable empty-kept

@@ -34,7 +34,7 @@ use Rattle.ps_model.specs.Taking.{request_in, tree_taken}
 use Rattle.ps_types.specs.Tree.{Tree}
 use Rattle.ps_types.specs.Resources.{resources_off}
 use Rattle.ps_types.specs.declared.rows.ResourceRow.{ResourceRow}
-use Rattle.ps_model.specs.Replay.{IsLawfulFrom, accepted_at, is_booted, lawful_based, request_accepted, row_accepted, replay_from}
+use Rattle.ps_model.specs.Replay.{IsLawfulFrom, accepted, is_booted, lawful, request_accepted, row_accepted, replay_from}
 use Rattle.std.specs.List.{AllByRecursion as Each}
 use Rattle.ps_books.proofs.Parts.{IsKeyed, IsLinked, IsRowed}
 use Rattle.ps_books.specs.Keys.{affil_key, count_key, item_key, link_key, node_key, roster_key, sub_key, ver_key}
@@ -276,7 +276,7 @@ middle true true false e = absurd (cc e)
 middle true false c e = absurd (cc e)
 middle false b c e = absurd (cc e)
 
-pub entry-reachable : (s : State) (e : Entry) → accepted_at s e ≡ true → IsReachable s.book → IsReachable (step.book_after s.book e)
+pub entry-reachable : (s : State) (e : Entry) → accepted s e ≡ true → IsReachable s.book → IsReachable (step.book_after s.book e)
 entry-reachable s (Boot service) h is = same-reachable s.book service [] is
 entry-reachable s (Change host line moment t) h is =
     let o = request_in (tree_taken host s.book.service t) in
@@ -292,10 +292,10 @@ replay-reachable [] s h is = is
 replay-reachable (e ∷ E) s h is = replay-reachable E (step.after s e) h.1 (entry-reachable s e h.0 is)
 
 -- the Book of each lawful list, uncut
-pub lawful-reachable : (E : List Entry) → lawful_based E → IsReachable (replay_from empty_state E).book
+pub lawful-reachable : (E : List Entry) → lawful E → IsReachable (replay_from empty_state E).book
 lawful-reachable E h = replay-reachable E empty_state h empty-reachable
 
-pub lawful-sound : (E : List Entry) → lawful_based E → IsSound (replay_from empty_state E).book
+pub lawful-sound : (E : List Entry) → lawful E → IsSound (replay_from empty_state E).book
 lawful-sound E h =
     let is = lawful-reachable E h in
     record { keys = is.keyed.keys; links = is.linked.links; configured = is.linked.configured; affils = is.rowed.affils; subs = is.rowed.subs; counts = is.rowed.counts }

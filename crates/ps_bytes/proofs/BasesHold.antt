@@ -34,7 +34,7 @@ use Rattle.ps_model.specs.Book.{State, empty_state}
 use Rattle.ps_model.specs.Core.{handed}
 use Rattle.ps_model.specs.Heard.{placeless}
 use Rattle.ps_model.specs.Stanza.{host_jid}
-use Rattle.ps_model.specs.Replay.{AreAcceptedFrom, accepted_at, lawful_based, notices, notices_from, of_bare, replay, to_address}
+use Rattle.ps_model.specs.Replay.{IsLawfulFrom, accepted, lawful, notices, notices_from, of_bare, replay, to_address}
 use Rattle.ps_cases.proofs.Parts.{all_from, part-of}
 use Rattle.ps_model.specs.Base.{base}
 use Rattle.ps_cases.specs.AccessCases.{q}
@@ -53,7 +53,7 @@ rows-stand = refl
 
 abbrev all_accepted : State → List Entry → Bool
 all_accepted s [] = true
-all_accepted s (e ∷ E) = accepted_at s e && all_accepted (after s e) E
+all_accepted s (e ∷ E) = accepted s e && all_accepted (after s e) E
 
 whole-accepted : all_accepted empty_state it.whole ≡ true
 unfolding same.same_jid same.same_bare same.same_node text.escape_byte fmt.digits str.is_utf8 str.chars utf8.encode json.value lex.punctuate lex.lex content.content b64.encode_symbols sha.sha1 sha.digest_bytes sha.hash_after sha.compress sha.rounds sha.schedule sha.first_words
@@ -113,22 +113,22 @@ told-again = refl
 
 -- ---- lawful
 
-lawful-from : (s : State) (E : List Entry) → all_accepted s E ≡ true → AreAcceptedFrom accepted_at s E
+lawful-from : (s : State) (E : List Entry) → all_accepted s E ≡ true → IsLawfulFrom s E
 lawful-from s [] e = tt
-lawful-from s (x ∷ E) e = let p = and_parts (accepted_at s x) (all_accepted (after s x) E) e in (p.0, lawful-from (after s x) E p.1)
+lawful-from s (x ∷ E) e = let p = and_parts (accepted s x) (all_accepted (after s x) E) e in (p.0, lawful-from (after s x) E p.1)
 
-pub whole-lawful : lawful_based it.whole
+pub whole-lawful : lawful it.whole
 whole-lawful = lawful-from empty_state it.whole whole-accepted
 
-pub rows-lawful : lawful_based it.rows
+pub rows-lawful : lawful it.rows
 rows-lawful = lawful-from empty_state it.rows rows-accepted
 
 -- lists whose States after a boot are alike
 module _ (E B : List Entry) (service : List ℕ) (F : List Entry) (alike : uncounted (after (replay E) (Boot service)) ≡ uncounted (after (replay B) (Boot service))) where
-  same-boot : accepted_at (replay E) (Boot service) ≡ accepted_at (replay B) (Boot service)
+  same-boot : accepted (replay E) (Boot service) ≡ accepted (replay B) (Boot service)
   same-boot = refl
 
-  goes-on : lawful_based B → lawful_based (E ++ Boot service ∷ F) → lawful_based (B ++ Boot service ∷ F)
+  goes-on : lawful B → lawful (E ++ Boot service ∷ F) → lawful (B ++ Boot service ∷ F)
   goes-on first is =
       let p = behind E (Boot service ∷ F) empty_state is in
       joined B (Boot service ∷ F) empty_state first (p.0, lawful-on F (after (replay E) (Boot service)) (after (replay B) (Boot service)) alike p.1)

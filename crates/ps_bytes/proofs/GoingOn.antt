@@ -15,7 +15,7 @@ use Rattle.ps_model.specs.BaseRows.{BaseRow, affiliation, subscription, item, li
 use Rattle.ps_model.specs.Book.{State}
 use Rattle.ps_model.specs.Heard.{placeless}
 use Rattle.ps_model.specs.Numbered.{numbered, row_notices}
-use Rattle.ps_model.specs.Replay.{AreAcceptedFrom, accepted_at, is_booted, notices_from, of_bare, replay_from, row_accepted, to_address}
+use Rattle.ps_model.specs.Replay.{IsLawfulFrom, accepted, is_booted, notices_from, of_bare, replay_from, row_accepted, to_address}
 use Rattle.ps_model.specs.Tallies.{more_made}
 
 abbrev pub uncounted : State → State
@@ -36,15 +36,15 @@ forget-row (Some (BaseRow.made r)) s = refl
 forget-row (Some (counter who handed)) s = refl
 forget-row (Some (notice to line)) s = refl
 
-forget : (s : State) (e : Entry) → accepted_at s e ≡ accepted_at (uncounted s) e
+forget : (s : State) (e : Entry) → accepted s e ≡ accepted (uncounted s) e
 forget s (Boot service) = refl
 forget s (Change host line moment t) = refl
 forget s (Handed to) = refl
 forget s (Gone host) = refl
 forget s (Base row) = ap (λ ok. not (is_booted s) && ok) (forget-row (row_of row) s)
 
-accepts : (s u : State) (e : Entry) → uncounted s ≡ uncounted u → accepted_at s e ≡ accepted_at u e
-accepts s u e same = forget s e ∙ ap (λ (v : State). accepted_at v e) same ∙ sym (forget u e)
+accepts : (s u : State) (e : Entry) → uncounted s ≡ uncounted u → accepted s e ≡ accepted u e
+accepts s u e same = forget s e ∙ ap (λ (v : State). accepted v e) same ∙ sym (forget u e)
 
 -- ---- one entry more
 
@@ -62,17 +62,17 @@ pub from-on : (F : List Entry) (s u : State) → uncounted s ≡ uncounted u →
 from-on [] s u same = same
 from-on (e ∷ F) s u same = from-on F (after s e) (after u e) (step s u e same)
 
-pub lawful-on : (F : List Entry) (s u : State) → uncounted s ≡ uncounted u → AreAcceptedFrom accepted_at s F → AreAcceptedFrom accepted_at u F
+pub lawful-on : (F : List Entry) (s u : State) → uncounted s ≡ uncounted u → IsLawfulFrom s F → IsLawfulFrom u F
 lawful-on [] s u same is = tt
 lawful-on (e ∷ F) s u same is = (sym (accepts s u e same) ∙ is.0, lawful-on F (after s e) (after u e) (step s u e same) is.1)
 
 -- ---- lists in two parts
 
-pub behind : (E F : List Entry) (s : State) → AreAcceptedFrom accepted_at s (E ++ F) → AreAcceptedFrom accepted_at (replay_from s E) F
+pub behind : (E F : List Entry) (s : State) → IsLawfulFrom s (E ++ F) → IsLawfulFrom (replay_from s E) F
 behind [] F s is = is
 behind (e ∷ E) F s is = behind E F (after s e) is.1
 
-pub joined : (E F : List Entry) (s : State) → AreAcceptedFrom accepted_at s E → AreAcceptedFrom accepted_at (replay_from s E) F → AreAcceptedFrom accepted_at s (E ++ F)
+pub joined : (E F : List Entry) (s : State) → IsLawfulFrom s E → IsLawfulFrom (replay_from s E) F → IsLawfulFrom s (E ++ F)
 joined [] F s is more = more
 joined (e ∷ E) F s is more = (is.0, joined E F (after s e) is.1 more)
 

@@ -8,7 +8,7 @@ use Rattle.ps_types.specs.declared.entry.Notice.{Notice}
 use Rattle.ps_types.specs.declared.jid.Jid.{Jid}
 use Rattle.ps_model.specs.Core.{handed}
 use Rattle.ps_model.specs.Heard.{placeless}
-use Rattle.ps_model.specs.Replay.{lawful_based, notices, replay}
+use Rattle.ps_model.specs.Replay.{lawful, notices, replay}
 use Rattle.ps_cases.specs.AccessCases.{pending, q, question}
 use Rattle.ps_cases.specs.Case.{Exchange, kept, list_of, own}
 use Rattle.ps_cases.specs.Compacted.{row}
@@ -103,8 +103,8 @@ entry_after E line = entry_in (taken_in line (replay E).book) (replay E).book li
 -- whatever follows from the next boot on is lawful behind one where it is behind the other, each line gets the same reply and makes the same entry, and the
 -- notices are those of the first without the handed ones
 pub record ServesOn (E B : List Entry) : Type 0 where
-  pub forth : (service : List ℕ) (F : List Entry) → lawful_based (E ++ Boot service ∷ F) → lawful_based (B ++ Boot service ∷ F)
-  pub back : (service : List ℕ) (F : List Entry) → lawful_based (B ++ Boot service ∷ F) → lawful_based (E ++ Boot service ∷ F)
+  pub forth : (service : List ℕ) (F : List Entry) → lawful (E ++ Boot service ∷ F) → lawful (B ++ Boot service ∷ F)
+  pub back : (service : List ℕ) (F : List Entry) → lawful (B ++ Boot service ∷ F) → lawful (E ++ Boot service ∷ F)
   pub replies : (service : List ℕ) (F : List Entry) (line : Line) → reply_after (E ++ Boot service ∷ F) line ≡ reply_after (B ++ Boot service ∷ F) line
   pub entries : (service : List ℕ) (F : List Entry) (line : Line) → entry_after (E ++ Boot service ∷ F) line ≡ entry_after (B ++ Boot service ∷ F) line
   pub notices : (service : List ℕ) (F : List Entry) (a : Jid) → map placeless (notices (B ++ Boot service ∷ F) a) ≡ map placeless (drop (handed E a) (notices (E ++ Boot service ∷ F) a))

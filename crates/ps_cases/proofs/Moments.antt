@@ -4,20 +4,20 @@ use Rattle.json.specs.Print as text
 use Rattle.std.specs.Fmt as fmt
 use Rattle.ps_types.specs.Same as same
 use Rattle.ps_model.specs.Stamp.{stamp}
-use Rattle.ps_model.specs.TheCore.{based_core}
+use Rattle.ps_model.specs.TheCore.{the_core}
 use Rattle.ps_cases.specs.Crashed as crashed
 use Rattle.ps_cases.specs.NoticeCases.{item_notice}
 
 pub again : crashed.sent_after crashed.unrecorded ≡ item_notice ∷ []
-unfolding same.same_jid same.same_bare same.same_node text.escape_byte fmt.digits based_core
+unfolding same.same_jid same.same_bare same.same_node text.escape_byte fmt.digits the_core
 again = refl
 
 pub not-again : crashed.sent_after crashed.recorded ≡ crashed.second ∷ []
-unfolding same.same_jid same.same_bare same.same_node text.escape_byte fmt.digits based_core
+unfolding same.same_jid same.same_bare same.same_node text.escape_byte fmt.digits the_core
 not-again = refl
 
 pub lost-again : crashed.sent_after crashed.lost ≡ item_notice ∷ []
-unfolding same.same_jid same.same_bare same.same_node text.escape_byte fmt.digits based_core
+unfolding same.same_jid same.same_bare same.same_node text.escape_byte fmt.digits the_core
 lost-again = refl
 
 pub stamp-first : stamp 0 ≡ codes "1970-01-01T00:00:00Z"

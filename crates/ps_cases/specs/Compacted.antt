@@ -8,7 +8,7 @@ use Rattle.ps_model.specs.After.{after}
 use Rattle.ps_model.specs.Base.{base}
 use Rattle.ps_model.specs.Book.{State, empty_state}
 use Rattle.ps_model.specs.Entries.{body}
-use Rattle.ps_model.specs.Replay.{accepted_at, notices}
+use Rattle.ps_model.specs.Replay.{accepted, notices}
 use Rattle.ps_cases.specs.Case.{boot, change_of, list_of}
 use Rattle.ps_cases.specs.CollectionCases.{deep}
 use Rattle.ps_cases.specs.Forms.{form_shown}
@@ -90,7 +90,7 @@ is_settled E = bytes_eq (body (base (base E))) (body (base E))
 -- each entry is accepted at its place
 abbrev pub are_accepted : State → List Entry → Bool
 are_accepted s [] = true
-are_accepted s (e ∷ E) = accepted_at s e && are_accepted (after s e) E
+are_accepted s (e ∷ E) = accepted s e && are_accepted (after s e) E
 
 abbrev pub is_base : List Entry → Bool
 is_base E = are_accepted empty_state (base E ++ boot ∷ [])

@@ -3,7 +3,7 @@ use Rattle.std.specs.Prelude.{List, [], ◌∷◌, ◌++◌}
 use Rattle.ps_types.specs.declared.entry.Entry.{Entry}
 use Rattle.ps_types.specs.declared.entry.Notice.{Notice}
 use Rattle.ps_model.specs.Machine as machine
-use Rattle.ps_model.specs.TheCore.{based_core}
+use Rattle.ps_model.specs.TheCore.{the_core}
 use Rattle.ps_model.specs.declared.steps.Step.{Step}
 use Rattle.ps_model.specs.declared.steps.Step.TheVariants.{Crash, Emit, Flush, Record}
 use Rattle.ps_cases.specs.Case.{change_of, list_of}
@@ -20,7 +20,7 @@ second = headline to_bob 4 2 (event_of news i2 ∷ [])
 
 -- what was sent to bob since the last boot
 abbrev pub sent_after : List Step → List Notice
-sent_after steps = ((machine.world based_core service given steps).addresses to_bob).sent
+sent_after steps = ((machine.world the_core service given steps).addresses to_bob).sent
 
 abbrev pub unrecorded : List Step
 unrecorded = Emit to_bob ∷ Crash 1 ∷ Emit to_bob ∷ []

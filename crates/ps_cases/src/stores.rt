@@ -24,7 +24,8 @@ pub fn stamps()
 pub fn compacted_store()
     ensures unhanded { base compacted.unhanded ≡ compacted.unhanded_rows }
     ensures handed { base compacted.handed ≡ compacted.handed_rows }
-    ensures goes_on { compacted.told_by (compacted.unhanded_rows ++ compacted.more) ≡ (1, item_line) ∷ compacted.second ∷ [] }
+    ensures goes_on { compacted.told_by (compacted.unhanded_rows ++ compacted.more) ≡ (1, item_line) ∷ compacted.second
+        ∷ [] }
     ensures goes_on_later { compacted.told_by (compacted.handed_rows ++ compacted.more) ≡ compacted.second ∷ [] }
 {}
 

@@ -6,7 +6,7 @@ use Rattle.ps_types.specs.declared.entry.Entry.TheVariants.{Handed}
 use Rattle.ps_types.specs.declared.entry.Notice.{Notice}
 use Rattle.ps_model.specs.Book.{empty_state}
 use Rattle.ps_model.specs.Replay.{notices, of_bare}
-use Rattle.ps_model.specs.TheCore.{based_core, the_core}
+use Rattle.ps_model.specs.TheCore.{the_core}
 use Rattle.ps_model.proofs.Going.{notices-append}
 use Rattle.ps_deeds.specs.Over.{HandsNone}
 
@@ -18,10 +18,6 @@ handed-none : (E : List Entry) (b a : Jid) → notices (E ++ Handed b ∷ []) a 
 handed-none E b a =
     notices-append E (Handed b ∷ []) empty_state a
     ∙ (ap (λ (ns : List Notice). notices E a ++ (ns ++ [])) (bare-none a.resource) ∙ append-nil (notices E a))
-
-pub based-hands-none : HandsNone based_core
-unfolding based_core
-based-hands-none = handed-none
 
 pub hands-none : HandsNone the_core
 unfolding the_core

@@ -5,7 +5,7 @@ ghost use Rattle.ps_deeds.specs.Laws.{ReadersBringLines, WritersRecord, WritersS
 ghost use Rattle.ps_deeds.specs.Over.{HandsNone};
 ghost use Rattle.ps_model.specs.Core.{Core};
 ghost use Rattle.ps_model.specs.CoreLaws.{Laws};
-ghost use Rattle.ps_model.specs.TheCore.{based_core, the_core};
+ghost use Rattle.ps_model.specs.TheCore.{the_core};
 
 /// After every list of steps without a crash each host's lines stand in the list in order, each answered at its place; and the machine's rows keep what was said.
 pub fn each_run_has_lines()
@@ -50,6 +50,5 @@ pub fn each_record_lands()
 
 /// An entry that records a notice as handed makes none: the service keeps this law too.
 pub fn handed_hands_none()
-    ensures based { HandsNone based_core }
-    ensures today { HandsNone the_core }
+    ensures none { HandsNone the_core }
 {}

@@ -10,7 +10,7 @@ use Rattle.ps_model.specs.Book.{empty_state}
 use Rattle.ps_model.specs.Entries.{AreEntriesIn, IsEntryIn, body, spelling}
 use Rattle.ps_model.specs.Replay.{accepted, lawful, replay}
 use Rattle.ps_model.specs.Store.{AreBodies, AreParts, Begun, IsBody, IsShut, frame, frames, gate_at, is_header, is_second, is_unbegun, joined}
-use Rattle.ps_model.proofs.Going.{accepted-more}
+use Rattle.ps_model.proofs.Going.{lawful-more}
 use Rattle.ps_model.proofs.OneList.{NoFrame, header_size, starts}
 use Rattle.ps_exact.specs.Store.{HasDamage, HasList}
 use Rattle.ps_exact.proofs.Decided.{Decided, both, found, is-below, same-bytes, some-bytes}
@@ -136,7 +136,7 @@ module _ (bytes : List ℕ) (header : is_header (take 8 bytes) ≡ true) where
   next-entry ps es x others h f ok = record {
     parts = h.parts;
     entries = each-more (IsEntryIn (is_second bytes)) es f.entry h.entries f.is;
-    each = subst lawful (append_assoc (joined ps) es (f.entry ∷ [])) (accepted-more accepted (joined ps ++ es) f.entry empty_state h.each ok);
+    each = subst lawful (append_assoc (joined ps) es (f.entry ∷ [])) (lawful-more (joined ps ++ es) f.entry empty_state h.each ok);
     begun = subst (Begun bytes) (ap (λ (l : List ℕ). map body ps ++ l ∷ others) (ap (λ (l : List ℕ). body es ++ l) f.split ∙ sym (append_assoc (body es) (spelling f.entry) f.rest) ∙ ap (λ (l : List ℕ). l ++ f.rest) (sym (body-more es f.entry)))) h.begun;
   }
 

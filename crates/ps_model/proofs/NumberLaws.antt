@@ -17,7 +17,7 @@ use Rattle.ps_model.specs.BaseRows.{BaseRow, node, affiliation, subscription, it
 use Rattle.ps_model.specs.Book.{State, empty_state}
 use Rattle.ps_model.specs.Core.{handed}
 use Rattle.ps_model.specs.Numbers.{counter_in, counter_of}
-use Rattle.ps_model.specs.Replay.{IsLawfulFrom, replay_from, accepted_at, is_booted, lawful_based, notices, row_accepted}
+use Rattle.ps_model.specs.Replay.{IsLawfulFrom, replay_from, accepted, is_booted, lawful, notices, row_accepted}
 use Rattle.ps_model.specs.Replay as replay
 use Rattle.ps_model.specs.Tallies.{handed_to, made_for, more_made}
 use Rattle.ps_types.proofs.Same.{same_jid-Decides, same_parts}
@@ -192,7 +192,7 @@ handed-stepped : (a : Jid) (s : State) (to : Jid) → Stepped a s.tallies (step.
 unfolding Stepped
 handed-stepped a s to = inl (record { gives = nothing a s.tallies (step.after s (Handed to)).tallies (made-handed a to s.tallies); skips = λ x. refl })
 
-entry-stepped : (a : Jid) (s : State) (e : Entry) → accepted_at s e ≡ true → Stepped a s.tallies (step.after s e).tallies (step.notices_at s e) (ahead e a)
+entry-stepped : (a : Jid) (s : State) (e : Entry) → accepted s e ≡ true → Stepped a s.tallies (step.after s e).tallies (step.notices_at s e) (ahead e a)
 entry-stepped a s (Boot service) is = due-stepped a s.count s.tallies (step.handed_out s (Boot service))
 entry-stepped a s (Change host line moment t) is = due-stepped a s.count s.tallies (step.handed_out s (Change host line moment t))
 entry-stepped a s (Gone host) is = due-stepped a s.count s.tallies (step.handed_out s (Gone host))
@@ -244,7 +244,7 @@ unfolding start
 lawful-rise a [] s is = tt
 lawful-rise a (e ∷ E) s is = goes-on a s e E is.1 (lawful-rise a E (step.after s e) is.1) (entry-stepped a s e is.0)
 
-numbers-by : (E : List Entry) (a : Jid) → lawful_based E → (resource : List ℕ) → a.resource ≡ resource → (k : ℕ) (n : Notice) → slice_get (notices E a) k ≡ Some n → n.number ≡ counter_of E a + (k + 1)
+numbers-by : (E : List Entry) (a : Jid) → lawful E → (resource : List ℕ) → a.resource ≡ resource → (k : ℕ) (n : Notice) → slice_get (notices E a) k ≡ Some n → n.number ≡ counter_of E a + (k + 1)
 numbers-by E a is [] bare k n at =
     let same = of-bare E empty_state a bare in
     rise-at (counter_of E a) (notices_from empty_state E a) (subst (λ m. RiseFrom m (notices_from empty_state E a)) (start-is E a) (lawful-rise a E empty_state is)) k n
@@ -253,7 +253,7 @@ numbers-by E a is (x ∷ resource) full k n at =
     let same = of-full E empty_state a x resource full in
     absurd (let no : None ≡ Some n = sym (ap (λ ns. slice_get ns k) same) ∙ at in cc no)
 
-pub numbers-rise : (E : List Entry) (a : Jid) → lawful_based E → (k : ℕ) (n : Notice) → slice_get (notices E a) k ≡ Some n → n.number ≡ counter_of E a + (k + 1)
+pub numbers-rise : (E : List Entry) (a : Jid) → lawful E → (k : ℕ) (n : Notice) → slice_get (notices E a) k ≡ Some n → n.number ≡ counter_of E a + (k + 1)
 numbers-rise E a is k n at = numbers-by E a is a.resource refl k n at
 
 -- ---- how many were made and handed in all
@@ -358,13 +358,13 @@ length-zero : (xs : List ℕ) → length xs ≡ 0 → xs ≡ []
 length-zero [] e = refl
 length-zero (x ∷ xs) e = absurd (let no : 0 < 0 = omega (arith, e) in omega (arith, no))
 
-pub handed-is-bare : (s : State) (to : Jid) → accepted_at s (Handed to) ≡ true → to.resource ≡ []
+pub handed-is-bare : (s : State) (to : Jid) → accepted s (Handed to) ≡ true → to.resource ≡ []
 handed-is-bare s to is =
     let p = is in
     let q = all_three (is_booted s) (length to.resource == 0) (nat_lt (handed_to to s.tallies) (made_for to s.tallies)) p in
     length-zero to.resource (eqb-true (length to.resource) 0 q.0)
 
-pub handed-has-one : (s : State) (to : Jid) → accepted_at s (Handed to) ≡ true → handed_to to s.tallies < made_for to s.tallies
+pub handed-has-one : (s : State) (to : Jid) → accepted s (Handed to) ≡ true → handed_to to s.tallies < made_for to s.tallies
 handed-has-one s to is =
     let p = is in
     let q = all_three (is_booted s) (length to.resource == 0) (nat_lt (handed_to to s.tallies) (made_for to s.tallies)) p in
@@ -374,7 +374,7 @@ handed-has-one s to is =
 no-zero : 0 < 0 → ⊥
 no-zero h = omega (arith, h)
 
-one-made : (a : Jid) → a.resource ≡ [] → (s : State) (e : Entry) → accepted_at s e ≡ true → 0 < one e a → 0 < made_for a s.tallies
+one-made : (a : Jid) → a.resource ≡ [] → (s : State) (e : Entry) → accepted s e ≡ true → 0 < one e a → 0 < made_for a s.tallies
 one-made a bare s (Handed to) is some = by (same_jid to a) refl some
   where
     by : (b : Bool) → same_jid to a ≡ b → 0 < cond b 1 0 → 0 < made_for a s.tallies
@@ -396,7 +396,7 @@ handed-more (Handed to) E a = by (same_jid to a)
     by true = (let z : suc (handed E a) ≡ 1 + handed E a = omega arith in z)
     by false = (let z : handed E a ≡ 0 + handed E a = omega arith in z)
 
-entry-handed : (a : Jid) → a.resource ≡ [] → (s : State) (e : Entry) → accepted_at s e ≡ true → HandedStep a s.tallies (step.after s e).tallies (one e a) (ahead e a)
+entry-handed : (a : Jid) → a.resource ≡ [] → (s : State) (e : Entry) → accepted s e ≡ true → HandedStep a s.tallies (step.after s e).tallies (one e a) (ahead e a)
 unfolding HandedStep
 entry-handed a bare s (Boot service) is = kept-handed a s.tallies (step.after s (Boot service)).tallies (tallied-handed a (step.handed_out s (Boot service)) s.tallies)
 entry-handed a bare s (Change host line moment t) is = kept-handed a s.tallies (step.after s (Change host line moment t)).tallies (tallied-handed a (step.handed_out s (Change host line moment t)) s.tallies)
@@ -406,7 +406,7 @@ entry-handed a bare s (Handed to) is =
     inl (record { keeps = handed-one a to s.tallies (same_bare a to) refl ∙ ap (λ b. handed_to a s.tallies + cond b 1 0) same; skips = λ x. refl })
 entry-handed a bare s (Base row) is = row-handed a s (row_of row) (and_parts (not (is_booted s)) (row_accepted (row_of row) s) is).1
 
-handed-by : (a : Jid) → a.resource ≡ [] → (s : State) (e : Entry) (E : List Entry) → accepted_at s e ≡ true → IsLawfulFrom (step.after s e) E
+handed-by : (a : Jid) → a.resource ≡ [] → (s : State) (e : Entry) (E : List Entry) → accepted s e ≡ true → IsLawfulFrom (step.after s e) E
     → handed_to a (replay_from (step.after s e) E).tallies ≡ start (handed_to a (step.after s e).tallies) E a + handed E a
     → HandedStep a s.tallies (step.after s e).tallies (one e a) (ahead e a) → (0 < made_for a s.tallies → 0 < made_for a (step.after s e).tallies)
     → handed_to a (replay_from (step.after s e) E).tallies ≡ ahead e a (start (handed_to a s.tallies) E a) + (one e a + handed E a)
@@ -440,7 +440,7 @@ handed-total a bare (e ∷ E) s is =
     ∙ ap (λ k. ahead e a (start (handed_to a s.tallies) E a) + k) (sym (handed-more e E a))
 
 -- so the two numbers of the State compare as the notices and the records of the list do
-pub totals : (a : Jid) → a.resource ≡ [] → (E : List Entry) → lawful_based E
+pub totals : (a : Jid) → a.resource ≡ [] → (E : List Entry) → lawful E
     → (m : ℕ) × (made_for a (replay.replay E).tallies ≡ m + length (notices E a)) × (handed_to a (replay.replay E).tallies ≡ m + handed E a)
 totals a bare E is = (
   start 0 E a,

@@ -7,15 +7,12 @@ use Rattle.ps_model.specs.Book.{State, empty_state}
 use Rattle.ps_model.specs.Damage.{BadFrame, NoEntry}
 use Rattle.ps_model.specs.Entries.{AreEntriesIn, IsEntryIn, body, spelling}
 use Rattle.ps_model.specs.After.{after}
-use Rattle.ps_model.specs.Replay.{AreAcceptedFrom, accepted, lawful, replay_from}
+use Rattle.ps_model.specs.Replay.{IsLawfulFrom, accepted, lawful, replay_from}
 use Rattle.ps_model.specs.Store.{AreParts, Begun, IsShut, gate_at, is_second, joined, spelled}
 use Rattle.ps_model.proofs.Going.{replay-append}
 use Rattle.ps_model.proofs.OneList.{behind_header, body_one, entry_one, frames_one, one_frames, shut_no_frame, shut_some, starts}
 
 -- ---- lawful lists
-
-abbrev IsLawfulFrom : State → List Entry → Type 0
-IsLawfulFrom s E = AreAcceptedFrom accepted s E
 
 lawful-rest : (E F : List Entry) (s : State) → IsLawfulFrom s (E ++ F) → IsLawfulFrom (replay_from s E) F
 lawful-rest [] F s is = is

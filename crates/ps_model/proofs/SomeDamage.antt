@@ -11,7 +11,7 @@ use Rattle.ps_model.specs.Book.{empty_state}
 use Rattle.ps_model.specs.Entries.{AreEntriesIn, IsEntryIn, body, spelling}
 use Rattle.ps_model.specs.Replay.{accepted, lawful, replay}
 use Rattle.ps_model.specs.Store.{AreBodies, AreParts, Begun, IsBody, IsShut, frame, frames, gate_at, is_header, is_second, is_unbegun, joined}
-use Rattle.ps_model.proofs.Going.{accepted-more}
+use Rattle.ps_model.proofs.Going.{lawful-more}
 use Rattle.ps_model.proofs.OneList.{header_size, starts}
 
 is-shut : List ℕ → Bool
@@ -86,7 +86,7 @@ module _ (bytes : List ℕ) (header : is_header (take 8 bytes) ≡ true) (none :
         bad = inl (record {
           some = λ e. absurd (cc e);
           none = λ e rest is split. next e rest is split (λ ok. entries-on n ps (es ++ e ∷ []) rest others (shorter e rest (b ∷ x) n split fits) parts (each-more (IsEntryIn (is_second bytes)) es e entries is)
-              (subst lawful (append_assoc (joined ps) es (e ∷ [])) (accepted-more accepted (joined ps ++ es) e empty_state each ok))
+              (subst lawful (append_assoc (joined ps) es (e ∷ [])) (lawful-more (joined ps ++ es) e empty_state each ok))
               (subst (Begun bytes) (ap (λ (l : List ℕ). map body ps ++ l ∷ others) (ap (λ (l : List ℕ). body es ++ l) split ∙ sym (append_assoc (body es) (spelling e) rest) ∙ ap (λ (l : List ℕ). l ++ rest) (sym (body-more es e)))) begun))
               (accepted (replay (joined ps ++ es)) e) refl;
         });

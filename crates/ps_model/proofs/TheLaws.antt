@@ -26,7 +26,7 @@ use Rattle.ps_model.specs.Book.{Book, State, empty_state}
 use Rattle.ps_model.specs.Core.{Core, handed}
 use Rattle.ps_model.specs.CoreLaws.{Gains, HasBoot, IsLawful, Laws}
 use Rattle.ps_model.specs.Numbered.{numbered, row_notices}
-use Rattle.ps_model.specs.Replay.{AreAcceptedFrom, IsLawfulFrom, accepted, accepted_at, is_booted, is_row, lawful, lawful_based, notices, of_bare, replay, replay_from, row_accepted, to_address}
+use Rattle.ps_model.specs.Replay.{IsLawfulFrom, accepted, is_booted, lawful, notices, of_bare, replay, replay_from, row_accepted, to_address}
 use Rattle.ps_types.specs.LineTree.{line_tree}
 use Rattle.ps_types.specs.Shape.{attr_text}
 use Rattle.ps_types.specs.declared.denial.Condition.{Condition}
@@ -46,7 +46,7 @@ use Rattle.ps_model.specs.Taken as taken
 use Rattle.ps_model.specs.Taking as taking
 use Rattle.ps_model.specs.Taking.{ask_taken, head_of, is_white, request_in, result_taken, sender_taken, target_taken, tree_taken}
 use Rattle.ps_model.specs.Tallies.{is_after_row, is_next_line, greatest_line, handed_to, is_line_of, line_in, made_for, more_made}
-use Rattle.ps_model.specs.TheCore.{based_core, the_core}
+use Rattle.ps_model.specs.TheCore.{the_core}
 use Rattle.ps_model.proofs.Going.{notices-append, replay-append}
 use Rattle.ps_model.proofs.NumberLaws.{handed-has-one, handed-is-bare, of-full, totals}
 use Rattle.ps_model.proofs.ServiceStays.{service-stays}
@@ -192,16 +192,6 @@ some-text : (text : List ℕ) → text ≢ [] → nat_lt 0 (length text) ≡ tru
 some-text [] some = absurd (some refl)
 some-text (x ∷ text) some = lt-ltb 0 (length (x ∷ text)) (omega arith)
 
--- the service where an entry is accepted by this test
-unfoldable core_by : (State → Entry → Bool) → Core
-core_by accepts = record {
-  accepted = λ E e. accepts (replay E) e;
-  reply = λ E host line arrival full. option_map print (reply_to host (replay E).book line arrival full);
-  entry = λ E host line arrival full. entry_of host (replay E).book line arrival full;
-  greatest = λ E host. greatest_line host (replay E).lines;
-  notices = notices;
-}
-
 -- ---- lawful lists
 
 replay-push : (E : List Entry) (e : Entry) → replay (E ++ e ∷ []) ≡ step.after (replay E) e
@@ -209,7 +199,7 @@ replay-push E e = replay-append E (e ∷ []) empty_state
 
 -- ---- the first boot
 
-booted-after : (s : State) (e : Entry) → accepted_at s e ≡ true → is_booted s ≡ true → is_booted (step.after s e) ≡ true
+booted-after : (s : State) (e : Entry) → accepted s e ≡ true → is_booted s ≡ true → is_booted (step.after s e) ≡ true
 booted-after s (Boot service) is booted = is
 booted-after s (Change host line moment t) is booted = ap (λ (l : List ℕ). nat_lt 0 (length l)) (book-stays (request_on host s.book t) moment s.book) ∙ booted
 booted-after s (Handed to) is booted = booted
@@ -230,7 +220,7 @@ booted-from (Handed to ∷ E) s is has = booted-from E (step.after s (Handed to)
 booted-from (Gone host ∷ E) s is has = booted-from E (step.after s (Gone host)) is.1 has
 booted-from (Base row ∷ E) s is has = booted-from E (step.after s (Base row)) is.1 has
 
-is-booted : (E : List Entry) → lawful_based E → HasBoot E → is_booted (replay E) ≡ true
+is-booted : (E : List Entry) → lawful E → HasBoot E → is_booted (replay E) ≡ true
 is-booted E is has = booted-from E empty_state is has
 
 -- ---- lines
@@ -264,9 +254,9 @@ count-is : (E : List Entry) (s : State) → (replay_from s E).count ≡ s.count 
 count-is [] s = (let e : s.count ≡ s.count + 0 = omega arith in e)
 count-is (e ∷ E) s = count-is E (step.after s e) ∙ (let z : s.count + 1 + length E ≡ s.count + suc (length E) = omega arith in z)
 
-gained : (accepts : State → Entry → Bool) (E : List Entry) (e : Entry) (a : Jid) → Gains (core_by accepts) E e a
-unfolding core_by
-gained accepts E e a =
+gained : (E : List Entry) (e : Entry) (a : Jid) → Gains the_core E e a
+unfolding the_core
+gained E e a =
     let s = replay E in
     let ns = to_address a (step.notices_at s e) in
     let each = bare-at s.count a.resource (filter (λ n. same_bare n.to a) (step.notices_at s e)) (filter-at s.count (λ n. same_bare n.to a) (step.notices_at s e) (entry-at s e)) in
@@ -278,10 +268,10 @@ gained accepts E e a =
 
 -- ---- records of notices
 
-handed-accepted : (E : List Entry) (a : Jid) → lawful_based E → HasBoot E → handed E a < length (notices E a) → accepted_at (replay E) (Handed a) ≡ true
+handed-accepted : (E : List Entry) (a : Jid) → lawful E → HasBoot E → handed E a < length (notices E a) → accepted (replay E) (Handed a) ≡ true
 handed-accepted E a is has less = by a.resource refl
   where
-    by : (resource : List ℕ) → a.resource ≡ resource → accepted_at (replay E) (Handed a) ≡ true
+    by : (resource : List ℕ) → a.resource ≡ resource → accepted (replay E) (Handed a) ≡ true
     by [] bare =
         let t = totals a bare E is in
         let more : handed_to a (replay E).tallies < made_for a (replay E).tallies = omega (arith, t.1, t.2, less) in
@@ -291,122 +281,65 @@ handed-accepted E a is has less = by a.resource refl
         let none : notices E a ≡ [] = of-full E empty_state a x resource full in
         absurd (let no : handed E a < 0 = rw (← ap length none) less in omega (arith, no))
 
-handed-only : (E : List Entry) (a : Jid) → lawful_based E → accepted_at (replay E) (Handed a) ≡ true → handed E a < length (notices E a)
+handed-only : (E : List Entry) (a : Jid) → lawful E → accepted (replay E) (Handed a) ≡ true → handed E a < length (notices E a)
 handed-only E a is ok =
     let bare = handed-is-bare (replay E) a ok in
     let has = handed-has-one (replay E) a ok in
     let t = totals a bare E is in
     omega (arith, has, t.1, t.2)
 
-change-accepted : (E : List Entry) (host : List ℕ) (line : ℕ) (a : Arrival) (full : Bool) (e : Entry) → lawful_based E → HasBoot E → entry_of host (replay E).book line a full ≡ Some e → greatest_line host (replay E).lines < line → accepted_at (replay E) e ≡ true
+change-accepted : (E : List Entry) (host : List ℕ) (line : ℕ) (a : Arrival) (full : Bool) (e : Entry) → lawful E → HasBoot E → entry_of host (replay E).book line a full ≡ Some e → greatest_line host (replay E).lines < line → accepted (replay E) e ≡ true
 change-accepted E host line a full e is has at less =
     let s = replay E in
     let m = made-entry host s.book line (moment_of a) full (taking.taken host s.book.service a) e at in
     let read : tree_taken host s.book.service m.tree ≡ taken.asked m.tree m.request = arrival-tree host s.book.service a m.tree m.request m.is in
     let asks : request_accepted (request_in (tree_taken host s.book.service m.tree)) s.book ≡ true =
     ap (λ (x : Taken). request_accepted (request_in x) s.book) read ∙ both (is_accepted (check s.book m.request)) (commits s.book m.request) m.accepted_is m.commits_is in
-    let ok : accepted_at s (Change host line (moment_of a) m.tree) ≡ true =
+    let ok : accepted s (Change host line (moment_of a) m.tree) ≡ true =
     all-true (is_booted s) (request_accepted (request_in (tree_taken host s.book.service m.tree)) s.book) (is_next_line host line s.lines) (is-booted E is has) asks (next-line line (find (is_line_of host) s.lines) less) in
-    ap (accepted_at s) m.entry_is ∙ ok
+    ap (accepted s) m.entry_is ∙ ok
 
--- ---- the laws, by a test that tells from the acceptance of an entry at most that no row may stand
+-- ---- the two ways to say that a list is lawful
 
--- how a test of entries stands to their acceptance
-record Tests (accepts : State → Entry → Bool) : Type 0 where
-  only : (s : State) (e : Entry) → accepts s e ≡ true → accepted_at s e ≡ true
-  all : (s : State) (e : Entry) → is_row e ≡ false → accepted_at s e ≡ true → accepts s e ≡ true
+-- a list that is accepted place by place, from its first entry on and at each place
+from-places : (P E : List Entry) → ((p : ℕ) (e : Entry) → slice_get E p ≡ Some e → accepted (replay (P ++ take p E)) e ≡ true) → IsLawfulFrom (replay P) E
+from-places P [] each = tt
+from-places P (e ∷ E) each = (
+  ap (λ (l : List Entry). accepted (replay l) e) (sym (append-nil P)) ∙ each 0 e refl,
+  subst (λ (s : State). IsLawfulFrom s E) (replay-push P e)
+      (from-places (P ++ e ∷ []) E (λ p f at. ap (λ (l : List Entry). accepted (replay l) f) (append_assoc P (e ∷ []) (take p E)) ∙ each (suc p) f at)),
+)
 
-module _ (accepts : State → Entry → Bool) (tests : Tests accepts) where
-  -- a list that is accepted place by place, from its first entry on and at each place
-  from-places : (P E : List Entry) → ((p : ℕ) (e : Entry) → slice_get E p ≡ Some e → accepts (replay (P ++ take p E)) e ≡ true) → AreAcceptedFrom accepts (replay P) E
-  from-places P [] each = tt
-  from-places P (e ∷ E) each = (
-    ap (λ (l : List Entry). accepts (replay l) e) (sym (append-nil P)) ∙ each 0 e refl,
-    subst (λ (s : State). AreAcceptedFrom accepts s E) (replay-push P e)
-        (from-places (P ++ e ∷ []) E (λ p f at. ap (λ (l : List Entry). accepts (replay l) f) (append_assoc P (e ∷ []) (take p E)) ∙ each (suc p) f at)),
-  )
+each-at : (E : List Entry) (s : State) → IsLawfulFrom s E → (p : ℕ) (e : Entry) → slice_get E p ≡ Some e → accepted (replay_from s (take p E)) e ≡ true
+each-at [] s is p e at = absurd (let no : None ≡ Some e = at in cc no)
+each-at (x ∷ E) s is zero e at = let same : x ≡ e = cc at in subst (λ (y : Entry). accepted s y ≡ true) same is.0
+each-at (x ∷ E) s is (suc p) e at = each-at E (step.after s x) is.1 p e at
 
-  each-at : (E : List Entry) (s : State) → AreAcceptedFrom accepts s E → (p : ℕ) (e : Entry) → slice_get E p ≡ Some e → accepts (replay_from s (take p E)) e ≡ true
-  each-at [] s is p e at = absurd (let no : None ≡ Some e = at in cc no)
-  each-at (x ∷ E) s is zero e at = let same : x ≡ e = cc at in subst (λ (y : Entry). accepts s y ≡ true) same is.0
-  each-at (x ∷ E) s is (suc p) e at = each-at E (step.after s x) is.1 p e at
+pub places-of : (E : List Entry) → IsLawful the_core E → lawful E
+unfolding the_core
+places-of E each = from-places [] E each
 
-  are-lawful : (E : List Entry) (s : State) → AreAcceptedFrom accepts s E → IsLawfulFrom s E
-  are-lawful [] s is = tt
-  are-lawful (e ∷ E) s is = (tests.only s e is.0, are-lawful E (step.after s e) is.1)
-
-  lawful-places : (E : List Entry) → IsLawful (core_by accepts) E → AreAcceptedFrom accepts empty_state E
-  unfolding core_by
-  lawful-places E each = from-places [] E each
-
-  places-lawful : (E : List Entry) → AreAcceptedFrom accepts empty_state E → IsLawful (core_by accepts) E
-  unfolding core_by
-  places-lawful E is p e at = each-at E empty_state is p e at
-
-  is-lawful : (E : List Entry) → IsLawful (core_by accepts) E → lawful_based E
-  is-lawful E each = are-lawful E empty_state (lawful-places E each)
-
-  laws-by : Laws (core_by accepts)
-  unfolding core_by
-  laws-by = record {
-    change = λ E host line a full e at. (let m = made-entry host (replay E).book line (moment_of a) full (taking.taken host (replay E).book.service a) e at in (moment_of a, m.tree, m.entry_is));
-    change_ok = λ E host line a full e is has at less. (
-        let m = made-entry host (replay E).book line (moment_of a) full (taking.taken host (replay E).book.service a) e at in
-        tests.all (replay E) e (ap is_row m.entry_is) (change-accepted E host line a full e (is-lawful E is) has at less));
-    full_none = λ E host line a. full-none host (replay E).book line (moment_of a) (taking.taken host (replay E).book.service a) (entry_of host (replay E).book line a true) refl;
-    boot_ok = λ E service some. tests.all (replay E) (Boot service) refl (some-text service some);
-    gone_ok = λ E host is has. tests.all (replay E) (Gone host) refl (is-booted E (is-lawful E is) has);
-    handed_ok = λ E a is has less. tests.all (replay E) (Handed a) refl (handed-accepted E a (is-lawful E is) has less);
-    handed_only = λ E a is ok. handed-only E a (is-lawful E is) (tests.only (replay E) (Handed a) ok);
-    greatest_boot = greatest-boot;
-    greatest_same = greatest-same;
-    greatest_else = greatest-else;
-    greatest_handed = λ E a h. ap (λ (s : State). greatest_line h s.lines) (replay-push E (Handed a));
-    greatest_gone = λ E host h. ap (λ (s : State). greatest_line h s.lines) (replay-push E (Gone host));
-    gains = gained accepts;
-    none = λ a. refl;
-  }
+pub of-places : (E : List Entry) → lawful E → IsLawful the_core E
+unfolding the_core
+of-places E is p e at = each-at E empty_state is p e at
 
 -- ---- the laws
 
-full-tests : Tests accepted_at
-full-tests = record { only = λ s e is. is; all = λ s e plain is. is }
-
-built-all : (s : State) (e : Entry) → is_row e ≡ false → accepted_at s e ≡ true → accepted s e ≡ true
-built-all s (Boot service) plain is = is
-built-all s (Change host line moment t) plain is = is
-built-all s (Handed to) plain is = is
-built-all s (Gone host) plain is = is
-built-all s (Base row) plain is = absurd (true≢false plain)
-
-todays-tests : Tests accepted
-todays-tests = record { only = λ s e is. (and_parts (not (is_row e)) (accepted_at s e) is).1; all = built-all }
-
-pub laws-of : Laws based_core
-unfolding based_core core_by
-laws-of = laws-by accepted_at full-tests
-
 pub the-laws : Laws the_core
-unfolding the_core core_by
-the-laws = laws-by accepted todays-tests
-
--- the two ways to say that a list is lawful
-pub places-of : (E : List Entry) → IsLawful based_core E → lawful_based E
-unfolding based_core core_by
-places-of E each = lawful-places accepted_at full-tests E each
-
-pub of-places : (E : List Entry) → lawful_based E → IsLawful based_core E
-unfolding based_core core_by
-of-places E is = places-lawful accepted_at full-tests E is
-
-pub todays-places : (E : List Entry) → IsLawful the_core E → lawful E
-unfolding the_core core_by
-todays-places E each = lawful-places accepted todays-tests E each
-
-pub of-todays-places : (E : List Entry) → lawful E → IsLawful the_core E
-unfolding the_core core_by
-of-todays-places E is = places-lawful accepted todays-tests E is
-
--- a list that is lawful today is lawful
-pub todays-lawful : (E : List Entry) → lawful E → lawful_based E
-todays-lawful E is = are-lawful accepted todays-tests E empty_state is
+unfolding the_core
+the-laws = record {
+  change = λ E host line a full e at. (let m = made-entry host (replay E).book line (moment_of a) full (taking.taken host (replay E).book.service a) e at in (moment_of a, m.tree, m.entry_is));
+  change_ok = λ E host line a full e is has at less. change-accepted E host line a full e (places-of E is) has at less;
+  full_none = λ E host line a. full-none host (replay E).book line (moment_of a) (taking.taken host (replay E).book.service a) (entry_of host (replay E).book line a true) refl;
+  boot_ok = λ E service some. some-text service some;
+  gone_ok = λ E host is has. is-booted E (places-of E is) has;
+  handed_ok = λ E a is has less. handed-accepted E a (places-of E is) has less;
+  handed_only = λ E a is ok. handed-only E a (places-of E is) ok;
+  greatest_boot = greatest-boot;
+  greatest_same = greatest-same;
+  greatest_else = greatest-else;
+  greatest_handed = λ E a h. ap (λ (s : State). greatest_line h s.lines) (replay-push E (Handed a));
+  greatest_gone = λ E host h. ap (λ (s : State). greatest_line h s.lines) (replay-push E (Gone host));
+  gains = gained;
+  none = λ a. refl;
+}

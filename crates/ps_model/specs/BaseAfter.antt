@@ -31,6 +31,7 @@ use Rattle.ps_model.specs.CheckForms.{is_collection}
 use Rattle.ps_model.specs.Entries.{end_of_time}
 use Rattle.ps_model.specs.NoticeTrees.{notice_id}
 use Rattle.ps_model.specs.Steps.{is_short}
+use Rattle.ps_model.specs.Streams.{is_reply}
 use Rattle.ps_model.specs.Tallies.{made_for, more_made, tallies_with}
 
 -- ---- what it adds
@@ -95,10 +96,14 @@ abbrev pub takes_link : LinkRow → Book → Bool
 takes_link r book =
     stands r.child book.nodes && is_collection_at (config_at r.collection book.nodes) && not (same_node r.child r.collection) && not (list_any (is_link_at r.child) book.links)
 
--- the line is the print of a tree to the address with this id
+-- a tree to the address with this id, which is no reply
+abbrev pub is_notice_tree : Jid → ℕ → Tree → Bool
+is_notice_tree to number t = bytes_eq (attr_text (codes "to") t) (jid_text to) && bytes_eq (attr_text (codes "id") t) (notice_id number) && not (is_reply t)
+
+-- the line is the print of one
 abbrev pub is_notice_line : Jid → ℕ → List ℕ → Result Tree LineRefusal → Bool
 is_notice_line to number line (Err why) = false
-is_notice_line to number line (Ok t) = bytes_eq line (print t) && bytes_eq (attr_text (codes "to") t) (jid_text to) && bytes_eq (attr_text (codes "id") t) (notice_id number)
+is_notice_line to number line (Ok t) = bytes_eq line (print t) && is_notice_tree to number t
 
 -- beside the rows that are there
 abbrev pub has_place : BaseRow → State → Bool

@@ -12,7 +12,7 @@ use Rattle.ps_model.specs.Book.{Book}
 use Rattle.ps_model.specs.Due.{may_read}
 use Rattle.ps_model.specs.Given.{asked, given, node_read}
 use Rattle.ps_model.specs.Numbers.{counter_of}
-use Rattle.ps_model.specs.Replay.{lawful_based, notices, notices_from, replay, replay_from}
+use Rattle.ps_model.specs.Replay.{lawful, notices, notices_from, replay, replay_from}
 
 abbrev pub ReplayGoesOn : Type 0
 ReplayGoesOn = (E F : List Entry) → replay (E ++ F) ≡ replay_from (replay E) F
@@ -22,7 +22,7 @@ NoticesGrow = (E F : List Entry) (a : Jid) → notices (E ++ F) a ≡ notices E 
 
 -- the k-th notice of a bare address has the number of its counter and k
 abbrev pub NumbersRise : Type 0
-NumbersRise = (E : List Entry) (a : Jid) → lawful_based E → (k : ℕ) (n : Notice) → slice_get (notices E a) k ≡ Some n → n.number ≡ counter_of E a + (k + 1)
+NumbersRise = (E : List Entry) (a : Jid) → lawful E → (k : ℕ) (n : Notice) → slice_get (notices E a) k ≡ Some n → n.number ≡ counter_of E a + (k + 1)
 
 -- who gets something of an event is among those that are asked, and may read the node of the event
 abbrev pub NobodyIsMissed : Book → Event → Type 0

@@ -39,12 +39,12 @@ row_accepted None s = false
 row_accepted (Some r) s = accepts_row r s
 
 -- first the rows of a compacted store, if there are any, then a boot, then the rest
-abbrev pub accepted_at : State → Entry → Bool
-accepted_at s (Boot service) = nat_lt 0 (length service)
-accepted_at s (Change host line moment t) = is_booted s && request_accepted (request_in (tree_taken host s.book.service t)) s.book && is_next_line host line s.lines
-accepted_at s (Handed to) = is_booted s && (length to.resource == 0) && nat_lt (handed_to to s.tallies) (made_for to s.tallies)
-accepted_at s (Gone host) = is_booted s
-accepted_at s (Base row) = not (is_booted s) && row_accepted (row_of row) s
+abbrev pub accepted : State → Entry → Bool
+accepted s (Boot service) = nat_lt 0 (length service)
+accepted s (Change host line moment t) = is_booted s && request_accepted (request_in (tree_taken host s.book.service t)) s.book && is_next_line host line s.lines
+accepted s (Handed to) = is_booted s && (length to.resource == 0) && nat_lt (handed_to to s.tallies) (made_for to s.tallies)
+accepted s (Gone host) = is_booted s
+accepted s (Base row) = not (is_booted s) && row_accepted (row_of row) s
 
 -- ---- whole lists
 
@@ -58,13 +58,10 @@ abbrev pub notices_from : State → List Entry → Jid → List Notice
 notices_from s [] a = []
 notices_from s (e ∷ E) a = to_address a (notices_at s e) ++ notices_from (after s e) E a
 
--- each entry is accepted at its place, by this test
-abbrev pub AreAcceptedFrom : (State → Entry → Bool) → State → List Entry → Type 0
-AreAcceptedFrom accepts s [] = Unit {0}
-AreAcceptedFrom accepts s (e ∷ E) = (accepts s e ≡ true) × AreAcceptedFrom accepts (after s e) E
-
+-- each entry is accepted at its place
 abbrev pub IsLawfulFrom : State → List Entry → Type 0
-IsLawfulFrom s E = AreAcceptedFrom accepted_at s E
+IsLawfulFrom s [] = Unit {0}
+IsLawfulFrom s (e ∷ E) = (accepted s e ≡ true) × IsLawfulFrom (after s e) E
 
 -- from the empty State on
 abbrev pub replay : List Entry → State
@@ -74,21 +71,5 @@ abbrev pub notices : List Entry → Jid → List Notice
 notices E a = notices_from empty_state E a
 
 -- each entry is accepted at its place; the list may begin with the rows of a compacted store
-abbrev pub lawful_based : List Entry → Type 0
-lawful_based E = IsLawfulFrom empty_state E
-
--- ---- today
-
--- rows of a compacted store aren't taken yet
-abbrev pub is_row : Entry → Bool
-is_row (Boot service) = false
-is_row (Change host line moment t) = false
-is_row (Handed to) = false
-is_row (Gone host) = false
-is_row (Base row) = true
-
-abbrev pub accepted : State → Entry → Bool
-accepted s e = not (is_row e) && accepted_at s e
-
 abbrev pub lawful : List Entry → Type 0
-lawful E = AreAcceptedFrom accepted empty_state E
+lawful E = IsLawfulFrom empty_state E

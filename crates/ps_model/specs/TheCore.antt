@@ -4,23 +4,13 @@ use Rattle.ps_types.specs.Print.{print}
 use Rattle.ps_types.specs.declared.entry.Entry.{Entry}
 use Rattle.ps_model.specs.Core.{Core}
 use Rattle.ps_model.specs.Machine as machine
-use Rattle.ps_model.specs.Replay.{accepted, accepted_at, notices, replay}
+use Rattle.ps_model.specs.Replay.{accepted, notices, replay}
 use Rattle.ps_model.specs.Replies.{entry_of, reply_to}
 use Rattle.ps_model.specs.Tallies.{greatest_line}
 use Rattle.ps_model.specs.World.{World}
 use Rattle.ps_model.specs.declared.steps.Step.{Step}
 
 -- a list may begin with the rows of a compacted store
-unfoldable pub based_core : Core
-based_core = record {
-  accepted = λ E e. accepted_at (replay E) e;
-  reply = λ E host line arrival full. option_map print (reply_to host (replay E).book line arrival full);
-  entry = λ E host line arrival full. entry_of host (replay E).book line arrival full;
-  greatest = λ E host. greatest_line host (replay E).lines;
-  notices = notices;
-}
-
--- what the program does today
 unfoldable pub the_core : Core
 the_core = record {
   accepted = λ E e. accepted (replay E) e;

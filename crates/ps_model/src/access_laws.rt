@@ -14,12 +14,14 @@ ghost use Rattle.ps_model.specs.Changes.{changed};
 
 /// An outcast is forbidden all at a node that stands.
 pub fn outcast_is_forbidden()
-    ensures { (book : Book) (node : NodeKey) (who : Jid) → stands node book.nodes ≡ true → affiliation book node who ≡ Outcast
+    ensures { (book : Book) (node : NodeKey) (who : Jid) → stands node book.nodes ≡ true
+        → affiliation book node who ≡ Outcast
         → (read book node who ≡ Denied C11) × (subscribe book node who ≡ Denied C11) × (publish book node who ≡ Denied C11) × (own book node who ≡ Denied C11) }
 {}
 
 /// A node never holds more items than it may: the empty Book has none, and no change makes it so.
 pub fn nodes_stay_bounded()
     ensures empty { IsBounded empty_book }
-    ensures changed { (book : Book) (r : Request) (moment : Option ℕ) → IsBounded book → IsBounded (changed r moment book) }
+    ensures changed { (book : Book) (r : Request) (moment : Option ℕ) → IsBounded book
+        → IsBounded (changed r moment book) }
 {}

@@ -6,8 +6,8 @@ ghost use Rattle.ps_types.specs.declared.node.NodeKey.{NodeKey};
 ghost use Rattle.ps_model.specs.Book.{Book};
 ghost use Rattle.ps_model.specs.CoreLaws.{AreSame, IsLawful};
 ghost use Rattle.ps_model.specs.ListLaws.{GoesToReaders, NobodyIsMissed, NoticesGrow, NumbersRise, ReplayGoesOn};
-ghost use Rattle.ps_model.specs.Replay.{lawful, lawful_based};
-ghost use Rattle.ps_model.specs.TheCore.{based_core, the_core};
+ghost use Rattle.ps_model.specs.Replay.{lawful};
+ghost use Rattle.ps_model.specs.TheCore.{the_core};
 
 /// What a list leaves, followed by another, is what the other leaves from there on.
 pub fn replay_goes_on()
@@ -19,18 +19,14 @@ pub fn notices_grow()
     ensures { NoticesGrow }
 {}
 
-/// A prefix of a lawful list is lawful, also where rows of a compacted store are taken.
+/// A prefix of a lawful list is lawful, also where rows of a compacted store stand first.
 pub fn lawful_prefix()
-    ensures based { (E F : List Entry) → lawful_based (E ++ F) → lawful_based E }
-    ensures today { (E F : List Entry) → lawful (E ++ F) → lawful E }
+    ensures front { (E F : List Entry) → lawful (E ++ F) → lawful E }
 {}
 
-/// That each entry is accepted after those before it says the same as that a list is lawful, and what is lawful today
-/// is lawful where rows of a compacted store are taken.
+/// That each entry is accepted after those before it says the same as that a list is lawful.
 pub fn lawful_at_each_place()
-    ensures based { (E : List Entry) → AreSame (IsLawful based_core E) (lawful_based E) }
-    ensures today { (E : List Entry) → AreSame (IsLawful the_core E) (lawful E) }
-    ensures stays { (E : List Entry) → lawful E → lawful_based E }
+    ensures same { (E : List Entry) → AreSame (IsLawful the_core E) (lawful E) }
 {}
 
 /// The notices of a bare address are numbered one after the other, from the number of its counter on.

@@ -3,7 +3,7 @@
 //! `docs/MODEL.md` walks through `specs/` in an order in which one can check them against the XEPs. The words that contracts
 //! above use most: `Book` and `State` (what the service holds), `taken` (what a line is), `check` (whether a request is accepted), `changed` (what it does
 //! to the Book), `commits` (whether it makes an entry), `reply_to` and `entry_of` (what a line comes to), `after` and `replay` (what entries leave),
-//! `notices` (who is told), and `world` (the machine of steps). Rows of a compacted store aren't taken yet: `accepted` leaves them out.
+//! `notices` (who is told), and `world` (the machine of steps).
 //!
 //! Each function here has an empty body: its contract is a law. Worked cases are computed on the definitions in `ps_cases`.
 #![tactic(auto)]

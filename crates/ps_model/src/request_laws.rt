@@ -21,23 +21,28 @@ ghost use Rattle.ps_model.specs.Taking.{tree_taken};
 pub fn line_reads()
     ensures tree { (text : List ℕ) (t : Tree) → Reads text t → line_tree text ≡ Ok t }
     ensures not_json { (text : List ℕ) → ((d : Data) → ¬ IsJson text d) → line_tree text ≡ Err L2 }
-    ensures not_a_tree { (text : List ℕ) (d : Data) → IsJson text d → tree_of client d ≡ None → line_tree text ≡ Err L3 }
-    ensures too_deep { (text : List ℕ) (d : Data) (t : Tree) → IsJson text d → tree_of client d ≡ Some t → max_levels < levels t → line_tree text ≡ Err L4 }
+    ensures not_a_tree { (text : List ℕ) (d : Data) → IsJson text d → tree_of client d ≡ None
+        → line_tree text ≡ Err L3 }
+    ensures too_deep { (text : List ℕ) (d : Data) (t : Tree) → IsJson text d → tree_of client d ≡ Some t
+        → max_levels < levels t → line_tree text ≡ Err L4 }
 {}
 
 /// A tree that spells a request is taken as that request.
 pub fn spelled_is_taken()
-    ensures { (host service : List ℕ) (t : Tree) (r : Request) → SpellsRequest host service t r → tree_taken host service t ≡ asked t r }
+    ensures { (host service : List ℕ) (t : Tree) (r : Request) → SpellsRequest host service t r
+        → tree_taken host service t ≡ asked t r }
 {}
 
 /// What is taken as a request spells it.
 pub fn taken_is_spelled()
-    ensures { (host service : List ℕ) (t u : Tree) (r : Request) → tree_taken host service t ≡ asked u r → SpellsRequest host service t r }
+    ensures { (host service : List ℕ) (t u : Tree) (r : Request) → tree_taken host service t ≡ asked u r
+        → SpellsRequest host service t r }
 {}
 
 /// A tree spells one request at most.
 pub fn one_request()
-    ensures { (host service : List ℕ) (t : Tree) (r s : Request) → SpellsRequest host service t r → SpellsRequest host service t s → r ≡ s }
+    ensures { (host service : List ℕ) (t : Tree) (r s : Request) → SpellsRequest host service t r
+        → SpellsRequest host service t s → r ≡ s }
 {}
 
 /// What is the tree of a line is JSON that reads as it, and has 32 levels at most.

@@ -14,7 +14,7 @@ use Rattle.ps_model.specs.BaseRead.{row_of}
 use Rattle.ps_model.specs.BaseRows.{BaseRow}
 use Rattle.ps_model.specs.Book.{State}
 use Rattle.ps_model.specs.Numbered.{row_notices, row_tallies}
-use Rattle.ps_model.specs.Replay.{accepted_at, is_booted, request_accepted, row_accepted}
+use Rattle.ps_model.specs.Replay.{accepted, is_booted, request_accepted, row_accepted}
 use Rattle.ps_model.specs.Taking.{request_in, tree_taken}
 use Rattle.ps_model.specs.Tallies.{handed_to, is_next_line, made_for}
 use Rattle.ps_model.specs.TwoWorlds.{IsShutOut, SameBut}
@@ -50,7 +50,7 @@ module _ (S : List NodeKey) (a : Jid) where
 
   -- ---- a Handed
 
-  handed-even : (s t : State) → SameBut S a s t → (to : Jid) → same_bare a to ≡ true → accepted_at s (Handed to) ≡ accepted_at t (Handed to)
+  handed-even : (s t : State) → SameBut S a s t → (to : Jid) → same_bare a to ≡ true → accepted s (Handed to) ≡ accepted t (Handed to)
   handed-even s t h to like =
       ap (λ b. b && (length to.resource == 0) && nat_lt (handed_to to s.tallies) (made_for to s.tallies)) (booted-same s t h)
       ∙ ap₂ (λ m n. is_booted t && (length to.resource == 0) && nat_lt m n)
@@ -70,9 +70,9 @@ module _ (S : List NodeKey) (a : Jid) where
   handed-lone s t h to far false true = record { same = same-back S a (after t (Handed to)) s (handed-one-on S a t s to far (same-back S a s t h)); hear = refl }
   handed-lone s t h to far false false = record { same = h; hear = refl }
 
-  handed-by : (s t : State) → SameBut S a s t → (to : Jid) (like : Bool) → same_bare a to ≡ like → After s t (Handed to) (accepted_at s (Handed to)) (accepted_at t (Handed to))
-  handed-by s t h to true like = handed-both s t h to (accepted_at s (Handed to)) (accepted_at t (Handed to)) (handed-even s t h to like)
-  handed-by s t h to false far = handed-lone s t h to far (accepted_at s (Handed to)) (accepted_at t (Handed to))
+  handed-by : (s t : State) → SameBut S a s t → (to : Jid) (like : Bool) → same_bare a to ≡ like → After s t (Handed to) (accepted s (Handed to)) (accepted t (Handed to))
+  handed-by s t h to true like = handed-both s t h to (accepted s (Handed to)) (accepted t (Handed to)) (handed-even s t h to like)
+  handed-by s t h to false far = handed-lone s t h to far (accepted s (Handed to)) (accepted t (Handed to))
 
   -- ---- a Change
 
@@ -89,7 +89,7 @@ module _ (S : List NodeKey) (a : Jid) where
   all-but false = refl
 
   module _ (host : List ℕ) (line : ℕ) (m : Option ℕ) (u : Tree) where
-    change-accepted : (s : State) (o : Option Request) → request_on host s.book u ≡ o → is_booted s ≡ true → is_next_line host line s.lines ≡ true → accepted_at s (Change host line m u) ≡ request_accepted o s.book
+    change-accepted : (s : State) (o : Option Request) → request_on host s.book u ≡ o → is_booted s ≡ true → is_next_line host line s.lines ≡ true → accepted s (Change host line m u) ≡ request_accepted o s.book
     change-accepted s o at booted next =
         ap₂ (λ (b : Bool) (q : Option Request). b && request_accepted q s.book && is_next_line host line s.lines) booted at
         ∙ ap (λ c. true && request_accepted o s.book && c) next ∙ all-but (request_accepted o s.book)
@@ -103,20 +103,20 @@ module _ (S : List NodeKey) (a : Jid) where
     change-asked s t h (Some r) at at2 shut shut2 = change-on S a nodes-are s t h m r host host line line u u at at2 shut shut2
 
     change-by : (s t : State) → SameBut S a s t → is_next_line host line s.lines ≡ true → is_next_line host line t.lines ≡ true → (b : Bool) → is_booted s ≡ b
-        → Shut s (Change host line m u) (accepted_at s (Change host line m u)) → Shut t (Change host line m u) (accepted_at t (Change host line m u))
-        → After s t (Change host line m u) (accepted_at s (Change host line m u)) (accepted_at t (Change host line m u))
+        → Shut s (Change host line m u) (accepted s (Change host line m u)) → Shut t (Change host line m u) (accepted t (Change host line m u))
+        → After s t (Change host line m u) (accepted s (Change host line m u)) (accepted t (Change host line m u))
     change-by s t h next next2 true booted shut shut2 =
         let o = request_on host s.book u in
         let at2 : request_on host t.book u ≡ o = ap (λ (service : List ℕ). request_in (tree_taken host service u)) (sym h.service) in
         let p = change-accepted s o refl booted next in
         let q = change-accepted t o at2 (sym (booted-same s t h) ∙ booted) next2 in
-        subst (λ (b : Bool). After s t (Change host line m u) b (accepted_at t (Change host line m u))) (sym p)
+        subst (λ (b : Bool). After s t (Change host line m u) b (accepted t (Change host line m u))) (sym p)
         (subst (λ (c : Bool). After s t (Change host line m u) (request_accepted o s.book) c) (sym q)
         (change-asked s t h o refl at2 (subst (Shut s (Change host line m u)) p shut) (subst (Shut t (Change host line m u)) q shut2)))
     change-by s t h next next2 false booted shut shut2 =
-        let p : accepted_at s (Change host line m u) ≡ false = ap (λ b. b && request_accepted (request_on host s.book u) s.book && is_next_line host line s.lines) booted in
-        let q : accepted_at t (Change host line m u) ≡ false = ap (λ b. b && request_accepted (request_on host t.book u) t.book && is_next_line host line t.lines) (sym (booted-same s t h) ∙ booted) in
-        subst (λ (b : Bool). After s t (Change host line m u) b (accepted_at t (Change host line m u))) (sym p)
+        let p : accepted s (Change host line m u) ≡ false = ap (λ b. b && request_accepted (request_on host s.book u) s.book && is_next_line host line s.lines) booted in
+        let q : accepted t (Change host line m u) ≡ false = ap (λ b. b && request_accepted (request_on host t.book u) t.book && is_next_line host line t.lines) (sym (booted-same s t h) ∙ booted) in
+        subst (λ (b : Bool). After s t (Change host line m u) b (accepted t (Change host line m u))) (sym p)
         (subst (λ (c : Bool). After s t (Change host line m u) false c) (sym q) (nothing s t h (Change host line m u)))
 
   -- ---- a row of a compacted store
@@ -131,19 +131,19 @@ module _ (S : List NodeKey) (a : Jid) where
   base-asked s t h None shut shut2 = record { same = h; hear = refl }
   base-asked s t h (Some r) shut shut2 = base-on S a s t h r shut shut2
 
-  base-by : (s t : State) → SameBut S a s t → (row : Tree) (b : Bool) → is_booted s ≡ b → Shut s (Base row) (accepted_at s (Base row)) → Shut t (Base row) (accepted_at t (Base row)) → After s t (Base row) (accepted_at s (Base row)) (accepted_at t (Base row))
+  base-by : (s t : State) → SameBut S a s t → (row : Tree) (b : Bool) → is_booted s ≡ b → Shut s (Base row) (accepted s (Base row)) → Shut t (Base row) (accepted t (Base row)) → After s t (Base row) (accepted s (Base row)) (accepted t (Base row))
   unfolding After Shut with-row
   base-by s t h row false booted shut shut2 =
       let o = row_of row in
-      let p : accepted_at s (Base row) ≡ row_accepted o s = ap (λ b. not b && row_accepted o s) booted in
-      let q : accepted_at t (Base row) ≡ row_accepted o t = ap (λ b. not b && row_accepted o t) (sym (booted-same s t h) ∙ booted) in
-      subst (λ (b : Bool). After s t (Base row) b (accepted_at t (Base row))) (sym p)
+      let p : accepted s (Base row) ≡ row_accepted o s = ap (λ b. not b && row_accepted o s) booted in
+      let q : accepted t (Base row) ≡ row_accepted o t = ap (λ b. not b && row_accepted o t) (sym (booted-same s t h) ∙ booted) in
+      subst (λ (b : Bool). After s t (Base row) b (accepted t (Base row))) (sym p)
       (subst (λ (c : Bool). After s t (Base row) (row_accepted o s) c) (sym q)
       (base-asked s t h o (subst (Shut s (Base row)) p shut) (subst (Shut t (Base row)) q shut2)))
   base-by s t h row true booted shut shut2 =
-      let p : accepted_at s (Base row) ≡ false = ap (λ b. not b && row_accepted (row_of row) s) booted in
-      let q : accepted_at t (Base row) ≡ false = ap (λ b. not b && row_accepted (row_of row) t) (sym (booted-same s t h) ∙ booted) in
-      subst (λ (b : Bool). After s t (Base row) b (accepted_at t (Base row))) (sym p)
+      let p : accepted s (Base row) ≡ false = ap (λ b. not b && row_accepted (row_of row) s) booted in
+      let q : accepted t (Base row) ≡ false = ap (λ b. not b && row_accepted (row_of row) t) (sym (booted-same s t h) ∙ booted) in
+      subst (λ (b : Bool). After s t (Base row) b (accepted t (Base row))) (sym p)
       (subst (λ (c : Bool). After s t (Base row) false c) (sym q) (nothing s t h (Base row)))
 
   -- ---- each

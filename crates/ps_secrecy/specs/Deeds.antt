@@ -5,15 +5,15 @@ use Rattle.ps_types.specs.declared.entry.Entry.TheVariants.{Change}
 use Rattle.ps_types.specs.declared.entry.Notice.{Notice}
 use Rattle.ps_model.specs.After.{after, notices_at}
 use Rattle.ps_model.specs.Book.{State}
-use Rattle.ps_model.specs.Replay.{accepted_at}
+use Rattle.ps_model.specs.Replay.{accepted}
 use Rattle.ps_model.specs.Tallies.{is_next_line}
 
 -- the State that it leaves, and its notices
 abbrev pub applied : State → Entry → State
-applied s e = cond (accepted_at s e) (after s e) s
+applied s e = cond (accepted s e) (after s e) s
 
 abbrev pub applied_notices : State → Entry → List Notice
-applied_notices s e = cond (accepted_at s e) (notices_at s e) []
+applied_notices s e = cond (accepted s e) (notices_at s e) []
 
 -- a change is of a line above the greatest one of its host
 abbrev pub IsAbove : State → Entry → Type 0

@@ -3,7 +3,7 @@ ghost use Rattle.std.specs.Prelude.{ℕ, List};
 ghost use Rattle.ps_model.specs.Core.{Core};
 ghost use Rattle.ps_model.specs.CoreLaws.{Laws};
 ghost use Rattle.ps_model.specs.Machine.{run};
-ghost use Rattle.ps_model.specs.TheCore.{based_core, the_core};
+ghost use Rattle.ps_model.specs.TheCore.{the_core};
 ghost use Rattle.ps_model.specs.World.{World};
 ghost use Rattle.ps_model.specs.declared.steps.Step.{Step};
 ghost use Rattle.ps_world.specs.Calm.{AreCalm, Follows};
@@ -13,21 +13,18 @@ ghost use Rattle.ps_world.specs.Laws.{EachCrashHolds, EachRunHolds, EachStepStay
 /// host's replies don't fall, and its lines rise from one boot to the next; what was sent to an address since the last boot follows without gap the notices that were recorded
 /// as handed before it, and what was sent before each crash is there still. This holds of lists that may begin with the rows of a compacted store, and of those without.
 pub fn each_run_holds()
-    ensures based { EachRunHolds based_core }
-    ensures today { EachRunHolds the_core }
+    ensures holds { EachRunHolds the_core }
 {}
 
 /// After any more steps, with any number of crashes among them, the list holds every entry before the place of a released reply, and the entry that its own line made. Its
 /// notices begin with all that were sent, line for line and number for number. What was taken and sent stays known.
 pub fn each_step_stays()
-    ensures based { EachStepStays based_core }
-    ensures today { EachStepStays the_core }
+    ensures stays { EachStepStays the_core }
 {}
 
 /// After a crash that is so too, and of one address at most one notice is sent again.
 pub fn each_crash_holds()
-    ensures based { EachCrashHolds based_core }
-    ensures today { EachCrashHolds the_core }
+    ensures crash { EachCrashHolds the_core }
 {}
 
 /// All three hold of every service that keeps the machine's laws.

@@ -8,7 +8,7 @@ use Rattle.json.specs.Text as content
 use Rattle.std.specs.Str as str
 use Rattle.std.specs.Fmt as fmt
 use Rattle.ps_types.specs.Same as same
-use Rattle.ps_model.specs.TheCore.{based_core}
+use Rattle.ps_model.specs.TheCore.{the_core}
 use Rattle.ps_cases.proofs.Parts.{each-part}
 use Rattle.ps_cases.specs.Case.{Holds}
 use Rattle.ps_worlds.specs.RunCases as it
@@ -22,17 +22,17 @@ unfolding same.same_jid same.same_bare same.same_node text.escape_byte fmt.digit
 stamped-holds = record { replies = refl; entries = refl; notices = each-part it.stamped it.stamped_told refl }
 
 pub first-sent : it.sent_in it.first_world ≡ it.first_notice ∷ it.second_notice ∷ []
-unfolding same.same_jid same.same_bare same.same_node text.escape_byte fmt.digits str.is_utf8 str.chars utf8.encode json.value lex.punctuate lex.lex content.content based_core
+unfolding same.same_jid same.same_bare same.same_node text.escape_byte fmt.digits str.is_utf8 str.chars utf8.encode json.value lex.punctuate lex.lex content.content the_core
 first-sent = refl
 
 pub other-sent : it.sent_in it.other_world ≡ it.second_notice ∷ it.third_notice ∷ []
-unfolding same.same_jid same.same_bare same.same_node text.escape_byte fmt.digits str.is_utf8 str.chars utf8.encode json.value lex.punctuate lex.lex content.content based_core
+unfolding same.same_jid same.same_bare same.same_node text.escape_byte fmt.digits str.is_utf8 str.chars utf8.encode json.value lex.punctuate lex.lex content.content the_core
 other-sent = refl
 
 pub first-recorded : drop 9 it.first_world.entries ≡ it.handed_once
-unfolding same.same_jid same.same_bare same.same_node text.escape_byte fmt.digits str.is_utf8 str.chars utf8.encode json.value lex.punctuate lex.lex content.content based_core
+unfolding same.same_jid same.same_bare same.same_node text.escape_byte fmt.digits str.is_utf8 str.chars utf8.encode json.value lex.punctuate lex.lex content.content the_core
 first-recorded = refl
 
 pub other-recorded : drop 12 it.other_world.entries ≡ it.handed_twice
-unfolding same.same_jid same.same_bare same.same_node text.escape_byte fmt.digits str.is_utf8 str.chars utf8.encode json.value lex.punctuate lex.lex content.content based_core
+unfolding same.same_jid same.same_bare same.same_node text.escape_byte fmt.digits str.is_utf8 str.chars utf8.encode json.value lex.punctuate lex.lex content.content the_core
 other-recorded = refl

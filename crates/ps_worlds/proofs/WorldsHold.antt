@@ -18,7 +18,7 @@ use Rattle.ps_types.specs.declared.request.Request.{Request}
 use Rattle.ps_model.specs.Access.{read}
 use Rattle.ps_model.specs.Book.{State}
 use Rattle.ps_model.specs.Stanza.{host_jid}
-use Rattle.ps_model.specs.TheCore.{based_core}
+use Rattle.ps_model.specs.TheCore.{the_core}
 use Rattle.ps_model.specs.TwoWorlds.{IsPair, SameBut, Touches}
 use Rattle.ps_cases.proofs.Parts.{each-part}
 use Rattle.ps_cases.specs.AccessCases.{w}
@@ -353,9 +353,9 @@ unfolding same.same_jid same.same_bare same.same_node text.escape_byte fmt.digit
 commits-differ-holds = record { left = commits-differ-left; right = commits-differ-right; alike = commits-differ-alike; replies = refl; notices = refl }
 
 pub again-left : it.sent_by_steps (lefts it.commits_differ) ≡ it.left_told ++ it.left_told
-unfolding same.same_jid same.same_bare same.same_node text.escape_byte fmt.digits based_core
+unfolding same.same_jid same.same_bare same.same_node text.escape_byte fmt.digits the_core
 again-left = refl
 
 pub again-right : it.sent_by_steps (rights it.commits_differ) ≡ it.right_told ++ it.right_told
-unfolding same.same_jid same.same_bare same.same_node text.escape_byte fmt.digits based_core
+unfolding same.same_jid same.same_bare same.same_node text.escape_byte fmt.digits the_core
 again-right = refl

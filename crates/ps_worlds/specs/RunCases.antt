@@ -5,7 +5,7 @@ use Rattle.ps_types.specs.declared.entry.Entry.{Entry}
 use Rattle.ps_types.specs.declared.entry.Entry.TheVariants as entry
 use Rattle.ps_types.specs.declared.entry.Notice.{Notice}
 use Rattle.ps_model.specs.Machine as machine
-use Rattle.ps_model.specs.TheCore.{based_core}
+use Rattle.ps_model.specs.TheCore.{the_core}
 use Rattle.ps_model.specs.World.{World}
 use Rattle.ps_model.specs.declared.steps.Role.TheVariants.{Writer}
 use Rattle.ps_model.specs.declared.steps.Step.{Step}
@@ -94,10 +94,10 @@ other_run = Emit to_bob ∷ Record to_bob ∷ Flush 2 ∷ Emit to_bob ∷ Record
 
 -- a run begins with the entries that the one before it left
 abbrev pub first_world : World
-first_world = machine.world based_core service earlier first_run
+first_world = machine.world the_core service earlier first_run
 
 abbrev pub other_world : World
-other_world = machine.world based_core service first_world.entries other_run
+other_world = machine.world the_core service first_world.entries other_run
 
 abbrev pub sent_in : World → List Notice
 sent_in w = (w.addresses to_bob).sent

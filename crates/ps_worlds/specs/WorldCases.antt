@@ -8,7 +8,7 @@ use Rattle.ps_types.specs.declared.jid.Jid.{Jid}
 use Rattle.ps_types.specs.declared.node.NodeKey.{NodeKey}
 use Rattle.ps_model.specs.Machine as machine
 use Rattle.ps_model.specs.Stanza.{host_jid}
-use Rattle.ps_model.specs.TheCore.{based_core}
+use Rattle.ps_model.specs.TheCore.{the_core}
 use Rattle.ps_model.specs.World.{all_sent}
 use Rattle.ps_model.specs.declared.steps.Step.{Step}
 use Rattle.ps_model.specs.declared.steps.Step.TheVariants.{Crash, Emit}
@@ -110,4 +110,4 @@ again = Emit to_alf ∷ Crash 1 ∷ Emit to_alf ∷ []
 
 -- all that was sent to alf, before the crash and after it
 abbrev pub sent_by_steps : List Exchange → List Notice
-sent_by_steps given = all_sent ((machine.world based_core service (list_of given) again).addresses to_alf)
+sent_by_steps given = all_sent ((machine.world the_core service (list_of given) again).addresses to_alf)

@@ -1,10 +1,9 @@
-use Rattle.ps_model.proofs.TheLaws.{laws-of, the-laws}
-use Rattle.ps_model.specs.TheCore.{based_core, the_core}
+use Rattle.ps_model.proofs.TheLaws.{the-laws}
+use Rattle.ps_model.specs.TheCore.{the_core}
 use Rattle.ps_world.proofs.Read.{stays-ok}
 use Rattle.ps_world.proofs.laws.each_step_stays.Goals as goal
 
 pub returns : goal.returns
 returns c = record {
-  based = λ E service steps more ok some. stays-ok based_core laws-of service some E steps more ok;
-  today = λ E service steps more ok some. stays-ok the_core the-laws service some E steps more ok;
+  stays = λ E service steps more ok some. stays-ok the_core the-laws service some E steps more ok;
 }
