@@ -1,0 +1,125 @@
+#!/usr/bin/env python3
+"""Writes crates.txt from the short table beside this script.
+
+    write.py            writes crates.txt
+    write.py --check    says whether crates.txt is what would be written, and whether the table names what each crate uses
+
+A line of the table names a crate, its flags, and the libraries that its own files use. The toolchain wants each library
+that stands anywhere below as well, so a line of crates.txt has all of them; `only` before the colon leaves a line as it
+is. The crates stand by layer, which is one more than the highest layer of what a crate uses, and by name.
+"""
+
+import os
+import re
+import sys
+
+HERE = os.path.dirname(os.path.abspath(__file__))
+ROOT = os.path.dirname(os.path.dirname(HERE))
+CRATES = os.path.join(ROOT, "crates")
+HEAD = "# Written by tests/crates/write.py from tests/crates/table.txt: change that.\n"
+NAMED = [
+    re.compile(r"Rattle\.(\w+)\."),
+    re.compile(r"\buse (\w+)(?:::|\s+as\b)"),
+    re.compile(r"\b(ps_\w+)::"),
+]
+
+
+def table():
+    """Returns each crate with its flags and what it uses itself."""
+    rows = {}
+    with open(os.path.join(HERE, "table.txt"), encoding="utf-8") as file:
+        for line in file:
+            if not line.strip() or line.startswith("#"):
+                continue
+            head, uses = line.split(":")
+            name, *flags = head.split()
+            rows[name] = (flags, uses.split())
+    return rows
+
+
+def below(rows, name, seen):
+    """Adds to `seen` all that stands below a crate."""
+    for use in rows[name][1] if name in rows else ():
+        if use not in seen:
+            seen.add(use)
+            below(rows, use, seen)
+    return seen
+
+
+def layers(rows):
+    """Returns the layer of each crate and library; what isn't a crate of ours is of layer 0."""
+    found = {}
+
+    def layer(name):
+        if name not in rows:
+            return 0
+        if name not in found:
+            found[name] = 1 + max([layer(use) for use in rows[name][1]], default=0)
+        return found[name]
+
+    for name in rows:
+        layer(name)
+    return found
+
+
+def written(rows):
+    """Returns the text of crates.txt."""
+    layer = layers(rows)
+
+    def place(name):
+        return (name not in rows, layer.get(name, 0), name)
+
+    lines = [HEAD]
+    for name in sorted(rows, key=place):
+        flags, uses = rows[name]
+        if "only" not in flags:
+            uses = sorted(below(rows, name, set()), key=place)
+        words = [name] + [flag for flag in flags if flag != "only"]
+        lines.append(" ".join(words) + ":" + "".join(" " + use for use in uses) + "\n")
+    return "".join(lines)
+
+
+def used(name, known):
+    """Returns the libraries that the files of a crate name."""
+    found = set()
+    for folder, _, files in os.walk(os.path.join(CRATES, name)):
+        for file in files:
+            if file.endswith((".rt", ".antt")) and "/out" not in folder:
+                with open(os.path.join(folder, file), encoding="utf-8") as text:
+                    text = text.read()
+                for pattern in NAMED:
+                    found.update(pattern.findall(text))
+    return (found & known) - {name}
+
+
+def misfits(rows):
+    """Yields what the table says otherwise than the files."""
+    known = set(rows)
+    for _, uses in rows.values():
+        known.update(uses)
+    for name, (flags, uses) in rows.items():
+        found = used(name, known)
+        for use in sorted(found ^ set(uses)) if "only" not in flags else ():
+            yield f"{name}: {use} is {'used and not named' if use in found else 'named and not used'}"
+
+
+def main():
+    rows = table()
+    text = written(rows)
+    path = os.path.join(ROOT, "crates.txt")
+    if "--check" not in sys.argv:
+        with open(path, "w", encoding="utf-8") as file:
+            file.write(text)
+        return 0
+    wrong = list(misfits(rows))
+    with open(path, encoding="utf-8") as file:
+        if file.read() != text:
+            wrong.append("crates.txt isn't what the table gives")
+    for line in wrong:
+        print(line)
+    print(f"{len(rows)} crates, {len(wrong)} misfits")
+    return 1 if wrong else 0
+
+
+if __name__ == "__main__":
+    sys.exit(main())
