@@ -12,10 +12,13 @@ use ps_disk::{Disk, write_kept};
 // Writes the header behind a first byte of 0, and then its first byte.
 fn finish<D: Disk>(disk: &mut D) -> Result<(), Failed>
     requires { D.tells → 1 ≤ length (D.seen disk.old) }
-    ensures kept { D.tells → (t : List ℕ) → D.seen disk.old ≡ 0 ∷ t → OnOk result (IsSettledAt [] (D.seen disk.new) (D.synced disk.new) (D.written disk.new) 9) }
-    ensures any_moment { D.tells → (t : List ℕ) → D.seen disk.old ≡ 0 ∷ t → length t ≤ 8 → IsQuiet (D.seen disk.old) (D.synced disk.old) (D.written disk.old)
+    ensures kept { D.tells → (t : List ℕ) → D.seen disk.old ≡ 0 ∷ t
+        → OnOk result (IsSettledAt [] (D.seen disk.new) (D.synced disk.new) (D.written disk.new) 9) }
+    ensures any_moment { D.tells → (t : List ℕ) → D.seen disk.old ≡ 0 ∷ t → length t ≤ 8
+        → IsQuiet (D.seen disk.old) (D.synced disk.old) (D.written disk.old)
         → LeavesOnly D.moment D.left_since disk.old disk.new (λ c. spelled c []) }
-    ensures written { D.tells → (t : List ℕ) → D.seen disk.old ≡ 0 ∷ t → OnOk result (D.seen disk.new ≡ beginning ++ drop 8 t) }
+    ensures written { D.tells → (t : List ℕ) → D.seen disk.old ≡ 0 ∷ t
+        → OnOk result (D.seen disk.new ≡ beginning ++ drop 8 t) }
     ensures cause { HasCause (D.faults disk.old) (D.faults disk.new) result }
 {
     match write_kept(disk, 1, b"UBSUBJ2\0") {
@@ -39,9 +42,12 @@ fn has_zero_first(bytes: &[u8]) -> bool
 // Makes the first byte 0, where it isn't.
 fn zero_first<D: Disk>(disk: &mut D, bytes: &[u8]) -> Result<(), Failed>
     requires { D.tells → bytes.now ≡ D.seen disk.old }
-    ensures zero { D.tells → IsQuiet (D.seen disk.old) (D.synced disk.old) (D.written disk.old) → OnOk result (BeginsWithZero (D.seen disk.old) (D.seen disk.new)) }
-    ensures quiet { D.tells → IsQuiet (D.seen disk.old) (D.synced disk.old) (D.written disk.old) → OnOk result (IsQuiet (D.seen disk.new) (D.synced disk.new) (D.written disk.new)) }
-    ensures any_moment { D.tells → is_unbegun (D.seen disk.old) ≡ true → IsQuiet (D.seen disk.old) (D.synced disk.old) (D.written disk.old)
+    ensures zero { D.tells → IsQuiet (D.seen disk.old) (D.synced disk.old) (D.written disk.old)
+        → OnOk result (BeginsWithZero (D.seen disk.old) (D.seen disk.new)) }
+    ensures quiet { D.tells → IsQuiet (D.seen disk.old) (D.synced disk.old) (D.written disk.old)
+        → OnOk result (IsQuiet (D.seen disk.new) (D.synced disk.new) (D.written disk.new)) }
+    ensures any_moment { D.tells → is_unbegun (D.seen disk.old) ≡ true
+        → IsQuiet (D.seen disk.old) (D.synced disk.old) (D.written disk.old)
         → LeavesOnly D.moment D.left_since disk.old disk.new (λ c. spelled c []) }
     ensures cause { HasCause (D.faults disk.old) (D.faults disk.new) result }
 {

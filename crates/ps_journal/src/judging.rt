@@ -72,7 +72,8 @@ fn more_entries(
     stop: Option<u64>,
 ) -> Result<Option<u64>, Memory>
     requires { at + length body.now < 2 ^ 64 }
-    ensures { (bs : List (List ℕ)) → Judged second bs placed.old.items stop → at ≡ gate_at bs + 5 → IfOk result (λ next. Judged second (bs ++ body.now ∷ []) placed.new.items next) }
+    ensures { (bs : List (List ℕ)) → Judged second bs placed.old.items stop → at ≡ gate_at bs + 5
+        → IfOk result (λ next. Judged second (bs ++ body.now ∷ []) placed.new.items next) }
 {
     match stop {
         Some(stop) => Ok(Some(stop)),

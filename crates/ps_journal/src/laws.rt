@@ -12,7 +12,8 @@ pub fn one_list()
 
 /// The bytes of a damaged store spell no list.
 pub fn damaged_spells_nothing()
-    ensures { (bytes : List ℕ) (at : ℕ) (before : List Placed) (E : List Entry) → IsDamaged bytes at before → spelled bytes E → ⊥ }
+    ensures { (bytes : List ℕ) (at : ℕ) (before : List Placed) (E : List Entry) → IsDamaged bytes at before
+        → spelled bytes E → ⊥ }
 {}
 
 /// Unbegun bytes spell the empty list.
@@ -22,5 +23,6 @@ pub fn unbegun_spells()
 
 /// A store is damaged at one place at most, and has one list of entries before.
 pub fn one_damage()
-    ensures { (bytes : List ℕ) (at later : ℕ) (before others : List Placed) → IsDamaged bytes at before → IsDamaged bytes later others → (at ≡ later) × (before ≡ others) }
+    ensures { (bytes : List ℕ) (at later : ℕ) (before others : List Placed) → IsDamaged bytes at before
+        → IsDamaged bytes later others → (at ≡ later) × (before ≡ others) }
 {}

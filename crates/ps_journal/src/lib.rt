@@ -2,7 +2,7 @@
 //!
 //! A store is a header, frames of entries, and a closed gate; `specs/Store.antt` of ps_model says which list its bytes spell.
 //! [`Journal::open`] judges the bytes, begins an unbegun store and upgrades one of version 1; [`Journal::append`] writes a frame behind
-//! the closed gate, syncs, opens the gate, and syncs again. Their contracts speak of every moment of the call, over every disk that tells
+//! the closed gate, syncs, opens the gate, and syncs again. [`look`] judges the bytes and writes nothing. Their contracts speak of every moment of the call, over every disk that tells
 //! its content: a crash leaves the entries before, or those and the whole batch, and once `append` has answered Ok it leaves the batch.
 //! After a fault of the disk the journal answers `Store` for good, and the store is opened again.
 //!
@@ -24,4 +24,4 @@ mod writing;
 pub use journal::{AppendRefusal, EntriesRefusal, Journal, JournalRefusal};
 pub use judging::{Placed, Verdict, judge};
 pub use laws::{damaged_spells_nothing, one_damage, one_list, unbegun_spells};
-pub use opening::JournalWhy;
+pub use opening::{JournalWhy, look};

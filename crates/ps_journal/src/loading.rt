@@ -24,11 +24,13 @@ fn zeros(alloc: Global, count: u64) -> Result<Vec<u8>, Memory>
 
 // Reads from the offset 0 on, and leaves of the room what was read.
 fn fill<D: Disk>(disk: &mut D, room: &mut Vec<u8>) -> Result<(), Failed>
-    ensures bytes { D.tells → length room.old.items ≡ length (D.seen disk.old) → OnOk result (room.new.items ≡ D.seen disk.old) }
+    ensures bytes { D.tells → length room.old.items ≡ length (D.seen disk.old)
+        → OnOk result (room.new.items ≡ D.seen disk.old) }
     ensures seen { D.seen disk.new ≡ D.seen disk.old }
     ensures synced { D.synced disk.new ≡ D.synced disk.old }
     ensures written { D.written disk.new ≡ D.written disk.old }
-    ensures time { D.tells → LeavesOnly D.moment D.left_since disk.old disk.new (MayLeave (D.synced disk.old) (D.written disk.old)) }
+    ensures time { D.tells → LeavesOnly D.moment D.left_since disk.old disk.new
+        (MayLeave (D.synced disk.old) (D.written disk.old)) }
     ensures later { D.faults disk.old ≤ D.faults disk.new }
     ensures failed { OnErr result (Rose (D.faults disk.old) (D.faults disk.new)) }
 {
@@ -47,7 +49,8 @@ pub fn load<D: Disk>(alloc: Global, disk: &mut D) -> Result<Vec<u8>, LoadRefusal
     ensures seen { D.seen disk.new ≡ D.seen disk.old }
     ensures synced { D.synced disk.new ≡ D.synced disk.old }
     ensures written { D.written disk.new ≡ D.written disk.old }
-    ensures time { D.tells → LeavesOnly D.moment D.left_since disk.old disk.new (MayLeave (D.synced disk.old) (D.written disk.old)) }
+    ensures time { D.tells → LeavesOnly D.moment D.left_since disk.old disk.new
+        (MayLeave (D.synced disk.old) (D.written disk.old)) }
     ensures later { D.faults disk.old ≤ D.faults disk.new }
     ensures failed { IsErrOf result LoadRefusal.Store → Rose (D.faults disk.old) (D.faults disk.new) }
 {

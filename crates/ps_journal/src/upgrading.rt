@@ -16,9 +16,11 @@ pub(crate) fn upgrade<D: Disk>(disk: &mut D, bytes: &[u8]) -> Result<(), Failed>
     requires quiet { D.tells → IsQuiet (D.seen disk.old) (D.synced disk.old) (D.written disk.old) }
     // The eighth byte is the digit 2, and all others are as before.
     ensures written { D.tells → OnOk result (Holds (D.seen disk.old) 7 (50 ∷ []) (D.seen disk.new)) }
-    ensures kept { D.tells → (bs : List (List ℕ)) → Begun (D.seen disk.old) bs → OnOk result (IsSettledAt bs (D.seen disk.new) (D.synced disk.new) (D.written disk.new) (gate_at bs + 1)) }
+    ensures kept { D.tells → (bs : List (List ℕ)) → Begun (D.seen disk.old) bs
+        → OnOk result (IsSettledAt bs (D.seen disk.new) (D.synced disk.new) (D.written disk.new) (gate_at bs + 1)) }
     // A crash at any moment leaves the same frames, and version 2 where it was version 2.
-    ensures any_moment { D.tells → (bs : List (List ℕ)) → Begun (D.seen disk.old) bs → LeavesOnly D.moment D.left_since disk.old disk.new (IsUpgrading (D.seen disk.old) bs) }
+    ensures any_moment { D.tells → (bs : List (List ℕ)) → Begun (D.seen disk.old) bs
+        → LeavesOnly D.moment D.left_since disk.old disk.new (IsUpgrading (D.seen disk.old) bs) }
     ensures cause { HasCause (D.faults disk.old) (D.faults disk.new) result }
 {
     if is_second(bytes) {

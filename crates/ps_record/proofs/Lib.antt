@@ -4,3 +4,4 @@ pub mod Printed
 pub mod Trees
 pub mod EntryLaws
 pub mod Batches
+pub mod Spelled

@@ -2,3 +2,4 @@ pub mod Raw
 pub mod Reading
 pub mod Batch
 pub mod Texts
+pub mod Formed

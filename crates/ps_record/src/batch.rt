@@ -1,10 +1,12 @@
 // Entries that are written at once.
-ghost use Rattle.std.specs.Prelude.{◌≡◌, ◌++◌, ◌∷◌, ◌+◌, ◌-◌, ◌≤◌, ◌^◌, [], length, slice_range, IfOk, OnOk, OnErr};
+ghost use Rattle.std.specs.Prelude.{◌≡◌, ◌++◌, ◌∷◌, ◌+◌, ◌-◌, ◌<◌, ◌≤◌, ◌^◌, [], length, slice_range, IfOk, OnOk, OnErr, IsErrOf};
 ghost use Rattle.std.specs.Int.{w32, to_be_bytes};
 ghost use Rattle.ps_model.specs.Entries.{body, spelling, IsEntry, AreEntries};
 ghost use Rattle.ps_record.specs.Batch.{piece};
+ghost use Rattle.ps_record.specs.Formed.{AreFormed};
 ghost use Rattle.ps_record.specs.Texts.{print_in};
 
+use crate::bodies::{BatchRefusal, bytes_of};
 use crate::writing::{print_of, put_printed};
 use ps_base::Memory;
 use ps_types::Entry;
@@ -56,7 +58,8 @@ fn copy_of(entry: &Entry) -> Result<Entry, Memory>
 fn frame_with(alloc: Global, frame: &[u8], entry: &[u8]) -> Result<Vec<u8>, Memory>
     requires long { 5 ≤ length frame.now }
     requires fits { length frame.now + length entry.now ≤ 2 ^ 30 + 5 }
-    ensures { IfOk result (λ v. v.items ≡ to_be_bytes w32 (length frame.now + length entry.now - 5) ++ slice_range frame.now 4 (length frame.now - 1) ++ entry.now ++ 0 ∷ []) }
+    ensures { IfOk result (λ v. v.items ≡ to_be_bytes w32 (length frame.now + length entry.now - 5)
+        ++ slice_range frame.now 4 (length frame.now - 1) ++ entry.now ++ 0 ∷ []) }
 {
     let len = frame.len() + entry.len() - 5;
     let mut next = Vec::with_capacity(alloc, frame.len() + entry.len())?;
@@ -65,6 +68,18 @@ fn frame_with(alloc: Global, frame: &[u8], entry: &[u8]) -> Result<Vec<u8>, Memo
     next.extend_from_slice(entry)?;
     next.push(0)?;
     Ok(next)
+}
+
+// What a frame of these bytes has behind its gate.
+fn frame_of(alloc: Global, bytes: &[u8]) -> Result<Vec<u8>, Memory>
+    requires fits { length bytes.now ≤ 2 ^ 30 }
+    ensures { IfOk result (λ v. v.items ≡ to_be_bytes w32 (length bytes.now) ++ bytes.now ++ 0 ∷ []) }
+{
+    let mut frame = Vec::with_capacity(alloc, bytes.len() + 5)?;
+    frame.extend_from_slice(&(bytes.len() as u32).to_be_bytes())?;
+    frame.extend_from_slice(bytes)?;
+    frame.push(0)?;
+    Ok(frame)
 }
 
 impl Batch {
@@ -80,7 +95,22 @@ impl Batch {
         })
     }
 
-    /// Adds an entry. Where memory runs out, the batch is as before.
+    /// These entries, in time that grows as their bytes do.
+    pub fn of(alloc: Global, entries: Vec<Entry>) -> Result<Batch, BatchRefusal>
+        requires formed { AreFormed entries.items }
+        ensures ok { IfOk result (λ b. b ≡ entries.items) }
+        ensures long { IsErrOf result BatchRefusal.Long → 2 ^ 30 < length (body entries.items) }
+    {
+        let bytes = bytes_of(alloc, &entries)?;
+        let frame = frame_of(alloc, &bytes)?;
+        Ok(Batch {
+            alloc,
+            entries,
+            frame,
+        })
+    }
+
+    /// Adds an entry, in time that grows as the whole batch does. Where memory runs out, the batch is as before.
     pub fn push(&mut self, entry: &Entry) -> Result<(), Memory>
         requires spelled { IsEntry entry.now }
         requires fits { length (body self.old) + length (spelling entry.now) ≤ 2 ^ 30 }

@@ -38,7 +38,8 @@ fn is_only_host(jid: &Jid, host: &[u8]) -> bool
 
 /// The host that the bytes are the printed form of.
 pub(crate) fn host_of(alloc: Global, bytes: &[u8]) -> Result<Text, Unread>
-    ensures { MatchResult result (λ host. (host ≡ bytes.now) × IsHostName bytes.now) (OnBad (IsHostName bytes.now → ⊥)) }
+    ensures { MatchResult result (λ host. (host ≡ bytes.now) × IsHostName bytes.now)
+        (OnBad (IsHostName bytes.now → ⊥)) }
 {
     match Jid::read(alloc, bytes) {
         Ok(jid) => {
@@ -62,7 +63,8 @@ fn is_bare_text(jid: &Jid, text: &Text, bytes: &[u8]) -> bool
 
 /// The bare address that the bytes are the printed form of.
 pub(crate) fn address_of(alloc: Global, bytes: &[u8]) -> Result<Jid, Unread>
-    ensures { MatchResult result (λ to. (jid_text to ≡ bytes.now) × IsBare to) (OnBad ((to : Jid) → IsBare to → jid_text to ≡ bytes.now → ⊥)) }
+    ensures { MatchResult result (λ to. (jid_text to ≡ bytes.now) × IsBare to)
+        (OnBad ((to : Jid) → IsBare to → jid_text to ≡ bytes.now → ⊥)) }
 {
     match Jid::read(alloc, bytes) {
         Ok(jid) => match jid.text(alloc) {
@@ -88,7 +90,8 @@ fn is_same(text: &[u8], bytes: &[u8]) -> bool
 
 /// The tree that the bytes are the print of.
 pub(crate) fn tree_of(alloc: Global, bytes: &[u8]) -> Result<Elem, Unread>
-    ensures { MatchResult result (λ t. (print t ≡ bytes.now) × IsTree t) (OnBad ((t : Tree) → IsTree t → print t ≡ bytes.now → ⊥)) }
+    ensures { MatchResult result (λ t. (print t ≡ bytes.now) × IsTree t)
+        (OnBad ((t : Tree) → IsTree t → print t ≡ bytes.now → ⊥)) }
 {
     match read_tree(alloc, bytes) {
         Ok(tree) => match print_tree(alloc, &tree) {

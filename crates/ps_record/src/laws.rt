@@ -5,5 +5,6 @@ ghost use Rattle.ps_model.specs.Entries.{spelling, IsEntry};
 
 /// Bytes begin with the spelling of one entry at most.
 pub fn one_entry()
-    ensures { (e f : Entry) (rest other : List ℕ) → IsEntry e → IsEntry f → spelling e ++ rest ≡ spelling f ++ other → (e ≡ f) × (rest ≡ other) }
+    ensures { (e f : Entry) (rest other : List ℕ) → IsEntry e → IsEntry f → spelling e ++ rest ≡ spelling f ++ other
+        → (e ≡ f) × (rest ≡ other) }
 {}

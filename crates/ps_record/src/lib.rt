@@ -5,10 +5,12 @@
 //! is printed otherwise is refused. [`print_of`] is the one text in an entry that takes work (`specs/Texts.antt`), for those who measure it
 //! first. [`one_entry`] is the law that bytes begin with one entry at most.
 //!
-//! A [`Batch`] is a list of entries with the bytes of their frame: the length, the entries, and a closed gate (`specs/Batch.antt`).
+//! A [`Batch`] is a list of entries with the bytes of their frame: the length, the entries, and a closed gate (`specs/Batch.antt`). Many entries become one
+//! by [`Batch::of`], which finds out itself whether their prints are short enough for a spelling (`specs/Formed.antt`).
 #![tactic(auto)]
 
 mod batch;
+mod bodies;
 mod fields;
 mod laws;
 mod raw;
@@ -16,6 +18,7 @@ mod reading;
 mod writing;
 
 pub use batch::Batch;
+pub use bodies::BatchRefusal;
 pub use laws::one_entry;
 pub use raw::u32_at;
 pub use reading::{EntryRefusal, read_entry};

@@ -33,7 +33,8 @@ fn is_moment(moment: Option<u64>) -> bool
 // The entry that has these fields.
 fn entry_of(alloc: Global, fields: &Raw) -> Result<Entry, Unread>
     requires { Fit (view fields.now) }
-    ensures { MatchResult result (λ e. IsEntry e × (fields_of e ≡ view fields.now)) (OnBad ((e : Entry) → IsEntry e → fields_of e ≡ view fields.now → ⊥)) }
+    ensures { MatchResult result (λ e. IsEntry e × (fields_of e ≡ view fields.now))
+        (OnBad ((e : Entry) → IsEntry e → fields_of e ≡ view fields.now → ⊥)) }
 {
     match *fields {
         Raw::Boot(service) => {
@@ -70,7 +71,8 @@ fn entry_of(alloc: Global, fields: &Raw) -> Result<Entry, Unread>
 
 /// The entry that the bytes spell from the offset on, and the offset after it. It reads what a store of the second version may hold.
 pub fn read_entry(alloc: Global, bytes: &[u8], from: u64) -> Result<(Entry, u64), EntryRefusal>
-    ensures entry { IfOk result (λ r. IsEntry r.0 × StandsAt bytes.now from r.0 × (r.1 ≡ from + length (spelling r.0)) × (r.1 ≤ length bytes.now)) }
+    ensures entry { IfOk result (λ r. IsEntry r.0 × StandsAt bytes.now from r.0 × (r.1 ≡ from + length (spelling r.0))
+        × (r.1 ≤ length bytes.now)) }
     ensures cause { IfErr result (IsCause bytes.now from) }
 {
     if from > bytes.len() as u64 {

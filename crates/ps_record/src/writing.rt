@@ -65,7 +65,13 @@ fn put_change(
     }
 }
 
-fn put(alloc: Global, out: &mut Vec<u8>, entry: &Entry, print: &[u8]) -> Result<(), Memory>
+/// Adds the bytes of an entry whose tree was printed.
+pub(crate) fn put(
+    alloc: Global,
+    out: &mut Vec<u8>,
+    entry: &Entry,
+    print: &[u8],
+) -> Result<(), Memory>
     requires spelled { IsEntry entry.now }
     requires printed { print.now ≡ print_in entry.now }
     ensures { OnOk result (out.new.items ≡ out.old.items ++ spelling entry.now) }
