@@ -6,6 +6,9 @@ ghost use Rattle.ps_model.specs.BaseAfter.{accepts_row, is_notice_line, tallies_
 ghost use Rattle.ps_model.specs.BaseRows as base;
 ghost use Rattle.ps_model.specs.Book.{Book};
 ghost use Rattle.ps_model.specs.NoticeTrees.{notice_id};
+ghost use Rattle.ps_model.specs.Stanza.{has_type};
+ghost use Rattle.ps_model.specs.Streams.{is_reply as is_reply_tree};
+ghost use Rattle.ps_types.specs.Tree.{is_named as is_named_tree};
 ghost use Rattle.ps_row_taking.specs.States.{FitsMore, state_at};
 
 use crate::asks::{is_bare, is_number};
@@ -14,6 +17,10 @@ use ps_tallies::Tallies;
 use ps_types::{Elem, Jid};
 use ps_wire::{TreeRefusal, print_tree, read_tree};
 use std::alloc::Global;
+
+const CLIENT: &str = "jabber:client";
+
+const LINE: &str = "urn:pubsubd:line";
 
 /// Whether a counter is accepted: its address is bare, no notice was made for it yet, and the number is from 1 up and below 2^62.
 pub fn accepts_counter(tallies: &Tallies, who: &Jid, handed: u64) -> bool
@@ -57,13 +64,36 @@ fn has_attr(tree: &Elem, name: &str, value: &str) -> bool
     attr(tree, name) == value
 }
 
+fn is_named(tree: &Elem, name: &str, ns: &str) -> bool
+    ensures { result ≡ is_named_tree name.now ns.now tree.now }
+{
+    tree.name.is(name) && tree.ns.is(ns)
+}
+
+fn is_of_type(tree: &Elem, kind: &str) -> bool
+    ensures { result ≡ has_type kind.now tree.now }
+{
+    attr(tree, "type") == kind
+}
+
+// Whether the tree is a reply, and so no notice.
+fn is_reply(tree: &Elem) -> bool
+    ensures { result ≡ is_reply_tree tree.now }
+{
+    let answers = is_of_type(tree, "result") || is_of_type(tree, "error");
+    (is_named(tree, "iq", CLIENT) && answers)
+        || (((is_named(tree, "message", CLIENT) || is_named(tree, "presence", CLIENT))
+            && is_of_type(tree, "error"))
+            || is_named(tree, "refused", LINE))
+}
+
 fn are_same(line: &[u8], other: &[u8]) -> bool
     ensures { result ≡ bytes_eq line.now other.now }
 {
     line == other
 }
 
-// Whether the line is the print of its tree, and that is a notice of the number to the address.
+// Whether the line is the print of its tree, and that is a notice of the number to the address, and no reply.
 fn is_notice_tree(
     alloc: Global,
     to: &Jid,
@@ -78,11 +108,13 @@ fn is_notice_tree(
     let id = id_of(alloc, number)?;
     Ok(
         are_same(line, print.as_slice())
-            && (has_attr(tree, "to", address.as_str()) && has_attr(tree, "id", id.as_str())),
+            && (has_attr(tree, "to", address.as_str())
+                && (has_attr(tree, "id", id.as_str()) && !is_reply(tree))),
     )
 }
 
-/// Whether a notice is accepted: its line is the print of a tree to its address, with the id of the number after those that were made for the address.
+/// Whether a notice is accepted: its line is the print of a tree to its address, with the id of the number after those
+/// that were made for the address, and that tree is no reply.
 pub fn accepts_notice(
     alloc: Global,
     tallies: &Tallies,

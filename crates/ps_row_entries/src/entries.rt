@@ -1,0 +1,47 @@
+// The entries of all rows, and of what is told beside them.
+ghost use Rattle.std.specs.Prelude.{◌≡◌, IfOk, map};
+ghost use Rattle.ps_model.specs.Base.{book_rows};
+ghost use Rattle.ps_model.specs.BaseRows as base;
+ghost use Rattle.ps_access.specs.Tables.{book_of};
+ghost use Rattle.ps_row_entries.specs.Written.{written};
+
+use crate::adding::{
+    add_affils, add_contacts, add_counts, add_items, add_links, add_nodes, add_subs, add_vers,
+};
+use ps_access::Tables;
+use ps_base::Memory;
+use ps_row_trees::{counter_tree, notice_tree};
+use ps_types::{Entry, Jid, Text};
+use std::alloc::Global;
+
+/// The entries of the rows of a Book, in the order in which each is accepted behind those before it. None is of the resources that are present.
+pub fn book_entries(alloc: Global, tables: &Tables) -> Result<Vec<Entry>, Memory>
+    ensures rows { IfOk result (λ v. v.items ≡ map written (book_rows (book_of tables.now))) }
+{
+    let mut entries = Vec::new(alloc);
+    add_nodes(alloc, &mut entries, tables)?;
+    add_affils(alloc, &mut entries, tables)?;
+    add_subs(alloc, &mut entries, tables)?;
+    add_items(alloc, &mut entries, tables)?;
+    add_links(alloc, &mut entries, tables)?;
+    add_contacts(alloc, &mut entries, tables)?;
+    add_vers(alloc, &mut entries, tables)?;
+    add_counts(alloc, &mut entries, tables)?;
+    Ok(entries)
+}
+
+/// The entry that says how many notices were handed to a bare address.
+pub fn counter_entry(alloc: Global, who: &Jid, handed: u64) -> Result<Entry, Memory>
+    ensures row { IfOk result (λ e. e ≡ written (base.counter who.now handed)) }
+{
+    let row = counter_tree(alloc, who, handed)?;
+    Ok(Entry::Base { row })
+}
+
+/// The entry of a notice to an address that isn't handed, with its line.
+pub fn notice_entry(alloc: Global, to: &Jid, line: Text) -> Result<Entry, Memory>
+    ensures row { IfOk result (λ e. e ≡ written (base.notice to.now line)) }
+{
+    let row = notice_tree(alloc, to, line)?;
+    Ok(Entry::Base { row })
+}
