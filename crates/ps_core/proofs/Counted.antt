@@ -1,6 +1,6 @@
--- No bare address has made more ids at a node than there are entries.
-use Rattle.std.proofs.Common.{◌≡◌, ℕ, ◌+◌, Bool, true, false, cond, List, [], ◌∷◌, refl, sym, subst, arith}
-use Rattle.std.specs.Prelude.{◌≤◌, find, not, Option, Some, None, Result, Ok, Err}
+-- No bare address has made more ids at a node than there are entries, and those that a row of a compacted store told of.
+use Rattle.std.proofs.Common.{◌≡◌, ℕ, ◌+◌, Bool, true, false, cond, List, [], ◌∷◌, ◌++◌, refl, sym, subst, arith, ltb-true}
+use Rattle.std.specs.Prelude.{◌≤◌, ◌<◌, ◌^◌, nat_lt, find, not, Option, Some, None, Result, Ok, Err}
 use Rattle.ps_base.specs.Rows.{put_row, without}
 use Rattle.ps_types.specs.declared.denial.Condition.{Condition}
 use Rattle.ps_types.specs.declared.config.NodeConfig.{NodeConfig}
@@ -26,14 +26,22 @@ use Rattle.ps_model.specs.ChangeRouter.{answer_by, is_usable, roster_by, usable_
 use Rattle.ps_model.specs.CheckForms.{node_of}
 use Rattle.ps_types.specs.Counts.{counts_without, is_count_at, is_count_of, made_at, made_in}
 use Rattle.ps_types.specs.Tree.{Tree}
-use Rattle.ps_model.specs.After.{book_after, book_changed, request_on}
+use Rattle.ps_model.specs.After.{book_after, book_based, book_changed, request_on}
+use Rattle.ps_model.specs.BaseAfter.{book_with}
+use Rattle.ps_model.specs.BaseRead.{row_of}
+use Rattle.ps_model.specs.BaseRows as base
+use Rattle.ps_model.specs.BaseRows.{BaseRow}
 use Rattle.ps_model.specs.Book.{Book}
 use Rattle.ps_model.specs.ChangePublish.{count_row, counted, published, published_by, published_new, retract_change}
 use Rattle.ps_model.specs.Changes.{changed, changed_by}
 use Rattle.ps_model.specs.ItemIds.{next_made}
 use Rattle.ps_model.specs.Words.{RosterAsk, set, remove}
+use Rattle.ps_row_trees.specs.Held.{has_held_numbers}
+use Rattle.ps_row_taking.specs.States.{has_own_key}
 use Rattle.ps_core.specs.Counted.{AllBelow, AreCounted}
+use Rattle.ps_core.specs.Rows.{fits_row, is_bounded}
 use Rattle.ps_core.specs.States.{Part, fits_book, part_after}
+use Rattle.ps_core.proofs.Both.{and_right}
 
 below_more : (n m : ℕ) (rows : List CountRow) → n ≤ m → AllBelow n rows → AllBelow m rows
 below_more n m [] le b = tt
@@ -159,10 +167,36 @@ asked_below : (n : ℕ) (r : Option Request) (moment : Option ℕ) (book : Book)
 asked_below n None moment book b = below_more n (n + 1) book.counts (omega arith) b
 asked_below n (Some r) moment book b = changed_below n r moment book b
 
--- an entry makes one id at most
+-- a row of a compacted store tells of fewer than 2^62
+push_below : (n : ℕ) (row : CountRow) (rows : List CountRow) → row.made ≤ n → AllBelow n rows → AllBelow n (rows ++ row ∷ [])
+push_below n row [] le b = (le, tt)
+push_below n row (x ∷ rows) le b = (b.0, push_below n row rows le b.1)
+
+row_below : (n : ℕ) (r : BaseRow) (book : Book) → 2 ^ 62 ≤ n → is_bounded r ≡ true → AllBelow n book.counts → AllBelow (n + 1) (book_with r book).counts
+row_below n (base.made r) book big is b =
+    let few : r.made < 2 ^ 62 = ltb-true r.made (2 ^ 62) (and_right (nat_lt 0 r.made) (nat_lt r.made (2 ^ 62)) is) in
+    push_below (n + 1) r book.counts (omega (arith, few, big)) (below_more n (n + 1) book.counts (omega arith) b)
+row_below n (base.node r) book big is b = below_more n (n + 1) book.counts (omega arith) b
+row_below n (base.affiliation r) book big is b = below_more n (n + 1) book.counts (omega arith) b
+row_below n (base.subscription r) book big is b = below_more n (n + 1) book.counts (omega arith) b
+row_below n (base.item r) book big is b = below_more n (n + 1) book.counts (omega arith) b
+row_below n (base.link r) book big is b = below_more n (n + 1) book.counts (omega arith) b
+row_below n (base.contact r) book big is b = below_more n (n + 1) book.counts (omega arith) b
+row_below n (base.ver r) book big is b = below_more n (n + 1) book.counts (omega arith) b
+row_below n (base.counter who handed) book big is b = below_more n (n + 1) book.counts (omega arith) b
+row_below n (base.notice to line) book big is b = below_more n (n + 1) book.counts (omega arith) b
+
+based_below : (n : ℕ) (o : Option BaseRow) (book : Book) → 2 ^ 62 ≤ n → fits_row o book ≡ true → AllBelow n book.counts → AllBelow (n + 1) (book_based o book).counts
+based_below n None book big is b = absurd (cc is)
+based_below n (Some r) book big is b = row_below n r book big (and_right (has_own_key r book) (is_bounded r) (and_right (has_held_numbers r) _ is)) b
+
+-- any other entry makes one id at most
+entry_counted : (n : ℕ) (book : Book) (e : Entry) → 2 ^ 62 ≤ n → fits_book book e ≡ true → AllBelow n book.counts → AllBelow (n + 1) (book_after book e).counts
+entry_counted n book (Boot service) big is b = kept n book (book_after book (Boot service)) refl b
+entry_counted n book (Change host line moment t) big is b = asked_below n (request_on host book t) moment book b
+entry_counted n book (Handed to) big is b = kept n book book refl b
+entry_counted n book (Gone host) big is b = kept n book (book_after book (Gone host)) refl b
+entry_counted n book (Base row) big is b = based_below n (row_of row) book big is b
+
 pub after_counted : (p : Part) (e : Entry) → fits_book p.book e ≡ true → AreCounted p → AreCounted (part_after p e)
-after_counted p (Boot service) is b = kept p.count p.book (book_after p.book (Boot service)) refl b
-after_counted p (Change host line moment t) is b = asked_below p.count (request_on host p.book t) moment p.book b
-after_counted p (Handed to) is b = kept p.count p.book p.book refl b
-after_counted p (Gone host) is b = kept p.count p.book (book_after p.book (Gone host)) refl b
-after_counted p (Base row) is b = absurd (cc is)
+after_counted p e is b = below_more (p.count + 2 ^ 62 + 1) (p.count + 1 + 2 ^ 62) (book_after p.book e).counts (omega arith) (entry_counted (p.count + 2 ^ 62) p.book e (omega arith) is b)

@@ -1,6 +1,6 @@
 -- The wants follow the rows of the resources.
 use Rattle.std.proofs.Common.{◌≡◌, ℕ, Bool, true, false, cond, List, [], Option, refl, ap, sym, subst, ◌∙◌}
-use Rattle.std.specs.Prelude.{bytes_eq, IsSome, OnOk, Result, Ok, Err}
+use Rattle.std.specs.Prelude.{bytes_eq, OnOk, Result, Ok, Err}
 use Rattle.std.specs.List.{list_any}
 use Rattle.ps_base.specs.Rows.{without}
 use Rattle.ps_types.specs.declared.jid.Jid.{Jid}
@@ -16,7 +16,7 @@ use Rattle.ps_core.specs.declared.half.Half.{Half}
 use Rattle.ps_core.specs.declared.numbers.Numbers.{Numbers}
 use Rattle.ps_core.specs.declared.service.Kept.{Kept}
 use Rattle.ps_core.specs.declared.service.Stage.{Stage}
-use Rattle.ps_core.specs.declared.service.Stage.TheVariants.{Even, Prepared, Behind, Stale}
+use Rattle.ps_core.specs.declared.service.Stage.TheVariants.{Prepared}
 use Rattle.ps_core.specs.States.{Part, part_of}
 use Rattle.ps_core.specs.Wants.{BackHasWants, DiffersAt, FollowsRequest, FollowsRow, HasWants, is_of_resource}
 use Rattle.ps_core.proofs.Resources.{resources-differ, resources-stay}

@@ -1,5 +1,5 @@
 -- A change that is accepted: the request that it is, and what it leaves.
-use Rattle.std.proofs.Common.{◌≡◌, ℕ, ◌+◌, Bool, true, false, List, refl, sym, ap, subst}
+use Rattle.std.proofs.Common.{◌≡◌, ℕ, ◌+◌, true, false, List, refl, sym, ap, subst}
 use Rattle.std.specs.Prelude.{◌&&◌, not, Option}
 use Rattle.ps_types.specs.declared.denial.Condition.{Condition}
 use Rattle.ps_types.specs.declared.denial.LineRefusal.{LineRefusal}
@@ -12,13 +12,16 @@ use Rattle.ps_model.specs.Book.{Book, State}
 use Rattle.ps_model.specs.Changes.{changed}
 use Rattle.ps_model.specs.Commits.{makes_entry}
 use Rattle.ps_model.specs.Numbered.{numbered}
-use Rattle.ps_model.specs.Replay.{accepted, is_booted, request_accepted}
+use Rattle.ps_model.specs.BaseRead.{row_of}
+use Rattle.ps_model.specs.Replay.{accepted, is_booted, request_accepted, row_accepted}
 use Rattle.ps_model.specs.Taken.{Head, Taken, silent, refused, denied, asked}
 use Rattle.ps_model.specs.Taking.{request_in, tree_taken}
 use Rattle.ps_model.specs.Tallies.{is_next_line, lines_with}
+use Rattle.ps_core.specs.Rows.{is_held}
 use Rattle.ps_core.specs.States.{Part, changed_part, fits_book, part_after}
 use Rattle.ps_core.specs.Told.{notices_by}
 use Rattle.ps_core.proofs.Both.{and_left, and_right}
+use Rattle.ps_core.proofs.Rows.{accepted-row, fits-held}
 
 -- what is accepted fits the Book
 pub accepted_fits : (s : State) (e : Entry) → accepted s e ≡ true → fits_book s.book e ≡ true
@@ -27,7 +30,15 @@ accepted_fits s (Change host line moment t) h =
     and_right (is_booted s) _ (and_left (is_booted s && request_accepted (request_in (tree_taken host s.book.service t)) s.book) (is_next_line host line s.lines) h)
 accepted_fits s (Handed to) h = refl
 accepted_fits s (Gone host) h = refl
-accepted_fits s (Base row) h = absurd (cc)
+accepted_fits s (Base row) h = accepted-row row s (and_right (not (is_booted s)) (row_accepted (row_of row) s) h)
+
+-- what fits it has such numbers as the program holds
+pub fits_held : (book : Book) (e : Entry) → fits_book book e ≡ true → is_held e ≡ true
+fits_held book (Boot service) h = refl
+fits_held book (Change host line moment t) h = refl
+fits_held book (Handed to) h = refl
+fits_held book (Gone host) h = refl
+fits_held book (Base row) h = fits-held (row_of row) book h
 
 -- what fits it is a request that is accepted and makes an entry
 pub accepted_asked : (book : Book) (host : List ℕ) (line : ℕ) (moment : Option ℕ) (t u : Tree) (r : Request) → fits_book book (Change host line moment t) ≡ true → asked u r ≡ tree_taken host book.service t → makes_entry book r ≡ true

@@ -1,7 +1,7 @@
 -- How many notices were made and handed, after an entry.
-use Rattle.std.proofs.Common.{◌≡◌, ◌<◌, ℕ, ◌+◌, Bool, true, false, List, [], ◌∷◌, ◌++◌, length, refl, sym, ap, subst, ◌∙◌, arith}
+use Rattle.std.proofs.Common.{◌≡◌, ◌<◌, ℕ, ◌+◌, Bool, true, false, List, [], ◌∷◌, length, Option, Some, None, refl, sym, ap, subst, ◌∙◌, arith, ltb-true}
 use Rattle.std.specs.Global.{Vec}
-use Rattle.std.specs.Prelude.{◌≤◌, ◌*◌, ◌^◌, not, map}
+use Rattle.std.specs.Prelude.{◌≤◌, ◌*◌, ◌^◌, nat_lt, map}
 use Rattle.ps_types.specs.declared.entry.Entry.{Entry}
 use Rattle.ps_types.specs.declared.entry.Entry.TheVariants.{Boot, Change, Handed, Gone, Base}
 use Rattle.ps_types.specs.declared.entry.Notice.{Notice}
@@ -9,17 +9,26 @@ use Rattle.ps_types.specs.declared.jid.Jid.{Jid}
 use Rattle.ps_types.specs.declared.rows.TallyRow.{TallyRow}
 use Rattle.ps_types.specs.Same.{same_bare}
 use Rattle.ps_model.specs.After.{handed_out, notices_at, tallies_after}
-use Rattle.ps_model.specs.Replay.{accepted, accepted_at, is_row}
-use Rattle.ps_model.specs.Tallies.{handed_to, made_for, more_made, one_handed}
-use Rattle.ps_model.proofs.TallyLaws.{made-handed, made-kept, made-more}
+use Rattle.ps_model.specs.BaseAfter.{is_number}
+use Rattle.ps_model.specs.Book.{Book}
+use Rattle.ps_model.specs.BaseRead.{row_of}
+use Rattle.ps_model.specs.BaseRows as base
+use Rattle.ps_model.specs.BaseRows.{BaseRow}
+use Rattle.ps_model.specs.Numbered.{row_notices, row_tallies}
+use Rattle.ps_model.specs.Replay.{accepted}
+use Rattle.ps_model.specs.Tallies.{handed_to, made_for, more_made, one_handed, tallies_with}
+use Rattle.ps_model.proofs.TallyLaws.{made-handed, made-kept, made-more, made-set}
 use Rattle.ps_model.proofs.NumberLaws.{handed-has-one}
 use Rattle.ps_notices.specs.Due.{AreFew, tallied_by}
 use Rattle.ps_notices.proofs.Counting.{tallied-by}
 use Rattle.ps_core.specs.Counted.{AreFewMade}
-use Rattle.ps_core.specs.Numbers.{Fit, IsCountOf, numbers_after}
+use Rattle.ps_row_trees.specs.Held.{has_held_numbers}
+use Rattle.ps_row_taking.specs.States.{FitMore, has_own_key}
+use Rattle.ps_core.specs.Numbers.{Fit, IsCountOf, is_counter, numbers_after}
+use Rattle.ps_core.specs.Rows.{fits_row, is_bounded}
 use Rattle.ps_core.specs.States.{Part, fits_book, state_with}
 use Rattle.ps_core.specs.declared.numbers.Numbers.{Numbers}
-use Rattle.ps_core.specs.declared.numbers.Numbers.TheVariants.{Made, Handed as Handed'}
+use Rattle.ps_core.specs.declared.numbers.Numbers.TheVariants.{Made, Set, Handed as Handed'}
 use Rattle.ps_core.proofs.Both.{and_right}
 
 -- one more is made for an address at most
@@ -54,6 +63,10 @@ few-handed count tallies to few = λ who.
 pub few-below : (count : ℕ) (tallies : List TallyRow) → count < 2 ^ 62 → AreFewMade count tallies → AreFew tallies
 few-below count tallies less few = λ who. let old = few who in omega (arith, less, old)
 
+-- so one more for an address fits
+pub fit-more : (count : ℕ) (tallies : List TallyRow) → count < 2 ^ 64 → AreFewMade count tallies → FitMore tallies
+fit-more count tallies less few = λ to. let old = few to in omega (arith, less, old)
+
 pub few-none : (tallies : List TallyRow) → tallies ≡ [] → AreFewMade 0 tallies
 few-none tallies none = λ who.
     let zero : made_for who tallies ≡ 0 = ap (made_for who) none in
@@ -61,6 +74,23 @@ few-none tallies none = λ who.
     e
 
 -- ---- what an entry does to the numbers
+
+-- a row of a compacted store that is no counter makes its notice, if it is one
+based : (count : ℕ) (tallies : List TallyRow) (o : Option BaseRow) (ns : List Notice) (whos : List Jid) → ns ≡ row_notices count tallies o → whos ≡ map (λ (n : Notice). n.to) ns → is_counter o ≡ false → row_tallies o tallies ≡ tallied_by tallies whos
+based count tallies o ns whos are is plain = by o plain ∙ ap (tallied_by tallies) (ap (map (λ (n : Notice). n.to)) (sym are) ∙ sym is)
+  where
+    by : (o : Option BaseRow) → is_counter o ≡ false → row_tallies o tallies ≡ tallied_by tallies (map (λ (n : Notice). n.to) (row_notices count tallies o))
+    by None plain = refl
+    by (Some (base.node r)) plain = refl
+    by (Some (base.affiliation r)) plain = refl
+    by (Some (base.subscription r)) plain = refl
+    by (Some (base.item r)) plain = refl
+    by (Some (base.link r)) plain = refl
+    by (Some (base.contact r)) plain = refl
+    by (Some (base.ver r)) plain = refl
+    by (Some (base.made r)) plain = refl
+    by (Some (base.counter who handed)) plain = absurd (cc plain)
+    by (Some (base.notice to line)) plain = refl
 
 -- it is what its notices say
 pub counted-is : (p : Part) (tallies : List TallyRow) (e : Entry) (ns : List Notice) (numbers : Numbers) → fits_book p.book e ≡ true → ns ≡ notices_at (state_with p tallies) e → IsCountOf e ns numbers
@@ -76,26 +106,53 @@ counted-is p tallies (Change host line moment t) ns (Handed' who) fits are is = 
 counted-is p tallies (Gone host) ns (Made whos) fits are is =
     tallied-by p.count tallies (handed_out (state_with p tallies) (Gone host)) ∙ ap (tallied_by tallies) (ap (map (λ (n : Notice). n.to)) (sym are) ∙ sym is)
 counted-is p tallies (Gone host) ns (Handed' who) fits are is = absurd is
-counted-is p tallies (Base row) ns numbers fits are is = absurd (cc fits)
+counted-is p tallies (Base row) ns (Made whos) fits are is = based p.count tallies (row_of row) ns whos.items are is.0 is.1
+counted-is p tallies (Base row) ns (Handed' who) fits are is = absurd is
+counted-is p tallies (Base row) ns (Set who n) fits are is = ap (λ (o : Option BaseRow). row_tallies o tallies) is
+counted-is p tallies (Boot service) ns (Set who n) fits are is = absurd is
+counted-is p tallies (Change host line moment t) ns (Set who n) fits are is = absurd is
+counted-is p tallies (Gone host) ns (Set who n) fits are is = absurd is
+counted-is p tallies (Handed to) ns (Set who n) fits are is = absurd is
 
 -- a Vec has fewer than 2^63 items
 short : (whos : Vec Jid) → length whos.items < 2 ^ 63
 short whos = let long = whos.ok.0 in let room = whos.ok.1 in let small = whos.small in omega (arith, long, room, small)
 
+-- a counter that is accepted is below 2^62
+set-few : (o : Option BaseRow) (book : Book) (who : Jid) (n : ℕ) → fits_row o book ≡ true → o ≡ Some (base.counter who n) → n < 2 ^ 62
+set-few o book who n fits is =
+    let r = base.counter who n in
+    let ok : fits_row (Some r) book ≡ true = subst (λ (x : Option BaseRow). fits_row x book ≡ true) is fits in
+    let bounded : is_number n ≡ true = and_right (has_own_key r book) (is_bounded r) (and_right (has_held_numbers r) _ ok) in
+    ltb-true n (2 ^ 62) (and_right (nat_lt 0 n) (nat_lt n (2 ^ 62)) bounded)
+
 -- the numbers stay below the end of their type, and few
-pub counted-fit : (p : Part) (tallies : List TallyRow) (e : Entry) (ns : List Notice) (numbers : Numbers) → accepted (state_with p tallies) e ≡ true → p.count < 2 ^ 62 → AreFewMade p.count tallies → IsCountOf e ns numbers
+pub counted-fit : (p : Part) (tallies : List TallyRow) (e : Entry) (ns : List Notice) (numbers : Numbers) → accepted (state_with p tallies) e ≡ true → fits_book p.book e ≡ true → p.count < 2 ^ 62 → AreFewMade p.count tallies → IsCountOf e ns numbers
     → Fit numbers tallies
-counted-fit p tallies (Handed to) ns (Handed' who) ok less few is =
-    let has : handed_to to tallies < made_for to tallies = handed-has-one (state_with p tallies) to (and_right (not (is_row (Handed to))) (accepted_at (state_with p tallies) (Handed to)) ok) in
+counted-fit p tallies (Handed to) ns (Handed' who) ok fits less few is =
+    let has : handed_to to tallies < made_for to tallies = handed-has-one (state_with p tallies) to ok in
     let bound = few-below p.count tallies less few to in
     let e : handed_to who tallies ≡ handed_to to tallies = ap (λ (j : Jid). handed_to j tallies) is in
     omega (arith, has, bound, e)
-counted-fit p tallies e ns (Made whos) ok less few is = λ who. let bound = few-below p.count tallies less few who in let size = short whos in omega (arith, bound, size)
-counted-fit p tallies (Boot service) ns (Handed' who) ok less few is = absurd is
-counted-fit p tallies (Change host line moment t) ns (Handed' who) ok less few is = absurd is
-counted-fit p tallies (Gone host) ns (Handed' who) ok less few is = absurd is
-counted-fit p tallies (Base row) ns (Handed' who) ok less few is = absurd is
+counted-fit p tallies e ns (Made whos) ok fits less few is = λ who. let bound = few-below p.count tallies less few who in let size = short whos in omega (arith, bound, size)
+counted-fit p tallies (Boot service) ns (Handed' who) ok fits less few is = absurd is
+counted-fit p tallies (Change host line moment t) ns (Handed' who) ok fits less few is = absurd is
+counted-fit p tallies (Gone host) ns (Handed' who) ok fits less few is = absurd is
+counted-fit p tallies (Base row) ns (Handed' who) ok fits less few is = absurd is
+counted-fit p tallies (Base row) ns (Set who n) ok fits less few is = set-few (row_of row) p.book who n fits is
+counted-fit p tallies (Handed to) ns (Set who n) ok fits less few is = absurd is
+counted-fit p tallies (Boot service) ns (Set who n) ok fits less few is = absurd is
+counted-fit p tallies (Change host line moment t) ns (Set who n) ok fits less few is = absurd is
+counted-fit p tallies (Gone host) ns (Set who n) ok fits less few is = absurd is
 
-pub counted-few : (count : ℕ) (tallies : List TallyRow) (numbers : Numbers) → AreFewMade count tallies → AreFewMade (count + 1) (numbers_after numbers tallies)
-counted-few count tallies (Made whos) few = few-made count tallies whos.items few (short whos)
-counted-few count tallies (Handed' who) few = few-handed count tallies who few
+few-set : (count : ℕ) (tallies : List TallyRow) (who : Jid) (n : ℕ) → n < 2 ^ 62 → AreFewMade count tallies → AreFewMade (count + 1) (tallies_with who n n tallies)
+few-set count tallies who n small few = λ a. by a (same_bare a who) refl
+  where
+    by : (a : Jid) (b : Bool) → same_bare a who ≡ b → made_for a (tallies_with who n n tallies) ≤ (count + 1) * 2 ^ 63
+    by a true e = let m = made-set a who n n tallies e in omega (arith, m, small)
+    by a false e = let m = made-kept a who n n tallies e in let old = few a in omega (arith, m, old)
+
+pub counted-few : (count : ℕ) (tallies : List TallyRow) (numbers : Numbers) → Fit numbers tallies → AreFewMade count tallies → AreFewMade (count + 1) (numbers_after numbers tallies)
+counted-few count tallies (Made whos) fit few = few-made count tallies whos.items few (short whos)
+counted-few count tallies (Handed' who) fit few = few-handed count tallies who few
+counted-few count tallies (Set who n) fit few = few-set count tallies who n fit few

@@ -1,5 +1,6 @@
--- How many ids and notices were made: ids at most as many as there are entries, since each entry makes one at most, and notices at most a list of them an entry.
-use Rattle.std.specs.Prelude.{ℕ, ◌≤◌, ◌*◌, ◌^◌, List, [], ◌∷◌}
+-- How many ids and notices were made. Ids: at most as many as there are entries and 2^62 more, since a row of a compacted store tells of
+-- fewer than these, and each other entry makes one at most. Notices: at most a list of them an entry.
+use Rattle.std.specs.Prelude.{ℕ, ◌≤◌, ◌+◌, ◌*◌, ◌^◌, List, [], ◌∷◌}
 use Rattle.ps_types.specs.declared.jid.Jid.{Jid}
 use Rattle.ps_types.specs.declared.rows.CountRow.{CountRow}
 use Rattle.ps_types.specs.declared.rows.TallyRow.{TallyRow}
@@ -12,7 +13,7 @@ AllBelow most [] = Unit {0}
 AllBelow most (row ∷ rows) = (row.made ≤ most) × AllBelow most rows
 
 abbrev pub AreCounted : Part → Type 0
-AreCounted p = AllBelow p.count p.book.counts
+AreCounted p = AllBelow (p.count + 2 ^ 62) p.book.counts
 
 -- a list is shorter than 2^63
 abbrev pub AreFewMade : ℕ → List TallyRow → Type 0

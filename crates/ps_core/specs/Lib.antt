@@ -5,5 +5,6 @@ pub mod Stages
 pub mod Answers
 pub mod Lines
 pub mod Requests
+pub mod Rows
 pub mod Wants
 pub mod Told

@@ -1,17 +1,19 @@
 -- The State that the copies keep, and what becomes of it.
-use Rattle.std.specs.Prelude.{ℕ, ◌+◌, Bool, true, false, List, Option}
+use Rattle.std.specs.Prelude.{ℕ, ◌+◌, Bool, true, List, Option}
 use Rattle.ps_types.specs.declared.entry.Entry.{Entry}
 use Rattle.ps_types.specs.declared.entry.Entry.TheVariants.{Boot, Change, Handed, Gone, Base}
 use Rattle.ps_types.specs.declared.request.Request.{Request}
 use Rattle.ps_types.specs.declared.rows.LineRow.{LineRow}
 use Rattle.ps_types.specs.declared.rows.TallyRow.{TallyRow}
 use Rattle.ps_model.specs.After.{book_after, lines_after}
+use Rattle.ps_model.specs.BaseRead.{row_of}
 use Rattle.ps_model.specs.Book.{Book, State}
 use Rattle.ps_model.specs.Changes.{changed}
 use Rattle.ps_model.specs.Replay.{request_accepted}
 use Rattle.ps_model.specs.Taking.{request_in, tree_taken}
 use Rattle.ps_model.specs.Tallies.{lines_with}
 use Rattle.ps_access.specs.Tables.{book_of}
+use Rattle.ps_core.specs.Rows.{fits_row}
 use Rattle.ps_core.specs.declared.half.Half.{Half}
 
 -- what is kept twice: all of the State but the numbers of notices
@@ -43,4 +45,4 @@ fits_book book (Boot service) = true
 fits_book book (Change host line moment t) = request_accepted (request_in (tree_taken host book.service t)) book
 fits_book book (Handed to) = true
 fits_book book (Gone host) = true
-fits_book book (Base row) = false
+fits_book book (Base row) = fits_row (row_of row) book

@@ -230,8 +230,10 @@ fn accepted_answer(
     with_full: bool,
 ) -> Result<Answer, Memory>
     ensures reply { IfOk result (λ a. a.reply ≡ model.accepted_reply tree request.now plan.reply) }
-    ensures entry { IfOk result (λ a. a.entry ≡ cond plan.commits (Some (Change origin.entry.host.now origin.entry.line origin.entry.moment tree)) None) }
-    ensures full { with_full ≡ true → IfOk result (λ a. a.full ≡ cond plan.commits (model.full_reply tree request.now) None) }
+    ensures entry { IfOk result (λ a. a.entry
+        ≡ cond plan.commits (Some (Change origin.entry.host.now origin.entry.line origin.entry.moment tree)) None) }
+    ensures full { with_full ≡ true
+        → IfOk result (λ a. a.full ≡ cond plan.commits (model.full_reply tree request.now) None) }
 {
     let commits = plan.commits;
     let reply = accepted_reply(alloc, &tree, request, plan.reply)?;
@@ -260,9 +262,12 @@ fn asked_answer(
     request: &Request,
     with_full: bool,
 ) -> Result<Answer, Memory>
-    ensures reply { IfOk result (λ a. a.reply ≡ reply_by (asked tree request.now) (book_of tables.now) origin.entry.line false) }
-    ensures entry { IfOk result (λ a. a.entry ≡ entry_by (asked tree request.now) origin.entry.host.now (book_of tables.now) origin.entry.line origin.entry.moment false) }
-    ensures full { with_full ≡ true → IfOk result (λ a. a.full ≡ full_by a.entry (reply_by (asked tree request.now) (book_of tables.now) origin.entry.line true)) }
+    ensures reply { IfOk result
+        (λ a. a.reply ≡ reply_by (asked tree request.now) (book_of tables.now) origin.entry.line false) }
+    ensures entry { IfOk result (λ a. a.entry ≡ entry_by (asked tree request.now) origin.entry.host.now
+        (book_of tables.now) origin.entry.line origin.entry.moment false) }
+    ensures full { with_full ≡ true → IfOk result (λ a. a.full
+        ≡ full_by a.entry (reply_by (asked tree request.now) (book_of tables.now) origin.entry.line true)) }
 {
     match plan(alloc, tables, request) {
         Ok(plan) => accepted_answer(alloc, origin, tree, request, plan, with_full),
@@ -284,9 +289,12 @@ fn answer_request(
     with_full: bool,
 ) -> Result<WithRequest, Memory>
     requires tree { asked tree request ≡ tree_taken origin.host.now tables.now.service tree }
-    ensures reply { IfOk result (λ a. a.answer.reply ≡ reply_by (asked tree request) (book_of tables.now) origin.entry.line false) }
-    ensures entry { IfOk result (λ a. a.answer.entry ≡ entry_by (asked tree request) origin.entry.host.now (book_of tables.now) origin.entry.line origin.entry.moment false) }
-    ensures full { with_full ≡ true → IfOk result (λ a. a.answer.full ≡ full_by a.answer.entry (reply_by (asked tree request) (book_of tables.now) origin.entry.line true)) }
+    ensures reply { IfOk result
+        (λ a. a.answer.reply ≡ reply_by (asked tree request) (book_of tables.now) origin.entry.line false) }
+    ensures entry { IfOk result (λ a. a.answer.entry ≡ entry_by (asked tree request) origin.entry.host.now
+        (book_of tables.now) origin.entry.line origin.entry.moment false) }
+    ensures full { with_full ≡ true → IfOk result (λ a. a.answer.full
+        ≡ full_by a.answer.entry (reply_by (asked tree request) (book_of tables.now) origin.entry.line true)) }
     ensures request { IfOk result (λ a. IfSome a.answer.entry (λ e. IsRequestOf tables.now.service e a.request)) }
 {
     let answer = asked_answer(alloc, tables, origin, tree, &request, with_full)?;
@@ -334,7 +342,8 @@ pub fn answer_at(
 ) -> Result<WithRequest, Memory>
     ensures reply { IfOk result (λ a. a.answer.reply ≡ reply_to host.now (book_of tables.now) line arrival.now false) }
     ensures entry { IfOk result (λ a. a.answer.entry ≡ entry_of host.now (book_of tables.now) line arrival.now false) }
-    ensures full { with_full ≡ true → IfOk result (λ a. a.answer.full ≡ full_by a.answer.entry (reply_to host.now (book_of tables.now) line arrival.now true)) }
+    ensures full { with_full ≡ true → IfOk result
+        (λ a. a.answer.full ≡ full_by a.answer.entry (reply_to host.now (book_of tables.now) line arrival.now true)) }
     ensures request { IfOk result (λ a. IfSome a.answer.entry (λ e. IsRequestOf tables.now.service e a.request)) }
 {
     let origin = Origin {

@@ -1,6 +1,6 @@
 // One copy of the State but for the numbers of notices, edited in place.
 ghost use Rattle.std.specs.Prelude.{◌≡◌, ◌<◌, ◌^◌, [], true, IfOk, OnOk};
-ghost use Rattle.ps_types.specs.declared.entry.Entry.TheVariants.{Boot, Change, Gone};
+ghost use Rattle.ps_types.specs.declared.entry.Entry.TheVariants.{Base, Boot, Change, Gone};
 ghost use Rattle.ps_model.specs.Book.{empty_state};
 ghost use Rattle.ps_model.specs.Commits.{makes_entry};
 ghost use Rattle.ps_model.specs.Taken.{asked};
@@ -19,6 +19,8 @@ use ps_change::change;
 use ps_filter::Wants;
 use ps_presence::Presence;
 use ps_request::{TakenTree, take_tree};
+use ps_row_taking::put_in_tables;
+use ps_row_trees::read_row;
 use ps_types::{Elem, Entry, LineRow, Request, Text};
 use std::alloc::Global;
 
@@ -107,7 +109,10 @@ impl Half {
                 self.count += 1;
                 Ok(None)
             }
-            Entry::Base { .. } => unreachable!(),
+            Entry::Base { row } => {
+                self.take_row(alloc, row)?;
+                Ok(None)
+            }
         }
     }
 
@@ -145,7 +150,7 @@ impl Half {
                 self.count += 1;
                 Ok(())
             }
-            Entry::Base { .. } => unreachable!(),
+            Entry::Base { row } => self.take_row(alloc, row),
         }
     }
 
@@ -173,6 +178,21 @@ impl Half {
         self.count += 1;
     }
 
+    fn take_row(&mut self, alloc: Global, tree: &Elem) -> Result<(), Memory>
+        requires accepted { fits_book (book_of self.old.tables) (Base tree.now) ≡ true }
+        requires few { self.old.count < 2 ^ 62 }
+        requires wants { HasWants self.old }
+        ensures state { OnOk result (part_of self.new ≡ part_after (part_of self.old) (Base tree.now)) }
+        ensures wants { OnOk result (HasWants self.new) }
+    {
+        match read_row(alloc, tree)? {
+            Some(row) => put_in_tables(&mut self.tables, row)?,
+            None => unreachable!(),
+        }
+        self.count += 1;
+        Ok(())
+    }
+
     fn take_change(
         &mut self,
         alloc: Global,
@@ -185,7 +205,8 @@ impl Half {
         requires few { self.old.count < 2 ^ 62 }
         requires counted { AreCounted (part_of self.old) }
         requires wants { HasWants self.old }
-        ensures state { OnOk result (part_of self.new ≡ part_after (part_of self.old) (Change host.now line moment tree.now)) }
+        ensures state { OnOk result
+            (part_of self.new ≡ part_after (part_of self.old) (Change host.now line moment tree.now)) }
         ensures wants { OnOk result (HasWants self.new) }
         ensures request { IfOk result (λ r. asked tree.now r ≡ tree_taken host.now self.old.tables.service tree.now) }
     {
@@ -227,7 +248,8 @@ impl Half {
         requires counted { AreCounted (part_of self.old) }
         requires wants { HasWants self.old }
         requires asked { asked _tree.now request.now ≡ tree_taken host.now self.old.tables.service _tree.now }
-        ensures state { OnOk result (part_of self.new ≡ part_after (part_of self.old) (Change host.now line moment _tree.now)) }
+        ensures state { OnOk result
+            (part_of self.new ≡ part_after (part_of self.old) (Change host.now line moment _tree.now)) }
         ensures wants { OnOk result (HasWants self.new) }
     {
         self.take_request(host, line, moment, alloc, request)
@@ -245,7 +267,8 @@ impl Half {
         requires few { self.old.count < 2 ^ 62 }
         requires counted { AreCounted (part_of self.old) }
         requires wants { HasWants self.old }
-        ensures state { OnOk result (part_of self.new ≡ changed_part request.now moment host.now line (part_of self.old)) }
+        ensures state { OnOk result
+            (part_of self.new ≡ changed_part request.now moment host.now line (part_of self.old)) }
         ensures wants { OnOk result (HasWants self.new) }
     {
         let row = LineRow {

@@ -1,11 +1,15 @@
 // What an entry does to the numbers of notices.
-ghost use Rattle.std.specs.Prelude.{◌≡◌, ◌≤◌, IfOk, OnOk, map};
-ghost use Rattle.ps_core.specs.Numbers.{Fit, IsCountOf, numbers_after, rows_set};
+ghost use Rattle.std.specs.Prelude.{◌≡◌, ◌≤◌, true, IfOk, OnOk, Some, map};
+ghost use Rattle.ps_model.specs.BaseRead.{row_of};
+ghost use Rattle.ps_core.specs.Numbers.{Fit, IsCountOf, IsCountOfRow, numbers_after, rows_set};
+ghost use Rattle.ps_core.specs.Rows.{is_held, is_held_row};
+ghost use Rattle.ps_row_trees.specs.Said.{row_said};
 ghost use Rattle.ps_core.specs.declared.numbers.Numbers.TheVariants.{Made};
 
 use ps_base::Memory;
+use ps_row_trees::{Row, read_row};
 use ps_tallies::Tallies;
-use ps_types::{Entry, Jid, Notice};
+use ps_types::{Elem, Entry, Jid, Notice};
 use std::alloc::Global;
 
 /// What an entry does to the numbers of notices.
@@ -14,6 +18,8 @@ pub enum Numbers {
     Made(Vec<Jid>),
     /// A notice more is handed to this one.
     Handed(Jid),
+    /// So many were made for this one and handed to it.
+    Set(Jid, u64),
 }
 
 // By hand, so that its cases are met nowhere else.
@@ -22,6 +28,7 @@ impl Drop for Numbers {
         match self {
             Numbers::Made(_) => {}
             Numbers::Handed(_) => {}
+            Numbers::Set(_, _) => {}
         }
     }
 }
@@ -37,16 +44,42 @@ fn addresses(alloc: Global, notices: &[Notice]) -> Result<Vec<Jid>, Memory>
     Ok(whos)
 }
 
+// What a row of a compacted store does to the numbers.
+fn numbers_by(alloc: Global, row: Row, notices: &[Notice]) -> Result<Numbers, Memory>
+    ensures { IfOk result (IsCountOfRow (Some (row_said row)) notices.now) }
+{
+    match row {
+        Row::Counter { who, handed } => Ok(Numbers::Set(who, handed)),
+        _ => {
+            let whos = addresses(alloc, notices)?;
+            Ok(Numbers::Made(whos))
+        }
+    }
+}
+
+// The same of its tree.
+fn numbers_of_row(alloc: Global, tree: &Elem, notices: &[Notice]) -> Result<Numbers, Memory>
+    requires held { is_held_row (row_of tree.now) ≡ true }
+    ensures { IfOk result (IsCountOfRow (row_of tree.now) notices.now) }
+{
+    match read_row(alloc, tree)? {
+        Some(row) => numbers_by(alloc, row, notices),
+        None => unreachable!(),
+    }
+}
+
 /// What the entry that makes these notices does to the numbers.
 pub(crate) fn numbers_of(
     alloc: Global,
     entry: &Entry,
     notices: &[Notice],
 ) -> Result<Numbers, Memory>
+    requires held { is_held entry.now ≡ true }
     ensures { IfOk result (IsCountOf entry.now notices.now) }
 {
     match entry {
         Entry::Handed { to } => Ok(Numbers::Handed(to.clone()?)),
+        Entry::Base { row } => numbers_of_row(alloc, row, notices),
         _ => Ok(Numbers::Made(addresses(alloc, notices)?)),
     }
 }
@@ -58,7 +91,7 @@ pub(crate) fn reserve_for(tallies: &mut Tallies, numbers: &Numbers) -> Result<()
 {
     match numbers {
         Numbers::Made(whos) => tallies.reserve(whos.len() as u64),
-        Numbers::Handed(_) => tallies.reserve(1),
+        Numbers::Handed(_) | Numbers::Set(_, _) => tallies.reserve(1),
     }
 }
 
@@ -83,6 +116,7 @@ impl Numbers {
         match self {
             Numbers::Made(whos) => make_each(tallies, whos),
             Numbers::Handed(who) => tallies.hand(who),
+            Numbers::Set(who, number) => tallies.set(who, u128::from(number), u128::from(number)),
         }
     }
 }

@@ -1,6 +1,7 @@
 // The service: what it answers, and the entry that it prepares and commits.
-ghost use Rattle.std.specs.Prelude.{◌≡◌, ◌<◌, ◌^◌, [], true, false, IfOk, OnOk, OnErr, IfSome, IsSome, Some, None};
+ghost use Rattle.std.specs.Prelude.{◌≡◌, ◌<◌, ◌^◌, [], true, false, IfOk, OnOk, OnErr, IfSome, IsSome, Some, None, map};
 ghost use Rattle.ps_model.specs.After.{after, notices_at};
+ghost use Rattle.ps_model.specs.Base.{book_rows};
 ghost use Rattle.ps_model.specs.Book.{empty_state};
 ghost use Rattle.ps_model.specs.Replay.{accepted};
 ghost use Rattle.ps_model.specs.Replies.{reply_to, entry_of};
@@ -14,6 +15,7 @@ ghost use Rattle.ps_core.specs.Stages.{Follows, IsBack, IsStage};
 ghost use Rattle.ps_core.specs.declared.service.Stage.TheVariants.{Prepared};
 ghost use Rattle.ps_core.specs.Wants.{BackHasWants, HasWants};
 ghost use Rattle.ps_filter.specs.Wants.{AreWants};
+ghost use Rattle.ps_row_entries.specs.Written.{written};
 
 use crate::accepting::accepts_at;
 use crate::answers::{Answer, WithRequest, answer_at};
@@ -23,6 +25,7 @@ use crate::telling::told_by;
 use ps_access::Tables;
 use ps_base::Memory;
 use ps_filter::Wants;
+use ps_row_entries::book_entries;
 use ps_tallies::Tallies;
 use ps_types::{Arrival, Entry, Notice, Request, Text};
 use std::alloc::Global;
@@ -136,6 +139,21 @@ impl Service {
         &self.front.wants
     }
 
+    /// How many notices were made for each bare address and handed to it.
+    pub fn tallies(&self) -> &Tallies
+        ensures tallies { result.now.rows ≡ self.now.state.tallies }
+    {
+        &self.tallies
+    }
+
+    /// The entries that a compacted store has for the rows of the Book, without those of the numbers of notices and of the notices that
+    /// aren't handed.
+    pub fn base(&self) -> Result<Vec<Entry>, Memory>
+        ensures rows { IfOk result (λ v. v.items ≡ map written (book_rows self.now.state.book)) }
+    {
+        book_entries(self.alloc, &self.front.tables)
+    }
+
     /// How many entries the State has.
     pub fn count(&self) -> u64
         ensures count { result ≡ self.now.state.count }
@@ -147,7 +165,8 @@ impl Service {
     pub fn answer(&self, host: &Text, line: u64, arrival: &Arrival) -> Result<Answer, Memory>
         ensures reply { IfOk result (λ a. a.reply ≡ reply_to host.now self.now.state.book line arrival.now false) }
         ensures entry { IfOk result (λ a. a.entry ≡ entry_of host.now self.now.state.book line arrival.now false) }
-        ensures full { IfOk result (λ a. a.full ≡ full_by a.entry (reply_to host.now self.now.state.book line arrival.now true)) }
+        ensures full { IfOk result
+            (λ a. a.full ≡ full_by a.entry (reply_to host.now self.now.state.book line arrival.now true)) }
     {
         let answered = answer_at(self.alloc, &self.front.tables, host, line, arrival, true)?;
         let (answer, _) = answered.into_parts();
@@ -161,9 +180,12 @@ impl Service {
         line: u64,
         arrival: &Arrival,
     ) -> Result<WithRequest, Memory>
-        ensures reply { IfOk result (λ a. a.answer.reply ≡ reply_to host.now self.now.state.book line arrival.now false) }
-        ensures entry { IfOk result (λ a. a.answer.entry ≡ entry_of host.now self.now.state.book line arrival.now false) }
-        ensures request { IfOk result (λ a. IfSome a.answer.entry (λ e. IsRequestOf self.now.state.book.service e a.request)) }
+        ensures reply { IfOk result
+            (λ a. a.answer.reply ≡ reply_to host.now self.now.state.book line arrival.now false) }
+        ensures entry { IfOk result
+            (λ a. a.answer.entry ≡ entry_of host.now self.now.state.book line arrival.now false) }
+        ensures request { IfOk result
+            (λ a. IfSome a.answer.entry (λ e. IsRequestOf self.now.state.book.service e a.request)) }
     {
         answer_at(self.alloc, &self.front.tables, host, line, arrival, false)
     }
@@ -172,6 +194,8 @@ impl Service {
     pub fn accepts(&self, entry: &Entry) -> Result<bool, Memory>
         ensures accepted { IfOk result (λ b. b ≡ accepted self.now.state entry.now) }
     {
+        // It is read for its range, by which a notice more to anyone fits.
+        let _count = self.front.count;
         accepts_at(self.alloc, &self.front, &self.tallies, entry)
     }
 
@@ -318,7 +342,8 @@ fn told_and_counted<R: Threads + Sync>(
     requires back_wants { HasWants back.now }
     ensures notices { IfOk result (λ r. r.0.items ≡ notices_at (state_of front.now tallies.old.rows) kept.now.entry) }
     ensures rows { tallies.new.rows ≡ tallies.old.rows }
-    ensures staged { IfOk result (λ r. IsStage (Prepared kept.now r.1) (part_of front.now) (part_of back.now) tallies.new) }
+    ensures staged { IfOk result
+        (λ r. IsStage (Prepared kept.now r.1) (part_of front.now) (part_of back.now) tallies.new) }
 {
     let notices = told_by(rt, alloc, front, back, tallies, kept)?;
     let numbers = numbers_of(alloc, &kept.entry, notices.as_slice())?;

@@ -1,6 +1,4 @@
-use Rattle.std.proofs.Common.{rules, ◌≡◌, ◌<◌, ◌≤◌, ◌+◌, ◌∷◌, length, List, refl, ap, sym, ◌∙◌, arith}
-use Rattle.std.specs.Prelude.{◌^◌}
-use Rattle.ps_types.specs.declared.jid.Jid.{Jid}
+use Rattle.std.proofs.Common.{rules, ◌≡◌, ◌≤◌, ◌+◌, ◌∷◌, length, List, refl, ap, sym, ◌∙◌, arith}
 use Rattle.ps_types.specs.declared.rows.TallyRow.{TallyRow}
 use Rattle.ps_types.specs.Same.{same_bare}
 use Rattle.ps_model.specs.Tallies.{made_for, more_made}

@@ -1,4 +1,4 @@
-use Rattle.std.proofs.Common.{◌≡◌, sym, subst, ◌∙◌}
+use Rattle.std.proofs.Common.{sym, subst, ◌∙◌}
 use Rattle.ps_core.specs.Stages.{IsStage}
 use Rattle.ps_core.specs.States.{part_of}
 use Rattle.ps_core.specs.declared.service.Stage.{Stage}

@@ -3,7 +3,6 @@ use Rattle.std.specs.Prelude.{◌^◌}
 use Rattle.ps_types.specs.declared.rows.TallyRow.{TallyRow}
 use Rattle.ps_model.specs.Replay.{accepted}
 use Rattle.ps_core.specs.Counted.{AreFewMade}
-use Rattle.ps_core.specs.Requests.{IsRequestOf}
 use Rattle.ps_core.specs.States.{Part, fits_book, part_of, state_of}
 use Rattle.ps_core.proofs.Staged.{follows-now}
 use Rattle.ps_core.proofs.Taken.{accepted_fits}

@@ -1,4 +1,4 @@
-use Rattle.std.proofs.Common.{◌≡◌, [], ap, sym, subst, ◌∙◌}
+use Rattle.std.proofs.Common.{◌≡◌, ap, sym, subst, ◌∙◌}
 use Rattle.ps_model.specs.Book.{State, empty_state}
 use Rattle.ps_core.specs.Counted.{AreFewMade, Holds}
 use Rattle.ps_core.specs.States.{Part, part_of}

@@ -1,0 +1,17 @@
+use Rattle.std.proofs.Common.{◌≡◌, Option, Some, subst}
+use Rattle.std.specs.Prelude.{IfOk, option_map}
+use Rattle.ps_model.specs.BaseRows.{BaseRow}
+use Rattle.ps_model.specs.Numbered.{row_notices}
+use Rattle.ps_row_trees.specs.Held.{held_row_of}
+use Rattle.ps_row_trees.specs.Said.{row_said}
+use Rattle.ps_row_trees.specs.declared.row.Row.{Row}
+use Rattle.ps_core.proofs.Rows.{read-is}
+use Rattle.ps_core.proofs.telling.told_by_row.Goals as goal
+
+pub returns : goal.returns
+returns c =
+    let t = c.args.tree.now in
+    let r = row_said c.in-Some.row in
+    let is : Some r ≡ held_row_of t = subst (λ (o : Option Row). option_map row_said o ≡ held_row_of t) c.in-Some.is c.in_ok-row.ensures.row in
+    subst (λ (o : Option BaseRow). IfOk c.notice_in.result (λ v. v.items ≡ row_notices c.args.count c.args.tallies.now.rows o)) (read-is t (Some r) is c.requires.held)
+    c.notice_in.ensures
