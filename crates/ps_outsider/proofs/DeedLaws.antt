@@ -3,13 +3,12 @@ use Rattle.std.proofs.Common.{◌≡◌, inl, inr, ℕ, Bool, true, false, cond,
 use Rattle.ps_types.specs.Tree.{Tree}
 use Rattle.ps_types.specs.declared.entry.Arrival.{Arrival}
 use Rattle.ps_types.specs.declared.entry.Entry.{Entry}
-use Rattle.ps_types.specs.declared.entry.Entry.TheVariants.{Base, Boot, Change, Gone, Handed}
 use Rattle.ps_types.specs.declared.jid.Jid.{Jid}
 use Rattle.ps_types.specs.declared.node.NodeKey.{NodeKey}
 use Rattle.ps_model.specs.After.{after, notices_at}
 use Rattle.ps_model.specs.Book.{Book, State}
 use Rattle.ps_model.specs.Heard.{heard, is_from, reply_for}
-use Rattle.ps_model.specs.Replay.{accepted, accepted_at}
+use Rattle.ps_model.specs.Replay.{accepted}
 use Rattle.ps_model.specs.Replies.{reply_by as reply_in, reply_to}
 use Rattle.ps_model.specs.Taken.{Taken}
 use Rattle.ps_model.specs.Taken as taken
@@ -103,21 +102,12 @@ module _ (S : List NodeKey) (a : Jid) (s t : State) (h : SameBut S a s t) where
   entry-by e false true law shut shut2 = law shut shut2
   entry-by e false false law shut shut2 = law shut shut2
 
-  by-law : (e : Entry) → IsAbove s e → IsAbove t e → Ends e (accepted_at s e) (accepted_at t e)
-  by-law e above above2 = entry-by e (accepted_at s e) (accepted_at t e) (entry-secret S a s t h e above above2)
-
-  -- a row of a compacted store does nothing
-  entry-ends : (e : Entry) → IsAbove s e → IsAbove t e → Ends e (accepted s e) (accepted t e)
-  unfolding Ends
-  entry-ends (Boot service) above above2 = by-law (Boot service) above above2
-  entry-ends (Change host line moment u) above above2 = by-law (Change host line moment u) above above2
-  entry-ends (Handed to) above above2 = by-law (Handed to) above above2
-  entry-ends (Gone host) above above2 = by-law (Gone host) above above2
-  entry-ends (Base row) above above2 = λ shut shut2. record { same = h; hear = refl }
+  by-law : (e : Entry) → IsAbove s e → IsAbove t e → Ends e (accepted s e) (accepted t e)
+  by-law e above above2 = entry-by e (accepted s e) (accepted t e) (entry-secret S a s t h e above above2)
 
   same-entry : (e : Entry) → IsAbove s e → IsAbove t e → Goes (Done e) (Done e)
   unfolding Ends
-  same-entry e above above2 shut shut2 = record { alike = entry-ends e above above2 shut shut2; replies = refl }
+  same-entry e above above2 shut shut2 = record { alike = by-law e above above2 shut shut2; replies = refl }
 
   -- ---- each pair
 

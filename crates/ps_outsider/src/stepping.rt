@@ -86,7 +86,8 @@ fn prepare<R: Threads + Sync>(
     requires few { service.old.state.count < 2 ^ 62 }
     ensures state { service.new.state ≡ service.old.state }
     ensures said { IfOk result (λ r. Says service.old.state deed.now r.said) }
-    ensures entry { IfOk result (λ r. cond r.is_prepared service.new.prepared None ≡ made_by service.old.state deed.now) }
+    ensures entry { IfOk result
+        (λ r. cond r.is_prepared service.new.prepared None ≡ made_by service.old.state deed.now) }
     ensures prepared { IfOk result (λ r. r.is_prepared ≡ true → IsSome service.new.prepared) }
 {
     let (reply, entry) = find(service, deed)?;

@@ -104,7 +104,7 @@ options-give base (Some form) texts is =
     gives-if (is_submit form.kind && has_form_type publish_type form) (known_options form base) _
     (gives-if (list_all is_known form.fields) (config_or _ (read_config form base)) _ (read-gives _ (read_config form base) (λ c e. config-text form (texts.texts form refl) base c is e)) (gives-none _)) (gives-none _)
 
-service-is : IsConfigText service_config
+pub service-is : IsConfigText service_config
 service-is = record { title = IsUtf8-nil; groups = tt; collection = IsUtf8-nil }
 
 account-is : IsConfigText account_config
@@ -148,14 +148,14 @@ configured-is : (given : Result NodeConfig Condition) (node : NodeKey) (b : Book
 configured-is (Err why) node b ok is = is
 configured-is (Ok config) node b ok is = each-change NodeText (is_node node) (with_config config) b.nodes (λ x h. ok.config config refl) is
 
-record FoundText (o : Option NodeRow) : Type 0 where
-  found : (r : NodeRow) → o ≡ Some r → NodeText r
+pub record FoundText (o : Option NodeRow) : Type 0 where
+  pub found : (r : NodeRow) → o ≡ Some r → NodeText r
 
 found-if : (b : Bool) (x : NodeRow) (o : Option NodeRow) → NodeText x → FoundText o → FoundText (cond b (Some x) o)
 found-if true x o own more = record { found = λ r e. let same : x ≡ r = cc e in subst NodeText same own }
 found-if false x o own more = more
 
-node-found : (node : NodeKey) (nodes : List NodeRow) → Each NodeText nodes → FoundText (node_at node nodes)
+pub node-found : (node : NodeKey) (nodes : List NodeRow) → Each NodeText nodes → FoundText (node_at node nodes)
 node-found node [] are = record { found = λ r e. absurd (cc e) }
 node-found node (x ∷ nodes) are = found-if (is_node node x) x (node_at node nodes) are.0 (node-found node nodes are.1)
 

@@ -7,9 +7,11 @@ pub mod Children
 pub mod Asked
 pub mod Taking
 pub mod Replying
+pub mod RowNotices
 pub mod Notes
 pub mod ReadTexts
 pub mod ConfigTexts
+pub mod RowTexts
 pub mod Reached
 pub mod OneLine
 pub mod Telling

@@ -1,8 +1,7 @@
--- The line of each notice of a list without rows is the print of a tree to its address which is no reply.
+-- The line of each notice of a list is the print of a tree to its address which is no reply.
 use Rattle.std.proofs.Common.{◌≡◌, ℕ, ◌+◌, Bool, true, false, cond, List, [], ◌∷◌, filter, Some, refl, ap, ◌∙◌}
 use Rattle.std.specs.Prelude.{codes}
 use Rattle.std.specs.List.{AllByRecursion as Each}
-use Rattle.std.proofs.lemmas.Bool.{and_parts}
 use Rattle.ps_types.specs.declared.entry.Entry.{Entry}
 use Rattle.ps_types.specs.declared.entry.Entry.TheVariants.{Boot, Change, Handed, Gone, Base}
 use Rattle.ps_types.specs.declared.entry.Notice.{Notice}
@@ -16,19 +15,23 @@ use Rattle.ps_types.specs.Shape.{attr_text}
 use Rattle.ps_types.specs.Tree.{Tree}
 use Rattle.ps_types.proofs.AddressLaws.{text-spells}
 use Rattle.ps_model.specs.After as step
+use Rattle.ps_model.specs.BaseRows.{notice}
 use Rattle.ps_model.specs.Book.{State, empty_state}
 use Rattle.ps_model.specs.Entries.{AreEntries, IsEntry}
 use Rattle.ps_model.specs.NoticeTrees.{with_id}
 use Rattle.ps_model.specs.Numbered.{numbered}
-use Rattle.ps_model.specs.Replay.{AreAcceptedFrom, accepted, accepted_at, lawful, notices, notices_from, of_bare, to_address}
+use Rattle.ps_model.specs.Replay.{IsLawfulFrom, accepted, lawful, notices, notices_from, of_bare, to_address}
 use Rattle.ps_model.specs.Stanza.{jid_of}
 use Rattle.ps_model.specs.Streams.{is_reply}
 use Rattle.ps_model.specs.Tallies.{made_for, more_made}
 use Rattle.ps_model.proofs.LineLaws.{spells-jid}
 use Rattle.ps_books.proofs.Keys.{each-both}
 use Rattle.ps_bases.proofs.Drafts.{IsDraft}
-use Rattle.ps_bases.proofs.Fitting.{is-tree}
+use Rattle.ps_bases.proofs.Fitting.{is-tree, tree-fits}
 use Rattle.ps_bases.proofs.NoticeLines.{DueIs, StateIs, empty-is, given-out, state-after}
+use Rattle.ps_bases.proofs.PrintableRead.{row-read}
+use Rattle.ps_exact.proofs.Trees.{line-exact}
+use Rattle.ps_said.proofs.RowNotices.{IsRowNote, each-notice}
 
 pub record IsNote (n : Notice) : Type 0 where
   pub tree : Tree
@@ -51,12 +54,21 @@ unfolding DueIs
 numbered-notes [] place T are = tt
 numbered-notes ((to, t) ∷ due) place T are = (note-is to place (made_for to T + 1) t are.0.0 are.0.1, numbered-notes due place (more_made to 1 T) are.1)
 
-entry-notes : (s : State) (e : Entry) → accepted s e ≡ true → accepted_at s e ≡ true → IsEntry e → StateIs s → Each IsNote (step.notices_at s e)
-entry-notes s (Boot service) ok at own is = tt
-entry-notes s (Change host line moment t) ok at own is = numbered-notes (step.handed_out s (Change host line moment t)) s.count s.tallies (given-out s (Change host line moment t) at own is)
-entry-notes s (Handed to) ok at own is = tt
-entry-notes s (Gone host) ok at own is = tt
-entry-notes s (Base row) ok at own is = absurd (cc ok)
+row-note : (to : Jid) (place number : ℕ) (line : List ℕ) → IsAddress to → IsRowNote to line → IsNote (record { to = to; place = place; number = number; line = line })
+row-note to place number line own is = record {
+  tree = is.tree;
+  line = is.line_is;
+  is = (line-exact line is.tree is.reads).3;
+  plain = is.no_reply;
+  to = ap jid_of is.to_is ∙ spells-jid _ to (text-spells to own);
+}
+
+entry-notes : (s : State) (e : Entry) → accepted s e ≡ true → IsEntry e → StateIs s → Each IsNote (step.notices_at s e)
+entry-notes s (Boot service) ok own is = tt
+entry-notes s (Change host line moment t) ok own is = numbered-notes (step.handed_out s (Change host line moment t)) s.count s.tallies (given-out s (Change host line moment t) ok own is)
+entry-notes s (Handed to) ok own is = tt
+entry-notes s (Gone host) ok own is = tt
+entry-notes s (Base row) ok own is = each-notice IsNote s row ok (λ to line e note. row-note to s.count (made_for to s.tallies + 1) line (row-read row (tree-fits row own.tree) (notice to line) e) note)
 
 -- ---- the notices to a bare address
 
@@ -77,12 +89,11 @@ of-bare : (a : Jid) (r : List ℕ) (ns : List Notice) → a.resource ≡ r → E
 of-bare a [] ns e are = to-filtered a ns e are
 of-bare a (x ∷ r) ns e are = tt
 
-from-notes : (E : List Entry) (s : State) (a : Jid) → AreAcceptedFrom accepted s E → AreEntries E → StateIs s → Each (IsNoteTo a) (notices_from s E a)
+from-notes : (E : List Entry) (s : State) (a : Jid) → IsLawfulFrom s E → AreEntries E → StateIs s → Each (IsNoteTo a) (notices_from s E a)
 from-notes [] s a ok own is = tt
 from-notes (e ∷ E) s a ok own is =
-    let at = (and_parts _ (accepted_at s e) ok.0).1 in
     each-both (IsNoteTo a) (to_address a (step.notices_at s e)) (notices_from (step.after s e) E a)
-    (of-bare a a.resource (step.notices_at s e) refl (entry-notes s e ok.0 at own.0 is)) (from-notes E (step.after s e) a ok.1 own.1 (state-after s e at own.0 is))
+    (of-bare a a.resource (step.notices_at s e) refl (entry-notes s e ok.0 own.0 is)) (from-notes E (step.after s e) a ok.1 own.1 (state-after s e ok.0 own.0 is))
 
 pub owed-notes : (E : List Entry) (a : Jid) → lawful E → AreEntries E → Each (IsNoteTo a) (notices E a)
 owed-notes E a ok own = from-notes E empty_state a ok own empty-is

@@ -7,17 +7,17 @@ use Rattle.ps_types.specs.Tree.{Tree}
 use Rattle.ps_model.specs.After as step
 use Rattle.ps_model.specs.Book.{Book, State, empty_state}
 use Rattle.ps_model.specs.Entries.{AreEntries, IsEntry}
-use Rattle.ps_model.specs.Replay.{AreAcceptedFrom, accepted, lawful, replay, replay_from}
+use Rattle.ps_model.specs.Replay.{IsLawfulFrom, accepted, lawful, replay, replay_from}
 use Rattle.ps_model.specs.Taken.{Taken, silent, refused, denied, asked}
 use Rattle.ps_model.specs.Taking.{request_in, tree_taken}
 use Rattle.ps_model.proofs.AskedStanza.{taken-spelled}
-use Rattle.ps_model.proofs.TheLaws.{todays-lawful}
 use Rattle.ps_books.proofs.Addressed.{lawful-addresses}
 use Rattle.ps_books.proofs.Reached.{lawful-sound}
 use Rattle.ps_bases.proofs.Fitting.{Fits, tree-fits}
 use Rattle.ps_bases.proofs.NoticeLines.{stored-is}
 use Rattle.ps_said.proofs.Books.{BookIs, NodeText, book-is}
 use Rattle.ps_said.proofs.ConfigTexts.{changed-text}
+use Rattle.ps_said.proofs.RowTexts.{based-text}
 
 tree-text : (host : List ℕ) (t : Tree) (moment : Option ℕ) (b : Book) → Fits 32 t → (x : Taken) → tree_taken host b.service t ≡ x → Each NodeText b.nodes → Each NodeText (step.book_changed (request_in x) moment b).nodes
 tree-text host t moment b fits silent e is = is
@@ -30,20 +30,19 @@ entry-text s (Boot service) ok own is = is
 entry-text s (Change host line moment t) ok own is = tree-text host t moment s.book (tree-fits t own.3.tree) (tree_taken host s.book.service t) refl is
 entry-text s (Handed to) ok own is = is
 entry-text s (Gone host) ok own is = is
-entry-text s (Base row) ok own is = absurd (cc ok)
+entry-text s (Base row) ok own is = based-text row s.book (tree-fits row own.tree) is
 
-list-text : (E : List Entry) (s : State) → AreAcceptedFrom accepted s E → AreEntries E → Each NodeText s.book.nodes → Each NodeText (replay_from s E).book.nodes
+list-text : (E : List Entry) (s : State) → IsLawfulFrom s E → AreEntries E → Each NodeText s.book.nodes → Each NodeText (replay_from s E).book.nodes
 list-text [] s ok own is = is
 list-text (e ∷ E) s ok own is = list-text E (step.after s e) ok.1 own.1 (entry-text s e ok.0 own.0 is)
 
 lawful-book : (E : List Entry) → lawful E → AreEntries E → BookIs (replay E).book
 lawful-book E ok own =
-    let based = todays-lawful E ok in
-    book-is (replay E).book (stored-is E based own).rows (lawful-addresses E based) (lawful-sound E based) (list-text E empty_state ok own tt)
+    book-is (replay E).book (stored-is E ok own).rows (lawful-addresses E ok) (lawful-sound E ok) (list-text E empty_state ok own tt)
 
 -- ---- a place
 
-lawful-take : (p : ℕ) (E : List Entry) (s : State) → AreAcceptedFrom accepted s E → AreAcceptedFrom accepted s (take p E)
+lawful-take : (p : ℕ) (E : List Entry) (s : State) → IsLawfulFrom s E → IsLawfulFrom s (take p E)
 lawful-take zero E s ok = tt
 lawful-take (suc p) [] s ok = tt
 lawful-take (suc p) (e ∷ E) s ok = (ok.0, lawful-take p E (step.after s e) ok.1)

@@ -18,7 +18,7 @@ use Rattle.ps_model.specs.Streams as sink
 use Rattle.ps_model.specs.Streams.{IsSaying, Saying, is_reply, line_of}
 use Rattle.ps_model.specs.TheCore.{the_core}
 use Rattle.ps_model.proofs.StreamLaws.{notes-kept, replies-kept}
-use Rattle.ps_model.proofs.TheLaws.{todays-places}
+use Rattle.ps_model.proofs.TheLaws.{places-of}
 use Rattle.ps_books.proofs.Keys.{each-by}
 use Rattle.ps_deeds.specs.Words.{Note, Reply, Word, bytes_of, notes_in, replies_in}
 use Rattle.ps_said.specs.Laws.{AreGiven, IsGiven, IsToldApart, lines_to}
@@ -117,7 +117,7 @@ module _ (E : List Entry) (ok : lawful E) (own : AreEntries E) where
 
 module _ (E : List Entry) (ws : List Word) (are : AreGiven E ws) where
   all-shown : Each Shown ws
-  all-shown = each-by Shown (IsGiven E) ws (given-shown E (todays-places E are.lawful) are.spelled) are.each
+  all-shown = each-by Shown (IsGiven E) ws (given-shown E (places-of E are.lawful) are.spelled) are.each
 
   pub given-apart : (rest : List ℕ) → NoNewline rest → IsToldApart ws rest
   given-apart rest clean = told-apart ws rest all-shown clean

@@ -1,8 +1,8 @@
 -- Notices are for addresses.
-use Rattle.std.proofs.Common.{◌≡◌, ℕ, zero, suc, Bool, true, false, cond, not, List, [], ◌∷◌, ◌++◌, Some, None, map, filter, refl, sym, subst}
+use Rattle.std.proofs.Common.{◌≡◌, ℕ, zero, suc, Bool, true, false, cond, List, [], ◌∷◌, ◌++◌, Option, Some, None, map, filter, refl, sym, subst}
 use Rattle.std.specs.List.{AllByRecursion as Each, flat_map}
-use Rattle.std.specs.Prelude.{slice_get, ◌&&◌, bytes_eq}
-use Rattle.std.proofs.lemmas.Bool.{and_parts, true≢false}
+use Rattle.std.specs.Prelude.{bytes_eq, slice_get}
+use Rattle.std.proofs.lemmas.Bool.{and_parts}
 use Rattle.std.proofs.lemmas.Slice.Eq.{bytes_eq-Decides}
 use Rattle.ps_types.proofs.Same.{same_parts}
 use Rattle.ps_types.specs.Address.{IsAddress, bare}
@@ -19,19 +19,23 @@ use Rattle.ps_types.specs.declared.rows.SubRow.{SubRow}
 use Rattle.ps_types.specs.declared.rows.TallyRow.{TallyRow}
 use Rattle.ps_model.specs.Addressed.{AreAddresses, AreNamed, named}
 use Rattle.ps_model.specs.After.{after, book_after, book_for, due_of, events, handed_out, notices_at}
+use Rattle.ps_model.specs.BaseRead.{row_of}
+use Rattle.ps_model.specs.BaseRows as base
+use Rattle.ps_model.specs.BaseRows.{BaseRow}
 use Rattle.ps_model.specs.Book.{Book, State, empty_state}
 use Rattle.ps_model.specs.Given.{asked}
-use Rattle.ps_model.specs.Numbered.{numbered}
-use Rattle.ps_model.specs.Replay.{AreAcceptedFrom, accepted, accepted_at, is_row, notices_from, of_bare, to_address}
+use Rattle.ps_model.specs.Numbered.{numbered, row_notices}
+use Rattle.ps_model.specs.Replay.{IsLawfulFrom, accepted, notices_from, of_bare, to_address}
 use Rattle.ps_model.specs.Sorted.{sorted}
 use Rattle.ps_model.specs.Tallies.{more_made}
 use Rattle.ps_model.specs.TheCore.{the_core}
 use Rattle.ps_model.specs.World.{World}
-use Rattle.ps_model.proofs.TheLaws.{todays-places}
+use Rattle.ps_model.proofs.TheLaws.{places-of}
 use Rattle.ps_books.specs.Addressed.{NamesAddresses}
 use Rattle.ps_books.proofs.Addressed.{addresses-after, empty-addresses, events-named}
 use Rattle.ps_books.proofs.AddressedKinds.{bare-is}
 use Rattle.ps_fanout.proofs.Ordered.{each-sorted}
+use Rattle.ps_state.proofs.RowAddresses.{notice-address}
 use Rattle.ps_world.specs.Sound.{Sound}
 
 module _ {X : Type 0} (P : X → Type 0) where
@@ -84,20 +88,33 @@ unfolding IsPaired
 numbered-are place tallies [] are = tt
 numbered-are place tallies (d ∷ more) are = (are.0, numbered-are place (more_made d.0 1 tallies) more are.1)
 
-out-are : (s : State) (e : Entry) → accepted_at s e ≡ true → NamesAddresses s.book → Each IsPaired (handed_out s e)
+out-are : (s : State) (e : Entry) → accepted s e ≡ true → NamesAddresses s.book → Each IsPaired (handed_out s e)
 out-are s e ok is =
     let evs = events s.book e in
     let now = book_after s.book e in
     let whos = asked_each s.book now evs in
     due-are (due_of s.book now evs) (sorted whos) (each-sorted IsAddress whos (each-asked s.book now evs is.audience (addresses-after s e ok is).audience (events-named s e ok is)))
 
--- the notices of an entry that is no row of a compacted store
-made-are : (s : State) (e : Entry) → is_row e ≡ false → accepted_at s e ≡ true → NamesAddresses s.book → AreTo (notices_at s e)
-made-are s (Boot service) kind ok is = numbered-are s.count s.tallies (handed_out s (Boot service)) (out-are s (Boot service) ok is)
-made-are s (Change host line moment t) kind ok is = numbered-are s.count s.tallies (handed_out s (Change host line moment t)) (out-are s (Change host line moment t) ok is)
-made-are s (Handed to) kind ok is = numbered-are s.count s.tallies (handed_out s (Handed to)) (out-are s (Handed to) ok is)
-made-are s (Gone host) kind ok is = numbered-are s.count s.tallies (handed_out s (Gone host)) (out-are s (Gone host) ok is)
-made-are s (Base row) kind ok is = absurd (true≢false kind)
+-- the notice that a row is, if it is one
+row-are : (place : ℕ) (tallies : List TallyRow) (o : Option BaseRow) → ((to : Jid) (line : List ℕ) → o ≡ Some (base.notice to line) → IsAddress to) → AreTo (row_notices place tallies o)
+row-are place tallies None read = tt
+row-are place tallies (Some (base.node r)) read = tt
+row-are place tallies (Some (base.affiliation r)) read = tt
+row-are place tallies (Some (base.subscription r)) read = tt
+row-are place tallies (Some (base.item r)) read = tt
+row-are place tallies (Some (base.link r)) read = tt
+row-are place tallies (Some (base.contact r)) read = tt
+row-are place tallies (Some (base.ver r)) read = tt
+row-are place tallies (Some (base.made r)) read = tt
+row-are place tallies (Some (base.counter who handed)) read = tt
+row-are place tallies (Some (base.notice to line)) read = (read to line refl, tt)
+
+made-are : (s : State) (e : Entry) → accepted s e ≡ true → NamesAddresses s.book → AreTo (notices_at s e)
+made-are s (Boot service) ok is = numbered-are s.count s.tallies (handed_out s (Boot service)) (out-are s (Boot service) ok is)
+made-are s (Change host line moment t) ok is = numbered-are s.count s.tallies (handed_out s (Change host line moment t)) (out-are s (Change host line moment t) ok is)
+made-are s (Handed to) ok is = numbered-are s.count s.tallies (handed_out s (Handed to)) (out-are s (Handed to) ok is)
+made-are s (Gone host) ok is = numbered-are s.count s.tallies (handed_out s (Gone host)) (out-are s (Gone host) ok is)
+made-are s (Base row) ok is = row-are s.count s.tallies (row_of row) (λ to line e. notice-address row to line e)
 
 -- ---- the notices of a list
 
@@ -124,20 +141,14 @@ bare-are : (a : Jid) (resource : List ℕ) (ns : List Notice) → Each (IsFor a)
 bare-are a [] ns are = are
 bare-are a (x ∷ resource) ns are = tt
 
-no-row : (b c : Bool) → (not b && c) ≡ true → b ≡ false
-no-row false c e = refl
-no-row true c e = absurd (true≢false (sym e))
-
-all-are : (E : List Entry) (s : State) (a : Jid) → AreAcceptedFrom accepted s E → NamesAddresses s.book → Each (IsFor a) (notices_from s E a)
+all-are : (E : List Entry) (s : State) (a : Jid) → IsLawfulFrom s E → NamesAddresses s.book → Each (IsFor a) (notices_from s E a)
 all-are [] s a ok is = tt
 all-are (e ∷ E) s a ok is =
-    let p = and_parts (not (is_row e)) (accepted_at s e) ok.0 in
     let ns = notices_at s e in
-    each-append (IsFor a) (to_address a ns) (notices_from (after s e) E a)
-    (bare-are a a.resource (filter (λ n. same_bare n.to a) ns) (kept-are a ns (made-are s e (no-row (is_row e) (accepted_at s e) ok.0) p.1 is)))
-    (all-are E (after s e) a ok.1 (addresses-after s e p.1 is))
+    each-append (IsFor a) (to_address a ns) (notices_from (after s e) E a) (bare-are a a.resource (filter (λ n. same_bare n.to a) ns) (kept-are a ns (made-are s e ok.0 is)))
+    (all-are E (after s e) a ok.1 (addresses-after s e ok.0 is))
 
-core-are : (E : List Entry) (a : Jid) → AreAcceptedFrom accepted empty_state E → Each (IsFor a) (the_core.notices E a)
+core-are : (E : List Entry) (a : Jid) → IsLawfulFrom empty_state E → Each (IsFor a) (the_core.notices E a)
 unfolding the_core
 core-are E a ok = all-are E empty_state a ok empty-addresses
 
@@ -149,5 +160,5 @@ each-get a (x ∷ ns) (suc k) n are got = each-get a ns k n are.1 got
 -- a bare address of which there is a notice
 pub address-is : (w : World) (a : Jid) (k : ℕ) (n : Notice) → Sound the_core w → a.resource ≡ [] → slice_get (the_core.notices w.entries a) k ≡ Some n → IsAddress a
 address-is w a k n is empty got =
-    let f = each-get a (the_core.notices w.entries a) k n (core-are w.entries a (todays-places w.entries is.lawful)) got in
+    let f = each-get a (the_core.notices w.entries a) k n (core-are w.entries a (places-of w.entries is.lawful)) got in
     subst IsAddress (bare-one n.to a f.same empty) (bare-is n.to f.address)

@@ -1,6 +1,7 @@
 pub mod OneRow
 pub mod Sizes
 pub mod Shapes
+pub mod RowAddresses
 pub mod Addressed
 pub mod Queued
 pub mod Stepping
