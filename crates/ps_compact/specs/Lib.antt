@@ -1,3 +1,2 @@
 pub mod Refused
 pub mod Stores
-pub mod Written

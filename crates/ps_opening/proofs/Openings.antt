@@ -36,7 +36,7 @@ use Rattle.ps_opening.specs.Begun.{frame_of}
 use Rattle.ps_opening.specs.Fresh.{AreFreshRows, AreHosts}
 use Rattle.ps_opening.specs.Left.{Fronts, OpenLeaves}
 use Rattle.ps_opening.specs.Opens.{IsMadeOf, IsOpen, IsRestored, at_from}
-use Rattle.ps_opening.specs.declared.replaying.Rebuilt.{Rebuilt}
+use Rattle.ps_opening.specs.declared.opened.Rebuilt.{Rebuilt}
 use Rattle.ps_opening.proofs.Replays.{lawful-core}
 
 name_at : (hosts : List (List ℕ)) (rows : List HostRow) → names rows ≡ hosts → (k : ℕ) (row : HostRow) → slice_get rows k ≡ Some row → slice_get hosts k ≡ Some row.host

@@ -20,7 +20,11 @@ use Rattle.ps_model.specs.Store.{spelled}
 use Rattle.ps_opening.specs.Begun.{frame_of}
 use Rattle.ps_opening.specs.Left.{IsOpenLeft}
 use Rattle.ps_opening.specs.Opens.{OpenNot, NotRestored}
-use Rattle.ps_opening.specs.Refused.{IsWhy}
+use Rattle.ps_opening.specs.Reads.{ReadNot}
+use Rattle.ps_opening.specs.Refused.{IfDamaged, IsWhy, open_why}
+use Rattle.ps_opening.specs.Replayed.{StopsAt}
+use Rattle.ps_opening.specs.declared.opened.ReadWhy.{ReadWhy}
+use Rattle.ps_opening.specs.declared.opened.ReadWhy.TheVariants as read
 use Rattle.ps_opening.specs.declared.opened.OpenWhy.{OpenWhy}
 use Rattle.ps_opening.specs.declared.opened.OpenWhy.TheVariants.{Damaged, Store, Full, Memory}
 use Rattle.ps_opening.proofs.Replays.{opened_damaged, opened_spells, opened_store}
@@ -29,14 +33,28 @@ rose_later : (before mid now : ℕ) → before ≤ mid → Rose mid now → Rose
 rose_later before mid now le rose = omega (arith, le, rose)
 
 -- the journal wasn't opened
-pub refused_journal : (tells : Type 0) (bytes service : List ℕ) (before now whole : ℕ) (why : JournalWhy) (answer : OpenWhy) → (tells → IfWhyDamaged why (λ at placed. IsDamaged bytes at placed)) → IsWhy why answer → (why ≡ journal.Store → Rose before now)
-    → OpenNot tells bytes before now service whole answer
-refused_journal tells bytes service before now whole (journal.Damaged at placed) (Damaged first) damaged is store = λ t. is bytes (damaged t)
-refused_journal tells bytes service before now whole (journal.Damaged at placed) Store damaged is store = absurd is
-refused_journal tells bytes service before now whole (journal.Damaged at placed) Full damaged is store = absurd is
-refused_journal tells bytes service before now whole (journal.Damaged at placed) Memory damaged is store = tt
-refused_journal tells bytes service before now whole journal.Store answer damaged is store = subst (OpenNot tells bytes before now service whole) (sym is) (store refl)
-refused_journal tells bytes service before now whole journal.Memory answer damaged is store = subst (OpenNot tells bytes before now service whole) (sym is) tt
+pub refused_journal : (tells : Type 0) (bytes service : List ℕ) (before now whole : ℕ) (why : JournalWhy) (answer : ReadWhy) → (tells → IfWhyDamaged why (λ at placed. IsDamaged bytes at placed)) → IsWhy why answer → (why ≡ journal.Store → Rose before now)
+    → OpenNot tells bytes before now service whole (open_why answer)
+refused_journal tells bytes service before now whole (journal.Damaged at placed) (read.Damaged first) damaged is store = λ t. is bytes (damaged t)
+refused_journal tells bytes service before now whole (journal.Damaged at placed) read.Store damaged is store = absurd is
+refused_journal tells bytes service before now whole (journal.Damaged at placed) read.Memory damaged is store = tt
+refused_journal tells bytes service before now whole journal.Store answer damaged is store = subst (λ (w : ReadWhy). OpenNot tells bytes before now service whole (open_why w)) (sym is) (store refl)
+refused_journal tells bytes service before now whole journal.Memory answer damaged is store = subst (λ (w : ReadWhy). OpenNot tells bytes before now service whole (open_why w)) (sym is) tt
+
+-- nor was it read
+pub read_refused : (tells : Type 0) (bytes : List ℕ) (before now : ℕ) (why : JournalWhy) (answer : ReadWhy) → (tells → IfWhyDamaged why (λ at placed. IsDamaged bytes at placed)) → IsWhy why answer → (why ≡ journal.Store → Rose before now)
+    → ReadNot tells bytes before now answer
+read_refused tells bytes before now (journal.Damaged at placed) (read.Damaged first) damaged is store = λ t. is bytes (damaged t)
+read_refused tells bytes before now (journal.Damaged at placed) read.Store damaged is store = absurd is
+read_refused tells bytes before now (journal.Damaged at placed) read.Memory damaged is store = tt
+read_refused tells bytes before now journal.Store answer damaged is store = subst (ReadNot tells bytes before now) (sym is) (store refl)
+read_refused tells bytes before now journal.Memory answer damaged is store = subst (ReadNot tells bytes before now) (sym is) tt
+
+-- its entries weren't taken
+pub untaken : (tells : Type 0) (bytes : List ℕ) (before now : ℕ) (placed : List Placed) (answer : ReadWhy) → (tells → IsOpened bytes placed) → IfDamaged answer (StopsAt placed) → ReadNot tells bytes before now answer
+untaken tells bytes before now placed (read.Damaged at) opened stops = λ t. opened_damaged bytes placed at (opened t) stops
+untaken tells bytes before now placed read.Store opened stops = absurd stops
+untaken tells bytes before now placed read.Memory opened stops = tt
 
 -- its entries or the Boot weren't taken
 pub refused_restore : {D : Type 0} {g : Ghosts D} (old new : Journal D g) (disk now : D) (placed : List Placed) (boot : Entry) (service : List ℕ) (whole : ℕ) (why : OpenWhy) → now ≡ disk_of new → boot ≡ Boot service
@@ -70,3 +88,9 @@ open_left g disk mid new placed boot E spells opened same left first second =
     then_on g.moment g.left_since disk mid new _ _ (IsOpenLeft (g.synced disk) (g.written disk) E boot) first (second (entries_in placed) same left)
     (journal_left (g.synced disk) (g.written disk) E boot)
     (λ c after. inr (subst (λ (F : List Entry). IsWithOrWithout F (boot ∷ []) c) is after))
+
+-- why entries aren't taken is why they aren't restored
+pub not_taken : {D : Type 0} {g : Ghosts D} (old new : Journal D g) (placed : List Placed) (boot : Entry) (whole : ℕ) (why : ReadWhy) → IfDamaged why (StopsAt placed) → NotRestored old new placed boot whole (open_why why)
+not_taken old new placed boot whole (read.Damaged at) stops = stops
+not_taken old new placed boot whole read.Store stops = absurd stops
+not_taken old new placed boot whole read.Memory stops = tt

@@ -14,8 +14,8 @@ use Rattle.ps_model.specs.After.{after, notices_at}
 use Rattle.ps_model.specs.Replay.{accepted, lawful, replay}
 use Rattle.ps_model.specs.Store.{spelled}
 use Rattle.ps_model.specs.TheCore.{the_core}
-use Rattle.ps_model.proofs.Going.{accepted-more, replay-append}
-use Rattle.ps_model.proofs.TheLaws.{of-todays-places, the-laws}
+use Rattle.ps_model.proofs.Going.{lawful-more, replay-append}
+use Rattle.ps_model.proofs.TheLaws.{of-places, the-laws}
 use Rattle.ps_journal.specs.Judged.{IsDamaged}
 use Rattle.ps_journal.specs.Opened.{IsOpened}
 use Rattle.ps_journal.specs.Places.{entries_in}
@@ -28,13 +28,13 @@ use Rattle.ps_state.proofs.Stepping.{count-is}
 use Rattle.ps_opening.specs.Begun.{IsBoot}
 use Rattle.ps_opening.specs.Opens.{IsRestored}
 use Rattle.ps_opening.specs.Replayed.{IsFresh, IsReplayed, IsTaken, StopsAt, unhanded}
-use Rattle.ps_opening.specs.declared.replaying.Rebuilt.{Rebuilt}
+use Rattle.ps_opening.specs.declared.opened.Rebuilt.{Rebuilt}
 use Rattle.ps_opening.proofs.Queues.{queues_boot, queues_none, queues_taken}
 
 -- ---- lawful lists
 
 pub lawful-core : (E : List Entry) → lawful E → IsLawful the_core E
-lawful-core E l = of-todays-places E l
+lawful-core E l = of-places E l
 
 pub replay-snoc : (E : List Entry) (e : Entry) → replay (E ++ e ∷ []) ≡ after (replay E) e
 replay-snoc E e = replay-append E (e ∷ []) empty_state
@@ -79,7 +79,7 @@ replayed_more placed i one old new within is entry so_far taken =
     let more = entries_more placed i one within is in
     let waits = taken.2 ∙ ap (λ (t : State). unhanded one.entry (old.queues.waiting ++ notices_at t one.entry)) so_far.state in
     record {
-      each = subst lawful (sym more) (accepted-more accepted E one.entry empty_state so_far.each (subst (λ (t : State). accepted t one.entry ≡ true) so_far.state taken.0));
+      each = subst lawful (sym more) (lawful-more E one.entry empty_state so_far.each (subst (λ (t : State). accepted t one.entry ≡ true) so_far.state taken.0));
       state = taken.1 ∙ (ap (λ (t : State). after t one.entry) so_far.state ∙ (sym (replay-snoc E one.entry) ∙ ap replay (sym more)));
       queues = subst (λ (l : List Entry). QueuesStand new.queues.waiting l) (sym more) (queues_taken E old.queues.waiting new.queues.waiting one.entry (lawful-core E so_far.each) entry so_far.queues waits);
     }

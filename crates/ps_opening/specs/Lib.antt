@@ -4,3 +4,4 @@ pub mod Replayed
 pub mod Refused
 pub mod Fresh
 pub mod Opens
+pub mod Reads

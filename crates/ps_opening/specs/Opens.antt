@@ -26,7 +26,7 @@ use Rattle.ps_opening.specs.Begun.{NotBegun, frame_of}
 use Rattle.ps_opening.specs.Replayed.{StopsAt}
 use Rattle.ps_opening.specs.declared.opened.OpenWhy.{OpenWhy}
 use Rattle.ps_opening.specs.declared.opened.OpenWhy.TheVariants as why
-use Rattle.ps_opening.specs.declared.replaying.Rebuilt.{Rebuilt}
+use Rattle.ps_opening.specs.declared.opened.Rebuilt.{Rebuilt}
 
 -- ---- the entries and the Boot
 

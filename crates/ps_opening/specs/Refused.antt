@@ -6,20 +6,27 @@ use Rattle.ps_journal.specs.declared.judging.Placed.{Placed}
 use Rattle.ps_journal.specs.declared.opening.JournalWhy.{JournalWhy}
 use Rattle.ps_journal.specs.declared.opening.JournalWhy.TheVariants as journal
 use Rattle.ps_opening.specs.declared.opened.OpenWhy.{OpenWhy}
-use Rattle.ps_opening.specs.declared.opened.OpenWhy.TheVariants.{Damaged, Store, Full, Memory}
+use Rattle.ps_opening.specs.declared.opened.OpenWhy.TheVariants as opened
+use Rattle.ps_opening.specs.declared.opened.ReadWhy.{ReadWhy}
+use Rattle.ps_opening.specs.declared.opened.ReadWhy.TheVariants.{Damaged, Store, Memory}
+
+-- what is not read is not opened
+abbrev pub open_why : ReadWhy → OpenWhy
+open_why (Damaged at) = opened.Damaged at
+open_why Store = opened.Store
+open_why Memory = opened.Memory
 
 -- bytes that the journal finds damaged here, with these entries before, are damaged there
 abbrev pub IsDamagedThere : ℕ → List Placed → ℕ → Type 0
 IsDamagedThere at before there = (bytes : List ℕ) → IsDamaged bytes at before → IsDamagedAt bytes there
 
 -- it is damaged, or there is no memory to say where
-abbrev pub IfOpenDamaged : OpenWhy → (ℕ → Type 0) → Type 0
-IfOpenDamaged (Damaged at) P = P at
-IfOpenDamaged Store P = ⊥
-IfOpenDamaged Full P = ⊥
-IfOpenDamaged Memory P = Unit {0}
+abbrev pub IfDamaged : ReadWhy → (ℕ → Type 0) → Type 0
+IfDamaged (Damaged at) P = P at
+IfDamaged Store P = ⊥
+IfDamaged Memory P = Unit {0}
 
-abbrev pub IsWhy : JournalWhy → OpenWhy → Type 0
-IsWhy (journal.Damaged at before) why = IfOpenDamaged why (IsDamagedThere at before.items)
+abbrev pub IsWhy : JournalWhy → ReadWhy → Type 0
+IsWhy (journal.Damaged at before) why = IfDamaged why (IsDamagedThere at before.items)
 IsWhy journal.Store why = why ≡ Store
 IsWhy journal.Memory why = why ≡ Memory

@@ -11,7 +11,7 @@ use Rattle.ps_journal.specs.Places.{entries_in}
 use Rattle.ps_journal.specs.declared.judging.Placed.{Placed}
 use Rattle.ps_outbox.specs.Boxes.{is_to}
 use Rattle.ps_state.specs.Stand.{QueuesStand}
-use Rattle.ps_opening.specs.declared.replaying.Rebuilt.{Rebuilt}
+use Rattle.ps_opening.specs.declared.opened.Rebuilt.{Rebuilt}
 use Rattle.ps_opening.specs.declared.replaying.Replayed.{Replayed}
 use Rattle.ps_opening.specs.declared.replaying.Replayed.TheVariants.{All, Bad, Memory}
 

@@ -8,14 +8,19 @@
 //! Where it answers an [`OpenRefusal`], the disk comes back with the cause: the offset of the damage, a fault of the disk, a Boot for which there is no
 //! room, or no memory. A crash at any moment of the call leaves what it might have left before, the entries, or those and the Boot. The store that was
 //! opened keeps this in what it stands for, of all moments since the call began (`at_from`).
+//!
+//! [`read_store`] reads and replays likewise, and writes nothing: no header, no Boot. It answers what the entries leave, the service and the queues, and
+//! the entries (`specs/Reads.antt`, `IsKept`).
 #![tactic(auto)]
 
 mod beginning;
 mod opened;
 mod opening;
+mod reading;
 mod readying;
 mod replaying;
 mod restoring;
 
-pub use opened::{OpenRefusal, OpenWhy, Opened};
+pub use opened::{Kept, OpenRefusal, OpenWhy, Opened, ReadWhy, Rebuilt, StoreRead};
 pub use opening::open;
+pub use reading::read_store;

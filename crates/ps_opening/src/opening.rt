@@ -1,70 +1,28 @@
 // A store is opened.
 ghost use Rattle.std.specs.Prelude.{◌≡◌, ◌≤◌, ◌^◌, [], List, ℕ, IfErr, IfOk, MatchResult};
-ghost use Rattle.ps_model.specs.Entries.{AreEntries, IsHostName};
+ghost use Rattle.ps_model.specs.Entries.{IsHostName};
 ghost use Rattle.ps_model.specs.Store.{spelled};
-ghost use Rattle.ps_journal.specs.Opened.{IfWhyDamaged, IsShortIfUnbegun};
+ghost use Rattle.ps_journal.specs.Opened.{IsShortIfUnbegun};
 ghost use Rattle.ps_journal.specs.Places.{entries_in};
 ghost use Rattle.ps_store.specs.Stand.{disk_in};
 ghost use Rattle.ps_types.specs.declared.entry.Entry.{Entry};
 ghost use Rattle.ps_opening.specs.Fresh.{AreHosts, IsReady};
 ghost use Rattle.ps_opening.specs.Left.{Fronts, OpenLeaves};
 ghost use Rattle.ps_opening.specs.Opens.{IsMadeOf, IsOpen, OpenNot};
-ghost use Rattle.ps_opening.specs.Refused.{IfOpenDamaged, IsDamagedThere, IsWhy};
-ghost use Rattle.ps_opening.specs.Replayed.{IsFresh};
 
-use crate::opened::{OpenRefusal, OpenWhy, Opened};
+use crate::opened::{OpenRefusal, OpenWhy, Opened, Rebuilt};
+use crate::reading::why_not;
 use crate::readying::{Ready, make_ready};
-use crate::replaying::{Rebuilt, Replayed, replay};
-use crate::restoring::{MOST, restore};
+use crate::restoring::restore;
 use ps_base::Memory;
 use ps_disk::Disk;
-use ps_journal::{Journal, JournalRefusal, JournalWhy, Placed};
+use ps_journal::{Journal, JournalRefusal, Placed};
 use ps_state::{HostRow, Limits, State};
 use ps_store::Store;
 use ps_types::Text;
 use std::alloc::Global;
 use std::random::RandomSource;
 use std::thread::Threads;
-
-// Where a damaged store is damaged: at an entry that isn't accepted, if one stands before the one that isn't spelled.
-fn damage<R: Threads + Sync>(
-    rt: &R,
-    alloc: Global,
-    rebuilt: &mut Rebuilt,
-    at: u64,
-    before: &Vec<Placed>,
-) -> OpenWhy
-    requires entries { AreEntries (entries_in before.now.items) }
-    requires fresh { IsFresh rebuilt.old }
-    ensures { IfOpenDamaged result (IsDamagedThere at before.now.items) }
-{
-    if before.len() >= MOST {
-        return OpenWhy::Memory;
-    }
-    match replay(rt, alloc, rebuilt, before) {
-        Replayed::All => OpenWhy::Damaged { at },
-        Replayed::Bad(first) => OpenWhy::Damaged { at: first },
-        Replayed::Memory => OpenWhy::Memory,
-    }
-}
-
-// Why a store is not opened where its journal isn't.
-fn why_not<R: Threads + Sync>(
-    rt: &R,
-    alloc: Global,
-    rebuilt: &mut Rebuilt,
-    why: JournalWhy,
-) -> OpenWhy
-    requires before { IfWhyDamaged why (λ at before. AreEntries (entries_in before)) }
-    requires fresh { IsFresh rebuilt.old }
-    ensures { IsWhy why result }
-{
-    match why {
-        JournalWhy::Store => OpenWhy::Store,
-        JournalWhy::Memory => OpenWhy::Memory,
-        JournalWhy::Damaged { at, before } => damage(rt, alloc, rebuilt, at, &before),
-    }
-}
 
 // The state and the store, before the first step: all entries are durable.
 fn made_of<D: Disk>(
@@ -139,7 +97,7 @@ fn open_ready<R: Threads + Sync, D: Disk>(
     match Journal::open(alloc, disk) {
         Err(refusal) => {
             let JournalRefusal { disk, why } = refusal;
-            let why = why_not(rt, alloc, &mut rebuilt, why);
+            let why = OpenWhy::from(why_not(rt, alloc, &mut rebuilt, why));
             Err(OpenRefusal { disk, why })
         }
         Ok((journal, placed)) => {

@@ -4,7 +4,7 @@ ghost use Rattle.ps_opening.specs.Fresh.{AreFreshRows, IsFreshRow};
 ghost use Rattle.ps_opening.specs.Replayed.{IsFresh};
 ghost use Rattle.ps_types.specs.declared.entry.Entry.{Entry};
 
-use crate::replaying::Rebuilt;
+use crate::opened::Rebuilt;
 use ps_base::Memory;
 use ps_core::Service;
 use ps_outbox::Outboxes;
@@ -57,8 +57,8 @@ fn secret<R: RandomSource>(rt: &R) -> u64 {
     }
 }
 
-// What is there before the first entry.
-fn nothing<R: RandomSource>(rt: &R, alloc: Global) -> Result<Rebuilt, Memory>
+/// What is there before the first entry.
+pub(crate) fn nothing<R: RandomSource>(rt: &R, alloc: Global) -> Result<Rebuilt, Memory>
     ensures { IfOk result (λ r. IsFresh r) }
 {
     let seed = secret(rt);

@@ -1,23 +1,17 @@
 // The entries of a store are taken one after the other.
-ghost use Rattle.std.specs.Prelude.{◌≡◌, ◌<◌, ◌≤◌, ◌^◌, ◌++◌, IfOk, OnOk, length};
+ghost use Rattle.std.specs.Prelude.{◌≡◌, ◌<◌, ◌≤◌, ◌^◌, ◌++◌, IfErr, IfOk, OnOk, length};
 ghost use Rattle.ps_model.specs.Entries.{AreEntries, IsEntry};
 ghost use Rattle.ps_journal.specs.Places.{entries_in};
-ghost use Rattle.ps_opening.specs.Replayed.{IsFresh, IsReplayedAs, IsTaken, unhanded};
+ghost use Rattle.ps_opening.specs.Refused.{IfDamaged};
+ghost use Rattle.ps_opening.specs.Replayed.{IsFresh, IsReplayed, IsReplayedAs, IsTaken, StopsAt, unhanded};
 
+use crate::opened::{ReadWhy, Rebuilt};
 use ps_base::Memory;
-use ps_core::Service;
 use ps_journal::Placed;
 use ps_outbox::Outboxes;
 use ps_types::{Entry, Notice};
 use std::alloc::Global;
 use std::thread::Threads;
-
-/// What the entries so far leave: the service, and the notices that are not handed.
-#[derive(Drop)]
-pub(crate) struct Rebuilt {
-    pub service: Service,
-    pub queues: Outboxes,
-}
 
 /// What came of a list of entries: all were taken, or the one at an offset isn't accepted.
 #[derive(Clone, Copy)]
@@ -90,4 +84,30 @@ pub(crate) fn replay<R: Threads + Sync>(
         }
     }
     Replayed::All
+}
+
+/// No more entries than this are taken; the numbers of a state count on it.
+pub(crate) const MOST: usize = 1 << 61;
+
+/// Takes the entries of a store that was read.
+pub(crate) fn take_all<R: Threads + Sync>(
+    rt: &R,
+    alloc: Global,
+    rebuilt: &mut Rebuilt,
+    placed: &Vec<Placed>,
+) -> Result<(), ReadWhy>
+    requires entries { AreEntries (entries_in placed.now.items) }
+    requires fresh { IsFresh rebuilt.old }
+    ensures replayed { OnOk result (IsReplayed (entries_in placed.now.items) rebuilt.new) }
+    ensures few { OnOk result (length placed.now.items < 2 ^ 61) }
+    ensures err { IfErr result (λ why. IfDamaged why (StopsAt placed.now.items)) }
+{
+    if placed.len() >= MOST {
+        return Err(ReadWhy::Memory);
+    }
+    match replay(rt, alloc, rebuilt, placed) {
+        Replayed::All => Ok(()),
+        Replayed::Bad(at) => Err(ReadWhy::Damaged { at }),
+        Replayed::Memory => Err(ReadWhy::Memory),
+    }
 }

@@ -11,16 +11,13 @@ ghost use Rattle.ps_opening.specs.Opens.{IsRestored, NotRestored};
 ghost use Rattle.ps_opening.specs.Replayed.{IsFresh};
 
 use crate::beginning::begin;
-use crate::opened::OpenWhy;
-use crate::replaying::{Rebuilt, Replayed, replay};
+use crate::opened::{OpenWhy, Rebuilt};
+use crate::replaying::take_all;
 use ps_disk::Disk;
 use ps_journal::{Journal, Placed};
 use ps_types::Entry;
 use std::alloc::Global;
 use std::thread::Threads;
-
-/// No more entries than this are taken; the numbers of a state count on it.
-pub(crate) const MOST: usize = 1 << 61;
 
 /// Takes the entries of a store, and then a Boot, which is appended.
 pub(crate) fn restore<R: Threads + Sync, D: Disk>(
@@ -53,12 +50,8 @@ pub(crate) fn restore<R: Threads + Sync, D: Disk>(
     ensures fronts { D.tells → (E : List Entry) → Has journal.old E → Keeps journal.old E
         → FrontsIn journal.old journal.new }
 {
-    if placed.len() >= MOST {
-        return Err(OpenWhy::Memory);
-    }
-    match replay(rt, alloc, rebuilt, placed) {
-        Replayed::All => begin(rt, alloc, journal, &mut rebuilt.service, boot, whole),
-        Replayed::Bad(at) => Err(OpenWhy::Damaged { at }),
-        Replayed::Memory => Err(OpenWhy::Memory),
+    match take_all(rt, alloc, rebuilt, placed) {
+        Ok(()) => begin(rt, alloc, journal, &mut rebuilt.service, boot, whole),
+        Err(why) => Err(OpenWhy::from(why)),
     }
 }

@@ -9,7 +9,7 @@ use Rattle.ps_journal.specs.declared.judging.Placed.{Placed}
 use Rattle.ps_model.specs.Store.{spelled}
 use Rattle.ps_opening.specs.Begun.{frame_of}
 use Rattle.ps_opening.specs.Left.{Fronts, IsOpenLeft, OpenLeaves}
-use Rattle.ps_opening.specs.Opens.{IsOpen, IsRestored}
+use Rattle.ps_opening.specs.Opens.{IsOpen, IsRestored, OpenNot}
 use Rattle.ps_opening.proofs.Fronts.{fronts_opened, fronts_then}
 use Rattle.ps_opening.proofs.Openings.{opens}
 use Rattle.ps_opening.proofs.Refusals.{journal_left, open_left, refused_journal, refused_restore}
@@ -27,7 +27,9 @@ pub returns-in-Err-clause-refused : goal.returns-in-Err-clause-refused
 returns-in-Err-clause-refused g c service hosts ready =
     let D = g.D.Disk in
     let e = c.in-Err.ensures in
-    refused_journal D.tells (D.seen c.args.disk) service (D.faults c.args.disk) (D.faults c.in-Err.refusal.disk) c.args.limits.whole c.in-Err.refusal.why c.why_not-why.result (λ tells. e.damaged tells) c.why_not-why.ensures e.store
+    let not = OpenNot D.tells (D.seen c.args.disk) (D.faults c.args.disk) (D.faults c.in-Err.refusal.disk) service c.args.limits.whole in
+    subst not (sym c.from-why.ensures)
+    (refused_journal D.tells (D.seen c.args.disk) service (D.faults c.args.disk) (D.faults c.in-Err.refusal.disk) c.args.limits.whole c.in-Err.refusal.why c.why_not.result (λ tells. e.damaged tells) c.why_not.ensures e.store)
 
 pub returns-in-Err-clause-any_moment : goal.returns-in-Err-clause-any_moment
 returns-in-Err-clause-any_moment g c tells E spells short =

@@ -1,5 +1,5 @@
 use Rattle.ps_opening.proofs.Replays.{damaged_before, damaged_there}
-use Rattle.ps_opening.proofs.opening.damage.Goals as goal
+use Rattle.ps_opening.proofs.reading.damage.Goals as goal
 
 pub returns-in-All : goal.returns-in-All
 returns-in-All g c bytes damaged = damaged_there bytes c.args.before.now.items c.args.at c.replay.new.rebuilt damaged c.in-All.ensures.replayed
