@@ -69,7 +69,8 @@ pub fn set_sub(subs: &mut Subs, row: SubRow) -> Result<(), Memory>
 
 /// Sets how far a subscription has come, where none removes it. A row keeps its options, and a new one has the defaults.
 pub fn set_state(subs: &mut Subs, node: &NodeKey, who: &Jid, state: SubState) -> Result<(), Memory>
-    ensures subs { OnOk result (subs.new.rows ≡ subs_with (sub_with node.now who.now state subs.old.rows) subs.old.rows) }
+    ensures subs { OnOk result
+        (subs.new.rows ≡ subs_with (sub_with node.now who.now state subs.old.rows) subs.old.rows) }
 {
     let row = new_sub(node, who, state, options_of(subs, node, who))?;
     set_sub(subs, row)

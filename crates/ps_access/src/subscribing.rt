@@ -27,7 +27,8 @@ pub fn base_options(tables: &Tables, node: &NodeKey, who: &Jid) -> SubOptions
 }
 
 fn options_in(form: &Form, base: SubOptions) -> Result<SubOptions, PlanRefusal>
-    ensures { PassesWith result (denial_of (model.options_or (table.read_options form.now base))) (model.options_or (table.read_options form.now base)) }
+    ensures { PassesWith result (denial_of (model.options_or (table.read_options form.now base)))
+        (model.options_or (table.read_options form.now base)) }
 {
     match read_options(form, base) {
         Ok(options) => Ok(options),
@@ -56,7 +57,8 @@ pub fn given_options(
     form: &Option<Elem>,
     base: SubOptions,
 ) -> Result<SubOptions, PlanRefusal>
-    ensures options { PassesWith result (denial_of (model.sub_options form.now base)) (model.sub_options form.now base) }
+    ensures options { PassesWith result (denial_of (model.sub_options form.now base))
+        (model.sub_options form.now base) }
 {
     match form {
         Some(tree) => {

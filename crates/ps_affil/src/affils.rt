@@ -148,7 +148,8 @@ impl Affils {
         node: &NodeKey,
         others: &Affils,
     ) -> Result<Vec<AffilRow>, Memory>
-        ensures rows { IfOk result (λ rows. rows.items ≡ own_and_last (is_among node.now others.now.rows) self.now.rows) }
+        ensures rows { IfOk result
+            (λ rows. rows.items ≡ own_and_last (is_among node.now others.now.rows) self.now.rows) }
     {
         let ask = Among { node, others };
         self.rows.list_around(Index::Node, &ask, alloc)

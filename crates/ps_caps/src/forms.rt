@@ -56,7 +56,8 @@ fn typed(form: &Form) -> Result<Option<TypedForm>, Memory>
 }
 
 fn add_typed(forms: &mut Vec<TypedForm>, form: &Form) -> Result<(), Memory>
-    ensures { OnOk result (map seen forms.new.items ≡ map seen forms.old.items ++ cons_option (string.typed form.now) []) }
+    ensures { OnOk result
+        (map seen forms.new.items ≡ map seen forms.old.items ++ cons_option (string.typed form.now) []) }
 {
     match typed(form)? {
         Some(form) => {

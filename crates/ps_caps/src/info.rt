@@ -30,7 +30,8 @@ fn identity_of(alloc: Global, elem: &Elem) -> Result<Identity, Memory>
 }
 
 fn identities_of(alloc: Global, query: &Elem) -> Result<Identities, Memory>
-    ensures { IfOk result (λ identities. identities ≡ map string.identity_of (children_of (codes "identity") info_ns query.now)) }
+    ensures { IfOk result
+        (λ identities. identities ≡ map string.identity_of (children_of (codes "identity") info_ns query.now)) }
 {
     let mut identities = Identities::new(alloc);
     let mut rest = query.kids.as_slice();
@@ -42,7 +43,8 @@ fn identities_of(alloc: Global, query: &Elem) -> Result<Identities, Memory>
 }
 
 fn features_of(alloc: Global, query: &Elem) -> Result<Texts, Memory>
-    ensures { IfOk result (λ features. features ≡ map string.feature_of (children_of (codes "feature") info_ns query.now)) }
+    ensures { IfOk result
+        (λ features. features ≡ map string.feature_of (children_of (codes "feature") info_ns query.now)) }
 {
     let mut features = Texts::new(alloc);
     let mut rest = query.kids.as_slice();

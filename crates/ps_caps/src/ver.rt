@@ -49,7 +49,8 @@ fn cap_string(
     features: &[Text],
     forms: &[TypedForm],
 ) -> Result<String, Memory>
-    ensures { IfOk result (λ text. string_bytes text ≡ flat_map string.identity_text identities.now ++ flat_map string.ended features.now
+    ensures { IfOk result
+        (λ text. string_bytes text ≡ flat_map string.identity_text identities.now ++ flat_map string.ended features.now
         ++ flat_map (λ form. string.form_text (seen form)) forms.now) }
 {
     let mut string = String::new(alloc);

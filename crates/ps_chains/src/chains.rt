@@ -47,7 +47,8 @@ fn link(
     requires room { 0 < room_of marks.old nexts.old priors.old ends.old }
     ensures marks { marks.new.items ≡ marks.old.items ++ Some digest ∷ [] }
     ensures chained { IsChained marks.new.items nexts.new.items priors.new.items ends.new }
-    ensures room { room_of marks.old nexts.old priors.old ends.old ≤ room_of marks.new nexts.new priors.new ends.new + 1 }
+    ensures room { room_of marks.old nexts.old priors.old ends.old ≤ room_of marks.new nexts.new priors.new ends.new
+        + 1 }
 {
     let place = marks.len();
     let at = ends_of(ends, digest);
@@ -125,14 +126,16 @@ impl Chains {
 
     /// The next place of the digest of a place.
     pub fn next(&self, place: usize) -> Option<usize>
-        ensures next { (digest : ℕ) → mark_at self.now.rows place ≡ Some digest → FirstFrom (mark_at self.now.rows) digest (place + 1) result }
+        ensures next { (digest : ℕ) → mark_at self.now.rows place ≡ Some digest
+            → FirstFrom (mark_at self.now.rows) digest (place + 1) result }
     {
         link_at(&self.nexts, place).get()
     }
 
     /// The last place before a place of the digest of that place.
     pub fn prior(&self, place: usize) -> Option<usize>
-        ensures prior { (digest : ℕ) → mark_at self.now.rows place ≡ Some digest → LastBelow (mark_at self.now.rows) digest place result }
+        ensures prior { (digest : ℕ) → mark_at self.now.rows place ≡ Some digest
+            → LastBelow (mark_at self.now.rows) digest place result }
     {
         link_at(&self.priors, place).get()
     }

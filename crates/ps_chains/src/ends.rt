@@ -62,6 +62,7 @@ impl Ends {
     }
 }
 
+/// The first and the last place of a digest; both are none where no row has it.
 pub fn ends_of(ends: &IndexMap<u64, Ends>, digest: u64) -> Ends
     ensures { result ≡ ends_at digest ends.now.entries }
 {
@@ -79,7 +80,8 @@ pub fn ends_of(ends: &IndexMap<u64, Ends>, digest: u64) -> Ends
 pub fn put(ends: &mut IndexMap<u64, Ends>, digest: u64, value: Ends)
     requires room { lookup (nat_eq digest) ends.old.entries ≡ None → 0 < spare ends.old }
     ensures ends { (q : ℕ) → ends_at q ends.new.entries ≡ cond (nat_eq digest q) value (ends_at q ends.old.entries) }
-    ensures few { length ends.new.entries ≡ length ends.old.entries + (if is_some (lookup (nat_eq digest) ends.old.entries) then 0 else 1) }
+    ensures few { length ends.new.entries ≡ length ends.old.entries
+        + (if is_some (lookup (nat_eq digest) ends.old.entries) then 0 else 1) }
     ensures room { capacity ends.old ≤ capacity ends.new }
 {
     match ends.get_mut(&digest) {

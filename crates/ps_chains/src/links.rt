@@ -4,6 +4,7 @@ ghost use Rattle.ps_chains.specs.Marks.{mark_at, set_at};
 
 use crate::small::{Link, Mark};
 
+/// The digest at this place, and none where no row stands there.
 pub fn read(marks: &[Mark], place: usize) -> Option<u64>
     ensures { result ≡ mark_at marks.now place }
 {
@@ -23,6 +24,7 @@ pub fn clear(marks: &mut Vec<Mark>, place: usize)
     }
 }
 
+/// The link at this place, which leads nowhere where no row stands there.
 pub fn link_at(links: &[Link], place: usize) -> Link
     ensures { result ≡ mark_at links.now place }
 {

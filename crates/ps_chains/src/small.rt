@@ -41,6 +41,7 @@ impl Link {
         }
     }
 
+    /// The place that it leads to.
     pub fn get(self) -> Option<usize>
         ensures { result ≡ self }
     {
@@ -88,6 +89,7 @@ impl Mark {
         Mark { code: digest + 1 }
     }
 
+    /// The digest that it keeps.
     pub fn get(self) -> Option<u64>
         ensures { result ≡ self }
     {

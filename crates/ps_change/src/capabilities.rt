@@ -32,7 +32,8 @@ fn set_features(
     features: Texts,
 ) -> Result<(), Memory>
     requires caps { caps_in (resource_at who.now presence.old.rows) ≡ Some caps.now }
-    ensures { OnOk result (presence.new.rows ≡ change_row (is_resource_of who.now) (with_features features) presence.old.rows) }
+    ensures { OnOk result
+        (presence.new.rows ≡ change_row (is_resource_of who.now) (with_features features) presence.old.rows) }
 {
     let row = resource_row(who, caps, features)?;
     presence.reserve(1)?;
@@ -47,7 +48,8 @@ fn keep_string(
     caps: &Caps,
     features: &Texts,
 ) -> Result<(), Memory>
-    ensures { OnOk result (cache.new.rows ≡ cond is_verified (vers_with (record { ver = caps.now.ver; features = features.now }) cache.old.rows) cache.old.rows) }
+    ensures { OnOk result (cache.new.rows ≡ cond is_verified
+        (vers_with (record { ver = caps.now.ver; features = features.now }) cache.old.rows) cache.old.rows) }
 {
     if !is_verified {
         return Ok(());
@@ -103,7 +105,8 @@ fn take_shown(
     query: &Elem,
 ) -> Result<(), Memory>
     requires caps { caps_in (resource_at who.now tables.old.presence.rows) ≡ Some caps.now }
-    ensures { OnOk result (book_of tables.new ≡ answer_by (Some caps.now) who.now node.now (info_of query.now) (book_of tables.old)) }
+    ensures { OnOk result
+        (book_of tables.new ≡ answer_by (Some caps.now) who.now node.now (info_of query.now) (book_of tables.old)) }
 {
     let answer = usable_answer(alloc, caps, node, query)?;
     take_by(tables, who, caps, answer)

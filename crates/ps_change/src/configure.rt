@@ -41,7 +41,8 @@ fn set_config(
     node: &NodeKey,
     config: Result<NodeConfig, PlanRefusal>,
 ) -> Result<(), Memory>
-    ensures book { OnOk result ((given : Result NodeConfig Condition) → Gives config given → book_of tables.new ≡ configured node.now given (book_of tables.old)) }
+    ensures book { OnOk result ((given : Result NodeConfig Condition) → Gives config given
+        → book_of tables.new ≡ configured node.now given (book_of tables.old)) }
 {
     match config {
         Ok(config) => {
@@ -60,7 +61,8 @@ fn configure_by(
     node: &NodeKey,
     form: &Elem,
 ) -> Result<(), Memory>
-    ensures book { OnOk result (book_of tables.new ≡ configured_by (node_at node.now tables.old.nodes.rows) node.now (Some form.now) (book_of tables.old)) }
+    ensures book { OnOk result (book_of tables.new
+        ≡ configured_by (node_at node.now tables.old.nodes.rows) node.now (Some form.now) (book_of tables.old)) }
 {
     let config = match tables.nodes.get(node) {
         Some(row) => config_in(alloc, form, row.config),

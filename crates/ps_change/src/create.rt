@@ -82,7 +82,8 @@ pub fn create_by(
     form: &Option<Elem>,
 ) -> Result<(), Memory>
     requires absent { stands node.now tables.old.nodes.rows ≡ false }
-    ensures book { OnOk result (book_of tables.new ≡ created_by (model.new_config request.now.target form.now) node.now request.now.from (book_of tables.old)) }
+    ensures book { OnOk result (book_of tables.new
+        ≡ created_by (model.new_config request.now.target form.now) node.now request.now.from (book_of tables.old)) }
 {
     match new_config(alloc, &request.target, form) {
         Ok(config) => create(tables, alloc, node, &request.from, config),

@@ -21,7 +21,8 @@ fn item_row(
     item: &AskItem,
     moment: Option<u64>,
 ) -> Result<ItemRow, Memory>
-    ensures { IfOk result (λ row. row ≡ item_row_of node.now (item_id_of item.now.id (book_of tables.now) node.now who.now) who.now item.now.payloads moment) }
+    ensures { IfOk result (λ row. row ≡ item_row_of node.now
+        (item_id_of item.now.id (book_of tables.now) node.now who.now) who.now item.now.payloads moment) }
 {
     let payload = match item.payloads.as_slice().first() {
         Some(payload) => Some(payload.clone()?),
@@ -70,8 +71,10 @@ struct Keeping {
 
 fn keeping_at(tables: &Tables, node: &NodeKey) -> Keeping
     requires stands { stands node.now tables.now.nodes.rows ≡ true }
-    ensures persists { option_map (λ row. row.config.persist_items) (node_at node.now tables.now.nodes.rows) ≡ Some result.persists }
-    ensures most { option_map (λ row. row.config.max_items) (node_at node.now tables.now.nodes.rows) ≡ Some result.most }
+    ensures persists { option_map (λ row. row.config.persist_items) (node_at node.now tables.now.nodes.rows)
+        ≡ Some result.persists }
+    ensures most { option_map (λ row. row.config.max_items) (node_at node.now tables.now.nodes.rows)
+        ≡ Some result.most }
     ensures some { 1 ≤ result.most }
 {
     match tables.nodes.get(node) {
@@ -94,7 +97,9 @@ fn put_item(
 ) -> Result<(), Memory>
     requires stands { stands node.now tables.old.nodes.rows ≡ true }
     requires few { made_at node.now who.now tables.old.counts.rows < 2 ^ 64 - 1 }
-    ensures book { OnOk result ((options : Option Tree) (more : List AskItem) → book_of tables.new ≡ published_by (node_at node.now tables.old.nodes.rows) node.now who.now moment (item.now ∷ more) options (book_of tables.old)) }
+    ensures book { OnOk result
+        ((options : Option Tree) (more : List AskItem) → book_of tables.new ≡ published_by (node_at node.now
+        tables.old.nodes.rows) node.now who.now moment (item.now ∷ more) options (book_of tables.old)) }
 {
     let keeping = keeping_at(tables, node);
     let row = item_row(alloc, tables, node, who, item, moment)?;
@@ -117,7 +122,8 @@ pub fn publish(
 ) -> Result<(), Memory>
     requires stands { stands node.now tables.old.nodes.rows ≡ true }
     requires few { made_at node.now who.now tables.old.counts.rows < 2 ^ 64 - 1 }
-    ensures book { OnOk result ((options : Option Tree) → book_of tables.new ≡ published_by (node_at node.now tables.old.nodes.rows) node.now who.now moment items.now options (book_of tables.old)) }
+    ensures book { OnOk result ((options : Option Tree) → book_of tables.new ≡ published_by
+        (node_at node.now tables.old.nodes.rows) node.now who.now moment items.now options (book_of tables.old)) }
 {
     match items.as_slice().first() {
         Some(item) => put_item(tables, alloc, node, who, item, moment),

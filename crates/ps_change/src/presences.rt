@@ -24,7 +24,12 @@ fn resource_row(
     who: &Jid,
     caps: &Option<Caps>,
 ) -> Result<ResourceRow, Memory>
-    ensures { IfOk result (λ row. row ≡ record { who = who.now; caps = caps.now; features = model.features_known caps.now (resource_at who.now tables.now.presence.rows) tables.now.cache.rows }) }
+    ensures { IfOk result (λ row. row ≡ record {
+      who = who.now;
+      caps = caps.now;
+      features = model.features_known
+          caps.now (resource_at who.now tables.now.presence.rows) tables.now.cache.rows;
+    }) }
 {
     let features = copied(alloc, features_known(tables, who, caps))?;
     Ok(ResourceRow {

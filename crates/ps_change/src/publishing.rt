@@ -32,7 +32,8 @@ fn publish_made(
 ) -> Result<(), Memory>
     requires absent { stands node.now tables.old.nodes.rows ≡ false }
     requires few { made_at node.now who.now tables.old.counts.rows < 2 ^ 64 - 1 }
-    ensures { OnOk result (book_of tables.new ≡ published node.now config who.now moment items.now (created node.now who.now config (book_of tables.old))) }
+    ensures { OnOk result (book_of tables.new
+        ≡ published node.now config who.now moment items.now (created node.now who.now config (book_of tables.old))) }
 {
     create(tables, alloc, node, who, config)?;
     publish(tables, alloc, node, who, items, moment)
@@ -50,7 +51,8 @@ fn publish_with(
 ) -> Result<(), Memory>
     requires absent { stands node.now tables.old.nodes.rows ≡ false }
     requires few { made_at node.now who.now tables.old.counts.rows < 2 ^ 64 - 1 }
-    ensures { OnOk result ((given : Result NodeConfig Condition) → Gives config given → book_of tables.new ≡ published_new given node.now who.now moment items.now (book_of tables.old)) }
+    ensures { OnOk result ((given : Result NodeConfig Condition) → Gives config given
+        → book_of tables.new ≡ published_new given node.now who.now moment items.now (book_of tables.old)) }
 {
     match config {
         Ok(config) => publish_made(tables, alloc, node, who, config, items, moment),
@@ -70,7 +72,8 @@ fn publish_new(
 ) -> Result<(), Memory>
     requires absent { stands node.now tables.old.nodes.rows ≡ false }
     requires few { made_at node.now who.now tables.old.counts.rows < 2 ^ 64 - 1 }
-    ensures { OnOk result (book_of tables.new ≡ published_new (model.options_config options.now (defaults.default_config true)) node.now who.now moment items.now (book_of tables.old)) }
+    ensures { OnOk result (book_of tables.new ≡ published_new (model.options_config options.now
+        (defaults.default_config true)) node.now who.now moment items.now (book_of tables.old)) }
 {
     let base = default_config(alloc, true)?;
     let config = options_config(alloc, options, &base);
@@ -88,7 +91,8 @@ pub fn publish_to(
     moment: Option<u64>,
 ) -> Result<(), Memory>
     requires few { made_at node.now who.now tables.old.counts.rows < 2 ^ 64 - 1 }
-    ensures book { OnOk result (book_of tables.new ≡ published_by (node_at node.now tables.old.nodes.rows) node.now who.now moment items.now options.now (book_of tables.old)) }
+    ensures book { OnOk result (book_of tables.new ≡ published_by (node_at node.now tables.old.nodes.rows) node.now
+        who.now moment items.now options.now (book_of tables.old)) }
 {
     if tables.nodes.has(node) {
         publish(tables, alloc, node, who, items, moment)

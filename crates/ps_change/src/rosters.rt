@@ -18,7 +18,8 @@ fn contact_row(
     item: &AskContact,
     state: RosterState,
 ) -> Result<RosterRow, Memory>
-    ensures { IfOk result (λ row. row ≡ record { account = bare who.now; contact = bare item.now.jid; state = state; groups = item.now.groups }) }
+    ensures { IfOk result (λ row. row
+        ≡ record { account = bare who.now; contact = bare item.now.jid; state = state; groups = item.now.groups }) }
 {
     Ok(RosterRow {
         account: who.to_bare(alloc)?,
@@ -35,7 +36,12 @@ fn set_contact(
     item: &AskContact,
     state: RosterState,
 ) -> Result<(), Memory>
-    ensures { OnOk result (roster.new.rows ≡ roster_with (record { account = bare who.now; contact = bare item.now.jid; state = state; groups = item.now.groups }) roster.old.rows) }
+    ensures { OnOk result (roster.new.rows ≡ roster_with (record {
+      account = bare who.now;
+      contact = bare item.now.jid;
+      state = state;
+      groups = item.now.groups;
+    }) roster.old.rows) }
 {
     let row = contact_row(alloc, who, item, state)?;
     roster.reserve(1)?;

@@ -57,7 +57,8 @@ fn subscribe_with(
     state: SubState,
     options: Result<SubOptions, PlanRefusal>,
 ) -> Result<(), Memory>
-    ensures book { OnOk result ((given : Result SubOptions Condition) → PassesWith options (denial_of given) given → book_of tables.new ≡ subscribed_by given node.now who.now state (book_of tables.old)) }
+    ensures book { OnOk result ((given : Result SubOptions Condition) → PassesWith options (denial_of given) given
+        → book_of tables.new ≡ subscribed_by given node.now who.now state (book_of tables.old)) }
 {
     match options {
         Ok(options) => {
@@ -79,7 +80,8 @@ pub fn subscribe(
     form: &Option<Elem>,
 ) -> Result<(), Memory>
     requires stands { stands node.now tables.old.nodes.rows ≡ true }
-    ensures book { OnOk result (book_of tables.new ≡ subscribe_change request.now node.now who.now form.now (book_of tables.old)) }
+    ensures book { OnOk result
+        (book_of tables.new ≡ subscribe_change request.now node.now who.now form.now (book_of tables.old)) }
 {
     let options = given_options(alloc, form, base_options(tables, node, who));
     let state = new_state(tables, request, node, who);

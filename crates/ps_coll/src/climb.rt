@@ -7,6 +7,8 @@ use ps_rows::Rows;
 use ps_types::{LinkRow, Memory, NodeKey};
 use std::alloc::Global;
 
+/// Whether a node stands under a collection: as its child, or, where `deep` says so, below its children too
+/// (XEP-0248 §3).
 pub fn is_reached(rows: &Rows<LinkRow>, node: &NodeKey, collection: &NodeKey, deep: bool) -> bool
     ensures { result ≡ is_under node.now collection.now deep rows.now.rows }
 {
@@ -27,6 +29,10 @@ pub fn is_reached(rows: &Rows<LinkRow>, node: &NodeKey, collection: &NodeKey, de
     false
 }
 
+/// The collections above a node, the nearest first.
+///
+/// # Errors
+/// Memory, where there is none for their names.
 pub fn ancestors_of(
     alloc: Global,
     rows: &Rows<LinkRow>,

@@ -9,6 +9,7 @@ use ps_rows::{Index, Rows};
 use ps_types::{LinkRow, Memory, NodeKey};
 use std::alloc::Global;
 
+/// The collection that a node is a child of, if it is one (XEP-0248 §3).
 pub fn collection_among<'a>(rows: &'a Rows<LinkRow>, child: &NodeKey) -> Option<&'a NodeKey>
     ensures { option_copied result ≡ collection_of child.now rows.now.rows }
 {
@@ -32,6 +33,7 @@ fn is_child(rows: &Rows<LinkRow>, child: &NodeKey) -> bool
     rows.any(Index::Key, &ask)
 }
 
+/// Whether a collection has a child.
 pub fn has_child(rows: &Rows<LinkRow>, collection: &NodeKey) -> bool
     ensures { result ≡ has_children collection.now rows.now.rows }
 {
@@ -66,12 +68,14 @@ pub fn children_among(
     Ok(nodes)
 }
 
+/// Whether a link names the node, as a child or as a collection.
 pub fn is_named(rows: &Rows<LinkRow>, node: &NodeKey) -> bool
     ensures { result ≡ list_any (is_link_at node.now) rows.now.rows }
 {
     is_child(rows, node) || has_child(rows, node)
 }
 
+/// Removes each link that names the node, as a child or as a collection.
 pub fn remove_all_of(rows: &mut Rows<LinkRow>, node: &NodeKey)
     ensures rows { rows.new.rows ≡ links_without node.now rows.old.rows }
     ensures room { rows.old.spare ≤ rows.new.spare }

@@ -15,7 +15,8 @@ pub fn printed_config_reads_back()
 
 /// What is read against a configuration within the bounds is within them, and so are the configurations of new nodes.
 pub fn configs_stay_bounded()
-    ensures read { (form : Form) (base config : NodeConfig) → IsConfig base → read_config form base ≡ Ok config → IsConfig config }
+    ensures read { (form : Form) (base config : NodeConfig) → IsConfig base → read_config form base ≡ Ok config
+        → IsConfig config }
     ensures new { (pep : Bool) → IsConfig (default_config pep) }
 {}
 

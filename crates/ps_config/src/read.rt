@@ -42,8 +42,10 @@ fn copy_of(base: &NodeConfig) -> Result<NodeConfig, AllocError>
 
 // Reads one row. A field that isn't given stays.
 fn read_row(alloc: Global, config: &mut NodeConfig, row: Row, form: &Form) -> Result<(), Unread>
-    ensures ok { OnOk result (table.row_change (row_of row) config.old (values_of (row_of row).var form.now) ≡ Some config.new) }
-    ensures bad { IsErrOf result Unread.Bad → table.row_change (row_of row) config.old (values_of (row_of row).var form.now) ≡ None }
+    ensures ok { OnOk result
+        (table.row_change (row_of row) config.old (values_of (row_of row).var form.now) ≡ Some config.new) }
+    ensures bad { IsErrOf result Unread.Bad
+        → table.row_change (row_of row) config.old (values_of (row_of row).var form.now) ≡ None }
 {
     match get(form, var_of(row)) {
         Some(values) => change(alloc, config, row, values),

@@ -164,7 +164,8 @@ impl MemDisk {
     // Writes a piece, and keeps the call.
     fn keep_write(&mut self, at: u64, piece: &[u8]) -> Result<(), Memory>
         requires { at ≤ length (state_of self.old).seen }
-        ensures ok { OnOk result (self.new ≡ record self.old { kept = kept_with self.old.kept self.old.calls (Call.Wrote at piece.now) }) }
+        ensures ok { OnOk result
+            (self.new ≡ record self.old { kept = kept_with self.old.kept self.old.calls (Call.Wrote at piece.now) }) }
         ensures err { OnErr result (self.new ≡ self.old) }
     {
         let number = self.calls;
@@ -236,7 +237,8 @@ impl Disk for MemDisk {
         ensures ok { OnOk result (Holds (state_of self.old).seen at piece.now (state_of self.new).seen) }
         ensures failed { OnErr result (TornAt at (length piece.now) (state_of self.old).seen (state_of self.new).seen) }
         ensures synced { (state_of self.new).synced ≡ (state_of self.old).synced }
-        ensures counted { OnOk result ((state_of self.new).written ≡ (at, length piece.now) ∷ (state_of self.old).written) }
+        ensures counted { OnOk result
+            ((state_of self.new).written ≡ (at, length piece.now) ∷ (state_of self.old).written) }
         ensures maybe { MayHaveOneMore (at, length piece.now) (state_of self.old).written (state_of self.new).written }
         ensures syncs { syncs_in self.new.kept ≡ syncs_in self.old.kept }
         ensures time { TimeGoesOn self.old self.new }

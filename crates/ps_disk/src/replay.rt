@@ -104,7 +104,8 @@ pub(crate) fn replay(
     calls: u64,
     byte: u8,
 ) -> Result<Outcomes, Memory>
-    ensures { IfOk result (AreOutcomes byte (after_calls (start_of start.now) (filter (λ one. nat_le one.number calls) kept.now.items))) }
+    ensures { IfOk result
+        (AreOutcomes byte (after_calls (start_of start.now) (filter (λ one. nat_le one.number calls) kept.now.items))) }
 {
     let lost = start.to_vec(alloc)?;
     let whole = start.to_vec(alloc)?;

@@ -54,7 +54,8 @@ fn changes_by(
     query: &Elem,
 ) -> Result<bool, Memory>
     requires row { resource_at who.now tables.now.presence.rows ≡ Some row.now }
-    ensures { IfOk result (λ b. b ≡ knows_other (answer_by (Some caps.now) who.now node.now (info_of query.now) (book_of tables.now)) (book_of tables.now)) }
+    ensures { IfOk result (λ b. b ≡ knows_other
+        (answer_by (Some caps.now) who.now node.now (info_of query.now) (book_of tables.now)) (book_of tables.now)) }
 {
     let answer = usable_answer(alloc, caps, node, query)?;
     Ok(tells_anew(&tables.cache, row, caps, &answer))
@@ -68,7 +69,8 @@ fn changes(
     node: &Text,
     query: &Elem,
 ) -> Result<bool, Memory>
-    ensures { IfOk result (λ b. b ≡ knows_other (answer_change who.now node.now query.now (book_of tables.now)) (book_of tables.now)) }
+    ensures { IfOk result
+        (λ b. b ≡ knows_other (answer_change who.now node.now query.now (book_of tables.now)) (book_of tables.now)) }
 {
     let Some(row) = tables.presence.resource(who) else {
         return Ok(false);
@@ -87,7 +89,8 @@ pub(crate) fn plan_answer(
     node: &Text,
     query: &Elem,
 ) -> Result<Plan, PlanRefusal>
-    ensures { Agrees result (accepted None) (knows_other (answer_change request.now.from node.now query.now (book_of tables.now)) (book_of tables.now)) }
+    ensures { Agrees result (accepted None)
+        (knows_other (answer_change request.now.from node.now query.now (book_of tables.now)) (book_of tables.now)) }
 {
     let commits = changes(alloc, tables, &request.from, node, query)?;
     Ok(Plan {

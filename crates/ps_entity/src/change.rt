@@ -22,7 +22,13 @@ pub(crate) fn changes(
     state: SubState,
     options: SubOptions,
 ) -> bool
-    ensures { result ≡ not (same_subs (subs_with (record { node = node.now; who = who.now; state = state; options = options }) (book_of tables.now).subs) (book_of tables.now).subs) }
+    ensures { result ≡ not (same_subs (subs_with (record {
+      node = node.now;
+      who = who.now;
+      state = state;
+      options =
+          options;
+    }) (book_of tables.now).subs) (book_of tables.now).subs) }
 {
     let row = tables.subs.row_of(node, who);
     match state {

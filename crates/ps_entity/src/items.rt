@@ -97,7 +97,8 @@ fn chosen(
     ids: &[Text],
 ) -> Result<Vec<ItemRow>, Memory>
     requires { is_most max.now ≡ true }
-    ensures { IfOk result (λ rows. rows.items ≡ lists.newest max.now (lists.named_items ids.now (items_of key.now items.now.rows))) }
+    ensures { IfOk result
+        (λ rows. rows.items ≡ lists.newest max.now (lists.named_items ids.now (items_of key.now items.now.rows))) }
 {
     let most = most_of(items, max);
     if ids.is_empty() {
@@ -126,7 +127,8 @@ fn child(
 
 fn check(tables: &Tables, request: &Request, key: &NodeKey, max: &Text) -> Result<(), PlanRefusal>
     requires key { key.now ≡ node_of request.now key.now.name }
-    ensures passes { Passes result (first_denial (items_get_steps (book_of tables.now) request.now key.now.name max.now)) }
+    ensures passes { Passes result
+        (first_denial (items_get_steps (book_of tables.now) request.now key.now.name max.now)) }
     ensures most { OnOk result (is_most max.now ≡ true) }
 {
     must_stand(tables, key)?;
@@ -145,7 +147,8 @@ pub(crate) fn plan_items(
     max: &Text,
     ids: &Texts,
 ) -> Result<Plan, PlanRefusal>
-    ensures { Agrees result (outcome (first_denial (items_get_steps (book_of tables.now) request.now node.now max.now)) (Some (model.items_child (book_of tables.now) request.now node.now max.now ids.now))) false }
+    ensures { Agrees result (outcome (first_denial (items_get_steps (book_of tables.now) request.now node.now max.now))
+        (Some (model.items_child (book_of tables.now) request.now node.now max.now ids.now))) false }
 {
     let key = key_of(request, node)?;
     check(tables, request, &key, max)?;

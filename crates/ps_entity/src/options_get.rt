@@ -62,7 +62,8 @@ pub(crate) fn plan_options_get(
     node: &Text,
     who: &Jid,
 ) -> Result<Plan, PlanRefusal>
-    ensures { Agrees result (outcome (first_denial (options_get_steps (book_of tables.now) request.now node.now who.now)) (Some (options_child (book_of tables.now) request.now node.now who.now))) false }
+    ensures { Agrees result (outcome (first_denial (options_get_steps (book_of tables.now) request.now node.now
+        who.now)) (Some (options_child (book_of tables.now) request.now node.now who.now))) false }
 {
     let key = key_of(request, node)?;
     check(tables, request, &key, who)?;

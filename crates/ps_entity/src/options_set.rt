@@ -23,7 +23,8 @@ fn check(
     form: &Option<Elem>,
 ) -> Result<SubOptions, PlanRefusal>
     requires node { node.now ≡ node_of request.now node.now.name }
-    ensures { PassesWith result (first_denial (options_set_steps (book_of tables.now) request.now node.now.name who.now form.now)) (model.sub_options form.now (model.base_options (book_of tables.now) node.now who.now)) }
+    ensures { PassesWith result (first_denial (options_set_steps (book_of tables.now) request.now node.now.name who.now
+        form.now)) (model.sub_options form.now (model.base_options (book_of tables.now) node.now who.now)) }
 {
     must_stand(tables, node)?;
     pass_if(tables.subs.row_of(node, who).is_some(), Condition::C22)?;
@@ -40,7 +41,10 @@ pub(crate) fn plan_options_set(
     who: &Jid,
     form: &Option<Elem>,
 ) -> Result<Plan, PlanRefusal>
-    ensures { Agrees result (outcome (first_denial (options_set_steps (book_of tables.now) request.now node.now who.now form.now)) None) (not (same_subs (model.options_change (node_of request.now node.now) who.now form.now (book_of tables.now)).subs (book_of tables.now).subs)) }
+    ensures { Agrees result
+        (outcome (first_denial (options_set_steps (book_of tables.now) request.now node.now who.now form.now)) None)
+        (not (same_subs (model.options_change (node_of request.now node.now) who.now form.now (book_of tables.now)).subs
+        (book_of tables.now).subs)) }
 {
     let key = key_of(request, node)?;
     let options = check(alloc, tables, request, &key, who, form)?;

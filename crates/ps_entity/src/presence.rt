@@ -16,7 +16,8 @@ fn is_resource(row: &ResourceRow, caps: &Option<Caps>, features: &[Text]) -> boo
 }
 
 fn changes(tables: &Tables, who: &Jid, caps: &Option<Caps>) -> bool
-    ensures { result ≡ not (same_resources (model.present_change who.now caps.now (book_of tables.now)).resources (book_of tables.now).resources) }
+    ensures { result ≡ not (same_resources (model.present_change who.now caps.now (book_of tables.now)).resources
+        (book_of tables.now).resources) }
 {
     let features = features_known(tables, who, caps);
     match tables.presence.resource(who) {
@@ -28,7 +29,8 @@ fn changes(tables: &Tables, who: &Jid, caps: &Option<Caps>) -> bool
 /// The sender is present, with these capabilities. It takes no memory.
 pub(crate) fn plan_present(tables: &Tables, request: &Request, caps: &Option<Caps>) -> Plan
     ensures reply { result.reply ≡ None }
-    ensures commits { result.commits ≡ not (same_resources (model.present_change request.now.from caps.now (book_of tables.now)).resources (book_of tables.now).resources) }
+    ensures commits { result.commits ≡ not (same_resources (model.present_change request.now.from caps.now
+        (book_of tables.now)).resources (book_of tables.now).resources) }
 {
     Plan {
         reply: None,
@@ -39,7 +41,8 @@ pub(crate) fn plan_present(tables: &Tables, request: &Request, caps: &Option<Cap
 /// The sender isn't present any more. It takes no memory.
 pub(crate) fn plan_absent(tables: &Tables, request: &Request) -> Plan
     ensures reply { result.reply ≡ None }
-    ensures commits { result.commits ≡ not (same_resources (model.absent_change request.now.from (book_of tables.now)).resources (book_of tables.now).resources) }
+    ensures commits { result.commits ≡ not (same_resources
+        (model.absent_change request.now.from (book_of tables.now)).resources (book_of tables.now).resources) }
 {
     Plan {
         reply: None,

@@ -38,7 +38,8 @@ fn is_host(tables: &Tables, target: &Jid) -> bool
 
 // The target is the sender's account or the service.
 fn may_tell(tables: &Tables, request: &Request) -> bool
-    ensures { result ≡ (is_own_account request.now.target request.now.from || same_jid request.now.target (host_jid (book_of tables.now).service)) }
+    ensures { result ≡ (is_own_account request.now.target request.now.from || same_jid request.now.target
+        (host_jid (book_of tables.now).service)) }
 {
     is_account_of(&request.target, &request.from) || is_host(tables, &request.target)
 }
@@ -57,7 +58,8 @@ fn removes(told: Option<Told>) -> bool
 
 // A new contact needs room.
 fn has_room(tables: &Tables, who: &Jid, contact: &Jid) -> bool
-    ensures { result ≡ (is_some (contact_at who.now contact.now (book_of tables.now).rosters) || nat_lt (contact_count who.now (book_of tables.now).rosters) limits.max_contacts) }
+    ensures { result ≡ (is_some (contact_at who.now contact.now (book_of tables.now).rosters) || nat_lt
+        (contact_count who.now (book_of tables.now).rosters) limits.max_contacts) }
 {
     tables.roster.contact(who, contact).is_some() || tables.roster.count(who) < max_contacts()
 }
@@ -80,7 +82,12 @@ fn is_contact(row: &RosterRow, state: RosterState, groups: &Texts) -> bool
 }
 
 fn sets_other(tables: &Tables, who: &Jid, contact: &Jid, state: RosterState, groups: &Texts) -> bool
-    ensures { result ≡ not (same_rosters (roster_with (record { account = bare who.now; contact = bare contact.now; state = state; groups = groups.now }) (book_of tables.now).rosters) (book_of tables.now).rosters) }
+    ensures { result ≡ not (same_rosters (roster_with (record {
+      account = bare who.now;
+      contact = bare contact.now;
+      state = state;
+      groups = groups.now;
+    }) (book_of tables.now).rosters) (book_of tables.now).rosters) }
 {
     match tables.roster.contact(who, contact) {
         Some(row) => !is_contact(row, state, groups),
@@ -90,7 +97,8 @@ fn sets_other(tables: &Tables, who: &Jid, contact: &Jid, state: RosterState, gro
 
 // Whether the rosters are others once this is told of a contact.
 fn tells_other(tables: &Tables, who: &Jid, item: &AskContact, told: Told) -> bool
-    ensures { result ≡ not (same_rosters (roster_by (Some (told_in told)) who.now item.now (book_of tables.now)).rosters (book_of tables.now).rosters) }
+    ensures { result ≡ not (same_rosters (roster_by (Some (told_in told)) who.now item.now (book_of tables.now)).rosters
+        (book_of tables.now).rosters) }
 {
     match told {
         Told::Set(state) => sets_other(tables, who, &item.jid, state, &item.groups),
@@ -99,7 +107,8 @@ fn tells_other(tables: &Tables, who: &Jid, item: &AskContact, told: Told) -> boo
 }
 
 fn changes_by(tables: &Tables, who: &Jid, item: &AskContact, told: Option<Told>) -> bool
-    ensures { result ≡ not (same_rosters (roster_by (option_map told_in told) who.now item.now (book_of tables.now)).rosters (book_of tables.now).rosters) }
+    ensures { result ≡ not (same_rosters (roster_by (option_map told_in told) who.now item.now
+        (book_of tables.now)).rosters (book_of tables.now).rosters) }
 {
     match told {
         Some(told) => tells_other(tables, who, item, told),
@@ -108,7 +117,8 @@ fn changes_by(tables: &Tables, who: &Jid, item: &AskContact, told: Option<Told>)
 }
 
 fn changes(tables: &Tables, who: &Jid, item: &AskContact) -> bool
-    ensures { result ≡ not (same_rosters (roster_change who.now item.now (book_of tables.now)).rosters (book_of tables.now).rosters) }
+    ensures { result ≡ not
+        (same_rosters (roster_change who.now item.now (book_of tables.now)).rosters (book_of tables.now).rosters) }
 {
     changes_by(tables, who, item, told_by(item.subscription.as_str()))
 }
@@ -119,7 +129,9 @@ pub(crate) fn plan_roster_set(
     request: &Request,
     item: &AskContact,
 ) -> Result<Plan, PlanRefusal>
-    ensures { Agrees result (outcome (first_denial (roster_set_steps (book_of tables.now) request.now item.now)) None) (not (same_rosters (roster_change request.now.from item.now (book_of tables.now)).rosters (book_of tables.now).rosters)) }
+    ensures { Agrees result (outcome (first_denial (roster_set_steps (book_of tables.now) request.now item.now)) None)
+        (not (same_rosters (roster_change request.now.from item.now (book_of tables.now)).rosters
+        (book_of tables.now).rosters)) }
 {
     check(tables, request, item)?;
     Ok(Plan {

@@ -67,7 +67,8 @@ pub(crate) fn plan_my_subs(
     request: &Request,
     node: &Text,
 ) -> Result<Plan, PlanRefusal>
-    ensures { Agrees result (outcome (first_denial (mine_steps (book_of tables.now) request.now node.now)) (Some (model.own_subs_child (book_of tables.now) request.now node.now))) false }
+    ensures { Agrees result (outcome (first_denial (mine_steps (book_of tables.now) request.now node.now))
+        (Some (model.own_subs_child (book_of tables.now) request.now node.now))) false }
 {
     check_mine(tables, request, node)?;
     let reply = child(alloc, tables, request, node)?;

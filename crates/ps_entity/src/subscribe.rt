@@ -41,7 +41,8 @@ fn is_waiting(tables: &Tables, node: &NodeKey, who: &Jid) -> bool
 
 // A new row needs room.
 fn has_room(tables: &Tables, node: &NodeKey, who: &Jid) -> bool
-    ensures { result ≡ (is_some (sub_row node.now who.now (book_of tables.now).subs) || nat_lt (sub_count node.now (book_of tables.now).subs) limits.max_subs) }
+    ensures { result ≡ (is_some (sub_row node.now who.now (book_of tables.now).subs) || nat_lt
+        (sub_count node.now (book_of tables.now).subs) limits.max_subs) }
 {
     tables.subs.row_of(node, who).is_some() || tables.subs.count(node) < max_subs()
 }
@@ -55,7 +56,8 @@ fn check(
     form: &Option<Elem>,
 ) -> Result<SubOptions, PlanRefusal>
     requires node { node.now ≡ node_of request.now node.now.name }
-    ensures gives { PassesWith result (first_denial (subscribe_steps (book_of tables.now) request.now node.now.name who.now form.now)) (model.sub_options form.now (model.base_options (book_of tables.now) node.now who.now)) }
+    ensures gives { PassesWith result (first_denial (subscribe_steps (book_of tables.now) request.now node.now.name
+        who.now form.now)) (model.sub_options form.now (model.base_options (book_of tables.now) node.now who.now)) }
     ensures stands { OnOk result (stands node.now tables.now.nodes.rows ≡ true) }
 {
     must_stand(tables, node)?;
@@ -78,8 +80,18 @@ fn subscribed(
 ) -> Result<Plan, Memory>
     requires stands { stands node.now tables.now.nodes.rows ≡ true }
     requires node { node.now ≡ node_of request.now node.now.name }
-    ensures reply { IfOk result (λ plan. plan.reply ≡ Some (subscribe_child (book_of tables.now) request.now node.now.name who.now)) }
-    ensures commits { IfOk result (λ plan. plan.commits ≡ not (same_subs (subs_with (record { node = node.now; who = who.now; state = model.new_state (book_of tables.now) request.now node.now who.now; options = options }) (book_of tables.now).subs) (book_of tables.now).subs)) }
+    ensures reply { IfOk result
+        (λ plan. plan.reply ≡ Some (subscribe_child (book_of tables.now) request.now node.now.name who.now)) }
+    ensures commits { IfOk result
+        (λ plan. plan.commits
+        ≡ not (same_subs
+        (subs_with (record {
+          node = node.now;
+          who = who.now;
+          state = model.new_state (book_of tables.now) request.now
+              node.now who.now;
+          options = options;
+        }) (book_of tables.now).subs) (book_of tables.now).subs)) }
 {
     let state = new_state(tables, request, node, who);
     let part = sub_tree(alloc, &node.name, who, state)?;
@@ -99,7 +111,11 @@ fn subscribe_at(
     form: &Option<Elem>,
 ) -> Result<Plan, PlanRefusal>
     requires node { node.now ≡ node_of request.now node.now.name }
-    ensures { Agrees result (outcome (first_denial (subscribe_steps (book_of tables.now) request.now node.now.name who.now form.now)) (Some (subscribe_child (book_of tables.now) request.now node.now.name who.now))) (not (same_subs (model.subscribe_change request.now node.now who.now form.now (book_of tables.now)).subs (book_of tables.now).subs)) }
+    ensures { Agrees result
+        (outcome (first_denial (subscribe_steps (book_of tables.now) request.now node.now.name who.now form.now))
+        (Some (subscribe_child (book_of tables.now) request.now node.now.name who.now)))
+        (not (same_subs (model.subscribe_change request.now node.now who.now form.now (book_of tables.now)).subs
+        (book_of tables.now).subs)) }
 {
     match check(alloc, tables, request, node, who, form) {
         Ok(options) => Ok(subscribed(alloc, tables, request, node, who, options)?),
@@ -116,7 +132,11 @@ pub(crate) fn plan_subscribe(
     who: &Jid,
     form: &Option<Elem>,
 ) -> Result<Plan, PlanRefusal>
-    ensures { Agrees result (outcome (first_denial (subscribe_steps (book_of tables.now) request.now node.now who.now form.now)) (Some (subscribe_child (book_of tables.now) request.now node.now who.now))) (not (same_subs (model.subscribe_change request.now (node_of request.now node.now) who.now form.now (book_of tables.now)).subs (book_of tables.now).subs)) }
+    ensures { Agrees result
+        (outcome (first_denial (subscribe_steps (book_of tables.now) request.now node.now who.now form.now))
+        (Some (subscribe_child (book_of tables.now) request.now node.now who.now)))
+        (not (same_subs (model.subscribe_change request.now (node_of request.now node.now) who.now form.now
+        (book_of tables.now)).subs (book_of tables.now).subs)) }
 {
     let key = key_of(request, node)?;
     subscribe_at(alloc, tables, request, &key, who, form)

@@ -19,7 +19,8 @@ fn check(
     subid: &Text,
 ) -> Result<(), PlanRefusal>
     requires node { node.now ≡ node_of request.now node.now.name }
-    ensures { Passes result (first_denial (unsubscribe_steps (book_of tables.now) request.now node.now.name who.now subid.now)) }
+    ensures { Passes result
+        (first_denial (unsubscribe_steps (book_of tables.now) request.now node.now.name who.now subid.now)) }
 {
     must_stand(tables, node)?;
     pass_if(subid.is_empty(), Condition::C15)?;
@@ -34,7 +35,8 @@ pub(crate) fn plan_unsubscribe(
     who: &Jid,
     subid: &Text,
 ) -> Result<Plan, PlanRefusal>
-    ensures { Agrees result (outcome (first_denial (unsubscribe_steps (book_of tables.now) request.now node.now who.now subid.now)) None) true }
+    ensures { Agrees result (outcome
+        (first_denial (unsubscribe_steps (book_of tables.now) request.now node.now who.now subid.now)) None) true }
 {
     let key = key_of(request, node)?;
     check(tables, request, &key, who, subid)?;

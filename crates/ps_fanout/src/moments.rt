@@ -29,5 +29,6 @@ pub fn stamp(alloc: Global, moment: u64) -> Result<Text, Memory>
 
 /// The stamp of a moment is the text of the date and time that a clock at UTC shows then, as `jiff` has them, and a `Z`.
 pub fn stamp_is_utc()
-    ensures { (moment : ℕ) (shown : DateTime) → civil_nanos shown ≡ pos (moment * 1_000_000_000) → model.stamp moment ≡ iso_datetime_text shown ++ codes "Z" }
+    ensures { (moment : ℕ) (shown : DateTime) → civil_nanos shown ≡ pos (moment * 1_000_000_000)
+        → model.stamp moment ≡ iso_datetime_text shown ++ codes "Z" }
 {}

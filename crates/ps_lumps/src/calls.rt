@@ -19,7 +19,8 @@ pub fn put(rows: &mut Rows<Lump>, row: Lump)
 
 /// Takes the row of a group and key away.
 pub fn take(rows: &mut Rows<Lump>, row: &Lump)
-    ensures rows { rows.new.rows ≡ without (λ x. nat_eq row.now.group x.group && nat_eq row.now.key x.key) rows.old.rows }
+    ensures rows { rows.new.rows
+        ≡ without (λ x. nat_eq row.now.group x.group && nat_eq row.now.key x.key) rows.old.rows }
     ensures room { rows.old.spare ≤ rows.new.spare }
 {
     rows.take_away(Index::Key, row);

@@ -38,7 +38,11 @@ pub struct Head {
 
 // The attributes of a reply; an empty id is left out.
 fn reply_attrs(alloc: Global, head: &Head, kind: &str) -> Result<Attrs, Memory>
-    ensures { IfOk result (λ a. a ≡ with_attr (codes "from") (jid_text head.now.from) (attr_pair (codes "id", head.now.id) (with_attr (codes "to") (jid_text head.now.to) (attr_pair (codes "type", kind.now) [])))) }
+    ensures { IfOk result (λ a. a ≡ with_attr (codes "from") (jid_text head.now.from) (attr_pair (
+      codes
+          "id",
+      head.now.id,
+    ) (with_attr (codes "to") (jid_text head.now.to) (attr_pair (codes "type", kind.now) [])))) }
 {
     let mut attrs = Attrs::new(alloc);
     put_pair(alloc, &mut attrs, "type", kind)?;
@@ -169,7 +173,8 @@ pub fn message(
     headline: bool,
     parts: Kids,
 ) -> Result<Elem, Memory>
-    ensures { IfOk result (λ t. t ≡ with_id number (notice.message from.now to.now (kind_attr (kind_of headline)) (nodes parts))) }
+    ensures { IfOk result
+        (λ t. t ≡ with_id number (notice.message from.now to.now (kind_attr (kind_of headline)) (nodes parts))) }
 {
     let id = format!(in alloc; "n-{number}")?;
     let mut attrs = kind_attrs(alloc, headline)?;

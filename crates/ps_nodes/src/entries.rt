@@ -14,12 +14,14 @@ use std::alloc::AllocError;
 /// Nodes by their keys, which are hashed by a seed.
 pub type NodeMap = IndexMap<NodeKey, NodeRest, Seeded>;
 
+/// Whether the node stands.
 pub fn holds(nodes: &NodeMap, node: &NodeKey) -> bool
     ensures { result ≡ stands node.now (map row_of nodes.now.entries) }
 {
     nodes.contains_key(node)
 }
 
+/// The node at this place, in the order in which nodes were made.
 pub fn row_at(nodes: &NodeMap, at: usize) -> Option<NodeRef<'_>>
     ensures { option_map row_seen result ≡ slice_get (map row_of nodes.now.entries) at }
 {
@@ -29,6 +31,7 @@ pub fn row_at(nodes: &NodeMap, at: usize) -> Option<NodeRef<'_>>
     }
 }
 
+/// The node of this key.
 pub fn row_in<'a>(nodes: &'a NodeMap, node: &NodeKey) -> Option<NodeRef<'a>>
     ensures { option_map row_seen result ≡ node_at node.now (map row_of nodes.now.entries) }
 {
@@ -56,6 +59,7 @@ fn seen<'a>(key: &'a NodeKey, rest: &'a NodeRest) -> NodeRef<'a>
     }
 }
 
+/// The configuration of the node of this key.
 pub fn config_in<'a>(nodes: &'a NodeMap, node: &NodeKey) -> Option<&'a NodeConfig>
     ensures { option_copied result ≡ config_at node.now (map row_of nodes.now.entries) }
 {
@@ -81,6 +85,7 @@ fn of_maker(nodes: &NodeMap, who: &Jid) -> usize
         .count()
 }
 
+/// Adds a node at the end, for which there is room, and whose key has no node yet.
 pub fn add(nodes: &mut NodeMap, row: NodeRow)
     requires room { 0 < spare nodes.old }
     requires absent { stands row.key (map row_of nodes.old.entries) ≡ false }
@@ -95,6 +100,7 @@ pub fn add(nodes: &mut NodeMap, row: NodeRow)
     let _ = nodes.insert(key, NodeRest { creator, config });
 }
 
+/// Gives a node this configuration, and tells whether it stands; where it does not, nothing changes.
 pub fn set_config_in(nodes: &mut NodeMap, node: &NodeKey, config: NodeConfig) -> bool
     ensures there { result ≡ stands node.now (map row_of nodes.old.entries) }
     ensures rows { map row_of nodes.new.entries ≡ nodes_with node.now config (map row_of nodes.old.entries) }
@@ -110,6 +116,7 @@ pub fn set_config_in(nodes: &mut NodeMap, node: &NodeKey, config: NodeConfig) ->
     }
 }
 
+/// Removes a node, and tells whether it stood. The others keep their order.
 pub fn remove_from(nodes: &mut NodeMap, node: &NodeKey) -> bool
     ensures there { result ≡ stands node.now (map row_of nodes.old.entries) }
     ensures rows { map row_of nodes.new.entries ≡ nodes_without node.now (map row_of nodes.old.entries) }
@@ -119,6 +126,10 @@ pub fn remove_from(nodes: &mut NodeMap, node: &NodeKey) -> bool
     nodes.shift_remove(node).is_some()
 }
 
+/// A copy of all nodes, in their order.
+///
+/// # Errors
+/// AllocError, where there is no memory for it.
 pub fn copy_of(nodes: &NodeMap) -> Result<NodeMap, AllocError>
     ensures { IfOk result (λ n. map row_of n.entries ≡ map row_of nodes.now.entries) }
 {

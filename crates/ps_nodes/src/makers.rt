@@ -18,6 +18,7 @@ pub struct Tally {
     pub count: usize,
 }
 
+/// How many nodes each account made, by the digest of its address.
 pub type Makers = IndexMap<u64, Tally>;
 
 fn is_maker_at(nodes: &NodeMap, at: usize, who: &Jid) -> bool
@@ -74,6 +75,7 @@ fn count_in(seed: u64, made: &mut Makers, nodes: &NodeMap, at: usize, who: &Jid)
     }
 }
 
+/// Counts the node at this place for the account that made it, where all nodes before it are counted.
 pub fn tally_at(seed: u64, made: &mut Makers, nodes: &NodeMap, at: usize)
     requires before { IsTallied seed (take at (map row_of nodes.now.entries)) made.old.entries }
     requires here { at < index_map_len nodes.now }

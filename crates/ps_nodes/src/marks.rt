@@ -20,6 +20,7 @@ pub enum By {
     Name,
 }
 
+/// The digest of a key's service or of its name, whichever is asked for.
 pub fn digest_of(by: By, seed: u64, key: &NodeKey) -> u64
     ensures digest { result ≡ key_digest by seed key.now }
     ensures small { result < 2 ^ 63 }

@@ -19,7 +19,8 @@ fn add_place(
     place: usize,
     name: &Text,
 ) -> Result<(), Memory>
-    ensures { OnOk result (places.new.items ≡ places.old.items ++ place_at name.now place (map row_of nodes.now.entries)) }
+    ensures { OnOk result
+        (places.new.items ≡ places.old.items ++ place_at name.now place (map row_of nodes.now.entries)) }
 {
     if let Some(row) = row_at(nodes, place) {
         if row.key.name == *name {

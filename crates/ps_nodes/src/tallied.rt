@@ -10,6 +10,10 @@ use crate::makers::{Makers, tally_all, tally_at};
 use ps_types::{NodeKey, NodeRow};
 use std::alloc::AllocError;
 
+/// Makes room for so many more nodes and for the counts of those who make them.
+///
+/// # Errors
+/// AllocError, where there is no memory for it; all nodes and counts stay.
 pub fn reserve(nodes: &mut NodeMap, made: &mut Makers, rows: usize) -> Result<(), AllocError>
     requires held { index_map_len nodes.old ≤ capacity made.old }
     ensures held { index_map_len nodes.new ≤ capacity made.new }
@@ -22,6 +26,7 @@ pub fn reserve(nodes: &mut NodeMap, made: &mut Makers, rows: usize) -> Result<()
     made.reserve(nodes.capacity())
 }
 
+/// Adds a node at the end, and counts it for the account that made it.
 pub fn add_tallied(seed: u64, nodes: &mut NodeMap, made: &mut Makers, row: NodeRow)
     requires kept { IsKept seed nodes.old made.old }
     requires room { 0 < room_of nodes.old made.old }
@@ -35,6 +40,7 @@ pub fn add_tallied(seed: u64, nodes: &mut NodeMap, made: &mut Makers, row: NodeR
     tally_at(seed, made, nodes, at);
 }
 
+/// Removes a node, takes it from the count of the account that made it, and tells whether it stood.
 pub fn remove_tallied(seed: u64, nodes: &mut NodeMap, made: &mut Makers, node: &NodeKey) -> bool
     requires kept { IsKept seed nodes.old made.old }
     ensures kept { IsKept seed nodes.new made.new }

@@ -47,9 +47,11 @@ impl Clock for MemClock {
     ghost faults = { λ c. c.faults };
 
     fn now(&mut self) -> Result<u64, Failed>
-        ensures told { Tells (Some (told_by self.old.answers self.old.calls)) (Some (told_by self.new.answers self.new.calls)) result }
+        ensures told { Tells (Some (told_by self.old.answers self.old.calls))
+            (Some (told_by self.new.answers self.new.calls)) result }
         ensures cause { HasCause self.old.faults self.new.faults result }
-        ensures answer { IfOk result (λ n. (self.old.calls < length self.old.answers) × (n ≡ slice_index self.old.answers self.old.calls)) }
+        ensures answer { IfOk result
+            (λ n. (self.old.calls < length self.old.answers) × (n ≡ slice_index self.old.answers self.old.calls)) }
         ensures past { IsErr result ↔ (length self.old.answers ≤ self.old.calls) }
         ensures answers { self.new.answers ≡ self.old.answers }
         ensures calls { self.new.calls ≡ next_count self.old.calls }

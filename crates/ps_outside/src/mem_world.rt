@@ -106,7 +106,8 @@ impl MemWorld {
     /// Puts a clock of these answers under the host, in the place of one that is there. None is open there.
     pub fn put_clock(&mut self, host: &Text, answers: &[u64]) -> Result<(), Memory>
         requires { clock_at self.old host.now ≢ Some None }
-        ensures here { OnOk result (clock_at self.new host.now ≡ Some (Some (record { answers = answers.now; calls = 0; faults = 0 }))) }
+        ensures here { OnOk result
+            (clock_at self.new host.now ≡ Some (Some (record { answers = answers.now; calls = 0; faults = 0 }))) }
         ensures refused { OnErr result ((n : List ℕ) → clock_at self.new n ≡ clock_at self.old n) }
         ensures others { (n : List ℕ) → n ≢ host.now → clock_at self.new n ≡ clock_at self.old n }
         ensures rest { self.new ≡ record self.old { clocks = self.new.clocks } }
@@ -118,7 +119,8 @@ impl MemWorld {
     /// The source under the name, unless it is open.
     pub fn source(&self, name: &Text) -> Option<&MemSource>
         ensures some { IfSome result (λ x. source_at self.now name.now ≡ Some (Some x.now)) }
-        ensures none { IfNone result ((source_at self.now name.now ≡ None) ⊎ (source_at self.now name.now ≡ Some None)) }
+        ensures none { IfNone result
+            ((source_at self.now name.now ≡ None) ⊎ (source_at self.now name.now ≡ Some None)) }
     {
         self.sources.get(name)
     }
@@ -155,7 +157,8 @@ impl MemWorld {
 
     fn try_ask(&mut self, kind: Kind, name: &Text) -> Result<(), Memory>
         ensures ok { OnOk result (self.new ≡ record self.old { asked = self.new.asked }) }
-        ensures asked { OnOk result (self.new.asked.items ≡ self.old.asked.items ++ record { kind = kind; name = name.now } ∷ []) }
+        ensures asked { OnOk result
+            (self.new.asked.items ≡ self.old.asked.items ++ record { kind = kind; name = name.now } ∷ []) }
         ensures err { OnErr result (self.new ≡ record self.old { asked = self.new.asked }) }
         ensures not_asked { OnErr result (self.new.asked.items ≡ self.old.asked.items) }
     {
@@ -187,7 +190,8 @@ impl MemWorld {
     fn fail_opening(&mut self) -> WorldRefusal
         ensures failed { result ≡ WorldRefusal.Failed }
         ensures later { self.old.faults ≤ self.new.faults }
-        ensures counts { self.new ≡ record self.old { faults = next_count self.old.faults; opening = (self.old.opening.0, next_count self.old.faults) } }
+        ensures counts { self.new ≡ record self.old
+            { faults = next_count self.old.faults; opening = (self.old.opening.0, next_count self.old.faults) } }
     {
         self.faults = self.faults.saturating_add(1);
         self.opening = (self.opening.0, self.faults);
@@ -262,7 +266,8 @@ impl World for MemWorld {
         ensures lefts { SameLefts (lefts_of self.old) (lefts_of self.new) }
         ensures clocks { Same (clocks_of self.old) (clocks_of self.new) }
         ensures stay { Stay (IsLent self.old) (IsLent self.new) }
-        ensures asked { Asks result (asked_of self.old) (record { kind = Kind.Source; name = name.now }) (asked_of self.new) }
+        ensures asked { Asks result (asked_of self.old) (record { kind = Kind.Source; name = name.now })
+            (asked_of self.new) }
         ensures reported { Some (reported_of self.new) ≡ Some (reported_of self.old) }
         ensures last { LastOpening result self.old.faults self.new.faults self.old.opening self.new.opening }
         ensures cause { OpeningHasCause self.old.faults self.new.faults result }
@@ -285,7 +290,8 @@ impl World for MemWorld {
         ensures lefts { SameLefts (lefts_of self.old) (lefts_of self.new) }
         ensures clocks { Same (clocks_of self.old) (clocks_of self.new) }
         ensures stay { Stay (IsLent self.old) (IsLent self.new) }
-        ensures asked { Asks result (asked_of self.old) (record { kind = Kind.Sink; name = name.now }) (asked_of self.new) }
+        ensures asked { Asks result (asked_of self.old) (record { kind = Kind.Sink; name = name.now })
+            (asked_of self.new) }
         ensures reported { Some (reported_of self.new) ≡ Some (reported_of self.old) }
         ensures last { LastOpening result self.old.faults self.new.faults self.old.opening self.new.opening }
         ensures cause { OpeningHasCause self.old.faults self.new.faults result }
@@ -299,7 +305,8 @@ impl World for MemWorld {
     }
 
     fn open_disk(&mut self, name: &Text) -> Result<MemDisk, WorldRefusal>
-        ensures object { IfOk result (λ d. IsHeldStore (stores_of self.old name.now) d.faults (state_of d).seen (state_of d).synced (state_of d).written (length d.kept) (syncs_in d.kept)) }
+        ensures object { IfOk result (λ d. IsHeldStore (stores_of self.old name.now) d.faults (state_of d).seen
+            (state_of d).synced (state_of d).written (length d.kept) (syncs_in d.kept)) }
         ensures left { IfOk result (λ d. SameLeft (lefts_of self.old name.now) (LeftSince d)) }
         ensures open { OnOk result (IsLent self.new Kind.Store name.now) }
         ensures refused_stores { OnErr result (Same (stores_of self.old) (stores_of self.new)) }
@@ -310,7 +317,8 @@ impl World for MemWorld {
         ensures lefts { SameLeftsBut name.now (lefts_of self.old) (lefts_of self.new) }
         ensures clocks { Same (clocks_of self.old) (clocks_of self.new) }
         ensures stay { Stay (IsLent self.old) (IsLent self.new) }
-        ensures asked { Asks result (asked_of self.old) (record { kind = Kind.Store; name = name.now }) (asked_of self.new) }
+        ensures asked { Asks result (asked_of self.old) (record { kind = Kind.Store; name = name.now })
+            (asked_of self.new) }
         ensures reported { Some (reported_of self.new) ≡ Some (reported_of self.old) }
         ensures last { LastOpening result self.old.faults self.new.faults self.old.opening self.new.opening }
         ensures cause { OpeningHasCause self.old.faults self.new.faults result }
@@ -324,7 +332,8 @@ impl World for MemWorld {
     }
 
     fn open_clock(&mut self, name: &Text) -> Result<MemClock, WorldRefusal>
-        ensures object { IfOk result (λ c. IsHeldClock (clocks_of self.old name.now) c.faults (Some (told_by c.answers c.calls))) }
+        ensures object { IfOk result
+            (λ c. IsHeldClock (clocks_of self.old name.now) c.faults (Some (told_by c.answers c.calls))) }
         ensures open { OnOk result (IsLent self.new Kind.Clock name.now) }
         ensures refused_clocks { OnErr result (Same (clocks_of self.old) (clocks_of self.new)) }
         ensures sources { Same (sources_of self.old) (sources_of self.new) }
@@ -333,7 +342,8 @@ impl World for MemWorld {
         ensures lefts { SameLefts (lefts_of self.old) (lefts_of self.new) }
         ensures clocks { SameBut name.now (clocks_of self.old) (clocks_of self.new) }
         ensures stay { Stay (IsLent self.old) (IsLent self.new) }
-        ensures asked { Asks result (asked_of self.old) (record { kind = Kind.Clock; name = name.now }) (asked_of self.new) }
+        ensures asked { Asks result (asked_of self.old) (record { kind = Kind.Clock; name = name.now })
+            (asked_of self.new) }
         ensures reported { Some (reported_of self.new) ≡ Some (reported_of self.old) }
         ensures last { LastOpening result self.old.faults self.new.faults self.old.opening self.new.opening }
         ensures cause { OpeningHasCause self.old.faults self.new.faults result }
@@ -376,7 +386,8 @@ impl World for MemWorld {
         ensures cause { HasCause self.old.faults self.new.faults result }
         ensures failing { Contains (failing_of self.old) (next_count (calls_of self.old)) → IsErr result }
         ensures gave_up { refused_of self.old < refused_of self.new → IsErr result }
-        ensures only { IsErr result → Contains (failing_of self.old) (next_count (calls_of self.old)) ⊎ Rose (refused_of self.old) (refused_of self.new) }
+        ensures only { IsErr result → Contains (failing_of self.old) (next_count (calls_of self.old))
+            ⊎ Rose (refused_of self.old) (refused_of self.new) }
     {
         self.calls = self.calls.saturating_add(1);
         if self.failing.contains(&self.calls) {

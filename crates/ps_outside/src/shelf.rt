@@ -8,12 +8,14 @@ use ps_base::Memory;
 use ps_types::Text;
 use std::alloc::Global;
 
+/// A place under a name, which holds something or is free.
 #[derive(Drop)]
 pub struct Slot<T> {
     pub name: Text,
     pub held: Option<T>,
 }
 
+/// Things by their names, in the order in which they came.
 #[derive(Drop)]
 pub struct Shelf<T> {
     pub slots: Vec<Slot<T>>,
@@ -32,6 +34,7 @@ fn copy_of(name: &Text) -> Result<Text, Memory>
 }
 
 impl<T> Shelf<T> {
+    /// A shelf with no place.
     pub fn new(alloc: Global) -> Shelf<T>
         ensures { result.slots.items ≡ [] }
     {
@@ -44,7 +47,8 @@ impl<T> Shelf<T> {
     pub fn take(&mut self, name: &Text) -> Option<T>
         ensures taken { IfSome result (λ x. at self.old.slots.items name.now ≡ Some (Some x)) }
         ensures none { IfNone result (self.new.slots.items ≡ self.old.slots.items) }
-        ensures absent { IfNone result ((at self.old.slots.items name.now ≡ None) ⊎ (at self.old.slots.items name.now ≡ Some None)) }
+        ensures absent { IfNone result
+            ((at self.old.slots.items name.now ≡ None) ⊎ (at self.old.slots.items name.now ≡ Some None)) }
         ensures lent { OnSome result (at self.new.slots.items name.now ≡ Some None) }
         ensures others { (n : List ℕ) → n ≢ name.now → at self.new.slots.items n ≡ at self.old.slots.items n }
     {
@@ -55,7 +59,8 @@ impl<T> Shelf<T> {
 
     /// Whether the name has a place.
     pub fn has(&self, name: &Text) -> bool
-        ensures { MatchBool result (IsSome (at self.now.slots.items name.now)) (at self.now.slots.items name.now ≡ None) }
+        ensures { MatchBool result (IsSome (at self.now.slots.items name.now))
+            (at self.now.slots.items name.now ≡ None) }
     {
         match place_of(&self.slots, name) {
             Some(_) => true,
@@ -104,7 +109,8 @@ impl<T> Shelf<T> {
     /// What stands under the name, unless it is lent.
     pub fn get(&self, name: &Text) -> Option<&T>
         ensures some { IfSome result (λ x. at self.now.slots.items name.now ≡ Some (Some x.now)) }
-        ensures none { IfNone result ((at self.now.slots.items name.now ≡ None) ⊎ (at self.now.slots.items name.now ≡ Some None)) }
+        ensures none { IfNone result
+            ((at self.now.slots.items name.now ≡ None) ⊎ (at self.now.slots.items name.now ≡ Some None)) }
     {
         let place = place_of(&self.slots, name)?;
         self.slots[place].held.as_ref()

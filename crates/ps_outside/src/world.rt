@@ -79,7 +79,8 @@ pub trait World {
 
     /// Opens a source.
     fn open_source(&mut self, name: &Text) -> Result<Self::Reading, WorldRefusal>
-        ensures object { IfOk result (λ s. IsHeld (sources self.old name.now) (Self.Reading.faults s) (Self.Reading.left s)) }
+        ensures object { IfOk result
+            (λ s. IsHeld (sources self.old name.now) (Self.Reading.faults s) (Self.Reading.left s)) }
         ensures open { OnOk result (is_open self.new Kind.Source name.now) }
         ensures refused_sources { OnErr result (Same (sources self.old) (sources self.new)) }
         ensures sources { SameBut name.now (sources self.old) (sources self.new) }
@@ -90,12 +91,14 @@ pub trait World {
         ensures stay { Stay (is_open self.old) (is_open self.new) }
         ensures asked { Asks result (asked self.old) (record { kind = Kind.Source; name = name.now }) (asked self.new) }
         ensures reported { reported self.new ≡ reported self.old }
-        ensures last { LastOpening result (faults self.old) (faults self.new) (last_opening self.old) (last_opening self.new) }
+        ensures last { LastOpening result (faults self.old) (faults self.new) (last_opening self.old)
+            (last_opening self.new) }
         ensures cause { OpeningHasCause (faults self.old) (faults self.new) result };
 
     /// Opens a sink.
     fn open_sink(&mut self, name: &Text) -> Result<Self::Writing, WorldRefusal>
-        ensures object { IfOk result (λ s. IsHeld (sinks self.old name.now) (Self.Writing.faults s) (Self.Writing.written s)) }
+        ensures object { IfOk result
+            (λ s. IsHeld (sinks self.old name.now) (Self.Writing.faults s) (Self.Writing.written s)) }
         ensures open { OnOk result (is_open self.new Kind.Sink name.now) }
         ensures refused_sinks { OnErr result (Same (sinks self.old) (sinks self.new)) }
         ensures sources { Same (sources self.old) (sources self.new) }
@@ -106,12 +109,15 @@ pub trait World {
         ensures stay { Stay (is_open self.old) (is_open self.new) }
         ensures asked { Asks result (asked self.old) (record { kind = Kind.Sink; name = name.now }) (asked self.new) }
         ensures reported { reported self.new ≡ reported self.old }
-        ensures last { LastOpening result (faults self.old) (faults self.new) (last_opening self.old) (last_opening self.new) }
+        ensures last { LastOpening result (faults self.old) (faults self.new) (last_opening self.old)
+            (last_opening self.new) }
         ensures cause { OpeningHasCause (faults self.old) (faults self.new) result };
 
     /// Opens a store.
     fn open_disk(&mut self, name: &Text) -> Result<Self::Store, WorldRefusal>
-        ensures object { IfOk result (λ d. IsHeldStore (stores self.old name.now) (Self.Store.faults d) (Self.Store.seen d) (Self.Store.synced d) (Self.Store.written d) (Self.Store.moment d) (Self.Store.syncs d)) }
+        ensures object { IfOk result
+            (λ d. IsHeldStore (stores self.old name.now) (Self.Store.faults d) (Self.Store.seen d) (Self.Store.synced d)
+            (Self.Store.written d) (Self.Store.moment d) (Self.Store.syncs d)) }
         ensures left { IfOk result (λ d. SameLeft (lefts self.old name.now) (Self.Store.left_since d)) }
         ensures open { OnOk result (is_open self.new Kind.Store name.now) }
         ensures refused_stores { OnErr result (Same (stores self.old) (stores self.new)) }
@@ -124,12 +130,14 @@ pub trait World {
         ensures stay { Stay (is_open self.old) (is_open self.new) }
         ensures asked { Asks result (asked self.old) (record { kind = Kind.Store; name = name.now }) (asked self.new) }
         ensures reported { reported self.new ≡ reported self.old }
-        ensures last { LastOpening result (faults self.old) (faults self.new) (last_opening self.old) (last_opening self.new) }
+        ensures last { LastOpening result (faults self.old) (faults self.new) (last_opening self.old)
+            (last_opening self.new) }
         ensures cause { OpeningHasCause (faults self.old) (faults self.new) result };
 
     /// Opens the clock of a host.
     fn open_clock(&mut self, name: &Text) -> Result<Self::Ticking, WorldRefusal>
-        ensures object { IfOk result (λ c. IsHeldClock (clocks self.old name.now) (Self.Ticking.faults c) (Self.Ticking.told c)) }
+        ensures object { IfOk result
+            (λ c. IsHeldClock (clocks self.old name.now) (Self.Ticking.faults c) (Self.Ticking.told c)) }
         ensures open { OnOk result (is_open self.new Kind.Clock name.now) }
         ensures refused_clocks { OnErr result (Same (clocks self.old) (clocks self.new)) }
         ensures sources { Same (sources self.old) (sources self.new) }
@@ -140,7 +148,8 @@ pub trait World {
         ensures stay { Stay (is_open self.old) (is_open self.new) }
         ensures asked { Asks result (asked self.old) (record { kind = Kind.Clock; name = name.now }) (asked self.new) }
         ensures reported { reported self.new ≡ reported self.old }
-        ensures last { LastOpening result (faults self.old) (faults self.new) (last_opening self.old) (last_opening self.new) }
+        ensures last { LastOpening result (faults self.old) (faults self.new) (last_opening self.old)
+            (last_opening self.new) }
         ensures cause { OpeningHasCause (faults self.old) (faults self.new) result };
 
     /// Takes back a source that was opened under the name.
@@ -176,7 +185,8 @@ pub trait World {
     /// Takes back a store that was opened under the name.
     fn give_back_disk(&mut self, name: &Text, disk: Self::Store)
         requires { is_open self.old Kind.Store name.now }
-        ensures held { IsHeldStore (stores self.new name.now) (Self.Store.faults disk) (Self.Store.seen disk) (Self.Store.synced disk) (Self.Store.written disk) (Self.Store.moment disk) (Self.Store.syncs disk) }
+        ensures held { IsHeldStore (stores self.new name.now) (Self.Store.faults disk) (Self.Store.seen disk)
+            (Self.Store.synced disk) (Self.Store.written disk) (Self.Store.moment disk) (Self.Store.syncs disk) }
         ensures left { SameLeft (Self.Store.left_since disk) (lefts self.new name.now) }
         ensures sources { Same (sources self.old) (sources self.new) }
         ensures sinks { Same (sinks self.old) (sinks self.new) }

@@ -68,14 +68,16 @@ fn keeps_account(node: &NodeKey, rows: &[AskRow]) -> bool
 
 // An owner is left: one of the rows as they are set, or another one.
 fn has_owner(affils: &Affils, node: &NodeKey, edit: &AffilEdit) -> bool
-    ensures { result ≡ (list_any (owns_at node.now) edit.now.after.items || list_any (is_other_owner node.now edit.now.asked.rows) affils.now.rows) }
+    ensures { result ≡ (list_any (owns_at node.now) edit.now.after.items || list_any
+        (is_other_owner node.now edit.now.asked.rows) affils.now.rows) }
 {
     any_owner(edit.after.as_slice(), node) || affils.has_other_owner(node, &edit.asked)
 }
 
 // A node that is no account's keeps an owner.
 fn keeps_owner(affils: &Affils, node: &NodeKey, rows: &[AskRow], edit: &AffilEdit) -> bool
-    ensures { (book : Book) → book.affils ≡ affils.now.rows → IsAffilEdit edit.now node.now rows.now affils.now.rows → result ≡ model.keeps_owner book node.now rows.now }
+    ensures { (book : Book) → book.affils ≡ affils.now.rows → IsAffilEdit edit.now node.now rows.now affils.now.rows
+        → result ≡ model.keeps_owner book node.now rows.now }
 {
     if is_account_address(&node.service) {
         keeps_account(node, rows)
@@ -103,7 +105,8 @@ fn settle(
     node: &NodeKey,
     rows: &[AskRow],
 ) -> Result<bool, PlanRefusal>
-    ensures { Settles result (unless (model.keeps_owner (book_of tables.now) node.now rows.now) C14) (not (same_affils (affils_asked node.now rows.now tables.now.affils.rows) tables.now.affils.rows)) }
+    ensures { Settles result (unless (model.keeps_owner (book_of tables.now) node.now rows.now) C14)
+        (not (same_affils (affils_asked node.now rows.now tables.now.affils.rows) tables.now.affils.rows)) }
 {
     let edit = edit_affils(alloc, &tables.affils, node, rows)?;
     let keeps = keeps_owner(&tables.affils, node, rows, &edit);
@@ -117,7 +120,9 @@ fn check_affils(
     node: &Text,
     rows: &[AskRow],
 ) -> Result<bool, PlanRefusal>
-    ensures { Settles result (first_denial (affils_set_steps (book_of tables.now) request.now node.now rows.now)) (not (same_affils (affils_asked (node_of request.now node.now) rows.now tables.now.affils.rows) tables.now.affils.rows)) }
+    ensures { Settles result (first_denial (affils_set_steps (book_of tables.now) request.now node.now rows.now))
+        (not (same_affils (affils_asked (node_of request.now node.now) rows.now tables.now.affils.rows)
+        tables.now.affils.rows)) }
 {
     let key = key_of(request, node)?;
     must_stand(tables, &key)?;
@@ -134,7 +139,10 @@ pub fn plan_set_affils(
     node: &Text,
     rows: &[AskRow],
 ) -> Result<Plan, PlanRefusal>
-    ensures { Agrees result (outcome (first_denial (affils_set_steps (book_of tables.now) request.now node.now rows.now)) None) (not (same_affils (affils_asked (node_of request.now node.now) rows.now tables.now.affils.rows) tables.now.affils.rows)) }
+    ensures { Agrees result
+        (outcome (first_denial (affils_set_steps (book_of tables.now) request.now node.now rows.now)) None)
+        (not (same_affils (affils_asked (node_of request.now node.now) rows.now tables.now.affils.rows)
+        tables.now.affils.rows)) }
 {
     let commits = check_affils(alloc, tables, request, node, rows)?;
     Ok(entry_plan(commits))

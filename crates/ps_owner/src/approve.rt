@@ -32,7 +32,8 @@ fn check_approve(
     who: &Jid,
     allowed: &Text,
 ) -> Result<(), PlanRefusal>
-    ensures { Passes result (first_denial (approve_steps (book_of tables.now) request.now node.now who.now allowed.now)) }
+    ensures { Passes result
+        (first_denial (approve_steps (book_of tables.now) request.now node.now who.now allowed.now)) }
 {
     let key = key_of(request, node)?;
     must_stand(tables, &key)?;
@@ -49,7 +50,8 @@ pub fn plan_approve(
     who: &Jid,
     allowed: &Text,
 ) -> Result<Plan, PlanRefusal>
-    ensures { Agrees result (outcome (first_denial (approve_steps (book_of tables.now) request.now node.now who.now allowed.now)) None) true }
+    ensures { Agrees result (outcome
+        (first_denial (approve_steps (book_of tables.now) request.now node.now who.now allowed.now)) None) true }
 {
     check_approve(tables, request, node, who, allowed)?;
     Ok(entry_plan(true))

@@ -52,7 +52,8 @@ fn are_same(config: &NodeConfig, base: &NodeConfig) -> bool
 
 // Whether the node and its items are as they were after the configuration is set.
 fn stays(tables: &Tables, key: &NodeKey, config: &NodeConfig, base: &NodeConfig) -> bool
-    ensures { result ≡ (same_config config.now base.now && (length (items_under key.now config.now tables.now.items.rows) == length tables.now.items.rows)) }
+    ensures { result ≡ (same_config config.now base.now
+        && (length (items_under key.now config.now tables.now.items.rows) == length tables.now.items.rows)) }
 {
     are_same(config, base) && items_stay(tables, key, config)
 }
@@ -66,7 +67,8 @@ fn settle(
     tree: &Elem,
 ) -> Result<bool, PlanRefusal>
     requires row { node_at key.now tables.now.nodes.rows ≡ Some (row_seen row.now) }
-    ensures { Settles result (config_step (form_of tree.now) (row_seen row.now).config) (configures (book_of tables.now) key.now (Some tree.now)) }
+    ensures { Settles result (config_step (form_of tree.now) (row_seen row.now).config)
+        (configures (book_of tables.now) key.now (Some tree.now)) }
 {
     let form = form_in(alloc, tree)?;
     if is_cancelled(&form) {
@@ -84,7 +86,8 @@ fn check_form(
     form: &Option<Elem>,
 ) -> Result<bool, PlanRefusal>
     requires stands { stands key.now tables.now.nodes.rows ≡ true }
-    ensures { Settles result (config_by (node_at key.now tables.now.nodes.rows) form.now) (configures (book_of tables.now) key.now form.now) }
+    ensures { Settles result (config_by (node_at key.now tables.now.nodes.rows) form.now)
+        (configures (book_of tables.now) key.now form.now) }
 {
     let Some(row) = tables.nodes.get(key) else {
         return Err(PlanRefusal::Denied(Condition::C12));
@@ -102,7 +105,8 @@ fn check_config(
     node: &Text,
     form: &Option<Elem>,
 ) -> Result<bool, PlanRefusal>
-    ensures { Settles result (first_denial (config_set_steps (book_of tables.now) request.now node.now form.now)) (configures (book_of tables.now) (node_of request.now node.now) form.now) }
+    ensures { Settles result (first_denial (config_set_steps (book_of tables.now) request.now node.now form.now))
+        (configures (book_of tables.now) (node_of request.now node.now) form.now) }
 {
     let key = key_of(request, node)?;
     must_stand(tables, &key)?;
@@ -118,7 +122,8 @@ pub fn plan_set_config(
     node: &Text,
     form: &Option<Elem>,
 ) -> Result<Plan, PlanRefusal>
-    ensures { Agrees result (outcome (first_denial (config_set_steps (book_of tables.now) request.now node.now form.now)) None) (configures (book_of tables.now) (node_of request.now node.now) form.now) }
+    ensures { Agrees result (outcome (first_denial (config_set_steps (book_of tables.now) request.now node.now
+        form.now)) None) (configures (book_of tables.now) (node_of request.now node.now) form.now) }
 {
     let commits = check_config(alloc, tables, request, node, form)?;
     Ok(entry_plan(commits))

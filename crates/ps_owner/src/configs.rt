@@ -57,7 +57,8 @@ pub fn plan_config(
     request: &Request,
     node: &Text,
 ) -> Result<Plan, PlanRefusal>
-    ensures { Agrees result (outcome (first_denial (own_steps (book_of tables.now) request.now node.now)) (Some (model.config_child (book_of tables.now) request.now node.now))) false }
+    ensures { Agrees result (outcome (first_denial (own_steps (book_of tables.now) request.now node.now))
+        (Some (model.config_child (book_of tables.now) request.now node.now))) false }
 {
     check_own(tables, request, node)?;
     let child = config_child(alloc, tables, request, node)?;

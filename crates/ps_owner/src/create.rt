@@ -30,7 +30,8 @@ fn check_config(
     request: &Request,
     form: &Option<Elem>,
 ) -> Result<(), PlanRefusal>
-    ensures { Passes result (new_node_step (model.new_config request.now.target form.now) (book_of tables.now) request.now) }
+    ensures { Passes result
+        (new_node_step (model.new_config request.now.target form.now) (book_of tables.now) request.now) }
 {
     let config = new_config(alloc, &request.target, form)?;
     must_be_collection(tables, request, &config.collection)
@@ -60,7 +61,8 @@ pub fn plan_create(
     node: &Text,
     form: &Option<Elem>,
 ) -> Result<Plan, PlanRefusal>
-    ensures { Agrees result (outcome (first_denial (create_steps (book_of tables.now) request.now node.now form.now)) None) true }
+    ensures { Agrees result
+        (outcome (first_denial (create_steps (book_of tables.now) request.now node.now form.now)) None) true }
 {
     check_create(alloc, tables, request, node, form)?;
     Ok(entry_plan(true))

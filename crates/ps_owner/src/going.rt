@@ -39,7 +39,8 @@ fn check_delete(tables: &Tables, request: &Request, node: &Text) -> Result<(), P
 
 /// The plan of a node that is to go.
 pub fn plan_delete(tables: &Tables, request: &Request, node: &Text) -> Result<Plan, PlanRefusal>
-    ensures { Agrees result (outcome (first_denial (delete_steps (book_of tables.now) request.now node.now)) None) true }
+    ensures { Agrees result (outcome (first_denial (delete_steps (book_of tables.now) request.now node.now)) None)
+        true }
 {
     check_delete(tables, request, node)?;
     Ok(entry_plan(true))

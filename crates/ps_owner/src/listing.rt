@@ -118,7 +118,8 @@ pub fn plan_affils(
     request: &Request,
     node: &Text,
 ) -> Result<Plan, PlanRefusal>
-    ensures { Agrees result (outcome (first_denial (own_steps (book_of tables.now) request.now node.now)) (Some (model.affils_child (book_of tables.now) request.now node.now))) false }
+    ensures { Agrees result (outcome (first_denial (own_steps (book_of tables.now) request.now node.now))
+        (Some (model.affils_child (book_of tables.now) request.now node.now))) false }
 {
     check_own(tables, request, node)?;
     let child = affils_child(alloc, tables, request, node)?;
@@ -168,7 +169,8 @@ pub fn plan_subs(
     request: &Request,
     node: &Text,
 ) -> Result<Plan, PlanRefusal>
-    ensures { Agrees result (outcome (first_denial (own_steps (book_of tables.now) request.now node.now)) (Some (model.subs_child (book_of tables.now) request.now node.now))) false }
+    ensures { Agrees result (outcome (first_denial (own_steps (book_of tables.now) request.now node.now))
+        (Some (model.subs_child (book_of tables.now) request.now node.now))) false }
 {
     check_own(tables, request, node)?;
     let child = subs_child(alloc, tables, request, node)?;

@@ -50,7 +50,8 @@ fn count_at(rows: &[SubRow], node: &NodeKey) -> usize
 
 // The node has few enough subscriptions: those of today, without those that are set, and with what they become.
 fn are_few(subs: &Subs, node: &NodeKey, edit: &SubEdit) -> bool
-    ensures { (rows : List AskRow) → IsSubEdit edit.now node.now rows subs.now.rows → result ≡ nat_le (sub_count node.now (subs_asked node.now rows subs.now.rows)) model.max_subs }
+    ensures { (rows : List AskRow) → IsSubEdit edit.now node.now rows subs.now.rows
+        → result ≡ nat_le (sub_count node.now (subs_asked node.now rows subs.now.rows)) model.max_subs }
 {
     let gone = count_at(edit.before.as_slice(), node) as u128;
     let come = count_at(edit.after.as_slice(), node) as u128;
@@ -76,7 +77,9 @@ fn settle(
     node: &NodeKey,
     rows: &[AskRow],
 ) -> Result<bool, PlanRefusal>
-    ensures { Settles result (unless (nat_le (sub_count node.now (subs_asked node.now rows.now tables.now.subs.rows)) model.max_subs) C23) (not (same_subs (subs_asked node.now rows.now tables.now.subs.rows) tables.now.subs.rows)) }
+    ensures { Settles result
+        (unless (nat_le (sub_count node.now (subs_asked node.now rows.now tables.now.subs.rows)) model.max_subs) C23)
+        (not (same_subs (subs_asked node.now rows.now tables.now.subs.rows) tables.now.subs.rows)) }
 {
     let edit = edit_subs(alloc, &tables.subs, node, rows)?;
     let few = are_few(&tables.subs, node, &edit);
@@ -90,7 +93,8 @@ fn check_subs(
     node: &Text,
     rows: &[AskRow],
 ) -> Result<bool, PlanRefusal>
-    ensures { Settles result (first_denial (subs_set_steps (book_of tables.now) request.now node.now rows.now)) (not (same_subs (subs_asked (node_of request.now node.now) rows.now tables.now.subs.rows) tables.now.subs.rows)) }
+    ensures { Settles result (first_denial (subs_set_steps (book_of tables.now) request.now node.now rows.now)) (not
+        (same_subs (subs_asked (node_of request.now node.now) rows.now tables.now.subs.rows) tables.now.subs.rows)) }
 {
     let key = key_of(request, node)?;
     must_stand(tables, &key)?;
@@ -108,7 +112,9 @@ pub fn plan_set_subs(
     node: &Text,
     rows: &[AskRow],
 ) -> Result<Plan, PlanRefusal>
-    ensures { Agrees result (outcome (first_denial (subs_set_steps (book_of tables.now) request.now node.now rows.now)) None) (not (same_subs (subs_asked (node_of request.now node.now) rows.now tables.now.subs.rows) tables.now.subs.rows)) }
+    ensures { Agrees result
+        (outcome (first_denial (subs_set_steps (book_of tables.now) request.now node.now rows.now)) None) (not
+        (same_subs (subs_asked (node_of request.now node.now) rows.now tables.now.subs.rows) tables.now.subs.rows)) }
 {
     let commits = check_subs(alloc, tables, request, node, rows)?;
     Ok(entry_plan(commits))

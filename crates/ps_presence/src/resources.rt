@@ -22,6 +22,8 @@ fn has_bare(rows: &Rows<ResourceRow>, who: &Jid) -> bool
     rows.any(Index::Node, &ask)
 }
 
+/// Whether an address is present: a full one by its own row, a bare one by a row of any of its resources
+/// (RFC 6121 §4).
 pub fn is_present_among(rows: &Rows<ResourceRow>, who: &Jid) -> bool
     ensures { result ≡ is_present who.now rows.now.rows }
 {

@@ -23,7 +23,8 @@ fn plan_publish(
     items: &[AskItem],
     options: &Option<Elem>,
 ) -> Result<Plan, PlanRefusal>
-    ensures { Agrees result (outcome (first_denial (publish_steps (book_of tables.now) request.now node.now items.now options.now)) (Some (model.publish_child (book_of tables.now) request.now node.now items.now))) true }
+    ensures { Agrees result (outcome (first_denial (publish_steps (book_of tables.now) request.now node.now items.now
+        options.now)) (Some (model.publish_child (book_of tables.now) request.now node.now items.now))) true }
 {
     check_publish(alloc, tables, request, node, items, options)?;
     let child = publish_child(alloc, tables, request, node, items)?;
@@ -39,7 +40,8 @@ fn plan_retract(
     node: &Text,
     ids: &[Text],
 ) -> Result<Plan, PlanRefusal>
-    ensures { Agrees result (outcome (first_denial (retract_steps (book_of tables.now) request.now node.now ids.now)) None) true }
+    ensures { Agrees result
+        (outcome (first_denial (retract_steps (book_of tables.now) request.now node.now ids.now)) None) true }
 {
     check_retract(tables, request, node, ids)?;
     Ok(Plan {

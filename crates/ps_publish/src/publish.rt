@@ -38,7 +38,8 @@ fn check_rest(
     config: &NodeConfig,
     items: &[AskItem],
 ) -> Result<(), PlanRefusal>
-    ensures { Passes result (first_denial (item_steps config.now items.now ++ node_limit_step (book_of tables.now) request.now ∷ [])) }
+    ensures { Passes result
+        (first_denial (item_steps config.now items.now ++ node_limit_step (book_of tables.now) request.now ∷ [])) }
 {
     match check_items(alloc, config, items) {
         Ok(()) => must_have_room(tables, request),
@@ -54,7 +55,8 @@ fn check_new(
     items: &[AskItem],
     options: &Option<Elem>,
 ) -> Result<(), PlanRefusal>
-    ensures { Passes result (first_denial (publish_new_steps (book_of tables.now) request.now items.now (model.options_config options.now (defaults.default_config true)))) }
+    ensures { Passes result (first_denial (publish_new_steps (book_of tables.now) request.now items.now
+        (model.options_config options.now (defaults.default_config true)))) }
 {
     let base = default_config(alloc, true)?;
     let config = options_config(alloc, options, &base)?;
@@ -70,7 +72,8 @@ fn check_standing(
     items: &[AskItem],
     options: &Option<Elem>,
 ) -> Result<(), PlanRefusal>
-    ensures { Passes result (first_denial (unless (not (is_collection_kind config.now.node_type)) C10 ∷ denied_by verdict ∷ options_step options.now config.now ∷ item_steps config.now items.now)) }
+    ensures { Passes result (first_denial (unless (not (is_collection_kind config.now.node_type)) C10
+        ∷ denied_by verdict ∷ options_step options.now config.now ∷ item_steps config.now items.now)) }
 {
     pass_if(!is_collection(config.node_type), Condition::C10)?;
     allow(verdict)?;
@@ -87,7 +90,8 @@ pub fn check_publish(
     items: &[AskItem],
     options: &Option<Elem>,
 ) -> Result<(), PlanRefusal>
-    ensures { Passes result (first_denial (publish_steps (book_of tables.now) request.now node.now items.now options.now)) }
+    ensures { Passes result
+        (first_denial (publish_steps (book_of tables.now) request.now node.now items.now options.now)) }
 {
     let key = key_of(request, node)?;
     match tables.nodes.get(&key) {

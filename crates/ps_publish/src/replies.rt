@@ -30,7 +30,8 @@ fn item_kids(
     who: &Jid,
     items: &[AskItem],
 ) -> Result<Kids, Memory>
-    ensures { IfOk result (λ k. nodes k ≡ holding (model.published_items (book_of tables.now) node.now who.now items.now)) }
+    ensures { IfOk result
+        (λ k. nodes k ≡ holding (model.published_items (book_of tables.now) node.now who.now items.now)) }
 {
     match items {
         [] => Ok(Kids::new(alloc)),

@@ -33,7 +33,8 @@ fn node_part(alloc: Global, name: &str, ns: &str, node: &Text, kids: Kids) -> Re
 
 fn jid_part(alloc: Global, name: &str, node: &Text, who: &Jid, kids: Kids) -> Result<Elem, Memory>
     requires { name.now ≢ [] }
-    ensures { IfOk result (λ t. t ≡ tree name.now pubsub_ns (attrs_with ((codes "jid", jid_text who.now) ∷ (codes "node", node.now) ∷ [])) (nodes kids)) }
+    ensures { IfOk result (λ t. t ≡ tree name.now pubsub_ns
+        (attrs_with ((codes "jid", jid_text who.now) ∷ (codes "node", node.now) ∷ [])) (nodes kids)) }
 {
     let jid = who.text(alloc)?;
     let attrs = two(alloc, "jid", jid.as_str(), "node", node.as_str())?;
@@ -118,7 +119,8 @@ pub(crate) fn part_alone(
     kids: Kids,
 ) -> Result<Kids, Memory>
     requires { name.now ≢ [] }
-    ensures { IfOk result (λ k. nodes k ≡ holding (tree (codes "pubsub") ns.now [] (holding (tree name.now ns.now (attrs_with ((codes "node", node.now) ∷ [])) (nodes kids) ∷ [])) ∷ [])) }
+    ensures { IfOk result (λ k. nodes k ≡ holding (tree (codes "pubsub") ns.now []
+        (holding (tree name.now ns.now (attrs_with ((codes "node", node.now) ∷ [])) (nodes kids) ∷ [])) ∷ [])) }
 {
     let part = node_part(alloc, name, ns, node, kids)?;
     in_pubsub(alloc, ns, only(alloc, part)?)
@@ -183,7 +185,9 @@ pub(crate) fn unsubscribe(
 
 /// The options of a subscription, which are asked for or set.
 pub(crate) fn options(alloc: Global, node: &Text, who: &Jid, kids: Kids) -> Result<Kids, Memory>
-    ensures { IfOk result (λ k. nodes k ≡ holding (tree (codes "pubsub") pubsub_ns [] (holding (tree (codes "options") pubsub_ns (attrs_with ((codes "jid", jid_text who.now) ∷ (codes "node", node.now) ∷ [])) (nodes kids) ∷ [])) ∷ [])) }
+    ensures { IfOk result
+        (λ k. nodes k ≡ holding (tree (codes "pubsub") pubsub_ns [] (holding (tree (codes "options") pubsub_ns
+        (attrs_with ((codes "jid", jid_text who.now) ∷ (codes "node", node.now) ∷ [])) (nodes kids) ∷ [])) ∷ [])) }
 {
     let part = jid_part(alloc, "options", node, who, kids)?;
     in_pubsub(alloc, PUBSUB, only(alloc, part)?)

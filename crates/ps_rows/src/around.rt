@@ -51,7 +51,8 @@ fn put_in<R: Row + Clone>(
     at: usize,
 ) -> Result<(), Memory>
     requires within { at ≤ length rows.old.items }
-    ensures { (before : List R) → AllZip R.is_clone before rows.old.items → OnOk result (AllZip R.is_clone (around_at before at (mark_at slots.now.rows place)) rows.new.items) }
+    ensures { (before : List R) → AllZip R.is_clone before rows.old.items
+        → OnOk result (AllZip R.is_clone (around_at before at (mark_at slots.now.rows place)) rows.new.items) }
 {
     match slots.get(place) {
         Some(row) => {
@@ -70,7 +71,8 @@ pub fn gather_around<R: Row + Clone, A: Ask<R>>(
     alloc: Global,
 ) -> Result<Vec<R>, Memory>
     requires asks { AsksBy (A.passes ask.now) (λ seed. R.by seed index) (λ seed. A.seeks seed ask.now) }
-    ensures rows { IfOk result (λ rows. AllZip R.is_clone (own_and_last (A.passes ask.now) (standing slots.now.rows)) rows.items) }
+    ensures rows { IfOk result
+        (λ rows. AllZip R.is_clone (own_and_last (A.passes ask.now) (standing slots.now.rows)) rows.items) }
 {
     let mut rows = gather(slots, index, ask, alloc)?;
     let end = end_of(slots, ask);

@@ -27,7 +27,8 @@ fn gather_back<R: Row + Clone, A: Ask<R>>(
     alloc: Global,
 ) -> Result<Vec<R>, Memory>
     requires asks { AsksBy (A.passes ask.now) (λ seed. R.by seed index) (λ seed. A.seeks seed ask.now) }
-    ensures rows { IfOk result (λ rows. AllZip R.is_clone (reverse (newest_of most (filter (A.passes ask.now) (standing slots.now.rows)))) rows.items) }
+    ensures rows { IfOk result (λ rows. AllZip R.is_clone
+        (reverse (newest_of most (filter (A.passes ask.now) (standing slots.now.rows)))) rows.items) }
 {
     let mut rows = Vec::new(alloc);
     let mut at = slots.last(index, sought(slots, ask));
@@ -51,7 +52,8 @@ pub fn gather_newest<R: Row + Clone, A: Ask<R>>(
     alloc: Global,
 ) -> Result<Vec<R>, Memory>
     requires asks { AsksBy (A.passes ask.now) (λ seed. R.by seed index) (λ seed. A.seeks seed ask.now) }
-    ensures rows { IfOk result (λ rows. AllZip R.is_clone (newest_of most (filter (A.passes ask.now) (standing slots.now.rows))) rows.items) }
+    ensures rows { IfOk result
+        (λ rows. AllZip R.is_clone (newest_of most (filter (A.passes ask.now) (standing slots.now.rows))) rows.items) }
 {
     let mut rows = gather_back(slots, index, ask, most, alloc)?;
     rows.reverse();

@@ -193,7 +193,8 @@ impl<R: Row + Ask<R>> Rows<R> {
     /// Writes the row over the first of its key, or puts it last where there is none. It takes no memory.
     pub fn put(&mut self, row: R)
         requires asks { AsksBy (R.passes row) (λ seed. R.by seed Key) (λ seed. R.seeks seed row) }
-        requires alike { (seed : ℕ) (index : Index) (old : R) → R.passes row old ≡ true → R.by seed index old ≡ R.by seed index row }
+        requires alike { (seed : ℕ) (index : Index) (old : R) → R.passes row old ≡ true
+            → R.by seed index old ≡ R.by seed index row }
         requires kin { (old : R) → R.passes row old ≡ true → R.kin old row ≡ true }
         requires room { 0 < self.old.spare }
         ensures rows { self.new.rows ≡ put_row (R.passes row) row self.old.rows }
@@ -224,7 +225,8 @@ impl<R: Row + Clone> Rows<R> {
         alloc: Global,
     ) -> Result<Vec<R>, Memory>
         requires asks { AsksBy (A.passes ask.now) (λ seed. R.by seed index) (λ seed. A.seeks seed ask.now) }
-        ensures rows { IfOk result (λ rows. AllZip R.is_clone (newest_of most (filter (A.passes ask.now) self.now.rows)) rows.items) }
+        ensures rows { IfOk result
+            (λ rows. AllZip R.is_clone (newest_of most (filter (A.passes ask.now) self.now.rows)) rows.items) }
     {
         gather_newest(&self.slots, index, ask, most as usize, alloc)
     }
@@ -238,7 +240,8 @@ impl<R: Row + Clone> Rows<R> {
         alloc: Global,
     ) -> Result<Vec<R>, Memory>
         requires asks { AsksBy (A.passes ask.now) (λ seed. R.by seed index) (λ seed. A.seeks seed ask.now) }
-        ensures rows { IfOk result (λ rows. AllZip R.is_clone (own_and_last (A.passes ask.now) self.now.rows) rows.items) }
+        ensures rows { IfOk result
+            (λ rows. AllZip R.is_clone (own_and_last (A.passes ask.now) self.now.rows) rows.items) }
     {
         gather_around(&self.slots, index, ask, alloc)
     }

@@ -140,7 +140,8 @@ impl<R: Row> Slots<R> {
 
     /// The last place of a digest.
     pub fn last(&self, index: Index, digest: u64) -> Option<usize>
-        ensures last { LastBelow (mark_at (marked_by (R.by self.now.seed index) self.now.rows)) digest (length self.now.rows) result }
+        ensures last { LastBelow (mark_at (marked_by (R.by self.now.seed index) self.now.rows)) digest
+            (length self.now.rows) result }
     {
         chain(index, &self.key, &self.node, &self.bare).last(digest)
     }
@@ -154,14 +155,16 @@ impl<R: Row> Slots<R> {
 
     /// The next place of the digest of the row at a place.
     pub fn next(&self, index: Index, place: usize) -> Option<usize>
-        ensures next { (digest : ℕ) → mark_at (marked_by (R.by self.now.seed index) self.now.rows) place ≡ Some digest → FirstFrom (mark_at (marked_by (R.by self.now.seed index) self.now.rows)) digest (place + 1) result }
+        ensures next { (digest : ℕ) → mark_at (marked_by (R.by self.now.seed index) self.now.rows) place ≡ Some digest
+            → FirstFrom (mark_at (marked_by (R.by self.now.seed index) self.now.rows)) digest (place + 1) result }
     {
         chain(index, &self.key, &self.node, &self.bare).next(place)
     }
 
     /// The last place before a place of the digest of the row there.
     pub fn prior(&self, index: Index, place: usize) -> Option<usize>
-        ensures prior { (digest : ℕ) → mark_at (marked_by (R.by self.now.seed index) self.now.rows) place ≡ Some digest → LastBelow (mark_at (marked_by (R.by self.now.seed index) self.now.rows)) digest place result }
+        ensures prior { (digest : ℕ) → mark_at (marked_by (R.by self.now.seed index) self.now.rows) place ≡ Some digest
+            → LastBelow (mark_at (marked_by (R.by self.now.seed index) self.now.rows)) digest place result }
     {
         chain(index, &self.key, &self.node, &self.bare).prior(place)
     }
@@ -198,7 +201,8 @@ impl<R: Row> Slots<R> {
 
     /// Writes a row over one with the same digests. It takes no memory.
     pub fn change(&mut self, place: usize, row: R)
-        requires alike { (index : Index) → mark_at (marked_by (R.by self.old.seed index) self.old.rows) place ≡ Some (R.by self.old.seed index row) }
+        requires alike { (index : Index)
+            → mark_at (marked_by (R.by self.old.seed index) self.old.rows) place ≡ Some (R.by self.old.seed index row) }
         requires kin { (old : R) → mark_at self.old.rows place ≡ Some old → R.kin old row ≡ true }
         ensures rows { self.new.rows ≡ slice_set self.old.rows place (Some row) }
         ensures seed { self.new.seed ≡ self.old.seed }
@@ -296,7 +300,8 @@ impl<R: Row + Clone> Slots<R> {
 
 fn copy_row<R: Row + Clone>(copy: &mut Slots<R>, slot: &Option<R>) -> Result<(), Memory>
     requires room { 0 < copy.old.spare }
-    ensures rows { (before : List R) → AllZip R.is_clone before (standing copy.old.rows) → OnOk result (AllZip R.is_clone (before ++ standing (slot.now ∷ [])) (standing copy.new.rows)) }
+    ensures rows { (before : List R) → AllZip R.is_clone before (standing copy.old.rows)
+        → OnOk result (AllZip R.is_clone (before ++ standing (slot.now ∷ [])) (standing copy.new.rows)) }
     ensures room { copy.old.spare ≤ copy.new.spare + 1 }
 {
     if let Some(row) = slot {

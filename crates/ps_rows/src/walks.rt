@@ -68,7 +68,8 @@ pub fn copy_passing<R: Row + Clone, A: Ask<R>>(
     place: usize,
     ask: &A,
 ) -> Result<(), Memory>
-    ensures rows { (before : List R) → AllZip R.is_clone before rows.old.items → OnOk result (AllZip R.is_clone (before ++ passing (A.passes ask.now) (mark_at slots.now.rows place)) rows.new.items) }
+    ensures rows { (before : List R) → AllZip R.is_clone before rows.old.items → OnOk result
+        (AllZip R.is_clone (before ++ passing (A.passes ask.now) (mark_at slots.now.rows place)) rows.new.items) }
 {
     if let Some(row) = slots.get(place) {
         if ask.passes(row) {
@@ -86,7 +87,8 @@ pub fn gather<R: Row + Clone, A: Ask<R>>(
     alloc: Global,
 ) -> Result<Vec<R>, Memory>
     requires asks { AsksBy (A.passes ask.now) (λ seed. R.by seed index) (λ seed. A.seeks seed ask.now) }
-    ensures rows { IfOk result (λ rows. AllZip R.is_clone (filter (A.passes ask.now) (standing slots.now.rows)) rows.items) }
+    ensures rows { IfOk result
+        (λ rows. AllZip R.is_clone (filter (A.passes ask.now) (standing slots.now.rows)) rows.items) }
 {
     let mut rows = Vec::new(alloc);
     let mut at = slots.first(index, sought(slots, ask));

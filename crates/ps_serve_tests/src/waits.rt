@@ -158,7 +158,8 @@ struct Pair<'a> {
 
 impl<'a> Pair<'a> {
     fn note(&mut self, kind: Kind, name: &Text) -> Result<(), Memory>
-        ensures ok { OnOk result (self.new.asked.items ≡ self.old.asked.items ++ record { kind = kind; name = name.now } ∷ []) }
+        ensures ok { OnOk result
+            (self.new.asked.items ≡ self.old.asked.items ++ record { kind = kind; name = name.now } ∷ []) }
         ensures err { OnErr result (self.new.asked.items ≡ self.old.asked.items) }
     {
         let name = name.clone()?;
@@ -173,7 +174,8 @@ impl<'a> Pair<'a> {
         kind: Kind,
         name: &Text,
     ) -> Result<T, WorldRefusal>
-        ensures asked { Asks result self.old.asked.items (record { kind = kind; name = name.now }) self.new.asked.items }
+        ensures asked { Asks result self.old.asked.items (record { kind = kind; name = name.now })
+            self.new.asked.items }
         ensures never { IsErrOf result WorldRefusal.Failed → ⊥ }
     {
         let Some(object) = object else {

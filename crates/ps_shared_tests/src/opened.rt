@@ -46,7 +46,8 @@ pub fn opens<R: RandomSource + Threads + Sync>(
 ) -> Result<Opened<MemDisk>, Fail>
     requires service { service.now ≡ codes "pubsub.example" }
     requires hosts { hosts.now ≡ are_one }
-    ensures { IfOk result (λ r. MayStart (origin_of disk hosts.now service.now (entries_in r.entries.items) r.state r.store) r.state r.store hosts.now) }
+    ensures { IfOk result (λ r. MayStart
+        (origin_of disk hosts.now service.now (entries_in r.entries.items) r.state r.store) r.state r.store hosts.now) }
 {
     let limits = Limits {
         changes: 10_000,

@@ -163,7 +163,8 @@ impl Subs {
         node: &NodeKey,
         others: &Subs,
     ) -> Result<Vec<SubRow>, Memory>
-        ensures rows { IfOk result (λ rows. rows.items ≡ own_and_last (is_among node.now others.now.rows) self.now.rows) }
+        ensures rows { IfOk result
+            (λ rows. rows.items ≡ own_and_last (is_among node.now others.now.rows) self.now.rows) }
     {
         let ask = Among { node, others };
         self.rows.list_around(Index::Node, &ask, alloc)

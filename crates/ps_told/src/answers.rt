@@ -71,7 +71,8 @@ pub fn usable_answer(
     node: &Text,
     query: &Elem,
 ) -> Result<Option<Answered>, Memory>
-    ensures answered { IfOk result (λ a. a ≡ answered_by (model.is_usable caps.now node.now (info_of query.now)) caps.now (info_of query.now)) }
+    ensures answered { IfOk result
+        (λ a. a ≡ answered_by (model.is_usable caps.now node.now (info_of query.now)) caps.now (info_of query.now)) }
 {
     if !is_asked(alloc, caps, node)? {
         return Ok(None);

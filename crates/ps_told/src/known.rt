@@ -53,7 +53,8 @@ fn kept_features<'a>(tables: &'a Tables, who: &Jid, caps: &Caps) -> &'a [Text]
 /// What is known of a resource that shows these capabilities: what their verified string stands for, or else what was known of it before,
 /// as long as they stay the same.
 pub fn features_known<'a>(tables: &'a Tables, who: &Jid, caps: &Option<Caps>) -> &'a [Text]
-    ensures features { result.now ≡ model.features_known caps.now (resource_at who.now (book_of tables.now).resources) (book_of tables.now).vers }
+    ensures features { result.now
+        ≡ model.features_known caps.now (resource_at who.now (book_of tables.now).resources) (book_of tables.now).vers }
 {
     match caps {
         Some(caps) => match verified(tables, caps) {

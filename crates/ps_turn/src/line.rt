@@ -46,8 +46,10 @@ pub fn draw<D: Play<S, V>, S, V, K, P: TableRule<S, V, K>, R: Wait>(
     line: Words,
 ) -> u64
     requires table { seat.old.table_id ≡ table.now.table_id }
-    requires words { (line.ticket < table.now.table_id.words) × (line.serving < table.now.table_id.words) × (line.bell < table.now.table_id.words) }
-    requires draws { MayDraw (P.holds table.now.key) table.now.table_id.slots seat.old.id seat.old.me D.then line.ticket }
+    requires words { (line.ticket < table.now.table_id.words) × (line.serving < table.now.table_id.words)
+        × (line.bell < table.now.table_id.words) }
+    requires draws { MayDraw (P.holds table.now.key) table.now.table_id.slots seat.old.id seat.old.me D.then
+        line.ticket }
     requires rings { MayRing (P.holds table.now.key) table.now.table_id.slots seat.old.id seat.old.me line.bell }
     ensures table { (seat.new.table_id ≡ seat.old.table_id) × (seat.new.id ≡ seat.old.id) }
     ensures drew { D.then (step table.now.table_id.slots line.ticket 1 0 none) seat.old.me result seat.new.me }
@@ -69,9 +71,11 @@ fn try_draw<D: Play<S, V>, S, V, K, P: TableRule<S, V, K>>(
 ) -> Option<u64>
     requires table { seat.old.table_id ≡ table.now.table_id }
     requires words { (line.ticket < table.now.table_id.words) × (line.serving < table.now.table_id.words) }
-    requires draws { MayDraw (P.holds table.now.key) table.now.table_id.slots seat.old.id seat.old.me D.then line.ticket }
+    requires draws { MayDraw (P.holds table.now.key) table.now.table_id.slots seat.old.id seat.old.me D.then
+        line.ticket }
     ensures table { (seat.new.table_id ≡ seat.old.table_id) × (seat.new.id ≡ seat.old.id) }
-    ensures drew { IfSome result (λ n. D.then (step table.now.table_id.slots line.ticket 1 0 none) seat.old.me n seat.new.me) }
+    ensures drew { IfSome result
+        (λ n. D.then (step table.now.table_id.slots line.ticket 1 0 none) seat.old.me n seat.new.me) }
     ensures not { IfNone result (seat.new.me ≡ seat.old.me) }
 {
     let serving = table.peek(line.serving);
@@ -94,7 +98,8 @@ fn doze<S, V, K, P: TableRule<S, V, K>, R: Wait>(
     line: Words,
 )
     requires table { seat.old.table_id ≡ table.now.table_id }
-    requires words { (line.ticket < table.now.table_id.words) × (line.serving < table.now.table_id.words) × (line.bell < table.now.table_id.words) }
+    requires words { (line.ticket < table.now.table_id.words) × (line.serving < table.now.table_id.words)
+        × (line.bell < table.now.table_id.words) }
     requires rings { MayRing (P.holds table.now.key) table.now.table_id.slots seat.old.id seat.old.me line.bell }
     ensures { (seat.new.table_id ≡ seat.old.table_id) × (seat.new.id ≡ seat.old.id) × (seat.new.me ≡ seat.old.me) }
 {
@@ -143,7 +148,8 @@ pub fn wait_for<L: Play<S, V>, S, V, K, P: TableRule<S, V, K>, R: Wait>(
 )
     requires table { seat.old.table_id ≡ table.now.table_id }
     requires words { (line.serving < table.now.table_id.words) × (line.bell < table.now.table_id.words) }
-    requires looks { MayLook (P.holds table.now.key) table.now.table_id.slots seat.old.id seat.old.me L.then line.serving ticket }
+    requires looks { MayLook (P.holds table.now.key) table.now.table_id.slots seat.old.id seat.old.me L.then
+        line.serving ticket }
     requires rings { MayRing (P.holds table.now.key) table.now.table_id.slots seat.old.id seat.old.me line.bell }
     ensures table { (seat.new.table_id ≡ seat.old.table_id) × (seat.new.id ≡ seat.old.id) }
     ensures looked { L.then (step table.now.table_id.slots line.serving 0 0 none) seat.old.me ticket seat.new.me }

@@ -50,7 +50,8 @@ impl Annals for Diary {
 // Writes the entry, and leaves.
 fn leave_with(turn: &Turn<Diary>, seat: &mut Seat<Diary>, mut diary: Diary, entry: Entry)
     ghost added: { List Entry }
-    requires { (added ≡ entry ∷ []) × IsSeatOf turn.now seat.old × HasValue seat.old × (entry.by ≡ number_of seat.old) × (diary.entries.items ≡ seen_of seat.old) × (vec_len diary.entries < vec_capacity diary.entries) }
+    requires { (added ≡ entry ∷ []) × IsSeatOf turn.now seat.old × HasValue seat.old × (entry.by ≡ number_of seat.old)
+        × (diary.entries.items ≡ seen_of seat.old) × (vec_len diary.entries < vec_capacity diary.entries) }
     ensures turn { IsSeatOf turn.now seat.new × IsFree seat.new }
     ensures number { number_of seat.new ≡ number_of seat.old }
 {

@@ -55,7 +55,8 @@ fn visit_once<R: Wait>(rt: &R, turn: &Turn<Visits>, seat: &mut Seat<Visits>)
     requires { IsSeatOf turn.now seat.old × IsFree seat.old }
     ensures turn { IsSeatOf turn.now seat.new × IsFree seat.new }
     ensures number { number_of seat.new ≡ number_of seat.old }
-    ensures once { own (λ (v : Visit). v.by) (number_of seat.old) (seen_of seat.new) ≡ own (λ (v : Visit). v.by) (number_of seat.old) (seen_of seat.old) ++ record { by = number_of seat.old } ∷ [] }
+    ensures once { own (λ (v : Visit). v.by) (number_of seat.old) (seen_of seat.new)
+        ≡ own (λ (v : Visit). v.by) (number_of seat.old) (seen_of seat.old) ++ record { by = number_of seat.old } ∷ [] }
 {
     let mut visits = turn.enter(rt, seat);
     visits.count += 1;
@@ -67,7 +68,8 @@ fn work_all<R: Threads + Wait + Sync>(rt: &R, turn: &Turn<Visits>, seats: &mut [
     requires some { 0 < length seats.old }
     requires new { AreNew turn.now seats.old }
     ensures all { AreAll turn.now seats.new }
-    ensures visited { (k : ℕ) (s : Seat Visits Visit) → slice_get seats.new k ≡ Some s → (number_of s ≡ k) × (own (λ (v : Visit). v.by) k (seen_of s) ≡ record { by = k } ∷ []) }
+    ensures visited { (k : ℕ) (s : Seat Visits Visit) → slice_get seats.new k ≡ Some s → (number_of s ≡ k)
+        × (own (λ (v : Visit). v.by) k (seen_of s) ≡ record { by = k } ∷ []) }
 {
     let threads = seats.len();
     thread::for_each_mut(
@@ -76,7 +78,9 @@ fn work_all<R: Threads + Wait + Sync>(rt: &R, turn: &Turn<Visits>, seats: &mut [
         threads,
         &|_, seat: &mut Seat<Visits>|
             requires { IsSeatOf turn.now seat.old × IsFree seat.old }
-            ensures { IsSeatOf turn.entry.now seat.new × IsFree seat.new × (number_of seat.new ≡ number_of seat.old) × (own (λ (v : Visit). v.by) (number_of seat.old) (seen_of seat.new) ≡ own (λ (v : Visit). v.by) (number_of seat.old) (seen_of seat.old) ++ record { by = number_of seat.old } ∷ []) }
+            ensures { IsSeatOf turn.entry.now seat.new × IsFree seat.new × (number_of seat.new ≡ number_of seat.old)
+                × (own (λ (v : Visit). v.by) (number_of seat.old) (seen_of seat.new) ≡ own (λ (v : Visit). v.by)
+                (number_of seat.old) (seen_of seat.old) ++ record { by = number_of seat.old } ∷ []) }
         { visit_once(rt, turn, seat) },
     );
 }
@@ -88,7 +92,8 @@ pub fn visit_all<R: Threads + Wait + Sync>(
     workers: u32,
 ) -> Result<Visits, AllocError>
     requires { 0 < workers }
-    ensures { IfOk result (λ visits. (log : List Visit) × (visits.count ≡ length log) × ((k : ℕ) → k < workers → own (λ (v : Visit). v.by) k log ≡ record { by = k } ∷ [])) }
+    ensures { IfOk result (λ visits. (log : List Visit) × (visits.count ≡ length log)
+        × ((k : ℕ) → k < workers → own (λ (v : Visit). v.by) k log ≡ record { by = k } ∷ [])) }
 {
     let Ok((turn, seats)) = Turn::new(alloc, Visits { count: 0 }, workers) else {
         return Err(AllocError);

@@ -5,6 +5,7 @@ use atomic_table::{Join, Play, Split, TableRule};
 use ps_turn::{Annals, Names};
 use std::marker::PhantomData;
 
+/// What a table of twins keeps whoever writes to it.
 pub struct Law;
 
 impl<V: Annals, J: Annals<Item = V::Item>> TableRule<Part<V, J>, TwinView<V::Item>, u32> for Law {
@@ -15,6 +16,7 @@ impl<V: Annals, J: Annals<Item = V::Item>> TableRule<Part<V, J>, TwinView<V::Ite
     ghost first = { λ seats. tfounder };
 }
 
+/// Draws a ticket for the journal.
 pub struct JournalDraw;
 
 impl<V: Annals, J: Annals<Item = V::Item>> Play<Part<V, J>, TwinView<V::Item>> for JournalDraw {
@@ -23,6 +25,7 @@ impl<V: Annals, J: Annals<Item = V::Item>> Play<Part<V, J>, TwinView<V::Item>> f
     ghost then = { λ s m n w. JDraws V.stands V.firm V.mark J.stands J.firm J.mark V.maker m n w };
 }
 
+/// Reads the word that says who holds the journal.
 pub struct JournalLook;
 
 impl<V: Annals, J: Annals<Item = V::Item>> Play<Part<V, J>, TwinView<V::Item>> for JournalLook {
@@ -31,6 +34,7 @@ impl<V: Annals, J: Annals<Item = V::Item>> Play<Part<V, J>, TwinView<V::Item>> f
     ghost then = { λ s m n w. JLooks V.stands V.firm V.mark J.stands J.firm J.mark V.maker m n w };
 }
 
+/// Adds a holder's flush to the steps of the journal.
 pub struct JournalRaise;
 
 impl<V: Annals, J: Annals<Item = V::Item>> Play<Part<V, J>, TwinView<V::Item>> for JournalRaise {
@@ -39,6 +43,7 @@ impl<V: Annals, J: Annals<Item = V::Item>> Play<Part<V, J>, TwinView<V::Item>> f
     ghost then = { λ s m n w. JRaises V.stands V.firm V.mark J.stands J.firm J.mark V.maker s.first m w };
 }
 
+/// Lets the next ticket for the journal be served.
 pub struct JournalPass;
 
 impl<V: Annals, J: Annals<Item = V::Item>> Play<Part<V, J>, TwinView<V::Item>> for JournalPass {
@@ -47,6 +52,7 @@ impl<V: Annals, J: Annals<Item = V::Item>> Play<Part<V, J>, TwinView<V::Item>> f
     ghost then = { λ s m n w. JPasses V.stands V.firm V.mark J.stands J.firm J.mark V.maker m w };
 }
 
+/// Draws a ticket for the state.
 pub struct Draw;
 
 impl<V: Annals, J: Annals<Item = V::Item>> Play<Part<V, J>, TwinView<V::Item>> for Draw {
@@ -55,6 +61,7 @@ impl<V: Annals, J: Annals<Item = V::Item>> Play<Part<V, J>, TwinView<V::Item>> f
     ghost then = { λ s m n w. Draws V.stands V.firm V.mark J.stands J.firm J.mark V.maker m n w };
 }
 
+/// Reads the word that says who holds the state.
 pub struct Look;
 
 impl<V: Annals, J: Annals<Item = V::Item>> Play<Part<V, J>, TwinView<V::Item>> for Look {
@@ -63,6 +70,7 @@ impl<V: Annals, J: Annals<Item = V::Item>> Play<Part<V, J>, TwinView<V::Item>> f
     ghost then = { λ s m n w. Looks V.stands V.firm V.mark J.stands J.firm J.mark V.maker m n w };
 }
 
+/// Lets the next ticket for the state be served.
 pub struct Pass;
 
 impl<V: Annals, J: Annals<Item = V::Item>> Play<Part<V, J>, TwinView<V::Item>> for Pass {
@@ -71,6 +79,7 @@ impl<V: Annals, J: Annals<Item = V::Item>> Play<Part<V, J>, TwinView<V::Item>> f
     ghost then = { λ s m n w. Passes V.stands V.firm V.mark J.stands J.firm J.mark V.maker m w };
 }
 
+/// Adds a holder's own steps to those of the state.
 pub struct Raise<G> {
     of: PhantomData<G>,
 }
@@ -82,6 +91,7 @@ impl<V: Annals, J: Annals<Item = V::Item>, G: Names<V::Item>> Play<Part<V, J>, T
     ghost then = { λ s m n w. Raises V.stands V.firm V.mark J.stands J.firm J.mark V.maker G.added m w };
 }
 
+/// Learns how many steps were made.
 pub struct Count;
 
 impl<V: Annals, J: Annals<Item = V::Item>> Play<Part<V, J>, TwinView<V::Item>> for Count {

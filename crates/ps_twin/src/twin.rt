@@ -165,7 +165,8 @@ impl<V: Annals, J: Annals<Item = V::Item>> Twin<V, J> {
         ticket: u64,
     ) -> V
         requires twin { (seat.old.table_id ≡ self.now.table.shared.table_id) × (seat.old.me.0.base.live ≡ true) }
-        requires waits { (seat.old.me.0.base.place.stage ≡ Waiting) × (ticket ≡ seat.old.me.0.base.place.ticket % 2 ^ 64) }
+        requires waits { (seat.old.me.0.base.place.stage ≡ Waiting)
+            × (ticket ≡ seat.old.me.0.base.place.ticket % 2 ^ 64) }
         ensures twin { seat.new.table_id ≡ seat.old.table_id }
         ensures took { HasTaken V.stands V.firm V.mark J.stands J.firm J.mark V.maker seat.old.me result seat.new.me }
     {
@@ -276,7 +277,8 @@ impl<V: Annals, J: Annals<Item = V::Item>> Twin<V, J> {
         requires free { (seat.old.me.0.base.live ≡ true) × (seat.old.me.1 ≡ []) }
         requires waits { (seat.old.me.0.journal.stage ≡ Waiting) × (ticket ≡ seat.old.me.0.journal.ticket % 2 ^ 64) }
         ensures twin { seat.new.table_id ≡ seat.old.table_id }
-        ensures took { HasTakenJournal V.stands V.firm V.mark J.stands J.firm J.mark V.maker seat.old.me result seat.new.me }
+        ensures took { HasTakenJournal V.stands V.firm V.mark J.stands J.firm J.mark V.maker seat.old.me result
+            seat.new.me }
     {
         let words = &self.table.shared;
         wait_for::<JournalLook, Part<V, J>, TwinView<V::Item>, u32, Law, R>(

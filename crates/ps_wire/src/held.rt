@@ -31,6 +31,10 @@ impl Model for Held {
 }
 
 impl Held {
+    /// Nothing held, with room for a read.
+    ///
+    /// # Errors
+    /// Memory, where there is none for the room.
     pub fn new(alloc: Global) -> Result<Held, Memory>
         ensures { IfOk result (λ h. h ≡ []) }
     {
@@ -42,12 +46,14 @@ impl Held {
         })
     }
 
+    /// The bytes that were read and aren't taken yet.
     pub fn bytes(&self) -> &[u8]
         ensures { result.now ≡ self.now }
     {
         &self.room[self.from..self.to]
     }
 
+    /// Takes so many bytes from the front.
     pub fn drop_front(&mut self, count: usize)
         requires { count ≤ length self.old }
         ensures { self.new ≡ drop count self.old }

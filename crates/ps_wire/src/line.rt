@@ -17,6 +17,7 @@ pub struct Line {
 }
 
 impl Line {
+    /// A line with no byte yet.
     pub fn new(alloc: Global) -> Line
         ensures { StandsFor result [] }
     {

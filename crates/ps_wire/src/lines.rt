@@ -122,15 +122,19 @@ impl<S: Source> Lines<S> {
             (stopped_of self.old ≡ Some NextLineRefusal.Long)
             ⊎ ((given_of self.new ≡ 2 ^ 40) × IsPastLimit (budget_of self.old) (rest_of self.old)) }
         ensures limit { OnOk result (IsBeforeLimit (budget_of self.old) (rest_of self.old)) }
-        ensures gave { Gave (S.left (source_of self.old)) (S.left (source_of self.new)) (given_of self.old) (given_of self.new) }
+        ensures gave { Gave (S.left (source_of self.old)) (S.left (source_of self.new)) (given_of self.old)
+            (given_of self.new) }
         ensures within { given_of self.new ≤ 2 ^ 40 }
         ensures holds_line { Contains (held_of self.old) 10 → ReadNothing self.old self.new }
         ensures input_ended { IsTrue (ended_of self.old) → ReadNothing self.old self.new }
-        ensures answers_line { Contains (held_of self.old) 10 → stopped_of self.old ≡ None → IfErr result (λ why. why ≡ OutOfMemory) }
-        ensures answers_end { IsTrue (ended_of self.old) → stopped_of self.old ≡ None → IfErr result (λ why. why ≡ OutOfMemory) }
+        ensures answers_line { Contains (held_of self.old) 10 → stopped_of self.old ≡ None
+            → IfErr result (λ why. why ≡ OutOfMemory) }
+        ensures answers_end { IsTrue (ended_of self.old) → stopped_of self.old ≡ None
+            → IfErr result (λ why. why ≡ OutOfMemory) }
         ensures ends { IfOk result (λ next. Ends next (held_of self.new) (ended_of self.new)) }
         ensures cut { OnOk result (CutAtNewline (rest_of self.old) (ended_of self.new)) }
-        ensures no_line { IsErrOf result NextLineRefusal.ReadFault ⊎ IsErrOf result NextLineRefusal.Long → stopped_of self.old ≡ None
+        ensures no_line { IsErrOf result NextLineRefusal.ReadFault ⊎ IsErrOf result NextLineRefusal.Long
+            → stopped_of self.old ≡ None
             → IsWithoutLine (rest_of self.old) (S.left (source_of self.new)) }
     {
         if let Some(why) = self.stopped {
@@ -151,11 +155,13 @@ impl<S: Source> Lines<S> {
         ensures takes { IfOk result (λ next. Takes next (budget_of self.old) (budget_of self.new)) }
         ensures same { stopped_of self.new ≡ stopped_of self.old }
         ensures later { S.faults (source_of self.old) ≤ S.faults (source_of self.new) }
-        ensures fault { IsErrOf result NextLineRefusal.ReadFault → Rose (S.faults (source_of self.old)) (S.faults (source_of self.new)) }
+        ensures fault { IsErrOf result NextLineRefusal.ReadFault
+            → Rose (S.faults (source_of self.old)) (S.faults (source_of self.new)) }
         ensures long { IsErrOf result NextLineRefusal.Long →
             (given_of self.new ≡ 2 ^ 40) × IsPastLimit (budget_of self.old) (rest_of self.old) }
         ensures limit { OnOk result (IsBeforeLimit (budget_of self.old) (rest_of self.old)) }
-        ensures gave { Gave (S.left (source_of self.old)) (S.left (source_of self.new)) (given_of self.old) (given_of self.new) }
+        ensures gave { Gave (S.left (source_of self.old)) (S.left (source_of self.new)) (given_of self.old)
+            (given_of self.new) }
         ensures holds_line { Contains (held_of self.old) 10 → ReadNothing self.old self.new }
         ensures input_ended { IsTrue (ended_of self.old) → ReadNothing self.old self.new }
         ensures answers_line { Contains (held_of self.old) 10 → IfErr result (λ why. why ≡ OutOfMemory) }

@@ -41,7 +41,8 @@ impl Model for MemSource {
 impl MemSource {
     /// A source of these bytes, whose calls of these numbers fail.
     pub fn new(alloc: Global, bytes: &[u8], failing: &[u64]) -> Result<MemSource, Memory>
-        ensures { IfOk result (λ s. s ≡ record { left = bytes.now; failing = failing.now; calls = 0; faults = 0; refused = 0 }) }
+        ensures { IfOk result
+            (λ s. s ≡ record { left = bytes.now; failing = failing.now; calls = 0; faults = 0; refused = 0 }) }
     {
         let bytes = bytes.to_vec(alloc)?;
         let failing = failing.to_vec(alloc)?;
@@ -116,7 +117,8 @@ impl Model for MemSink {
 impl MemSink {
     /// A sink with nothing written, whose calls of these numbers fail.
     pub fn new(alloc: Global, failing: &[u64]) -> Result<MemSink, Memory>
-        ensures { IfOk result (λ s. s ≡ record { written = []; failing = failing.now; calls = 0; faults = 0; refused = 0 }) }
+        ensures { IfOk result
+            (λ s. s ≡ record { written = []; failing = failing.now; calls = 0; faults = 0; refused = 0 }) }
     {
         let failing = failing.to_vec(alloc)?;
         Ok(MemSink {
@@ -157,7 +159,8 @@ impl Sink for MemSink {
         ensures cause { HasCause self.old.faults self.new.faults result }
         ensures failing { Contains self.old.failing (next_count self.old.calls) → IsErr result }
         ensures gave_up { self.old.refused < self.new.refused → IsErr result }
-        ensures only { IsErr result → Contains self.old.failing (next_count self.old.calls) ⊎ Rose self.old.refused self.new.refused }
+        ensures only { IsErr result → Contains self.old.failing (next_count self.old.calls)
+            ⊎ Rose self.old.refused self.new.refused }
         ensures called { SinkCalled self.old self.new }
     {
         self.calls = self.calls.saturating_add(1);
