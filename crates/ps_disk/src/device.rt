@@ -81,7 +81,8 @@ pub trait Disk {
     ghost seen_left: { (d : Self) → MayLeave (synced d) (written d) (seen d) };
 
     /// This moment is one of those since an earlier one.
-    ghost counts_now: { (d : Self) (t : ℕ) (c : List ℕ) → t ≤ moment d → MayLeave (synced d) (written d) c → left_since d t c };
+    ghost counts_now: { (d : Self) (t : ℕ) (c : List ℕ) → t ≤ moment d
+        → MayLeave (synced d) (written d) c → left_since d t c };
 
     /// Since this moment there is no other.
     ghost only_now: { (d : Self) (c : List ℕ) → left_since d (moment d) c → MayLeave (synced d) (written d) c };

@@ -16,7 +16,8 @@ pub fn write_kept<D: Disk>(disk: &mut D, at: u64, piece: &[u8]) -> Result<(), Fa
         (λ c. MayLeave (D.synced disk.old) ((at, length piece.now) ∷ D.written disk.old) c ⊎ (c ≡ D.seen disk.new))) }
     // Where it fails, the range may be written or not, and a crash may still leave all that it might have left meanwhile.
     ensures failed { D.tells → OnErr result ((D.synced disk.new ≡ D.synced disk.old)
-        × ((D.written disk.new ≡ D.written disk.old) ⊎ (D.written disk.new ≡ (at, length piece.now) ∷ D.written disk.old))) }
+        × ((D.written disk.new ≡ D.written disk.old)
+        ⊎ (D.written disk.new ≡ (at, length piece.now) ∷ D.written disk.old))) }
     ensures grows { D.tells → OnErr result (LeavesOnly D.moment D.left_since disk.old disk.new
         (λ c. MayLeave (D.synced disk.new) (D.written disk.new) c)) }
     ensures syncs { D.tells → OnOk result (D.syncs disk.new ≡ D.syncs disk.old + 1) }

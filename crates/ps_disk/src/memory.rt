@@ -46,7 +46,14 @@ impl Model for MemDisk {
 
     ghost Value = { Recorded };
 
-    ghost view = { λ d. record { start = d.start.items; kept = d.kept.items; failing = d.failing.items; calls = d.calls; faults = d.faults; refused = d.refused } };
+    ghost view = { λ d. record {
+      start = d.start.items;
+      kept = d.kept.items;
+      failing = d.failing.items;
+      calls = d.calls;
+      faults = d.faults;
+      refused = d.refused;
+    } };
 
     ghost invariant = { λ d. IsKept d.start.items d.bytes.items d.kept.items d.calls };
 }

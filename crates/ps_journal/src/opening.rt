@@ -99,7 +99,8 @@ pub(crate) fn open_store<D: Disk>(alloc: Global, disk: &mut D) -> Opening
     // A crash at any moment leaves what it might have left before the call, or the same entries.
     ensures any_moment { D.tells → (E : List Entry) → spelled (D.seen disk.old) E
         → (is_unbegun (D.seen disk.old) ≡ true → length (D.seen disk.old) ≤ 9)
-        → LeavesOnly D.moment D.left_since disk.old disk.new (λ c. MayLeave (D.synced disk.old) (D.written disk.old) c ⊎ spelled c E) }
+        → LeavesOnly D.moment D.left_since disk.old disk.new
+        (λ c. MayLeave (D.synced disk.old) (D.written disk.old) c ⊎ spelled c E) }
 {
     match settle(alloc, disk) {
         Err(LoadRefusal::Store) => Opening::Refused(JournalWhy::Store),

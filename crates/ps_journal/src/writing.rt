@@ -15,7 +15,8 @@ pub fn write_frame<D: Disk>(disk: &mut D, at: u64, rest: &[u8]) -> Result<(), Fa
     // Once it succeeds, the frame is on the disk.
     ensures kept { D.tells → (bs : List (List ℕ)) (b : List ℕ) → IsSettledAt bs (D.seen disk.old) (D.synced disk.old)
         (D.written disk.old) at → IsBody b → rest.now ≡ behind_gate b
-        → OnOk result (IsSettledAt (bs ++ b ∷ []) (D.seen disk.new) (D.synced disk.new) (D.written disk.new) (at + 5 + length b)) }
+        → OnOk result (IsSettledAt (bs ++ b ∷ []) (D.seen disk.new) (D.synced disk.new) (D.written disk.new)
+        (at + 5 + length b)) }
     // A crash at any moment of the call leaves the frames before, or those and the new one.
     ensures any_moment { D.tells → (bs : List (List ℕ)) (b : List ℕ) → IsSettledAt bs (D.seen disk.old)
         (D.synced disk.old) (D.written disk.old) at → IsBody b → rest.now ≡ behind_gate b
@@ -23,7 +24,8 @@ pub fn write_frame<D: Disk>(disk: &mut D, at: u64, rest: &[u8]) -> Result<(), Fa
     // Where it fails, a crash may still leave each list of frames that it might have left meanwhile.
     ensures still { D.tells → (bs : List (List ℕ)) (b : List ℕ) → IsSettledAt bs (D.seen disk.old) (D.synced disk.old)
         (D.written disk.old) at → IsBody b → rest.now ≡ behind_gate b
-        → OnErr result (LeavesOnly D.moment D.left_since disk.old disk.new (MayStillLeave bs b (D.synced disk.new) (D.written disk.new))) }
+        → OnErr result (LeavesOnly D.moment D.left_since disk.old disk.new
+        (MayStillLeave bs b (D.synced disk.new) (D.written disk.new))) }
     ensures syncs { D.tells → OnOk result (D.syncs disk.new ≡ D.syncs disk.old + 2) }
     ensures cause { HasCause (D.faults disk.old) (D.faults disk.new) result }
 {

@@ -16,7 +16,8 @@ ghost use Rattle.ps_model.specs.Changes.{changed};
 pub fn outcast_is_forbidden()
     ensures { (book : Book) (node : NodeKey) (who : Jid) → stands node book.nodes ≡ true
         → affiliation book node who ≡ Outcast
-        → (read book node who ≡ Denied C11) × (subscribe book node who ≡ Denied C11) × (publish book node who ≡ Denied C11) × (own book node who ≡ Denied C11) }
+        → (read book node who ≡ Denied C11) × (subscribe book node who ≡ Denied C11)
+        × (publish book node who ≡ Denied C11) × (own book node who ≡ Denied C11) }
 {}
 
 /// A node never holds more items than it may: the empty Book has none, and no change makes it so.

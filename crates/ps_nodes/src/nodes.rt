@@ -67,7 +67,10 @@ impl Model for Nodes {
 
     ghost Value = { Table NodeRow };
 
-    ghost view = { λ t. record { rows = map row_of t.nodes.entries; spare = room_with t.nodes t.made t.served t.named } };
+    ghost view = { λ t. record {
+      rows = map row_of t.nodes.entries;
+      spare = room_with t.nodes t.made t.served t.named;
+    } };
 
     ghost invariant = { λ t. IsIndexed t.seed t.nodes t.made t.served t.named };
 }

@@ -123,7 +123,8 @@ where
 
     ghost clocks = { λ w n. held_clock (at w.clocks.slots.items n) };
 
-    ghost is_open = { λ w k n. IsLent k (at w.sources.slots.items n) (at w.sinks.slots.items n) (at w.disks.slots.items n) (at w.clocks.slots.items n) };
+    ghost is_open = { λ w k n. IsLent k (at w.sources.slots.items n) (at w.sinks.slots.items n)
+        (at w.disks.slots.items n) (at w.clocks.slots.items n) };
 
     ghost asked = { λ w. w.asked.items };
 

@@ -37,7 +37,8 @@ impl<R: Row> Model for Rows<R> {
 
     ghost Value = { Table R };
 
-    ghost coded = { code_by (List R × ℕ) (coded× (coded_list R.code) coded_ℕ) (λ t. (t.rows, t.spare)) (λ p. record { rows = p.0; spare = p.1 }) (λ _. refl) };
+    ghost coded = { code_by (List R × ℕ) (coded× (coded_list R.code) coded_ℕ) (λ t. (t.rows, t.spare))
+        (λ p. record { rows = p.0; spare = p.1 }) (λ _. refl) };
 
     ghost use Rattle.ps_rows.specs.Standing.{standing};
 

@@ -33,11 +33,14 @@ impl<R: Row> Model for Slots<R> {
 
     ghost Value = { Places R };
 
-    ghost coded = { code_by (List (Option R) × (ℕ × ℕ)) (coded× (coded_list (coded_option R.code)) (coded× coded_ℕ coded_ℕ)) (λ t. (t.rows, (t.spare, t.seed))) (λ p. record { rows = p.0; spare = p.1.0; seed = p.1.1 }) (λ _. refl) };
+    ghost coded = { code_by (List (Option R) × (ℕ × ℕ))
+        (coded× (coded_list (coded_option R.code)) (coded× coded_ℕ coded_ℕ)) (λ t. (t.rows, (t.spare, t.seed)))
+        (λ p. record { rows = p.0; spare = p.1.0; seed = p.1.1 }) (λ _. refl) };
 
     ghost view = { λ t. record { rows = t.slots.items; spare = room_of t.slots t.key t.node t.bare; seed = t.seed } };
 
-    ghost invariant = { λ t. IsMarked (R.by t.seed) t.slots.items t.key.rows t.node.rows t.bare.rows t.standing R.kin t.pure };
+    ghost invariant = { λ t. IsMarked (R.by t.seed) t.slots.items t.key.rows t.node.rows t.bare.rows
+        t.standing R.kin t.pure };
 }
 
 fn chain<'a>(index: Index, key: &'a Chains, node: &'a Chains, bare: &'a Chains) -> &'a Chains

@@ -22,7 +22,8 @@ impl<R> Model for Rows<R> {
 
     ghost Value = { Table R };
 
-    ghost coded = { code_by (List R × ℕ) (coded× (coded_list R.code) coded_ℕ) (λ t. (t.rows, t.spare)) (λ p. record { rows = p.0; spare = p.1 }) (λ _. refl) };
+    ghost coded = { code_by (List R × ℕ) (coded× (coded_list R.code) coded_ℕ) (λ t. (t.rows, t.spare))
+        (λ p. record { rows = p.0; spare = p.1 }) (λ _. refl) };
 
     ghost view = { λ t. record { rows = t.rows.items; spare = vec_capacity t.rows - vec_len t.rows } };
 }
