@@ -11,11 +11,9 @@ use crate::addresses::is_account_address;
 use ps_base::Memory;
 use ps_config::{ConfigRefusal, default_config, read_config};
 use ps_forms::{FormRefusal, form_type, read_form};
+use ps_spaces::NODE_CONFIG;
 use ps_types::{Condition, Elem, Form, FormKind, Jid, NodeConfig, NodeKind, PlanRefusal};
 use std::alloc::Global;
-
-/// What a form says that configures a node.
-const NODE_CONFIG: &str = "http://jabber.org/protocol/pubsub#node_config";
 
 /// The form that a tree is, if it is one.
 pub fn form_in(alloc: Global, tree: &Elem) -> Result<Option<Form>, Memory>

@@ -12,12 +12,11 @@ use crate::setting::options_of;
 use crate::tables::Tables;
 use crate::verdicts::verdict_subscribe;
 use ps_config::read_options;
+use ps_spaces::SUBSCRIBE_OPTIONS;
 use ps_types::{
     Condition, Elem, Form, Jid, NodeKey, PlanRefusal, Request, SubOptions, SubState, Verdict,
 };
 use std::alloc::Global;
-
-const SUBSCRIBE_OPTIONS: &str = "http://jabber.org/protocol/pubsub#subscribe_options";
 
 /// The options of exactly this address's subscription, or the defaults.
 pub fn base_options(tables: &Tables, node: &NodeKey, who: &Jid) -> SubOptions

@@ -7,12 +7,10 @@ ghost use Rattle.ps_types.specs.Namespaces.{data_ns, info_ns};
 ghost use Rattle.ps_types.specs.Shape.{children_of};
 
 use ps_base::Memory;
-use ps_forms::{DATA, FormRefusal, attr, next_child, read_form};
+use ps_forms::{FormRefusal, attr, next_child, read_form};
+use ps_spaces::{DATA_FORMS, DISCO_INFO};
 use ps_types::{Elem, Forms, Identities, Identity, Info, Text, Texts};
 use std::alloc::Global;
-
-// The namespace of what an entity answers of itself (XEP-0030).
-const DISCO_INFO: &str = "http://jabber.org/protocol/disco#info";
 
 fn identity_of(alloc: Global, elem: &Elem) -> Result<Identity, Memory>
     ensures { IfOk result (λ identity. identity ≡ string.identity_of elem.now) }
@@ -73,7 +71,7 @@ fn forms_of(alloc: Global, query: &Elem) -> Result<Forms, Memory>
 {
     let mut forms = Forms::new(alloc);
     let mut rest = query.kids.as_slice();
-    while let Some((child, after)) = next_child(rest, "x", DATA) {
+    while let Some((child, after)) = next_child(rest, "x", DATA_FORMS) {
         add_form(alloc, &mut forms, child)?;
         rest = after;
     }

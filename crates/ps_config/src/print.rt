@@ -6,10 +6,9 @@ ghost use Rattle.ps_config.specs.Rows.{row_of, all_rows};
 
 use crate::row::{Cell, Row, cell_of, rows, var_of};
 use ps_base::Memory;
+use ps_spaces::NODE_CONFIG;
 use ps_types::{Field, Fields, Form, FormKind, NodeConfig, Text, Texts};
 use std::alloc::Global;
-
-const NODE_CONFIG: &str = "http://jabber.org/protocol/pubsub#node_config";
 
 /// One value.
 pub(crate) fn only(alloc: Global, value: &str) -> Result<Texts, Memory>

@@ -1,11 +1,12 @@
 // The lines that were written to a sink, counted.
 ghost use Rattle.std.specs.Prelude.{◌≡◌, ◌<◌, ◌&&◌, length, take, slice_index, IfSome, IfNone, IfOk};
 ghost use Rattle.ps_types.specs.Lines.{NoNewline, whole_lines};
-ghost use Rattle.ps_types.specs.Tree.{is_named as is_named_by};
-ghost use Rattle.ps_model.specs.Stanza.{has_type as has_type_by, is_iq};
+ghost use Rattle.ps_model.specs.Stanza.{has_type, is_iq};
 ghost use Rattle.ps_dealt.specs.Counted.{AreCounts, AreFew, HasLine, HasTree};
 
 use ps_base::Memory;
+use ps_forms::{has_attr, has_name};
+use ps_spaces::CLIENT;
 use ps_types::Elem;
 use ps_wire::{TreeRefusal, read_tree};
 use std::alloc::Global;
@@ -18,28 +19,11 @@ pub struct Counts {
     pub notices: u64,
 }
 
-const CLIENT: &str = "jabber:client";
-
-fn is_named(tree: &Elem, name: &str, ns: &str) -> bool
-    ensures { result ≡ is_named_by name.now ns.now tree.now }
-{
-    tree.name.is(name) && tree.ns.is(ns)
-}
-
-fn has_type(tree: &Elem, kind: &str) -> bool
-    ensures { result ≡ has_type_by kind.now tree.now }
-{
-    match tree.attr("type") {
-        Some(text) => text.is(kind),
-        None => kind.is_empty(),
-    }
-}
-
 // Whether it is an iq of that type.
 fn is_answer(tree: &Elem, kind: &str) -> bool
-    ensures { result ≡ (is_iq tree.now && has_type_by kind.now tree.now) }
+    ensures { result ≡ (is_iq tree.now && has_type kind.now tree.now) }
 {
-    is_named(tree, "iq", CLIENT) && has_type(tree, kind)
+    has_name(tree, "iq", CLIENT) && has_attr(tree, "type", kind)
 }
 
 // Where the first newline stands.

@@ -5,10 +5,9 @@ ghost use Rattle.ps_disco.specs.Entries.{Hold, entry_at, named_at, published_at}
 
 use ps_base::Memory;
 use ps_names::{element, put_pair};
+use ps_spaces::DISCO_ITEMS;
 use ps_types::{Attrs, Child, Elem, ItemRow, Kids, NodeKey, Text};
 use std::alloc::Global;
-
-pub(crate) const ITEMS: &str = "http://jabber.org/protocol/disco#items";
 
 // `item` of an address, with one more attribute.
 fn entry(alloc: Global, jid: &Text, attr: &str, value: &Text) -> Result<Elem, Memory>
@@ -17,7 +16,7 @@ fn entry(alloc: Global, jid: &Text, attr: &str, value: &Text) -> Result<Elem, Me
     let mut attrs = Attrs::new(alloc);
     put_pair(alloc, &mut attrs, attr, value.as_str())?;
     put_pair(alloc, &mut attrs, "jid", jid.as_str())?;
-    element(alloc, "item", ITEMS, attrs, Kids::new(alloc))
+    element(alloc, "item", DISCO_ITEMS, attrs, Kids::new(alloc))
 }
 
 /// Adds the entry of a node.

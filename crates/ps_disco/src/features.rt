@@ -6,16 +6,9 @@ ghost use Rattle.ps_disco.specs.Features.{entity_trees, is_offered, node_trees, 
 
 use ps_base::Memory;
 use ps_names::{element, put_pair};
+use ps_spaces::{AUTO_CREATE, DISCO_INFO, FILTERED_NOTIFICATIONS, PUBSUB};
 use ps_types::{Attrs, Child, Elem, Kids, NodeKind};
 use std::alloc::Global;
-
-pub(crate) const INFO: &str = "http://jabber.org/protocol/disco#info";
-
-const PUBSUB: &str = "http://jabber.org/protocol/pubsub";
-
-const AUTO_CREATE: &str = "http://jabber.org/protocol/pubsub#auto-create";
-
-const FILTERED: &str = "http://jabber.org/protocol/pubsub#filtered-notifications";
 
 // What an account has, in the order of the octets.
 const FEATURES: [&str; 35] = [
@@ -61,7 +54,7 @@ fn feature_tree(alloc: Global, var: &str) -> Result<Elem, Memory>
 {
     let mut attrs = Attrs::new(alloc);
     put_pair(alloc, &mut attrs, "var", var)?;
-    element(alloc, "feature", INFO, attrs, Kids::new(alloc))
+    element(alloc, "feature", DISCO_INFO, attrs, Kids::new(alloc))
 }
 
 fn identity_tree(alloc: Global, kind: &str) -> Result<Elem, Memory>
@@ -70,7 +63,7 @@ fn identity_tree(alloc: Global, kind: &str) -> Result<Elem, Memory>
     let mut attrs = Attrs::new(alloc);
     put_pair(alloc, &mut attrs, "type", kind)?;
     put_pair(alloc, &mut attrs, "category", "pubsub")?;
-    element(alloc, "identity", INFO, attrs, Kids::new(alloc))
+    element(alloc, "identity", DISCO_INFO, attrs, Kids::new(alloc))
 }
 
 fn entity_type(at_account: bool) -> &'static str
@@ -92,7 +85,7 @@ fn kind_type(kind: NodeKind) -> &'static str
 fn is_offered(at_account: bool, var: &str) -> bool
     ensures { result ≡ is_offered at_account var.now }
 {
-    at_account || (var != AUTO_CREATE && var != FILTERED)
+    at_account || (var != AUTO_CREATE && var != FILTERED_NOTIFICATIONS)
 }
 
 // Adds a feature, where it is offered.

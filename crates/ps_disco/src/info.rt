@@ -9,10 +9,11 @@ ghost use Rattle.ps_access.specs.Tables.{book_of};
 ghost use Rattle.ps_disco.specs.Entries.{Hold};
 ghost use Rattle.ps_disco.specs.Plans.{info_outcome, query_tree};
 
-use crate::features::{INFO, entity_kids, node_kids};
+use crate::features::{entity_kids, node_kids};
 use ps_access::{Tables, is_account_address, key_of, must_stand};
 use ps_base::Memory;
 use ps_names::{element, put_pair};
+use ps_spaces::DISCO_INFO;
 use ps_types::{Attrs, Elem, Kids, NodeKey, Plan, PlanRefusal, Request, Text};
 use std::alloc::Global;
 
@@ -59,7 +60,7 @@ fn child(alloc: Global, tables: &Tables, request: &Request, node: &Text) -> Resu
     ensures { IfOk result (λ t. t ≡ model.info_child (book_of tables.now) request.now node.now) }
 {
     let kids = info_kids(alloc, tables, request, node)?;
-    query(alloc, INFO, node, kids)
+    query(alloc, DISCO_INFO, node, kids)
 }
 
 /// What the target is, or what a node of it is.

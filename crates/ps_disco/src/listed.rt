@@ -10,11 +10,12 @@ ghost use Rattle.ps_access.specs.Tables.{book_of};
 ghost use Rattle.ps_disco.specs.Entries.{Hold, entries_in, is_shown, items_in, nodes_in, shown_entries};
 ghost use Rattle.ps_disco.specs.Plans.{nodes_outcome};
 
-use crate::entries::{ITEMS, item_entries, node_entries};
+use crate::entries::{item_entries, node_entries};
 use crate::held::held_entries;
 use crate::info::query;
 use ps_access::{Tables, allow, is_account_address, key_of, must_stand, verdict_read};
 use ps_base::Memory;
+use ps_spaces::DISCO_ITEMS;
 use ps_types::{Elem, Jid, Kids, NodeKey, NodeKind, Plan, PlanRefusal, Request, Text, Verdict};
 use std::alloc::Global;
 
@@ -137,7 +138,7 @@ fn child(alloc: Global, tables: &Tables, request: &Request, node: &Text) -> Resu
     ensures { IfOk result (λ t. t ≡ model.nodes_child (book_of tables.now) request.now node.now) }
 {
     let kids = listed_kids(alloc, tables, request, node)?;
-    query(alloc, ITEMS, node, kids)
+    query(alloc, DISCO_ITEMS, node, kids)
 }
 
 /// The nodes of the target, the items of a leaf, or the nodes of a collection.

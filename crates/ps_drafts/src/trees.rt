@@ -7,12 +7,9 @@ ghost use Rattle.ps_drafts.specs.Parts as parts;
 
 use ps_base::Memory;
 use ps_names::{element, only, put};
+use ps_spaces::{CLIENT, HEADERS};
 use ps_types::{Attrs, Child, Elem, Kids, NoticeKind, Text};
 use std::alloc::Global;
-
-const CLIENT: &str = "jabber:client";
-
-const HEADERS: &str = "http://jabber.org/protocol/shim";
 
 fn kind_attrs(alloc: Global, kind: NoticeKind) -> Result<Attrs, Memory>
     ensures { IfOk result (λ a. a ≡ model.kind_attr kind) }

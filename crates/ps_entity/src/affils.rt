@@ -10,11 +10,11 @@ ghost use Rattle.ps_model.specs.Steps.{first_denial};
 ghost use Rattle.ps_access.specs.Plans.{Agrees};
 ghost use Rattle.ps_access.specs.Tables.{book_of};
 
-use crate::build::PUBSUB;
 use crate::mine::{check_mine, is_asked};
 use ps_access::{Tables, about, affil_text};
 use ps_base::Memory;
 use ps_names::{element, put_pair};
+use ps_spaces::PUBSUB;
 use ps_types::{AffilRow, Attrs, Child, Elem, Kids, Plan, PlanRefusal, Request, Text};
 use std::alloc::Global;
 

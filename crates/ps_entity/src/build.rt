@@ -5,10 +5,9 @@ ghost use Rattle.ps_types.specs.Tree.{tree, branch, none};
 
 use ps_base::Memory;
 use ps_names::{element, only};
+use ps_spaces::PUBSUB;
 use ps_types::{Attrs, Elem};
 use std::alloc::Global;
-
-pub(crate) const PUBSUB: &str = "http://jabber.org/protocol/pubsub";
 
 /// `pubsub` with the one part (XEP-0060 §4).
 pub(crate) fn pubsub(alloc: Global, part: Elem) -> Result<Elem, Memory>

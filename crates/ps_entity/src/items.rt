@@ -16,11 +16,11 @@ ghost use Rattle.ps_access.specs.Plans.{Agrees, Passes};
 ghost use Rattle.ps_model.specs.Lists as lists;
 ghost use Rattle.ps_access.specs.Tables.{book_of};
 
-use crate::build::PUBSUB;
 use ps_access::{Tables, about, allow, key_of, must_be_leaf, must_stand, pass_if, verdict_read};
 use ps_base::Memory;
 use ps_items::Items;
 use ps_names::{element, only, put_pair};
+use ps_spaces::PUBSUB;
 use ps_types::{
     Attrs, Child, Condition, Elem, ItemRow, Kids, NodeKey, Plan, PlanRefusal, Request, Text, Texts,
 };

@@ -10,12 +10,13 @@ ghost use Rattle.ps_model.specs.Steps.{first_denial};
 ghost use Rattle.ps_access.specs.Plans.{Agrees, Passes};
 ghost use Rattle.ps_access.specs.Tables.{book_of};
 
-use crate::build::{PUBSUB, pubsub};
+use crate::build::pubsub;
 use ps_access::{Tables, base_options, key_of, must_stand, pass_if};
 use ps_base::Memory;
 use ps_config::options_form;
 use ps_forms::form_tree;
 use ps_names::{element, only, put_pair};
+use ps_spaces::PUBSUB;
 use ps_types::{Attrs, Condition, Elem, Jid, NodeKey, Plan, PlanRefusal, Request, Text};
 use std::alloc::Global;
 

@@ -11,19 +11,12 @@ use ps_base::Memory;
 use ps_drafts::Draft;
 use ps_forms::form_tree;
 use ps_names::{element, only, put};
+use ps_spaces::{CLIENT, DISCO_INFO, PUBSUB, SUBSCRIBE_AUTHORIZATION};
 use ps_types::{
     Attrs, Caps, Elem, Field, Fields, Form, FormKind, Jid, Kids, NodeKey, NoticeKind, SubState,
     Text, Texts,
 };
 use std::alloc::Global;
-
-const PUBSUB: &str = "http://jabber.org/protocol/pubsub";
-
-const AUTHORIZATION: &str = "http://jabber.org/protocol/pubsub#subscribe_authorization";
-
-const INFO: &str = "http://jabber.org/protocol/disco#info";
-
-const CLIENT: &str = "jabber:client";
 
 /// The stanza, if there is one, to this address.
 pub(crate) fn to_one(
@@ -57,7 +50,7 @@ fn approval_form(alloc: Global, node: &NodeKey, who: &Jid) -> Result<Form, Memor
     let name = node.name.as_str();
     let who = who.text(alloc)?;
     let mut fields = Fields::new(alloc);
-    fields.push(form_field(alloc, "FORM_TYPE", "hidden", AUTHORIZATION)?)?;
+    fields.push(form_field(alloc, "FORM_TYPE", "hidden", SUBSCRIBE_AUTHORIZATION)?)?;
     fields.push(form_field(alloc, "pubsub#node", "text-single", name)?)?;
     fields.push(form_field(alloc, "pubsub#subscriber_jid", "jid-single", who.as_str())?)?;
     fields.push(form_field(alloc, "pubsub#allow", "boolean", "0")?)?;
@@ -136,7 +129,7 @@ pub(crate) fn question(alloc: Global, service: &Text, to: &Jid, caps: &Caps) -> 
 {
     let mut about = Attrs::new(alloc);
     put(alloc, &mut about, "node", asked_name(alloc, caps)?.as_str())?;
-    let query = element(alloc, "query", INFO, about, Kids::new(alloc))?;
+    let query = element(alloc, "query", DISCO_INFO, about, Kids::new(alloc))?;
     let to = to.text(alloc)?;
     let attrs = question_attrs(alloc, service.as_str(), to.as_str())?;
     element(alloc, "iq", CLIENT, attrs, only(alloc, query)?)

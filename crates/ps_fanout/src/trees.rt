@@ -9,12 +9,9 @@ ghost use Rattle.ps_fanout.specs.Trees as trees;
 use crate::moments::stamp;
 use ps_base::Memory;
 use ps_names::{element, only, put};
+use ps_spaces::{DELAY, PUBSUB_EVENT};
 use ps_types::{Attrs, Child, Elem, ItemRow, Jid, Kids, NodeConfig, NodeKey, NoticeKind, Text};
 use std::alloc::Global;
-
-const EVENT: &str = "http://jabber.org/protocol/pubsub#event";
-
-const DELAY: &str = "urn:xmpp:delay";
 
 fn one(alloc: Global, name: &str, value: &str) -> Result<Attrs, Memory>
     ensures { IfOk result (λ a. a ≡ model.one name.now value.now) }
@@ -64,7 +61,7 @@ fn item_tree(alloc: Global, config: &NodeConfig, row: &ItemRow) -> Result<Elem, 
 {
     let kids = delivered(alloc, config, &row.payload)?;
     let attrs = one(alloc, "id", row.id.as_str())?;
-    element(alloc, "item", EVENT, attrs, kids)
+    element(alloc, "item", PUBSUB_EVENT, attrs, kids)
 }
 
 fn item_kids(alloc: Global, config: &NodeConfig, item: &Option<ItemRow>) -> Result<Kids, Memory>
@@ -80,7 +77,7 @@ fn items_tree(alloc: Global, node: &NodeKey, kids: Kids) -> Result<Elem, Memory>
     ensures { IfOk result (λ t. t ≡ model.items_tree node.now (nodes kids)) }
 {
     let attrs = one(alloc, "node", node.name.as_str())?;
-    element(alloc, "items", EVENT, attrs, kids)
+    element(alloc, "items", PUBSUB_EVENT, attrs, kids)
 }
 
 /// The items of a publish, or a last item.
@@ -114,7 +111,7 @@ pub(crate) fn retract_inside(alloc: Global, node: &NodeKey, id: &Text) -> Result
     ensures { IfOk result (λ t. t ≡ model.retract_tree node.now id.now) }
 {
     let attrs = one(alloc, "id", id.as_str())?;
-    let retract = element(alloc, "retract", EVENT, attrs, Kids::new(alloc))?;
+    let retract = element(alloc, "retract", PUBSUB_EVENT, attrs, Kids::new(alloc))?;
     let kids = only(alloc, retract)?;
     items_tree(alloc, node, kids)
 }
@@ -125,7 +122,7 @@ pub(crate) fn named_inside(alloc: Global, name: &str, node: &NodeKey) -> Result<
     ensures { IfOk result (λ t. t ≡ model.named_tree name.now node.now) }
 {
     let attrs = one(alloc, "node", node.name.as_str())?;
-    element(alloc, name, EVENT, attrs, Kids::new(alloc))
+    element(alloc, name, PUBSUB_EVENT, attrs, Kids::new(alloc))
 }
 
 /// The node that was put into a collection.
@@ -139,7 +136,7 @@ pub(crate) fn associate_inside(
     let associate = named_inside(alloc, "associate", node)?;
     let kids = only(alloc, associate)?;
     let attrs = one(alloc, "node", collection.name.as_str())?;
-    element(alloc, "collection", EVENT, attrs, kids)
+    element(alloc, "collection", PUBSUB_EVENT, attrs, kids)
 }
 
 /// The event that this stands in.
@@ -147,7 +144,7 @@ pub(crate) fn event_tree(alloc: Global, inside: Elem) -> Result<Elem, Memory>
     ensures { IfOk result (λ t. t ≡ trees.event_tree inside) }
 {
     let kids = only(alloc, inside)?;
-    element(alloc, "event", EVENT, Attrs::new(alloc), kids)
+    element(alloc, "event", PUBSUB_EVENT, Attrs::new(alloc), kids)
 }
 
 /// When an item was published (XEP-0203).

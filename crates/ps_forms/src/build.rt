@@ -5,8 +5,8 @@ ghost use Rattle.ps_types.specs.Namespaces.{data_ns};
 ghost use Rattle.ps_types.specs.Shape.{attr_pair, worded};
 ghost use Rattle.ps_types.specs.Tree.{tree};
 
-use crate::DATA;
 use ps_base::Memory;
+use ps_spaces::DATA_FORMS;
 use ps_types::{Attrs, Child, Elem, Kids, Text};
 use std::alloc::Global;
 
@@ -32,7 +32,7 @@ pub(crate) fn element(alloc: Global, name: &str, attrs: Attrs, kids: Kids) -> Re
     ensures { IfOk result (λ t. t ≡ tree name.now data_ns attrs (nodes kids)) }
 {
     let name = Text::of(alloc, name)?;
-    let ns = Text::of(alloc, DATA)?;
+    let ns = Text::of(alloc, DATA_FORMS)?;
     Ok(Elem::new(name, ns, attrs, kids))
 }
 

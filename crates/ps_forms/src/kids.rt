@@ -1,5 +1,6 @@
 // The attributes, children and texts of an element.
 ghost use Rattle.std.specs.Prelude.{◌≡◌, ◌<◌, ◌++◌, [], ◌∷◌, length, map, option_map, string_bytes, IfOk, IfSome, OnOk};
+ghost use Rattle.std.specs.Str.{bytes_eq};
 ghost use Rattle.ps_types.specs.Elem.{nodes};
 ghost use Rattle.ps_types.specs.Shape.{attr_text, children_of, tree_text, text_in};
 ghost use Rattle.ps_types.specs.Tree.{is_named};
@@ -17,6 +18,13 @@ pub fn attr<'a>(elem: &'a Elem, name: &str) -> &'a str
         Some(value) => value.as_str(),
         None => "",
     }
+}
+
+/// Whether the attribute is that text, the empty one where it is missing.
+pub fn has_attr(elem: &Elem, name: &str, value: &str) -> bool
+    ensures { result ≡ bytes_eq (attr_text name.now elem.now) value.now }
+{
+    attr(elem, name) == value
 }
 
 /// Whether the element has that name in that namespace.

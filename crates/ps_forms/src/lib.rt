@@ -15,10 +15,7 @@ mod print;
 mod read;
 
 pub use find::{form_type, get};
-pub use kids::{attr, has_name, next_child, text_of, texts_of};
+pub use kids::{attr, has_attr, has_name, next_child, text_of, texts_of};
 pub use laws::printed_form_reads_back;
 pub use print::form_tree;
 pub use read::{FormRefusal, read_form};
-
-/// The namespace of data forms.
-pub const DATA: &str = "jabber:x:data";

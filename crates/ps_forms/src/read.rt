@@ -4,9 +4,9 @@ ghost use Rattle.std.specs.List.{cons_option};
 ghost use Rattle.ps_types.specs.Forms as forms;
 ghost use Rattle.ps_forms.specs.Vars.{HaveVars};
 
-use crate::DATA;
 use crate::kids::{attr, has_name, next_child, texts_of};
 use ps_base::Memory;
+use ps_spaces::DATA_FORMS;
 use ps_types::{Elem, Field, Fields, Form, FormKind, Text};
 use std::alloc::Global;
 use thiserror::Error;
@@ -55,7 +55,7 @@ fn field_of(alloc: Global, elem: &Elem) -> Result<Option<Field>, Memory>
     }
     let var = Text::of(alloc, var)?;
     let kind = Text::of(alloc, attr(elem, "type"))?;
-    let values = texts_of(alloc, elem, "value", DATA)?;
+    let values = texts_of(alloc, elem, "value", DATA_FORMS)?;
     Ok(Some(Field { var, kind, values }))
 }
 
@@ -76,7 +76,7 @@ fn fields_of(alloc: Global, elem: &Elem) -> Result<Fields, Memory>
 {
     let mut fields = Fields::new(alloc);
     let mut rest = elem.kids.as_slice();
-    while let Some((child, after)) = next_child(rest, "field", DATA) {
+    while let Some((child, after)) = next_child(rest, "field", DATA_FORMS) {
         add_field(alloc, &mut fields, child)?;
         rest = after;
     }
@@ -89,7 +89,7 @@ pub fn read_form(alloc: Global, tree: &Elem) -> Result<Form, FormRefusal>
     ensures vars { IfOk result (λ form. HaveVars form.fields) }
     ensures not_a_form { IsErrOf result FormRefusal.NotAForm → forms.form_of tree.now ≡ None }
 {
-    if !has_name(tree, "x", DATA) {
+    if !has_name(tree, "x", DATA_FORMS) {
         return Err(FormRefusal::NotAForm);
     }
     match kind_of(attr(tree, "type")) {

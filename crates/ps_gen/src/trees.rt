@@ -8,14 +8,9 @@ ghost use Rattle.ps_gen.specs.Dealt as dealt;
 use crate::kind::Kind;
 use ps_base::Memory;
 use ps_names::{element, only, put_pair};
+use ps_spaces::{CLIENT, PUBSUB, PUBSUB_OWNER};
 use ps_types::{Attrs, Child, Elem, Kids, Text};
 use std::alloc::Global;
-
-const CLIENT: &str = "jabber:client";
-
-const PUBSUB: &str = "http://jabber.org/protocol/pubsub";
-
-const OWNER: &str = "http://jabber.org/protocol/pubsub#owner";
 
 // `pubsub`, and in it the part of that name.
 fn part(alloc: Global, ns: &str, name: &str, attrs: Attrs, kids: Kids) -> Result<Elem, Memory>
@@ -111,7 +106,7 @@ pub(crate) fn asked(
         Kind::Items => about_node(alloc, PUBSUB, "items", node),
         Kind::Unsubscribe => about_subscriber(alloc, "unsubscribe", who, node),
         Kind::Retract => about_items(alloc, "retract", node, drawn, Kids::new(alloc)),
-        Kind::Delete => about_node(alloc, OWNER, "delete", node),
+        Kind::Delete => about_node(alloc, PUBSUB_OWNER, "delete", node),
     }
 }
 

@@ -12,12 +12,13 @@ ghost use Rattle.ps_model.specs.Steps.{first_denial};
 ghost use Rattle.ps_access.specs.Plans.{Agrees};
 ghost use Rattle.ps_access.specs.Tables.{book_of};
 
-use crate::listing::{OWNER, check_own, told};
+use crate::listing::{check_own, told};
 use ps_access::{Tables, about, key_of};
 use ps_base::Memory;
 use ps_config::config_form;
 use ps_forms::form_tree;
 use ps_names::only;
+use ps_spaces::PUBSUB_OWNER;
 use ps_types::{Elem, Kids, NodeConfig, NodeKey, Plan, PlanRefusal, Request, Text};
 use std::alloc::Global;
 
@@ -47,7 +48,7 @@ fn config_child(
 {
     let key = key_of(request, node)?;
     let kids = config_kids(alloc, tables, &key)?;
-    about(alloc, OWNER, "configure", node.as_str(), kids)
+    about(alloc, PUBSUB_OWNER, "configure", node.as_str(), kids)
 }
 
 /// The plan of an owner who asks for the configuration.

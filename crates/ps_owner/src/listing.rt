@@ -16,14 +16,12 @@ use ps_access::{
 };
 use ps_base::Memory;
 use ps_names::{element, put_pair};
+use ps_spaces::PUBSUB_OWNER;
 use ps_types::{
     Affil, AffilRow, Attrs, Child, Elem, Jid, Kids, NodeKey, Plan, PlanRefusal, Request, SubRow,
     Text,
 };
 use std::alloc::Global;
-
-/// The namespace of owners' requests.
-pub const OWNER: &str = "http://jabber.org/protocol/pubsub#owner";
 
 /// The steps of a request that only asks: the node stands and is the sender's own.
 pub fn check_own(tables: &Tables, request: &Request, node: &Text) -> Result<(), PlanRefusal>
@@ -54,7 +52,7 @@ fn affil_tree(alloc: Global, row: &AffilRow) -> Result<Elem, Memory>
     let mut attrs = Attrs::new(alloc);
     put_pair(alloc, &mut attrs, "jid", who.as_str())?;
     put_pair(alloc, &mut attrs, "affiliation", affil_text(row.affil))?;
-    element(alloc, "affiliation", OWNER, attrs, Kids::new(alloc))
+    element(alloc, "affiliation", PUBSUB_OWNER, attrs, Kids::new(alloc))
 }
 
 fn affil_kids(alloc: Global, rows: &[AffilRow]) -> Result<Kids, Memory>
@@ -108,7 +106,7 @@ fn affils_child(
     let key = key_of(request, node)?;
     let rows = listed(alloc, tables, &key)?;
     let kids = affil_kids(alloc, rows.as_slice())?;
-    about(alloc, OWNER, "affiliations", node.as_str(), kids)
+    about(alloc, PUBSUB_OWNER, "affiliations", node.as_str(), kids)
 }
 
 /// The plan of an owner who asks for the affiliations.
@@ -135,7 +133,7 @@ fn sub_tree(alloc: Global, row: &SubRow) -> Result<Elem, Memory>
     let mut attrs = Attrs::new(alloc);
     put_pair(alloc, &mut attrs, "subscription", sub_text(row.state))?;
     put_pair(alloc, &mut attrs, "jid", who.as_str())?;
-    element(alloc, "subscription", OWNER, attrs, Kids::new(alloc))
+    element(alloc, "subscription", PUBSUB_OWNER, attrs, Kids::new(alloc))
 }
 
 fn sub_kids(alloc: Global, rows: &[SubRow]) -> Result<Kids, Memory>
@@ -159,7 +157,7 @@ fn subs_child(
     let key = key_of(request, node)?;
     let rows = tables.subs.of_node(alloc, &key)?;
     let kids = sub_kids(alloc, rows.as_slice())?;
-    about(alloc, OWNER, "subscriptions", node.as_str(), kids)
+    about(alloc, PUBSUB_OWNER, "subscriptions", node.as_str(), kids)
 }
 
 /// The plan of an owner who asks for the subscriptions.

@@ -9,10 +9,9 @@ ghost use Rattle.ps_access.specs.Tables.{book_of};
 use ps_access::{Tables, about, item_id, key_of};
 use ps_base::Memory;
 use ps_names::{element, only, put_pair};
+use ps_spaces::PUBSUB;
 use ps_types::{AskItem, Attrs, Elem, Jid, Kids, NodeKey, Request, Text};
 use std::alloc::Global;
-
-const PUBSUB: &str = "http://jabber.org/protocol/pubsub";
 
 fn item_tree(alloc: Global, id: &Text) -> Result<Elem, Memory>
     ensures { IfOk result (λ t. t ≡ model.item_tree pubsub_ns id.now None) }

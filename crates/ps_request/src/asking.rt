@@ -16,14 +16,17 @@ use crate::entity::{
 };
 use crate::forms::{form_in_message, is_about, value_of};
 use crate::kids::next_tree;
-use crate::names::{AUTHORIZATION, DATA, INFO, ITEMS, OWNER, PUBSUB, ROSTER};
 use crate::owner::{
     affils_get, affils_set, config_get, config_set, delete, purge, subs_get, subs_set,
 };
-use crate::parts::{address_in, has_name, is_of_type, named};
+use crate::parts::{address_in, is_of_type, named};
 use crate::publish::{create, publish, retract};
 use crate::router::{answer, presence, roster_set};
 use crate::stanza::{is_asking, is_iq, is_message};
+use ps_forms::has_name;
+use ps_spaces::{
+    DATA_FORMS, DISCO_INFO, DISCO_ITEMS, PUBSUB, PUBSUB_OWNER, ROSTER, SUBSCRIBE_AUTHORIZATION,
+};
 use ps_types::{Ask, Child, Condition, Elem, Form, FormKind, Jid, PlanRefusal, Text};
 use std::alloc::Global;
 
@@ -131,7 +134,7 @@ fn by_pubsub(alloc: Global, is_set: bool, pubsub: &Elem, from: &Jid) -> Result<A
         None => Err(PlanRefusal::Denied(Condition::C1)),
         Some((part, rest)) => {
             if part.ns.is(pubsub.ns.as_str()) {
-                by_part(alloc, pubsub.ns.is(OWNER), is_set, part, rest, from)
+                by_part(alloc, pubsub.ns.is(PUBSUB_OWNER), is_set, part, rest, from)
             } else {
                 Err(PlanRefusal::Denied(Condition::C26))
             }
@@ -142,7 +145,7 @@ fn by_pubsub(alloc: Global, is_set: bool, pubsub: &Elem, from: &Jid) -> Result<A
 fn is_pubsub(child: &Elem) -> bool
     ensures { result ≡ (is_named (codes "pubsub") pubsub_ns child.now || is_named (codes "pubsub") owner_ns child.now) }
 {
-    has_name(child, "pubsub", PUBSUB) || has_name(child, "pubsub", OWNER)
+    has_name(child, "pubsub", PUBSUB) || has_name(child, "pubsub", PUBSUB_OWNER)
 }
 
 /// The child of an iq that asks, in a namespace that is served.
@@ -151,9 +154,9 @@ fn by_child(alloc: Global, is_set: bool, child: &Elem, from: &Jid) -> Result<Ask
 {
     if is_pubsub(child) {
         by_pubsub(alloc, is_set, child, from)
-    } else if has_name(child, "query", INFO) && !is_set {
+    } else if has_name(child, "query", DISCO_INFO) && !is_set {
         info_get(alloc, child)
-    } else if has_name(child, "query", ITEMS) && !is_set {
+    } else if has_name(child, "query", DISCO_ITEMS) && !is_set {
         nodes_get(alloc, child)
     } else if has_name(child, "query", ROSTER) && is_set {
         roster_set(alloc, child)
@@ -166,7 +169,12 @@ fn by_child(alloc: Global, is_set: bool, child: &Elem, from: &Jid) -> Result<Ask
 fn is_served_name(ns: &Text) -> bool
     ensures { result ≡ list_any (bytes_eq ns.now) served_namespaces }
 {
-    ns.is(PUBSUB) || ns.is(OWNER) || ns.is(DATA) || ns.is(INFO) || ns.is(ITEMS) || ns.is(ROSTER)
+    ns.is(PUBSUB)
+        || ns.is(PUBSUB_OWNER)
+        || ns.is(DATA_FORMS)
+        || ns.is(DISCO_INFO)
+        || ns.is(DISCO_ITEMS)
+        || ns.is(ROSTER)
 }
 
 /// The child of an iq that asks.
@@ -209,14 +217,14 @@ fn by_form(alloc: Global, form: &Form) -> Result<Ask, PlanRefusal>
     match form.kind {
         FormKind::Cancel => Ok(Ask::Silent),
         FormKind::Submit => {
-            if is_about(form, AUTHORIZATION) {
+            if is_about(form, SUBSCRIBE_AUTHORIZATION) {
                 approve(alloc, form)
             } else {
                 Err(PlanRefusal::Denied(Condition::C25))
             }
         }
         FormKind::Form | FormKind::Result => {
-            if is_about(form, AUTHORIZATION) {
+            if is_about(form, SUBSCRIBE_AUTHORIZATION) {
                 Err(PlanRefusal::Denied(Condition::C26))
             } else {
                 Err(PlanRefusal::Denied(Condition::C25))

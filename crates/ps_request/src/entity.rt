@@ -5,7 +5,8 @@ ghost use Rattle.ps_model.specs.AskEntity.{my_affils_ask, my_subs_ask, subscribe
 ghost use Rattle.ps_request.specs.Answer.{Gives};
 
 use crate::kids::{form_behind, ids_of};
-use crate::parts::{attr, form_of_part, named_node, node_at, own_jid};
+use crate::parts::{form_of_part, named_node, node_at, own_jid};
+use ps_forms::attr;
 use ps_types::{Ask, Child, Condition, Elem, Jid, PlanRefusal, Text};
 use std::alloc::Global;
 

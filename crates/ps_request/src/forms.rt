@@ -6,8 +6,8 @@ ghost use Rattle.ps_model.specs.Asking.{message_form, value_in};
 ghost use Rattle.ps_model.specs.Taking.{is_cancelled};
 
 use crate::kids::{next_child, texts_of};
-use crate::names::DATA;
-use crate::parts::{attr, has_name};
+use ps_forms::{attr, has_name};
+use ps_spaces::DATA_FORMS;
 use ps_types::{Elem, Field, Fields, Form, FormKind, Listed, Text};
 use std::alloc::{AllocError, Global};
 
@@ -37,7 +37,7 @@ fn field_of(alloc: Global, elem: &Elem) -> Result<Option<Field>, AllocError>
     }
     let var = Text::of(alloc, var)?;
     let kind = Text::of(alloc, attr(elem, "type"))?;
-    let values = texts_of(alloc, elem, "value", DATA)?;
+    let values = texts_of(alloc, elem, "value", DATA_FORMS)?;
     Ok(Some(Field { var, kind, values }))
 }
 
@@ -55,7 +55,7 @@ fn fields_of(alloc: Global, elem: &Elem) -> Result<Fields, AllocError>
 {
     let mut fields = Listed::new(alloc);
     let mut rest = elem.kids.as_slice();
-    while let Some((field, after)) = next_child(rest, "field", DATA) {
+    while let Some((field, after)) = next_child(rest, "field", DATA_FORMS) {
         add_field(alloc, &mut fields, field)?;
         rest = after;
     }
@@ -66,7 +66,7 @@ fn fields_of(alloc: Global, elem: &Elem) -> Result<Fields, AllocError>
 fn form_of(alloc: Global, elem: &Elem) -> Result<Option<Form>, AllocError>
     ensures { IfOk result (λ form. form ≡ form_by_tree elem.now) }
 {
-    if !has_name(elem, "x", DATA) {
+    if !has_name(elem, "x", DATA_FORMS) {
         return Ok(None);
     }
     match kind_of(attr(elem, "type")) {
@@ -82,7 +82,7 @@ fn form_of(alloc: Global, elem: &Elem) -> Result<Option<Form>, AllocError>
 pub(crate) fn form_in_message(alloc: Global, tree: &Elem) -> Result<Option<Form>, AllocError>
     ensures { IfOk result (λ form. form ≡ message_form tree.now) }
 {
-    match tree.child("x", DATA) {
+    match tree.child("x", DATA_FORMS) {
         Some(elem) => form_of(alloc, elem),
         None => Ok(None),
     }
@@ -92,7 +92,7 @@ pub(crate) fn form_in_message(alloc: Global, tree: &Elem) -> Result<Option<Form>
 fn is_cancel_form(elem: &Elem) -> bool
     ensures { result ≡ is_cancelled (form_by_tree elem.now) }
 {
-    if has_name(elem, "x", DATA) {
+    if has_name(elem, "x", DATA_FORMS) {
         match kind_of(attr(elem, "type")) {
             Some(FormKind::Cancel) => true,
             _ => false,
@@ -106,7 +106,7 @@ fn is_cancel_form(elem: &Elem) -> bool
 pub(crate) fn holds_cancel(tree: &Elem) -> bool
     ensures { result ≡ is_cancelled (message_form tree.now) }
 {
-    match tree.child("x", DATA) {
+    match tree.child("x", DATA_FORMS) {
         Some(elem) => is_cancel_form(elem),
         None => false,
     }

@@ -7,8 +7,9 @@ ghost use Rattle.ps_model.specs.Grammar.{first_tree, form_after, id_in, jid_in, 
 ghost use Rattle.ps_request.specs.Answer.{AreRows};
 ghost use Rattle.ps_request.specs.Kids.{next_named};
 
-use crate::names::{OWNER, PUBSUB};
-use crate::parts::{attr, form_of_part, has_name, id_of, jid_at};
+use crate::parts::{form_of_part, id_of, jid_at};
+use ps_forms::{attr, has_name};
+use ps_spaces::{PUBSUB, PUBSUB_OWNER};
 use ps_types::{
     AskItem, AskItems, AskRow, AskRows, Child, Condition, Elem, Listed, Memory, PlanRefusal, Text,
     Texts,
@@ -164,11 +165,11 @@ fn row_of(alloc: Global, elem: &Elem, name: &str) -> Result<Option<AskRow>, Memo
 
 /// The rows that an owner asks for. `name` is the name of a row and of the attribute of its value.
 pub(crate) fn rows_of(alloc: Global, part: &Elem, name: &str) -> Result<AskRows, PlanRefusal>
-    ensures { AreRows result (rows_in name.now (children_of name.now OWNER.now part.now)) }
+    ensures { AreRows result (rows_in name.now (children_of name.now PUBSUB_OWNER.now part.now)) }
 {
     let mut rows = Listed::new(alloc);
     let mut rest = part.kids.as_slice();
-    while let Some((elem, after)) = next_child(rest, name, OWNER) {
+    while let Some((elem, after)) = next_child(rest, name, PUBSUB_OWNER) {
         match row_of(alloc, elem, name)? {
             Some(row) => rows.push(row)?,
             None => return Err(PlanRefusal::Denied(Condition::C13)),

@@ -22,7 +22,6 @@ mod entity;
 mod forms;
 mod head;
 mod kids;
-mod names;
 mod owner;
 mod parts;
 mod publish;

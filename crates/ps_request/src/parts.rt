@@ -8,32 +8,16 @@ ghost use Rattle.ps_model.specs.Stanza.{jid_of, has_type};
 ghost use Rattle.ps_model.specs.Steps.{is_short, named_step, node_step};
 ghost use Rattle.ps_request.specs.Answer.{Gives, Names};
 
-use crate::names::DATA;
+use ps_forms::{attr, has_attr, has_name};
+use ps_spaces::DATA_FORMS;
 use ps_types::{Condition, Elem, Jid, JidRefusal, Memory, PlanRefusal, Text};
 use std::alloc::{AllocError, Global};
-
-/// The value of an attribute, which is empty where it is missing.
-pub(crate) fn attr<'a>(elem: &'a Elem, name: &str) -> &'a str
-    ensures { result.now ≡ attr_text name.now elem.now }
-{
-    match elem.attr(name) {
-        Some(value) => value.as_str(),
-        None => "",
-    }
-}
-
-/// Whether the element has that name in that namespace.
-pub(crate) fn has_name(elem: &Elem, name: &str, ns: &str) -> bool
-    ensures { result ≡ is_named name.now ns.now elem.now }
-{
-    elem.name.is(name) && elem.ns.is(ns)
-}
 
 /// Whether the attribute `type` is that text.
 pub(crate) fn is_of_type(elem: &Elem, kind: &str) -> bool
     ensures { result ≡ has_type kind.now elem.now }
 {
-    attr(elem, "type") == kind
+    has_attr(elem, "type", kind)
 }
 
 /// The attribute `id`, which is empty where it is missing.
@@ -127,7 +111,7 @@ pub(crate) fn named(alloc: Global, name: &str, missing: Condition) -> Result<Tex
 pub(crate) fn form_of_part(elem: &Elem) -> Result<Option<Elem>, AllocError>
     ensures { IfOk result (λ form. form ≡ form_in elem.now) }
 {
-    match elem.child("x", DATA) {
+    match elem.child("x", DATA_FORMS) {
         Some(form) => Ok(Some(form.clone()?)),
         None => Ok(None),
     }

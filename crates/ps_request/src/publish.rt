@@ -6,7 +6,8 @@ ghost use Rattle.ps_model.specs.AskPublish.{create_ask, publish_ask, retract_ask
 ghost use Rattle.ps_request.specs.Answer.{Gives};
 
 use crate::kids::{form_behind, ids_of, items_of};
-use crate::parts::{attr, named_node};
+use crate::parts::named_node;
+use ps_forms::attr;
 use ps_types::{Ask, Child, Condition, Elem, PlanRefusal};
 use std::alloc::Global;
 

@@ -8,9 +8,10 @@ ghost use Rattle.ps_request.specs.Answer.{Gives};
 ghost use Rattle.ps_request.specs.Only.{only};
 
 use crate::kids::{next_child, texts_of};
-use crate::names::{CAPS, INFO, ROSTER};
-use crate::parts::{attr, is_of_type, jid_at};
+use crate::parts::{is_of_type, jid_at};
 use crate::stanza::is_host;
+use ps_forms::attr;
+use ps_spaces::{CAPS, DISCO_INFO, ROSTER};
 use ps_types::{Ask, AskContact, Caps, Condition, Elem, Jid, PlanRefusal, Text};
 use std::alloc::{AllocError, Global};
 
@@ -129,7 +130,7 @@ pub(crate) fn answer(
     ensures { Gives result (answer_ask service.now tree.now target.now) }
 {
     if is_of_type(tree, "result") && is_host(target, service) {
-        match tree.child("query", INFO) {
+        match tree.child("query", DISCO_INFO) {
             Some(query) => told(alloc, query),
             None => Ok(Ask::Silent),
         }

@@ -5,7 +5,7 @@ ghost use Rattle.ps_types.specs.Shape.{holding};
 ghost use Rattle.ps_request.specs.Written as written;
 
 use crate::build::{element, one, only, put_pair, two, words};
-use crate::names::{CAPS, OWNER, PUBSUB, ROSTER};
+use ps_spaces::{CAPS, PUBSUB, PUBSUB_OWNER, ROSTER};
 use ps_types::{AskContact, AskItem, AskRow, Attrs, Caps, Child, Elem, Kids, Memory, Text};
 use std::alloc::Global;
 
@@ -60,7 +60,7 @@ fn row_tree(alloc: Global, name: &str, row: &AskRow) -> Result<Elem, Memory>
 {
     let jid = row.jid.text(alloc)?;
     let attrs = two(alloc, "jid", jid.as_str(), name, row.value.as_str())?;
-    element(alloc, name, OWNER, attrs, Kids::new(alloc))
+    element(alloc, name, PUBSUB_OWNER, attrs, Kids::new(alloc))
 }
 
 /// The rows of an owner's request; `name` is the name of each, and of the attribute of its value.

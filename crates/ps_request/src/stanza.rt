@@ -5,8 +5,9 @@ ghost use Rattle.ps_model.specs.Stanza.{host_jid, is_iq as is_iq_tree, is_messag
 ghost use Rattle.ps_model.specs.Access.{is_account};
 
 use crate::kids::has_one_tree;
-use crate::names::CLIENT;
-use crate::parts::{address_in, attr, has_name, is_of_type};
+use crate::parts::{address_in, is_of_type};
+use ps_forms::{attr, has_name};
+use ps_spaces::CLIENT;
 use ps_types::{Elem, Jid, Memory, Text};
 use std::alloc::{AllocError, Global};
 

@@ -7,8 +7,9 @@ ghost use Rattle.ps_request.specs.Taking.{taken_of, taken_view, Tells};
 
 use crate::asking::ask_of;
 use crate::head::{Head, head_of};
-use crate::parts::{address_in, attr, id_of};
+use crate::parts::{address_in, id_of};
 use crate::stanza::{is_served, is_stanza, jid_of_host, target_of};
+use ps_forms::attr;
 use ps_types::{
     Condition, Elem, Jid, LineRefusal, Memory, PlanRefusal, Request, RequestRefusal, Text,
 };

@@ -6,13 +6,13 @@ ghost use Rattle.ps_types.specs.declared.request.Ask.TheVariants as ask;
 ghost use Rattle.ps_request.specs.Written as written;
 
 use crate::build::{element, only, put_pair, two};
-use crate::names::{AUTHORIZATION, CLIENT, INFO, ITEMS, OWNER, PUBSUB};
 use crate::rows::caps_kids;
 use crate::written::{
     affils_set, config_set, create, form_kids, items, options, part_alone, publish, query, retract,
     roster, subs_set, subscribe, unsubscribe,
 };
 use ps_forms::form_tree;
+use ps_spaces::{CLIENT, DISCO_INFO, DISCO_ITEMS, PUBSUB, PUBSUB_OWNER, SUBSCRIBE_AUTHORIZATION};
 use ps_types::{
     Ask, Attrs, Elem, Field, Fields, Form, FormKind, Jid, Kids, Listed, Memory, Request, Text,
     Texts,
@@ -33,7 +33,7 @@ fn approval_fields(alloc: Global, node: &str, who: &str, allow: &str) -> Result<
     ensures { IfOk result (λ fields. fields ≡ written.approval_fields node.now who.now allow.now) }
 {
     let mut fields = Listed::new(alloc);
-    fields.push(field(alloc, "FORM_TYPE", "hidden", AUTHORIZATION)?)?;
+    fields.push(field(alloc, "FORM_TYPE", "hidden", SUBSCRIBE_AUTHORIZATION)?)?;
     fields.push(field(alloc, "pubsub#node", "", node)?)?;
     fields.push(field(alloc, "pubsub#subscriber_jid", "", who)?)?;
     fields.push(field(alloc, "pubsub#allow", "", allow)?)?;
@@ -100,13 +100,31 @@ fn stanza_kids(alloc: Global, ask: &Ask) -> Result<Kids, Memory>
             options,
         } => publish(alloc, node, items.as_slice(), options),
         Ask::Retract { node, ids, notify } => retract(alloc, node, ids.as_slice(), *notify),
-        Ask::Purge { node } => part_alone(alloc, "purge", OWNER, node, Kids::new(alloc)),
-        Ask::Delete { node } => part_alone(alloc, "delete", OWNER, node, Kids::new(alloc)),
-        Ask::ConfigGet { node } => part_alone(alloc, "configure", OWNER, node, Kids::new(alloc)),
+        Ask::Purge { node } => part_alone(alloc, "purge", PUBSUB_OWNER, node, Kids::new(alloc)),
+        Ask::Delete { node } => part_alone(alloc, "delete", PUBSUB_OWNER, node, Kids::new(alloc)),
+        Ask::ConfigGet { node } => part_alone(
+            alloc,
+            "configure",
+            PUBSUB_OWNER,
+            node,
+            Kids::new(alloc),
+        ),
         Ask::ConfigSet { node, form } => config_set(alloc, node, form),
-        Ask::AffilsGet { node } => part_alone(alloc, "affiliations", OWNER, node, Kids::new(alloc)),
+        Ask::AffilsGet { node } => part_alone(
+            alloc,
+            "affiliations",
+            PUBSUB_OWNER,
+            node,
+            Kids::new(alloc),
+        ),
         Ask::AffilsSet { node, rows } => affils_set(alloc, node, rows.as_slice()),
-        Ask::SubsGet { node } => part_alone(alloc, "subscriptions", OWNER, node, Kids::new(alloc)),
+        Ask::SubsGet { node } => part_alone(
+            alloc,
+            "subscriptions",
+            PUBSUB_OWNER,
+            node,
+            Kids::new(alloc),
+        ),
         Ask::SubsSet { node, rows } => subs_set(alloc, node, rows.as_slice()),
         Ask::MyAffils { node } => part_alone(alloc, "affiliations", PUBSUB, node, Kids::new(alloc)),
         Ask::MySubs { node } => part_alone(alloc, "subscriptions", PUBSUB, node, Kids::new(alloc)),
@@ -117,8 +135,8 @@ fn stanza_kids(alloc: Global, ask: &Ask) -> Result<Kids, Memory>
             options(alloc, node, who, form_kids(alloc, form)?)
         }
         Ask::ItemsGet { node, max, ids } => items(alloc, node, max, ids.as_slice()),
-        Ask::InfoGet { node } => query(alloc, INFO, node),
-        Ask::NodesGet { node } => query(alloc, ITEMS, node),
+        Ask::InfoGet { node } => query(alloc, DISCO_INFO, node),
+        Ask::NodesGet { node } => query(alloc, DISCO_ITEMS, node),
         Ask::RosterSet { item } => roster(alloc, item),
         Ask::Approve { node, who, allow } => approve(alloc, node, who, allow),
         Ask::Present { caps } => caps_kids(alloc, caps),

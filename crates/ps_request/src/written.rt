@@ -9,8 +9,8 @@ ghost use Rattle.ps_types.specs.declared.request.Ask.TheVariants as ask;
 ghost use Rattle.ps_request.specs.Written as written;
 
 use crate::build::{element, one, only, put_pair, two};
-use crate::names::{OWNER, PUBSUB, ROSTER};
 use crate::rows::{contact_tree, id_kids, item_kids, row_kids};
+use ps_spaces::{PUBSUB, PUBSUB_OWNER, ROSTER};
 use ps_types::{AskContact, AskItem, AskRow, Attrs, Child, Elem, Jid, Kids, Memory, Text};
 use std::alloc::Global;
 
@@ -129,7 +129,13 @@ pub(crate) fn part_alone(
 pub(crate) fn config_set(alloc: Global, node: &Text, form: &Option<Elem>) -> Result<Kids, Memory>
     ensures { IfOk result (λ k. nodes k ≡ holding (written.stanza_kids (ask.ConfigSet node.now form.now))) }
 {
-    part_alone(alloc, "configure", OWNER, node, form_kids(alloc, form)?)
+    part_alone(
+        alloc,
+        "configure",
+        PUBSUB_OWNER,
+        node,
+        form_kids(alloc, form)?,
+    )
 }
 
 pub(crate) fn affils_set(alloc: Global, node: &Text, rows: &[AskRow]) -> Result<Kids, Memory>
@@ -138,7 +144,7 @@ pub(crate) fn affils_set(alloc: Global, node: &Text, rows: &[AskRow]) -> Result<
     part_alone(
         alloc,
         "affiliations",
-        OWNER,
+        PUBSUB_OWNER,
         node,
         row_kids(alloc, "affiliation", rows)?,
     )
@@ -150,7 +156,7 @@ pub(crate) fn subs_set(alloc: Global, node: &Text, rows: &[AskRow]) -> Result<Ki
     part_alone(
         alloc,
         "subscriptions",
-        OWNER,
+        PUBSUB_OWNER,
         node,
         row_kids(alloc, "subscription", rows)?,
     )

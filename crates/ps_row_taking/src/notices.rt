@@ -1,26 +1,21 @@
 // How many notices were handed to an address, and notices that aren't handed.
 ghost use Rattle.std.specs.Prelude.{◌≡◌, ℕ, List, Ok, IfOk, OnOk, OnErr, string_bytes};
 ghost use Rattle.std.specs.Str.{bytes_eq};
-ghost use Rattle.ps_types.specs.Shape.{attr_text};
 ghost use Rattle.ps_model.specs.BaseAfter.{accepts_row, is_notice_line, tallies_after_row};
 ghost use Rattle.ps_model.specs.BaseRows as base;
 ghost use Rattle.ps_model.specs.Book.{Book};
 ghost use Rattle.ps_model.specs.NoticeTrees.{notice_id};
-ghost use Rattle.ps_model.specs.Stanza.{has_type};
 ghost use Rattle.ps_model.specs.Streams.{is_reply as is_reply_tree};
-ghost use Rattle.ps_types.specs.Tree.{is_named as is_named_tree};
 ghost use Rattle.ps_row_taking.specs.States.{FitsMore, state_at};
 
 use crate::asks::{is_bare, is_number};
 use ps_base::Memory;
+use ps_forms::{has_attr, has_name};
+use ps_spaces::{CLIENT, LINE};
 use ps_tallies::Tallies;
 use ps_types::{Elem, Jid};
 use ps_wire::{TreeRefusal, print_tree, read_tree};
 use std::alloc::Global;
-
-const CLIENT: &str = "jabber:client";
-
-const LINE: &str = "urn:pubsubd:line";
 
 /// Whether a counter is accepted: its address is bare, no notice was made for it yet, and the number is from 1 up and below 2^62.
 pub fn accepts_counter(tallies: &Tallies, who: &Jid, handed: u64) -> bool
@@ -48,43 +43,15 @@ fn id_of(alloc: Global, number: u128) -> Result<String, Memory>
     Ok(format!(in alloc; "n-{number}")?)
 }
 
-// The value of an attribute, which is empty where it is missing.
-fn attr<'a>(tree: &'a Elem, name: &str) -> &'a str
-    ensures { result.now ≡ attr_text name.now tree.now }
-{
-    match tree.attr(name) {
-        Some(value) => value.as_str(),
-        None => "",
-    }
-}
-
-fn has_attr(tree: &Elem, name: &str, value: &str) -> bool
-    ensures { result ≡ bytes_eq (attr_text name.now tree.now) value.now }
-{
-    attr(tree, name) == value
-}
-
-fn is_named(tree: &Elem, name: &str, ns: &str) -> bool
-    ensures { result ≡ is_named_tree name.now ns.now tree.now }
-{
-    tree.name.is(name) && tree.ns.is(ns)
-}
-
-fn is_of_type(tree: &Elem, kind: &str) -> bool
-    ensures { result ≡ has_type kind.now tree.now }
-{
-    attr(tree, "type") == kind
-}
-
 // Whether the tree is a reply, and so no notice.
 fn is_reply(tree: &Elem) -> bool
     ensures { result ≡ is_reply_tree tree.now }
 {
-    let answers = is_of_type(tree, "result") || is_of_type(tree, "error");
-    (is_named(tree, "iq", CLIENT) && answers)
-        || (((is_named(tree, "message", CLIENT) || is_named(tree, "presence", CLIENT))
-            && is_of_type(tree, "error"))
-            || is_named(tree, "refused", LINE))
+    let answers = has_attr(tree, "type", "result") || has_attr(tree, "type", "error");
+    (has_name(tree, "iq", CLIENT) && answers)
+        || (((has_name(tree, "message", CLIENT) || has_name(tree, "presence", CLIENT))
+            && has_attr(tree, "type", "error"))
+            || has_name(tree, "refused", LINE))
 }
 
 fn are_same(line: &[u8], other: &[u8]) -> bool

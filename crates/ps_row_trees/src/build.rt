@@ -7,11 +7,9 @@ ghost use Rattle.ps_model.specs.BaseRows as model;
 
 use ps_base::Memory;
 use ps_names::{element, put};
+use ps_spaces::BASE;
 use ps_types::{Attrs, Elem, Jid, Kids};
 use std::alloc::Global;
-
-/// The namespace of rows.
-pub(crate) const BASE: &str = "urn:pubsubd:base";
 
 /// Sets an attribute to an address.
 pub(crate) fn put_jid(alloc: Global, attrs: &mut Attrs, name: &str, who: &Jid) -> Result<(), Memory>

@@ -7,11 +7,11 @@ ghost use Rattle.ps_model.specs.BaseFields as fields;
 ghost use Rattle.ps_row_trees.specs.Answer.{Gives};
 ghost use Rattle.ps_row_trees.specs.Kinds.{features_in, held_moment, held_number};
 
-use crate::build::BASE;
 use crate::numbers::number_of;
 use ps_base::Memory;
 use ps_config::{ConfigRefusal, default_config, read_config};
-use ps_forms::{DATA, FormRefusal, attr, next_child, read_form};
+use ps_forms::{FormRefusal, attr, next_child, read_form};
+use ps_spaces::{BASE, DATA_FORMS};
 use ps_types::{Child, Elem, Jid, JidRefusal, NodeConfig, NodeKey, Text, Texts};
 use std::alloc::{AllocError, Global};
 
@@ -119,7 +119,7 @@ pub(crate) fn moment_at(tree: &Elem) -> Result<Option<u64>, Unread>
 pub(crate) fn config_at(alloc: Global, tree: &Elem) -> Result<NodeConfig, Unread>
     ensures { Gives result (fields.config_at tree.now) }
 {
-    let form = match tree.child("x", DATA) {
+    let form = match tree.child("x", DATA_FORMS) {
         Some(form) => read_form(alloc, form)?,
         None => return Err(Unread::NoRow),
     };

@@ -2,11 +2,11 @@
 ghost use Rattle.ps_row_trees.specs.Answer.{Tells};
 ghost use Rattle.ps_row_trees.specs.Kinds.{contact_in, counter_in, notice_in, ver_in};
 
-use crate::build::BASE;
 use crate::parts::{Unread, features_of, jid_at, number_at};
 use crate::row::Row;
 use crate::words::roster_of;
 use ps_forms::{attr, text_of, texts_of};
+use ps_spaces::BASE;
 use ps_types::{Elem, RosterRow, Text, VerRow};
 use std::alloc::Global;
 

@@ -8,13 +8,13 @@ ghost use Rattle.ps_row_trees.specs.Held.{held_row_of};
 ghost use Rattle.ps_row_trees.specs.Kinds.{row_in};
 ghost use Rattle.ps_row_trees.specs.Said.{row_said};
 
-use crate::build::BASE;
 use crate::node_rows::{read_affil, read_count, read_item, read_link, read_node, read_sub};
 use crate::parts::Unread;
 use crate::people_rows::{read_contact, read_counter, read_notice, read_ver};
 use crate::row::Row;
 use crate::tree::row_tree;
 use ps_base::Memory;
+use ps_spaces::BASE;
 use ps_types::Elem;
 use ps_wire::print_tree;
 use std::alloc::Global;

@@ -8,11 +8,9 @@ ghost use Rattle.ps_access.specs.Plans.{Gives};
 use ps_access::{config_from, form_in, is_submitted};
 use ps_base::Memory;
 use ps_config::has_row;
+use ps_spaces::PUBLISH_OPTIONS;
 use ps_types::{Condition, Elem, Field, Form, NodeConfig, PlanRefusal};
 use std::alloc::Global;
-
-/// What a form says that holds the options of a publish.
-const PUBLISH_OPTIONS: &str = "http://jabber.org/protocol/pubsub#publish-options";
 
 fn is_known(field: &Field) -> bool
     ensures { result ≡ model.is_known field.now }

@@ -86,7 +86,8 @@ fn read_front<S: Source>(source: &mut S, room: &mut [u8], most: usize) -> Result
     requires fits { most ≤ length room.old }
     ensures count { IfOk result (λ n. n ≤ most) }
     ensures bytes { MatchResult result
-        (λ n. Consumes (S.left source.old) (S.left source.new) (take n room.new) × (n ≡ 0 → IsAtEnd (S.left source.new)))
+        (λ n. Consumes (S.left source.old) (S.left source.new) (take n room.new)
+        × (n ≡ 0 → IsAtEnd (S.left source.new)))
         (λ _. Keeps (S.left source.old) (S.left source.new)) }
     ensures cause { HasCause (S.faults source.old) (S.faults source.new) result }
 {

@@ -117,7 +117,8 @@ impl<S: Source> Lines<S> {
         ensures stops { IfErr result (λ why. stopped_of self.new ≡ Some why) }
         ensures later { S.faults (source_of self.old) ≤ S.faults (source_of self.new) }
         ensures fault { IsErrOf result NextLineRefusal.ReadFault →
-            (stopped_of self.old ≡ Some NextLineRefusal.ReadFault) ⊎ Rose (S.faults (source_of self.old)) (S.faults (source_of self.new)) }
+            (stopped_of self.old ≡ Some NextLineRefusal.ReadFault)
+            ⊎ Rose (S.faults (source_of self.old)) (S.faults (source_of self.new)) }
         ensures long { IsErrOf result NextLineRefusal.Long →
             (stopped_of self.old ≡ Some NextLineRefusal.Long)
             ⊎ ((given_of self.new ≡ 2 ^ 40) × IsPastLimit (budget_of self.old) (rest_of self.old)) }
