@@ -1,6 +1,6 @@
 -- What an answer is made of.
 use Rattle.std.specs.Prelude.{◌≡◌, ℕ, List, Option, Some, None}
-use Rattle.ps_names.specs.declared.replies.Head.{Head}
+use Rattle.ps_names.specs.declared.replies.ReplyHead.{ReplyHead}
 use Rattle.ps_types.specs.declared.request.Request.{Request}
 use Rattle.ps_model.specs.Grammar.{id_in}
 use Rattle.ps_types.specs.Tree.{name_of}
@@ -13,7 +13,7 @@ full_by None reply = None
 full_by (Some entry) reply = reply
 
 -- the head is that of a reply to the stanza
-pub record AnswersStanza (head : Head) (t : Tree) (r : Request) (unsupported : List ℕ) : Type 0 where
+pub record AnswersStanza (head : ReplyHead) (t : Tree) (r : Request) (unsupported : List ℕ) : Type 0 where
   pub same_name : head.name ≡ name_of t
   pub from_target : head.from ≡ r.target
   pub to_sender : head.to ≡ r.from

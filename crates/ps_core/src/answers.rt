@@ -15,8 +15,8 @@ use crate::plans::plan;
 use crate::taking::{TakenLine, take_line};
 use ps_access::Tables;
 use ps_base::Memory;
-use ps_names::{Head, error_reply, refused, result_reply};
-use ps_request::{Head as StanzaHead, head_of, is_answered, is_iq, is_presence};
+use ps_names::{ReplyHead, error_reply, refused, result_reply};
+use ps_request::{Head, head_of, is_answered, is_iq, is_presence};
 use ps_types::{Arrival, Ask, Condition, Elem, Entry, Plan, PlanRefusal, Request, Text};
 use std::alloc::Global;
 
@@ -118,7 +118,12 @@ fn feature_text(ask: &Ask) -> &'static str
 }
 
 // What the reply to a request is made of.
-fn reply_head(alloc: Global, tree: &Elem, request: &Request, feature: &str) -> Result<Head, Memory>
+fn reply_head(
+    alloc: Global,
+    tree: &Elem,
+    request: &Request,
+    feature: &str,
+) -> Result<ReplyHead, Memory>
     ensures named { IfOk result (λ h. h.name ≢ []) }
     ensures head { IfOk result (λ h. AnswersStanza h tree.now request.now feature.now) }
 {
@@ -126,7 +131,7 @@ fn reply_head(alloc: Global, tree: &Elem, request: &Request, feature: &str) -> R
     let sender = request.from.clone()?;
     let target = request.target.clone()?;
     let head = head_of(alloc, tree, sender, target)?;
-    Ok(Head {
+    Ok(ReplyHead {
         name: head.name,
         from: head.target,
         to: head.sender,
@@ -136,14 +141,14 @@ fn reply_head(alloc: Global, tree: &Elem, request: &Request, feature: &str) -> R
 }
 
 // The reply to a stanza that is denied before it is a request.
-fn denied_stanza(alloc: Global, head: StanzaHead, why: Condition) -> Result<Option<Elem>, Memory>
+fn denied_stanza(alloc: Global, head: Head, why: Condition) -> Result<Option<Elem>, Memory>
     requires named { head.name ≢ [] }
     ensures { IfOk result (λ o. o ≡ if_answered head.is_answered (model.error_reply (head_view head) [] why)) }
 {
     if !head.is_answered {
         return Ok(None);
     }
-    let head = Head {
+    let head = ReplyHead {
         name: head.name,
         from: head.target,
         to: head.sender,

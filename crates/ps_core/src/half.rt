@@ -11,7 +11,7 @@ ghost use Rattle.ps_core.specs.Requests.{IsRequestOf};
 ghost use Rattle.ps_core.specs.States.{changed_part, fits_book, part_after, part_of, state_of};
 ghost use Rattle.ps_core.specs.Wants.{HasWants};
 
-use crate::lines::Lines;
+use crate::lines::LastLines;
 use crate::wanting::follow_request;
 use ps_access::Tables;
 use ps_base::Memory;
@@ -28,7 +28,7 @@ use std::alloc::Global;
 pub struct Half {
     pub tables: Tables,
     pub count: u64,
-    pub lines: Lines,
+    pub lines: LastLines,
     /// What each resource wants, by the features of its row.
     pub wants: Wants,
     /// What the digests of its tables go by.
@@ -57,7 +57,7 @@ impl Half {
         Ok(Half {
             tables: Tables::seeded(alloc, seed)?,
             count: 0,
-            lines: Lines::new(alloc),
+            lines: LastLines::new(alloc),
             wants: Wants::seeded(alloc, seed)?,
             seed,
         })
@@ -162,7 +162,7 @@ impl Half {
         self.tables.service = service.clone()?;
         self.tables.presence = Presence::seeded(alloc, self.seed)?;
         self.wants = Wants::seeded(alloc, self.seed)?;
-        self.lines = Lines::new(alloc);
+        self.lines = LastLines::new(alloc);
         self.count += 1;
         Ok(())
     }

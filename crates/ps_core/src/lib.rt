@@ -23,6 +23,6 @@ mod wanting;
 
 pub use answers::{Answer, WithRequest};
 pub use half::Half;
-pub use lines::Lines;
+pub use lines::LastLines;
 pub use numbers::Numbers;
 pub use service::{Service, Stage};

@@ -10,11 +10,11 @@ use std::marker::Model;
 
 /// Hosts with the greatest line of each. A contract sees the rows and the spare.
 #[derive(Drop)]
-pub struct Lines {
+pub struct LastLines {
     rows: Rows<LineRow>,
 }
 
-impl Model for Lines {
+impl Model for LastLines {
     ghost use Rattle.ps_base.specs.Rows.{Table};
     ghost use Rattle.ps_types.specs.declared.rows.LineRow.{LineRow};
 
@@ -35,12 +35,12 @@ fn place_of(rows: &[LineRow], host: &Text) -> Option<usize>
     rows.iter().position(|row| *host == row.host)
 }
 
-impl Lines {
+impl LastLines {
     /// No hosts.
-    pub fn new(alloc: Global) -> Lines
+    pub fn new(alloc: Global) -> LastLines
         ensures empty { result.rows ≡ [] }
     {
-        Lines {
+        LastLines {
             rows: Rows::new(alloc),
         }
     }
@@ -73,10 +73,10 @@ impl Lines {
     }
 
     /// The same rows.
-    pub fn copy(&self) -> Result<Lines, Memory>
+    pub fn copy(&self) -> Result<LastLines, Memory>
         ensures rows { IfOk result (λ t. t.rows ≡ self.now.rows) }
     {
-        Ok(Lines {
+        Ok(LastLines {
             rows: self.rows.copy()?,
         })
     }

@@ -99,7 +99,8 @@ impl Model for Service {
 
     ghost view = { λ s. record { state = state_of s.front s.tallies.rows; prepared = prepared_in s.stage } };
 
-    ghost invariant = { λ s. IsKept s.stage (part_of s.front) (part_of s.back) s.tallies × HaveWants s.stage s.front s.back };
+    ghost invariant = { λ s. IsKept s.stage (part_of s.front) (part_of s.back) s.tallies
+        × HaveWants s.stage s.front s.back };
 }
 
 impl Service {

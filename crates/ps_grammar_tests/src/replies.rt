@@ -1,7 +1,7 @@
 // Replies, messages and refusals, and the words of each condition.
 ghost use Rattle.std.specs.Prelude.{◌≢◌, [], IfOk};
 
-use ps_names::{Head, condition, error_reply, message, refused, result_reply};
+use ps_names::{ReplyHead, condition, error_reply, message, refused, result_reply};
 use ps_types::{Condition, Elem, Jid, Kids, LineRefusal, Text};
 use std::alloc::Global;
 use std::process::Abort;
@@ -18,13 +18,13 @@ fn has(rt: &impl Abort, elem: &Elem, name: &str, value: &str) {
     }
 }
 
-fn head_between(alloc: Global, from: Jid, to: Jid) -> Result<Head, Fail>
+fn head_between(alloc: Global, from: Jid, to: Jid) -> Result<ReplyHead, Fail>
     ensures { IfOk result (λ head. head.name ≢ []) }
 {
     let name = Text::of(alloc, "iq")?;
     let id = Text::of(alloc, "2")?;
     let feature = Text::of(alloc, "publish")?;
-    Ok(Head {
+    Ok(ReplyHead {
         name,
         from,
         to,
@@ -33,7 +33,7 @@ fn head_between(alloc: Global, from: Jid, to: Jid) -> Result<Head, Fail>
     })
 }
 
-fn head_of(alloc: Global) -> Result<Head, Fail>
+fn head_of(alloc: Global) -> Result<ReplyHead, Fail>
     ensures { IfOk result (λ head. head.name ≢ []) }
 {
     let from = Jid::read(alloc, b"pubsub.example")?;

@@ -3,12 +3,12 @@ use Rattle.std.specs.Prelude.{◌≡◌, ℕ, Bool, true, false, List}
 use Rattle.ps_types.specs.declared.config.NoticeKind.{NoticeKind}
 use Rattle.ps_types.specs.declared.config.NoticeKind.TheVariants.{Normal, Headline}
 use Rattle.ps_names.specs.declared.conditions.Wording.{Wording}
-use Rattle.ps_names.specs.declared.replies.Head.{Head}
+use Rattle.ps_names.specs.declared.replies.ReplyHead.{ReplyHead}
 use Rattle.ps_model.specs.Conditions as model
 use Rattle.ps_model.specs.Taken as taken
 
 -- the head of the stanza that the reply answers
-abbrev pub stanza_head : Head → taken.Head
+abbrev pub stanza_head : ReplyHead → taken.Head
 stanza_head head = record { name = head.name; sender = head.to; target = head.from; id = head.id; is_answered = true }
 
 -- the words are those of the table

@@ -11,4 +11,4 @@ mod replies;
 
 pub use build::{element, only, put, put_pair};
 pub use conditions::condition;
-pub use replies::{Head, error_reply, message, refused, result_reply};
+pub use replies::{ReplyHead, error_reply, message, refused, result_reply};

@@ -14,21 +14,14 @@ ghost use Rattle.ps_names.specs.Heads.{stanza_head, kind_of};
 use crate::build::{element, only, put, put_pair};
 use crate::conditions::words_of;
 use ps_base::Memory;
+use ps_spaces::{CLIENT, LINE, PUBSUB_ERRORS, STANZA_ERRORS};
 use ps_types::{Attrs, Child, Condition, Elem, Jid, Kids, LineRefusal, Text};
 use std::alloc::Global;
-
-const CLIENT: &str = "jabber:client";
-
-const STANZAS: &str = "urn:ietf:params:xml:ns:xmpp-stanzas";
-
-const ERRORS: &str = "http://jabber.org/protocol/pubsub#errors";
-
-const LINE: &str = "urn:pubsubd:line";
 
 /// What a reply is made of: the name of the stanza, whom the reply is from and to, its id, which may be empty, and the feature that
 /// isn't supported, empty where the request has none.
 #[derive(Drop)]
-pub struct Head {
+pub struct ReplyHead {
     pub name: Text,
     pub from: Jid,
     pub to: Jid,
@@ -37,7 +30,7 @@ pub struct Head {
 }
 
 // The attributes of a reply; an empty id is left out.
-fn reply_attrs(alloc: Global, head: &Head, kind: &str) -> Result<Attrs, Memory>
+fn reply_attrs(alloc: Global, head: &ReplyHead, kind: &str) -> Result<Attrs, Memory>
     ensures { IfOk result (λ a. a ≡ with_attr (codes "from") (jid_text head.now.from) (attr_pair (
       codes
           "id",
@@ -59,7 +52,7 @@ fn special_of(alloc: Global, extra: &str, feature: &str) -> Result<Elem, Memory>
 {
     let mut attrs = Attrs::new(alloc);
     put_pair(alloc, &mut attrs, "feature", feature)?;
-    element(alloc, extra, ERRORS, attrs, Kids::new(alloc))
+    element(alloc, extra, PUBSUB_ERRORS, attrs, Kids::new(alloc))
 }
 
 // The plain condition, and the special one behind it where there is one.
@@ -84,7 +77,7 @@ fn error_child(alloc: Global, feature: &str, why: Condition) -> Result<Elem, Mem
     let plain = element(
         alloc,
         words.name,
-        STANZAS,
+        STANZA_ERRORS,
         Attrs::new(alloc),
         Kids::new(alloc),
     )?;
@@ -96,7 +89,7 @@ fn error_child(alloc: Global, feature: &str, why: Condition) -> Result<Elem, Mem
 }
 
 /// The error reply of a condition (RFC 6120 §8.3).
-pub fn error_reply(alloc: Global, head: &Head, why: Condition) -> Result<Elem, Memory>
+pub fn error_reply(alloc: Global, head: &ReplyHead, why: Condition) -> Result<Elem, Memory>
     requires { head.now.name ≢ [] }
     ensures { IfOk result (λ t. t ≡ model.error_reply (stanza_head head.now) head.now.feature why) }
 {
@@ -111,7 +104,7 @@ pub fn error_reply(alloc: Global, head: &Head, why: Condition) -> Result<Elem, M
 }
 
 /// The result of an accepted request, with its child, if it has one (RFC 6120 §8.2.3).
-pub fn result_reply(alloc: Global, head: &Head, child: Option<Elem>) -> Result<Elem, Memory>
+pub fn result_reply(alloc: Global, head: &ReplyHead, child: Option<Elem>) -> Result<Elem, Memory>
     requires { head.now.name ≢ [] }
     ensures { IfOk result (λ t. t ≡ model.result_reply (stanza_head head.now) child) }
 {

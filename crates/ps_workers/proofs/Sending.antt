@@ -28,7 +28,7 @@ use Rattle.ps_outbox.proofs.boxes.Outboxes.TheSendSync as outboxes
 use Rattle.ps_items.specs.contracts.items.Items as Items
 use Rattle.ps_access.specs.contracts.tables.Tables as Tables
 use Rattle.ps_fanout.proofs.Shared.{elem_send}
-use Rattle.ps_core.proofs.lines.Lines.TheSendSync as lines
+use Rattle.ps_core.proofs.lines.LastLines.TheSendSync as lines
 use Rattle.ps_core.proofs.numbers.Numbers.TheSendSync as numbers
 use Rattle.ps_core.specs.contracts.half.Half as Half
 use Rattle.ps_core.specs.contracts.service.Kept as Kept

@@ -1,7 +1,7 @@
 use Rattle.std.proofs.Common.{◌≡◌}
 use Rattle.ps_base.proofs.Rows.{put_at-position}
 use Rattle.ps_model.specs.Tallies.{is_line_of, lines_with}
-use Rattle.ps_core.proofs.lines.Lines.set.Goals as goal
+use Rattle.ps_core.proofs.lines.LastLines.set.Goals as goal
 
 pub returns : goal.returns
 returns c =
