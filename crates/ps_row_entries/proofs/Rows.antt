@@ -1,11 +1,14 @@
 -- The entries of rows, one row more at a time, and of all kinds together.
-use Rattle.std.proofs.Common.{◌≡◌, ℕ, zero, suc, ◌+◌, List, [], ◌∷◌, ◌++◌, map, take, refl, sym, ap, ◌∙◌, arith, append_assoc}
+use Rattle.std.proofs.Common.{◌≡◌, ℕ, zero, suc, ◌+◌, ◌<◌, List, [], ◌∷◌, ◌++◌, Option, Some, None, length, map, take, get_or, refl, sym, ap, ◌∙◌, arith, append_assoc}
 use Rattle.std.specs.Prelude.{slice_get}
+use Rattle.std.proofs.lemmas.List.{map-append}
 use Rattle.ps_types.specs.declared.entry.Entry.{Entry}
 use Rattle.ps_model.specs.Base.{book_rows, unlinked}
 use Rattle.ps_model.specs.BaseRows as base
 use Rattle.ps_model.specs.BaseRows.{BaseRow}
 use Rattle.ps_model.specs.Book.{Book}
+use Rattle.ps_rows.specs.Standing.{standing}
+use Rattle.ps_rows.proofs.Packed.{standing-more}
 use Rattle.ps_row_entries.specs.Written.{all_written, if_written, written}
 
 module _ {R : Type 0} (kind : R → BaseRow) where
@@ -21,6 +24,29 @@ module _ {R : Type 0} (kind : R → BaseRow) where
       let next : at + 1 ≡ suc at = omega arith in
       more ∙ ap (λ (es : List Entry). es ++ if_written kind (slice_get rows at)) before ∙ append_assoc front (all_written kind (take at rows)) (if_written kind (slice_get rows at))
       ∙ ap (λ (es : List Entry). front ++ es) (sym (one-row rows at)) ∙ ap (λ (n : ℕ). front ++ all_written kind (take n rows)) (sym next)
+
+  one-place : (place : Option R) → all_written kind (standing (place ∷ [])) ≡ if_written kind place
+  one-place None = refl
+  one-place (Some x) = refl
+
+  places-next : (places : List (Option R)) (at : ℕ) (place : Option R) → at < length places → place ≡ get_or places at place
+      → all_written kind (standing (take (at + 1) places)) ≡ all_written kind (standing (take at places)) ++ if_written kind place
+  places-next places at place inside is =
+      ap (λ (rs : List R). all_written kind rs) (standing-more places at place inside is) ∙ map-append (λ (r : R). written (kind r)) (standing (take at places)) (standing (place ∷ []))
+      ∙ ap (λ (es : List Entry). all_written kind (standing (take at places)) ++ es) (one-place place)
+
+  -- one place more
+  pub place-more : (places : List (Option R)) (at : ℕ) (place : Option R) (front now after : List Entry) → at < length places → place ≡ get_or places at place
+      → now ≡ front ++ all_written kind (standing (take at places)) → after ≡ now ++ if_written kind place → after ≡ front ++ all_written kind (standing (take (at + 1) places))
+  place-more places at place front now after inside is before more =
+      more ∙ ap (λ (es : List Entry). es ++ if_written kind place) before ∙ append_assoc front (all_written kind (standing (take at places))) (if_written kind place)
+      ∙ ap (λ (es : List Entry). front ++ es) (sym (places-next places at place inside is))
+
+  -- the rows of a table, which its places have, behind what was before
+  pub rows-added : (places : List (Option R)) (rows : List R) (before now after : List Entry) → now ≡ before → standing places ≡ rows
+      → after ≡ now ++ all_written kind (standing places) → after ≡ before ++ all_written kind rows
+  rows-added places rows before now after so_far all more =
+      more ∙ ap (λ (es : List Entry). es ++ all_written kind (standing places)) so_far ∙ ap (λ (rs : List R). before ++ all_written kind rs) all
 
   kinds : (rows : List R) (more : List BaseRow) → map written (map kind rows ++ more) ≡ all_written kind rows ++ map written more
   kinds [] more = refl

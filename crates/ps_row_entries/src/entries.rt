@@ -5,28 +5,27 @@ ghost use Rattle.ps_model.specs.BaseRows as base;
 ghost use Rattle.ps_access.specs.Tables.{book_of};
 ghost use Rattle.ps_row_entries.specs.Written.{written};
 
-use crate::adding::{
-    add_affils, add_contacts, add_counts, add_items, add_links, add_nodes, add_subs, add_vers,
-};
+use crate::adding::{add_nodes, add_rows};
 use ps_access::Tables;
 use ps_base::Memory;
 use ps_row_trees::{counter_tree, notice_tree};
 use ps_types::{Entry, Jid, Text};
 use std::alloc::Global;
 
-/// The entries of the rows of a Book, in the order in which each is accepted behind those before it. None is of the resources that are present.
+/// The entries of the rows of a Book, in the order in which each is accepted behind those before it. None is of the
+/// resources that are present.
 pub fn book_entries(alloc: Global, tables: &Tables) -> Result<Vec<Entry>, Memory>
     ensures rows { IfOk result (λ v. v.items ≡ map written (book_rows (book_of tables.now))) }
 {
     let mut entries = Vec::new(alloc);
-    add_nodes(alloc, &mut entries, tables)?;
-    add_affils(alloc, &mut entries, tables)?;
-    add_subs(alloc, &mut entries, tables)?;
-    add_items(alloc, &mut entries, tables)?;
-    add_links(alloc, &mut entries, tables)?;
-    add_contacts(alloc, &mut entries, tables)?;
-    add_vers(alloc, &mut entries, tables)?;
-    add_counts(alloc, &mut entries, tables)?;
+    add_nodes(alloc, &mut entries, &tables.nodes)?;
+    add_rows(alloc, &mut entries, tables.affils.places())?;
+    add_rows(alloc, &mut entries, tables.subs.places())?;
+    add_rows(alloc, &mut entries, tables.items.places())?;
+    add_rows(alloc, &mut entries, tables.links.places())?;
+    add_rows(alloc, &mut entries, tables.roster.places())?;
+    add_rows(alloc, &mut entries, tables.cache.places())?;
+    add_rows(alloc, &mut entries, tables.counts.places())?;
     Ok(entries)
 }
 

@@ -10,5 +10,6 @@
 
 mod adding;
 mod entries;
+mod rowed;
 
 pub use entries::{book_entries, counter_entry, notice_entry};
