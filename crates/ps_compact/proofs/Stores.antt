@@ -1,14 +1,16 @@
 -- What is known of a new store: where it is empty, how long it is then, and what a crash leaves of it.
-use Rattle.std.proofs.Common.{◌≡◌, inl, inr, ℕ, ◌+◌, ◌<◌, List, [], ◌∷◌, ◌++◌, length, map, refl, sym, ap, ◌∙◌, arith}
+use Rattle.std.proofs.Common.{◌≡◌, inl, inr, ℕ, ◌+◌, ◌<◌, List, [], ◌∷◌, ◌++◌, length, map, Result, Ok, Err, ◌≤◌, refl, sym, ap, subst, ◌∙◌, arith}
+use Rattle.std.specs.Prelude.{OnOk}
+use Rattle.std.proofs.lemmas.Bool.{cases_lt}
 use Rattle.ps_types.specs.declared.entry.Entry.{Entry}
-use Rattle.ps_disk.specs.Disk.{LeavesOnly}
+use Rattle.ps_disk.specs.Disk.{LeavesOnly, MayLeave}
+use Rattle.ps_disk.proofs.TornWrites.{only_synced}
+use Rattle.ps_journal.specs.Settled.{IsQuiet}
 use Rattle.ps_disk.proofs.Moments.{then_on, weaker}
 use Rattle.ps_model.specs.Entries.{body, spelling}
 use Rattle.ps_model.specs.Store.{AreBodies, gate_at, joined, spelled}
 use Rattle.ps_model.proofs.OneList.{one_frames, one_list, starts}
 use Rattle.ps_journal.specs.declared.judging.Placed.{Placed}
-use Rattle.ps_journal.specs.declared.journal.AppendRefusal.{AppendRefusal}
-use Rattle.ps_journal.specs.declared.journal.AppendRefusal.TheVariants as append
 use Rattle.ps_journal.specs.declared.opening.JournalWhy.{JournalWhy}
 use Rattle.ps_journal.specs.declared.opening.JournalWhy.TheVariants as why
 use Rattle.ps_journal.specs.Left.{IsWithOrWithout}
@@ -16,8 +18,8 @@ use Rattle.ps_journal.specs.Opened.{HasLength, IsOpened, IsWhyDamaged, LeftOrHas
 use Rattle.ps_journal.specs.Places.{entries_in}
 use Rattle.ps_journal.proofs.Damage.{damaged_spells_nothing}
 use Rattle.ps_journal.proofs.Opens.{found_spells}
-use Rattle.ps_compact.specs.declared.writing.Outcome.TheVariants.{Done, Occupied}
-use Rattle.ps_compact.specs.Refused.{appended_by, refused_by}
+use Rattle.ps_compact.specs.declared.writing.WriteWhy.TheVariants.{Occupied}
+use Rattle.ps_compact.specs.Refused.{refused_by}
 use Rattle.ps_compact.specs.Stores.{LeftEmptyOrWhole}
 
 module _ {A : Type 0} where
@@ -62,9 +64,14 @@ not-empty (why.Damaged at before) bytes damaged is empty = damaged_spells_nothin
 not-empty why.Store bytes damaged is empty = absurd (cc is)
 not-empty why.Memory bytes damaged is empty = absurd (cc is)
 
-pub never-done : (w : AppendRefusal) → appended_by w ≡ Done → ⊥
-never-done append.Full e = absurd (cc e)
-never-done append.Store e = absurd (cc e)
+-- what isn't over a limit is within it
+pub not-over : (limit n : ℕ) → (limit < n → ⊥) → n ≤ limit
+not-over limit n never = elim (cases_lt limit n) [ inl over ↦ absurd (never over) | inr le ↦ le ]
+
+-- what holds where two others do
+pub on-both : {T E : Type 0} {A B C : Type 0} (r : Result T E) → (A → B → C) → OnOk r A → OnOk r B → OnOk r C
+on-both (Ok x) f a b = f a b
+on-both (Err e) f a b = tt
 
 -- ---- moments
 
@@ -84,3 +91,21 @@ module _ (synced : List ℕ) (written : List (ℕ × ℕ)) (E : List Entry) wher
     pub then-left : (old mid now : D) → LeavesOnly moment left_since old mid (LeftOrHas synced written []) → LeavesOnly moment left_since mid now (IsWithOrWithout [] E)
         → LeavesOnly moment left_since old now (LeftEmptyOrWhole synced written E)
     then-left old mid now runs more = then_on moment left_since old mid now (LeftOrHas synced written []) (IsWithOrWithout [] E) (LeftEmptyOrWhole synced written E) runs more before-is after-is
+
+-- nothing is pending, so a crash leaves what is seen, which it might have left before
+pub quiet-left : (seen synced : List ℕ) (written : List (ℕ × ℕ)) (now synced' : List ℕ) (written' : List (ℕ × ℕ)) → MayLeave synced written seen → now ≡ seen → IsQuiet now synced' written' → (c : List ℕ) → MayLeave synced' written' c → MayLeave synced written c
+quiet-left seen synced written now synced' written' may same quiet c left =
+    let only : c ≡ synced' = only_synced synced' c (subst (λ (w : List (ℕ × ℕ)). MayLeave synced' w c) quiet.nothing left) in
+    subst (MayLeave synced written) (sym (only ∙ quiet.kept ∙ same)) may
+
+module _ {D : Type 0} (moment : D → ℕ) (left_since : D → ℕ → List ℕ → Type 0) (synced synced' : List ℕ) (written written' : List (ℕ × ℕ)) (E : List Entry) where
+  -- nothing was written yet
+  pub only-looked : (old now : D) → LeavesOnly moment left_since old now (MayLeave synced written) → LeavesOnly moment left_since old now (LeftEmptyOrWhole synced written E)
+  only-looked old now runs = weaker moment left_since old now (MayLeave synced written) (LeftEmptyOrWhole synced written E) runs (λ c left. inl left)
+
+  -- an empty store was found and then written
+  pub then-written : (old mid now : D) → ((c : List ℕ) → MayLeave synced' written' c → MayLeave synced written c) → LeavesOnly moment left_since old mid (MayLeave synced written) → LeavesOnly moment left_since mid now (LeftEmptyOrWhole synced' written' E)
+      → LeavesOnly moment left_since old now (LeftEmptyOrWhole synced written E)
+  then-written old mid now back first second =
+      then_on moment left_since old mid now (MayLeave synced written) (LeftEmptyOrWhole synced' written' E) (LeftEmptyOrWhole synced written E) first second (λ c left. inl left)
+      (λ c left. elim left [ inl was ↦ inl (back c was) | inr is ↦ inr is ])

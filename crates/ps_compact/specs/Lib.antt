@@ -1,2 +1,5 @@
+pub mod Few
+pub mod Rows
 pub mod Refused
 pub mod Stores
+pub mod Compacted

@@ -6,16 +6,16 @@ use std::alloc::Global;
 use std::process::Abort;
 use std::test::Fail;
 
-const NODE: &str =
+pub(crate) const NODE: &str =
     r#"{"a":{"creator":"ann@a.example","name":"news","service":"pubsub.example"},"c":[{"a":{"type":"form"},"c":[{"a":{"type":"hidden","var":"FORM_TYPE"},"c":[{"c":["http://jabber.org/protocol/pubsub#node_config"],"n":"value"}],"n":"field"},{"a":{"type":"text-single","var":"pubsub#title"},"c":[{"n":"value"}],"n":"field"},{"a":{"type":"boolean","var":"pubsub#deliver_notifications"},"c":[{"c":["1"],"n":"value"}],"n":"field"},{"a":{"type":"boolean","var":"pubsub#deliver_payloads"},"c":[{"c":["1"],"n":"value"}],"n":"field"},{"a":{"type":"boolean","var":"pubsub#notify_config"},"c":[{"c":["0"],"n":"value"}],"n":"field"},{"a":{"type":"boolean","var":"pubsub#notify_delete"},"c":[{"c":["0"],"n":"value"}],"n":"field"},{"a":{"type":"boolean","var":"pubsub#notify_retract"},"c":[{"c":["0"],"n":"value"}],"n":"field"},{"a":{"type":"boolean","var":"pubsub#persist_items"},"c":[{"c":["1"],"n":"value"}],"n":"field"},{"a":{"type":"text-single","var":"pubsub#max_items"},"c":[{"c":["10"],"n":"value"}],"n":"field"},{"a":{"type":"list-single","var":"pubsub#access_model"},"c":[{"c":["open"],"n":"value"}],"n":"field"},{"a":{"type":"list-single","var":"pubsub#publish_model"},"c":[{"c":["publishers"],"n":"value"}],"n":"field"},{"a":{"type":"list-multi","var":"pubsub#roster_groups_allowed"},"n":"field"},{"a":{"type":"list-single","var":"pubsub#send_last_published_item"},"c":[{"c":["never"],"n":"value"}],"n":"field"},{"a":{"type":"boolean","var":"pubsub#presence_based_delivery"},"c":[{"c":["0"],"n":"value"}],"n":"field"},{"a":{"type":"list-single","var":"pubsub#notification_type"},"c":[{"c":["headline"],"n":"value"}],"n":"field"},{"a":{"type":"text-single","var":"pubsub#max_payload_size"},"c":[{"c":["65536"],"n":"value"}],"n":"field"},{"a":{"type":"list-single","var":"pubsub#node_type"},"c":[{"c":["leaf"],"n":"value"}],"n":"field"},{"a":{"type":"text-single","var":"pubsub#collection"},"c":[{"n":"value"}],"n":"field"}],"n":"x","ns":"jabber:x:data"}],"n":"node","ns":"urn:pubsubd:base"}"#;
 
-const AFFILIATION: &str =
+pub(crate) const AFFILIATION: &str =
     r#"{"a":{"affiliation":"owner","jid":"ann@a.example","name":"news","service":"pubsub.example"},"n":"affiliation","ns":"urn:pubsubd:base"}"#;
 
-const SUBSCRIPTION: &str =
+pub(crate) const SUBSCRIPTION: &str =
     r#"{"a":{"depth":"1","jid":"bob@b.example/1","name":"news","service":"pubsub.example","subscription":"subscribed","type":"items"},"n":"subscription","ns":"urn:pubsubd:base"}"#;
 
-const ITEM: &str =
+pub(crate) const ITEM: &str =
     r#"{"a":{"id":"i1","moment":"1700000000","name":"news","publisher":"ann@a.example","service":"pubsub.example"},"c":[{"c":["hi"],"n":"entry","ns":"urn:t"}],"n":"item","ns":"urn:pubsubd:base"}"#;
 
 const LINK: &str =
@@ -30,7 +30,7 @@ const VER: &str =
 const MADE: &str =
     r#"{"a":{"count":"7","jid":"ann@a.example","name":"news","service":"pubsub.example"},"n":"made","ns":"urn:pubsubd:base"}"#;
 
-const COUNTER: &str =
+pub(crate) const COUNTER: &str =
     r#"{"a":{"handed":"1","jid":"bob@b.example"},"n":"counter","ns":"urn:pubsubd:base"}"#;
 
 const NOTICE: &str =

@@ -5,31 +5,23 @@ use Rattle.ps_model.specs.Store.{spelled}
 use Rattle.ps_compact.specs.Stores.{LeftEmptyOrWhole}
 use Rattle.ps_journal.specs.Journal.{Has, Keeps}
 use Rattle.ps_journal.specs.Places.{entries_in}
-use Rattle.ps_compact.proofs.Stores.{empty-long, is-some, none-long, not-empty, opened-spells, still-left}
+use Rattle.ps_compact.specs.declared.writing.WriteWhy.TheVariants.{Occupied}
+use Rattle.ps_compact.proofs.Stores.{empty-long, is-some, none-long, not-empty, on-both, opened-spells, still-left}
 use Rattle.ps_compact.proofs.writing.write_store.Goals as goal
 
 pub returns-in-Err-clause-occupied : goal.returns-in-Err-clause-occupied
-returns-in-Err-clause-occupied g c = λ tells is empty.
-    not-empty c.in-Err.refusal.why (g.D.Disk.seen c.args.new) (c.in-Err.ensures.damaged tells) (sym c.outcome_of.ensures ∙ is) empty
+returns-in-Err-clause-occupied g c tells is empty =
+    let same : c.why_unopened.result ≡ Occupied = cc is in
+    not-empty c.in-Err.refusal.why (g.D.Disk.seen c.args.new) (c.in-Err.ensures.damaged tells) (sym c.why_unopened.ensures ∙ same) empty
 
 pub returns-in-Err-clause-any_moment : goal.returns-in-Err-clause-any_moment
 returns-in-Err-clause-any_moment g c = λ tells empty short.
     still-left (g.D.Disk.synced c.args.new) (g.D.Disk.written c.args.new) c.args.batch.now g.D.Disk.moment g.D.Disk.left_since c.args.new c.in-Err.refusal.disk (c.in-Err.ensures.any_moment tells [] empty short)
 
-pub returns-then-is_empty-clause-done : goal.returns-then-is_empty-clause-done
-returns-then-is_empty-clause-done g c = λ tells done.
-    let none = none-long c.in-Ok.placed.items (sym c.in-Ok.placed.ok.0 ∙ eqb-true c.in-Ok.placed.len 0 (sym c.is_empty.ensures ∙ c.if-is_empty.true)) in
-    c.append_all.ensures.done tells (subst (λ ps. Has c.in-Ok.journal (entries_in ps)) none (c.in-Ok.ensures.same tells)) done
-
 pub returns-then-is_empty-clause-durable : goal.returns-then-is_empty-clause-durable
-returns-then-is_empty-clause-durable g c = λ tells done.
+returns-then-is_empty-clause-durable g c = λ tells.
     let none = none-long c.in-Ok.placed.items (sym c.in-Ok.placed.ok.0 ∙ eqb-true c.in-Ok.placed.len 0 (sym c.is_empty.ensures ∙ c.if-is_empty.true)) in
-    c.append_all.ensures.durable tells (subst (λ ps. Has c.in-Ok.journal (entries_in ps)) none (c.in-Ok.ensures.same tells)) (subst (λ ps. Keeps c.in-Ok.journal (entries_in ps)) none (c.in-Ok.ensures.durable tells)) done
-
-pub returns-then-is_empty-clause-free : goal.returns-then-is_empty-clause-free
-returns-then-is_empty-clause-free g c = λ tells done.
-    let none = none-long c.in-Ok.placed.items (sym c.in-Ok.placed.ok.0 ∙ eqb-true c.in-Ok.placed.len 0 (sym c.is_empty.ensures ∙ c.if-is_empty.true)) in
-    subst (λ ps. spelled (g.D.Disk.seen c.args.new) (entries_in ps)) none (opened-spells (g.D.Disk.seen c.args.new) c.in-Ok.placed.items (c.in-Ok.ensures.entries tells))
+    c.append_all.ensures.durable tells (subst (λ ps. Has c.in-Ok.journal (entries_in ps)) none (c.in-Ok.ensures.same tells)) (subst (λ ps. Keeps c.in-Ok.journal (entries_in ps)) none (c.in-Ok.ensures.durable tells))
 
 pub returns-then-is_empty-clause-full : goal.returns-then-is_empty-clause-full
 returns-then-is_empty-clause-full g c = λ tells full.
@@ -53,3 +45,12 @@ pub returns-clause-any_moment : goal.returns-clause-any_moment
 returns-clause-any_moment g c = λ tells empty short.
     subst (λ d. LeavesOnly g.D.Disk.moment g.D.Disk.left_since c.args.new d (LeftEmptyOrWhole (g.D.Disk.synced c.args.new) (g.D.Disk.written c.args.new) c.args.batch.now)) (sym c.close.ensures)
     (still-left (g.D.Disk.synced c.args.new) (g.D.Disk.written c.args.new) c.args.batch.now g.D.Disk.moment g.D.Disk.left_since c.args.new c.in-Ok.journal.disk (c.in-Ok.ensures.any_moment tells [] empty short))
+
+pub returns-then-is_empty-clause-done : goal.returns-then-is_empty-clause-done
+returns-then-is_empty-clause-done g c = λ tells.
+    let none = none-long c.in-Ok.placed.items (sym c.in-Ok.placed.ok.0 ∙ eqb-true c.in-Ok.placed.len 0 (sym c.is_empty.ensures ∙ c.if-is_empty.true)) in
+    let free = subst (λ ps. spelled (g.D.Disk.seen c.args.new) (entries_in ps)) none (opened-spells (g.D.Disk.seen c.args.new) c.in-Ok.placed.items (c.in-Ok.ensures.entries tells)) in
+    let nine = empty-long (g.D.Disk.seen c.args.new) c.in-Ok.journal.length (c.in-Ok.ensures.long tells) free in
+    on-both c.append_all.result.outcome (λ spells fits. record { free = free; written = spells; fits = omega (arith, nine, fits) })
+    (c.append_all.ensures.done tells (subst (λ ps. Has c.in-Ok.journal (entries_in ps)) none (c.in-Ok.ensures.same tells)))
+    (c.append_all.ensures.fits (omega (arith, nine)))

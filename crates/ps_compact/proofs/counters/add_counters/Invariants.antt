@@ -1,0 +1,7 @@
+use Rattle.std.proofs.Common.{◌≡◌, ◌++◌, map, take}
+use Rattle.ps_compact.specs.Rows.{counters_of}
+use Rattle.ps_row_entries.specs.Written.{written}
+use Rattle.ps_compact.proofs.counters.add_counters.Given as goal
+
+abbrev pub invariant-whos : goal.invariant-whos
+invariant-whos l = l.entries.items ≡ l.fn.entries.items ++ map written (counters_of l.tallies.rows (take l.who-index l.whos.items))
