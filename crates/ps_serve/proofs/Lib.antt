@@ -2,6 +2,7 @@ mod Moved
 mod Works
 mod Ranks
 mod Stored
+mod Pairs
 mod Fulls
 mod Headlines
 mod Opened

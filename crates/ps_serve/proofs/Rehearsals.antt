@@ -5,14 +5,15 @@ use Rattle.std.specs.Io.KnownBytes.{Appends}
 use Rattle.ps_base.specs.Causes.{Rose}
 use Rattle.ps_outside.specs.World.{ReportsFront}
 use Rattle.ps_words.specs.declared.command.Command.{Command}
-use Rattle.ps_words.specs.declared.command.Command.TheVariants.{Serve, Rehearse}
+use Rattle.ps_words.specs.declared.command.Command.TheVariants.{Serve, Rehearse, Compact}
 use Rattle.ps_rehearse.specs.declared.numbers.Numbers.{Numbers}
 use Rattle.ps_serve.specs.Came.{IsCame, IsTold}
+use Rattle.ps_serve.specs.Compacting.{compacted_by}
 use Rattle.ps_serve.specs.Numbers.{TellsNumbers, numbers_report}
-use Rattle.ps_serve.specs.Runs.{IsReported, Served, reported_from, served_by}
+use Rattle.ps_serve.specs.Runs.{IsReported, reported_from, served_by}
 use Rattle.ps_serve.specs.Statuses.{report_of}
 use Rattle.ps_serve.specs.declared.status.Status.{Status}
-use Rattle.ps_serve.specs.declared.status.Status.TheVariants.{Done, Usage, OpenFault, StoreDamaged, StoreFault, StoreFull, StreamFault, StreamLong, Memory}
+use Rattle.ps_serve.specs.declared.status.Status.TheVariants.{Done, Usage, OpenFault, StoreDamaged, StoreFault, StoreFull, Occupied, StreamFault, StreamLong, Memory}
 use Rattle.ps_serve.specs.declared.whole.Came.TheVariants as came
 use Rattle.ps_serve.proofs.Fronts.{rose-then}
 
@@ -23,6 +24,13 @@ pub not-served : (o : Option Command) (n : Numbers) → IsCame o (came.Rehearsed
 not-served None n is = absurd is
 not-served (Some (Serve service store streams)) n is = absurd is
 not-served (Some (Rehearse seed count)) n is = refl
+not-served (Some (Compact store new)) n is = absurd is
+
+pub not-compacted : (o : Option Command) (n : Numbers) → IsCame o (came.Rehearsed n) → compacted_by o ≡ None
+not-compacted None n is = absurd is
+not-compacted (Some (Serve service store streams)) n is = absurd is
+not-compacted (Some (Rehearse seed count)) n is = refl
+not-compacted (Some (Compact store new)) n is = absurd is
 
 pub some-command : (o : Option Command) (n : Numbers) → IsCame o (came.Rehearsed n) → o ≡ None → ⊥
 some-command None n is e = is
@@ -41,6 +49,7 @@ tells-moved n old mid new start before now OpenFault same later told = told
 tells-moved n old mid new start before now (StoreDamaged at) same later told = told
 tells-moved n old mid new start before now StoreFault same later told = told
 tells-moved n old mid new start before now StoreFull same later told = told
+tells-moved n old mid new start before now Occupied same later told = told
 tells-moved n old mid new start before now StreamLong same later told = told
 tells-moved n old mid new start before now Memory same later told = told
 
@@ -48,6 +57,7 @@ pub numbers-told : (o : Option Command) (n : Numbers) → IsCame o (came.Rehears
     → TellsNumbers n mid new at now st → IsTold o old new start before now st
 numbers-told None n is old mid new start at before now st same later told = absurd is
 numbers-told (Some (Serve service store streams)) n is old mid new start at before now st same later told = absurd is
+numbers-told (Some (Compact store new_store)) n is old mid new start at before now st same later told = absurd is
 numbers-told (Some (Rehearse seed count)) n is old mid new start at before now st same later told =
     inl (n, is, tells-moved n old mid new start at now st same later told)
 
@@ -57,6 +67,7 @@ pub status-told : (o : Option Command) (st : Status) → IsCame o (came.Ended st
     → IsReported old new (report_of st) (reported_from st start last) now → IsTold o old new start (reported_from st start last) now st
 status-told None st is old new start now last told = told
 status-told (Some (Serve service store streams)) st is old new start now last told = told
+status-told (Some (Compact store new_store)) st is old new start now last told = told
 status-told (Some (Rehearse seed count)) st is old new start now last told =
     inr (is, subst (λ (b : ℕ). IsReported old new (report_of st) b now) (ap (λ (s : Status). reported_from s start last) is) told)
 
@@ -66,6 +77,6 @@ report-moved old mid new line before at now same later (inl whole) = inl (subst 
 report-moved old mid new line before at now same later (inr front) =
     inr (subst (λ (x : Option (List ℕ)). ReportsFront x new line) same front.0, rose-then before at now later front.1)
 
-pub none-served : (o : Option Served) (P : Served → Type 0) → o ≡ None → IfSome o P
-none-served None P none = tt
-none-served (Some s) P none = absurd (cc none)
+pub none-some : {A : Type 0} (o : Option A) (P : A → Type 0) → o ≡ None → IfSome o P
+none-some None P none = tt
+none-some (Some s) P none = absurd (cc none)

@@ -5,20 +5,22 @@ use Rattle.ps_disk.specs.declared.device.Disk.{Ghosts as DiskGhosts}
 use Rattle.ps_outside.specs.Held.{IsHeldStore, Same, SameBut, SameLeft, SameLefts, SameLeftsBut}
 use Rattle.ps_outside.specs.declared.world.World.{Ghosts}
 use Rattle.ps_ports.proofs.Back.{returned}
+use Rattle.ps_words.specs.declared.command.Command.{Command}
+use Rattle.ps_words.specs.declared.command.Command.TheVariants.{Serve, Rehearse, Compact}
 use Rattle.ps_serve.specs.Outside.{Outside, SameStreams, held_as, outside}
-use Rattle.ps_serve.specs.Runs.{Leaves, RanOver, Runs, Served}
+use Rattle.ps_serve.specs.Runs.{Leaves, LeavesAll, RanOver, Runs, Served}
 use Rattle.ps_serve.specs.declared.status.Status.{Status}
 use Rattle.ps_serve.proofs.Moved.{is-or-not, ran-moved, same-moved, same-refl, same-trans}
 use Rattle.ps_serve.proofs.Works.{store-is}
 
-lefts-back : (name : List ℕ) (old new : List ℕ → ℕ → List ℕ → Type 0) → SameLeftsBut name old new → SameLeft (old name) (new name) → SameLefts old new
+pub lefts-back : (name : List ℕ) (old new : List ℕ → ℕ → List ℕ → Type 0) → SameLeftsBut name old new → SameLeft (old name) (new name) → SameLefts old new
 lefts-back name old new others back n =
     elim (is-or-not n name) [
       | inl same ↦ subst (λ (m : List ℕ). SameLeft (old m) (new m)) (sym same) back
       | inr differs ↦ others n differs
     ]
 
-lefts-trans : (a b c : ℕ → List ℕ → Type 0) → SameLeft a b → SameLeft b c → SameLeft a c
+pub lefts-trans : (a b c : ℕ → List ℕ → Type 0) → SameLeft a b → SameLeft b c → SameLeft a c
 lefts-trans a b c p q t x = (λ was. (q t x).0 ((p t x).0 was), λ is. (p t x).1 ((q t x).1 is))
 
 -- ---- the store
@@ -70,16 +72,25 @@ module _ (old new new1 : Outside) (lefts lefts_now lefts_told : List ℕ → ℕ
   if-told tells st None is = is
   if-told tells st (Some s) is = runs-told tells st s is
 
-  pub leaves-told : (o : Option Served) → Leaves o old new lefts lefts_now → Leaves o old new1 lefts lefts_told
-  leaves-told None all = record {
+  all-told : LeavesAll old new lefts lefts_now → LeavesAll old new1 lefts lefts_told
+  all-told all = record {
     same = same-trans old new new1 all.same after;
     all_stores = λ n. stores n ∙ all.all_stores n;
     all_lefts = λ n. lefts-trans (lefts n) (lefts_now n) (lefts_told n) (all.all_lefts n) (same_lefts n);
   }
-  leaves-told (Some s) others = record {
+
+  pub leaves-told : (o : Option Command) → Leaves o old new lefts lefts_now → Leaves o old new1 lefts lefts_told
+  leaves-told None all = all-told all
+  leaves-told (Some (Serve service store streams)) others = record {
     other_sources = λ n other. after.same_sources n ∙ others.other_sources n other;
     other_sinks = λ n other. after.same_sinks n ∙ others.other_sinks n other;
     other_clocks = λ n other. after.same_clocks n ∙ others.other_clocks n other;
     other_stores = λ n other. stores n ∙ others.other_stores n other;
     other_lefts = λ n other. lefts-trans (lefts n) (lefts_now n) (lefts_told n) (others.other_lefts n other) (same_lefts n);
+  }
+  leaves-told (Some (Rehearse seed count)) all = all-told all
+  leaves-told (Some (Compact store new_store)) others = record {
+    same = same-trans old new new1 others.same after;
+    other_stores = λ n one two. stores n ∙ others.other_stores n one two;
+    other_lefts = λ n one two. lefts-trans (lefts n) (lefts_now n) (lefts_told n) (others.other_lefts n one two) (same_lefts n);
   }

@@ -1,7 +1,7 @@
 -- What came of a command, and what is told of it.
 use Rattle.std.specs.Prelude.{◌≡◌, ◌⊎◌, ℕ, List, Option, None, Some}
 use Rattle.ps_words.specs.declared.command.Command.{Command}
-use Rattle.ps_words.specs.declared.command.Command.TheVariants.{Serve, Rehearse}
+use Rattle.ps_words.specs.declared.command.Command.TheVariants.{Serve, Rehearse, Compact}
 use Rattle.ps_rehearse.specs.Rehearsed.{Rehearsed}
 use Rattle.ps_rehearse.specs.declared.numbers.Numbers.{Numbers}
 use Rattle.ps_serve.specs.Numbers.{TellsNumbers}
@@ -23,6 +23,8 @@ IsCame None (came.Ended status) = Unit {0}
 IsCame None (came.Rehearsed n) = ⊥
 IsCame (Some (Serve service store streams)) (came.Ended status) = Unit {0}
 IsCame (Some (Serve service store streams)) (came.Rehearsed n) = ⊥
+IsCame (Some (Compact store new)) (came.Ended status) = Unit {0}
+IsCame (Some (Compact store new)) (came.Rehearsed n) = ⊥
 IsCame (Some (Rehearse seed count)) (came.Ended status) = status ≡ Memory
 IsCame (Some (Rehearse seed count)) (came.Rehearsed n) = Rehearsed seed count n
 
@@ -36,4 +38,5 @@ TellsRehearsal seed count old new before now status =
 abbrev pub IsTold : Option Command → Option (List ℕ) → Option (List ℕ) → ℕ → ℕ → ℕ → Status → Type 0
 IsTold None old new start before now status = IsReported old new (report_of status) before now
 IsTold (Some (Serve service store streams)) old new start before now status = IsReported old new (report_of status) before now
+IsTold (Some (Compact store new_store)) old new start before now status = IsReported old new (report_of status) before now
 IsTold (Some (Rehearse seed count)) old new start before now status = TellsRehearsal seed count old new start now status

@@ -6,7 +6,7 @@ use Rattle.ps_streams.specs.declared.read.ReadEnd.{ReadEnd}
 use Rattle.ps_streams.specs.declared.read.ReadEnd.TheVariants as reader
 use Rattle.ps_workers.specs.Headline.{Worked}
 use Rattle.ps_serve.specs.declared.status.Status.{Status}
-use Rattle.ps_serve.specs.declared.status.Status.TheVariants.{Done, Usage, OpenFault, StoreDamaged, StoreFault, StoreFull, Memory, StreamFault, StreamLong}
+use Rattle.ps_serve.specs.declared.status.Status.TheVariants.{Done, Usage, OpenFault, StoreDamaged, StoreFault, StoreFull, Occupied, Memory, StreamFault, StreamLong}
 
 -- where a status stands among the causes of a run: the greatest decides
 abbrev pub rank : Status → ℕ
@@ -19,6 +19,7 @@ rank StoreFault = 5
 rank (StoreDamaged at) = 6
 rank OpenFault = 7
 rank Usage = 8
+rank Occupied = 9
 
 abbrev pub worst : Status → Status → Status
 worst one other = if nat_lt (rank one) (rank other) then other else one
@@ -72,3 +73,4 @@ IsServing StoreFault = Unit {0}
 IsServing (StoreDamaged at) = ⊥
 IsServing OpenFault = ⊥
 IsServing Usage = ⊥
+IsServing Occupied = ⊥

@@ -24,7 +24,7 @@ use Rattle.ps_serve.specs.Crashes.{FrontsSince, HasWhole, IsTidy, LeftSince}
 use Rattle.ps_serve.specs.Ends.{IsOfStreams, IsServing, worst_of}
 use Rattle.ps_serve.specs.Room.{LacksRoom, max_whole}
 use Rattle.ps_serve.specs.declared.status.Status.{Status}
-use Rattle.ps_serve.specs.declared.status.Status.TheVariants.{Done, Usage, OpenFault, StoreDamaged, StoreFault, StoreFull, Memory, StreamFault, StreamLong}
+use Rattle.ps_serve.specs.declared.status.Status.TheVariants.{Done, Usage, OpenFault, StoreDamaged, StoreFault, StoreFull, Occupied, Memory, StreamFault, StreamLong}
 
 -- at most this many bytes are written for changes
 abbrev pub max_changes : ℕ
@@ -40,6 +40,7 @@ abbrev pub IdleCause : Type 0 → List ℕ → HeldStore → HeldStore → Statu
 IdleCause tells service old new (StoreDamaged at) = tells → IsDamagedAt old.seen at
 IdleCause tells service old new StoreFault = Rose old.faults new.faults
 IdleCause tells service old new StoreFull = tells → PassesBy old.seen service max_whole
+IdleCause tells service old new Occupied = ⊥
 IdleCause tells service old new Memory = Unit {0}
 IdleCause tells service old new Done = ⊥
 IdleCause tells service old new Usage = ⊥

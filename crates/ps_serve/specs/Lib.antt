@@ -6,6 +6,7 @@ pub mod Crashes
 pub mod Starts
 pub mod Headline
 pub mod Comes
+pub mod Compacting
 pub mod Runs
 pub mod Numbers
 pub mod Came

@@ -7,7 +7,7 @@ use Rattle.ps_outside.specs.World.{ReportsFront}
 use Rattle.ps_outside.specs.declared.world.World.{Ghosts}
 use Rattle.ps_rehearse.specs.declared.numbers.Numbers.{Numbers}
 use Rattle.ps_serve.specs.declared.status.Status.{Status}
-use Rattle.ps_serve.specs.declared.status.Status.TheVariants.{Done, Usage, OpenFault, StoreDamaged, StoreFault, StoreFull, StreamFault, StreamLong, Memory}
+use Rattle.ps_serve.specs.declared.status.Status.TheVariants.{Done, Usage, OpenFault, StoreDamaged, StoreFault, StoreFull, Occupied, StreamFault, StreamLong, Memory}
 
 -- a name, a number, and a newline
 abbrev pub number_line : List ℕ → ℕ → List ℕ
@@ -30,6 +30,7 @@ TellsNumbers n old new before now OpenFault = ⊥
 TellsNumbers n old new before now (StoreDamaged at) = ⊥
 TellsNumbers n old new before now StoreFault = ⊥
 TellsNumbers n old new before now StoreFull = ⊥
+TellsNumbers n old new before now Occupied = ⊥
 TellsNumbers n old new before now StreamLong = ⊥
 TellsNumbers n old new before now Memory = ⊥
 

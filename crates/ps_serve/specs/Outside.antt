@@ -1,10 +1,12 @@
 -- What a world tells of its objects.
-use Rattle.std.specs.Prelude.{◌≡◌, ℕ, List}
+use Rattle.std.specs.Prelude.{◌≡◌, ◌⊎◌, ℕ, List}
 use Rattle.ps_disk.specs.declared.device.Disk.{Ghosts as DiskGhosts}
 use Rattle.ps_outside.specs.declared.world.World.{Ghosts}
-use Rattle.ps_outside.specs.Held.{Held, HeldClock, HeldStore, Same}
+use Rattle.ps_outside.specs.Held.{Held, HeldClock, HeldStore, Same, SameLefts}
 use Rattle.ps_words.specs.declared.command.Stream.{Stream}
 use Rattle.ps_workers.specs.Headline.{Worked}
+use Rattle.ps_serve.specs.declared.status.Status.{Status}
+use Rattle.ps_serve.specs.declared.status.Status.TheVariants.{OpenFault, Memory}
 
 -- what it holds under each name as a source, a sink, a clock and a store
 pub record Outside : Type 0 where
@@ -42,3 +44,10 @@ pub record IsWorkedIn (old new : Outside) (s : Stream) (t : Worked) : Type 0 whe
   pub clock_now : t.clock_now ≡ new.clocks s.host
   pub sink : t.sink ≡ old.sinks s.sink
   pub sink_now : t.sink_now ≡ new.sinks s.sink
+
+-- an opening failed, or memory ran out before the store was touched: nothing has changed
+pub record Untouched (old new : Outside) (lefts lefts_now : List ℕ → ℕ → List ℕ → Type 0) (st : Status) : Type 0 where
+  pub same : SameStreams old new
+  pub stores : Same old.stores new.stores
+  pub lefts_same : SameLefts lefts lefts_now
+  pub status : (st ≡ OpenFault) ⊎ (st ≡ Memory)

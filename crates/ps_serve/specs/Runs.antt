@@ -9,12 +9,13 @@ use Rattle.ps_outside.specs.declared.world.Kind.TheVariants.{Source, Sink, Clock
 use Rattle.ps_outside.specs.declared.world.Opening.{Opening}
 use Rattle.ps_ports.specs.Ports.{SameOthers, port_openings}
 use Rattle.ps_words.specs.declared.command.Command.{Command}
-use Rattle.ps_words.specs.declared.command.Command.TheVariants.{Serve, Rehearse}
+use Rattle.ps_words.specs.declared.command.Command.TheVariants.{Serve, Rehearse, Compact}
 use Rattle.ps_words.specs.declared.command.Stream.{Stream}
 use Rattle.ps_words.specs.Words.{hosts_of}
 use Rattle.ps_workers.specs.Headline.{Worked}
 use Rattle.ps_serve.specs.Headline.{Headline, Idle}
-use Rattle.ps_serve.specs.Outside.{IsWorkedIn, Outside, SameStreams, held_as}
+use Rattle.ps_serve.specs.Compacting.{LeavesOtherStores, Pair}
+use Rattle.ps_serve.specs.Outside.{IsWorkedIn, Outside, SameStreams, Untouched, held_as}
 use Rattle.ps_serve.specs.declared.status.Status.{Status}
 use Rattle.ps_serve.specs.declared.status.Status.TheVariants as status
 
@@ -29,27 +30,23 @@ served_by None = None
 served_by (Some (Serve service store streams)) =
     Some (record { service = service; store = store; streams = streams })
 served_by (Some (Rehearse seed count)) = None
+served_by (Some (Compact store new)) = None
 
 -- ---- openings
 
--- the store is opened first, then each stream's source, sink and clock, in the order of the words
+-- the store is opened first, then each stream's source, sink and clock, or the new store, in the order of the words
 abbrev pub openings_of : Option Command → List Opening
 openings_of None = []
 openings_of (Some (Serve service store streams)) = record { kind = Store; name = store } ∷ port_openings streams
 openings_of (Some (Rehearse seed count)) = []
+openings_of (Some (Compact store new)) =
+    record { kind = Store; name = store } ∷ record { kind = Store; name = new } ∷ []
 
 -- what was asked for is a front of these openings
 abbrev pub AsksInOrder : List Opening → List Opening → List Opening → Type 0
 AsksInOrder openings old new = (n : ℕ) × (new ≡ old ++ take n openings)
 
 -- ---- what comes of it
-
--- an opening failed, or memory ran out before the store was touched: nothing has changed
-pub record Untouched (old new : Outside) (lefts lefts_now : List ℕ → ℕ → List ℕ → Type 0) (st : Status) : Type 0 where
-  pub same : SameStreams old new
-  pub stores : Same old.stores new.stores
-  pub lefts_same : SameLefts lefts lefts_now
-  pub status : (st ≡ status.OpenFault) ⊎ (st ≡ status.Memory)
 
 -- no line came; the store is told of as it was before and as it is now
 pub record RanIdle (tells : Type 0) (service : List ℕ) (old new : Outside) (before now : HeldStore)
@@ -108,10 +105,15 @@ pub record LeavesAll (old new : Outside) (lefts lefts_now : List ℕ → ℕ →
   pub all_stores : Same old.stores new.stores
   pub all_lefts : SameLefts lefts lefts_now
 
-abbrev pub Leaves : Option Served → Outside → Outside → (List ℕ → ℕ → List ℕ → Type 0)
+-- by what is served or compacted
+abbrev pub Leaves : Option Command → Outside → Outside → (List ℕ → ℕ → List ℕ → Type 0)
     → (List ℕ → ℕ → List ℕ → Type 0) → Type 0
 Leaves None old new lefts lefts_now = LeavesAll old new lefts lefts_now
-Leaves (Some s) old new lefts lefts_now = LeavesOthers s old new lefts lefts_now
+Leaves (Some (Serve service store streams)) old new lefts lefts_now =
+    LeavesOthers (record { service = service; store = store; streams = streams }) old new lefts lefts_now
+Leaves (Some (Rehearse seed count)) old new lefts lefts_now = LeavesAll old new lefts lefts_now
+Leaves (Some (Compact store new_store)) old new lefts lefts_now =
+    LeavesOtherStores (record { store = store; new = new_store }) old new lefts lefts_now
 
 -- ---- reports
 
@@ -121,6 +123,7 @@ reported_from status.OpenFault before last = last.1
 reported_from (status.StoreDamaged at) before last = last.1
 reported_from status.StoreFault before last = last.1
 reported_from status.StoreFull before last = last.1
+reported_from status.Occupied before last = last.1
 reported_from status.StreamFault before last = last.1
 reported_from status.StreamLong before last = last.1
 reported_from status.Done before last = before

@@ -1,7 +1,7 @@
 -- How a run ends: the status's code, and the line that is reported.
 use Rattle.std.specs.Prelude.{ℕ, List, [], ◌∷◌, ◌++◌, codes, decimal}
 use Rattle.ps_serve.specs.declared.status.Status.{Status}
-use Rattle.ps_serve.specs.declared.status.Status.TheVariants.{Done, Usage, OpenFault, StoreDamaged, StoreFault, StoreFull, StreamFault, StreamLong, Memory}
+use Rattle.ps_serve.specs.declared.status.Status.TheVariants.{Done, Usage, OpenFault, StoreDamaged, StoreFault, StoreFull, Occupied, StreamFault, StreamLong, Memory}
 
 abbrev pub code_of : Status → ℕ
 code_of Done = 0
@@ -13,9 +13,10 @@ code_of StoreFull = 6
 code_of Memory = 7
 code_of StreamLong = 8
 code_of OpenFault = 9
+code_of Occupied = 10
 
 abbrev pub usage_line : List ℕ
-usage_line = codes "usage: pubsubd serve --service HOST --store PATH HOST IN OUT [HOST IN OUT].. | rehearse SEED COUNT"
+usage_line = codes "usage: pubsubd serve --service HOST --store PATH HOST IN OUT [HOST IN OUT].. | rehearse SEED COUNT | compact PATH NEW"
 
 -- the words of what is reported; where all was done, nothing is
 abbrev pub words_of : Status → List ℕ
@@ -25,6 +26,7 @@ words_of OpenFault = codes "open fault" ++ 10 ∷ []
 words_of (StoreDamaged at) = codes "store damaged at "
 words_of StoreFault = codes "store fault" ++ 10 ∷ []
 words_of StoreFull = codes "store full" ++ 10 ∷ []
+words_of Occupied = codes "store occupied" ++ 10 ∷ []
 words_of StreamFault = codes "stream fault" ++ 10 ∷ []
 words_of StreamLong = codes "stream too long" ++ 10 ∷ []
 words_of Memory = codes "out of memory" ++ 10 ∷ []
@@ -37,6 +39,7 @@ offset_of Usage = []
 offset_of OpenFault = []
 offset_of StoreFault = []
 offset_of StoreFull = []
+offset_of Occupied = []
 offset_of StreamFault = []
 offset_of StreamLong = []
 offset_of Memory = []

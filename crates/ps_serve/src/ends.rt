@@ -36,6 +36,7 @@ fn rank(status: Status) -> u8
         Status::StoreDamaged { at: _ } => 6,
         Status::OpenFault => 7,
         Status::Usage => 8,
+        Status::Occupied => 9,
     }
 }
 

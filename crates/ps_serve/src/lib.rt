@@ -14,10 +14,13 @@
 //! A rehearsal (ps_rehearse) is a run of two streams in memory, of which five numbers are reported; `specs/Numbers.antt` has their lines, `specs/Came.antt` what
 //! is told of each command (`IsTold`). It touches nothing of the world but its reports.
 //!
+//! Compacting (ps_compact) opens two stores, and writes a new one that begins with the rows of the other: `specs/Compacting.antt` (`Compacts`).
+//!
 //! `specs/Ends.antt` says which cause of the workers comes first, `specs/Room.antt` when a store is full, `specs/Crashes.antt` what a crash leaves,
 //! `specs/Outside.antt` what a world tells.
 #![tactic(auto)]
 
+mod compacting;
 mod ends;
 mod status;
 mod storing;

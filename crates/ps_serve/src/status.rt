@@ -8,7 +8,8 @@ use itoa::Buffer;
 /// How a run ended.
 #[derive(Clone, Copy, Debug, PartialEq, Eq)]
 pub enum Status {
-    /// Every source was read to its end, and every reply was written; or a rehearsal has told its numbers.
+    /// Every source was read to its end, and every reply was written; or a rehearsal has told its numbers; or a new
+    /// store begins with the rows of another.
     Done,
     /// The words are no command.
     Usage,
@@ -18,8 +19,10 @@ pub enum Status {
     StoreDamaged { at: u64 },
     /// The store failed.
     StoreFault,
-    /// The store has no room for what begins or ends a run.
+    /// The store has no room for what begins or ends a run, or the new store none for the rows.
     StoreFull,
+    /// The store that was to be a new one isn't an empty one.
+    Occupied,
     /// A source or a sink failed, or a report of a rehearsal's numbers.
     StreamFault,
     /// A source gave 2^40 bytes.
@@ -29,7 +32,7 @@ pub enum Status {
 }
 
 /// A line that is reported; the longest is the one of usage.
-pub type Report = ArrayString<128>;
+pub type Report = ArrayString<160>;
 
 impl Status {
     /// The status by which the program ends.
@@ -46,23 +49,25 @@ impl Status {
             Status::Memory => 7,
             Status::StreamLong => 8,
             Status::OpenFault => 9,
+            Status::Occupied => 10,
         }
     }
 
     // The words of the report; the offset of a damage comes after them.
     fn words(&self) -> &'static str
         ensures words { result.now ≡ words_of self.now }
-        ensures short { length result.now ≤ 107 }
+        ensures short { length result.now ≤ 118 }
     {
         match self {
             Status::Done => "",
             Status::Usage => {
-                "usage: pubsubd serve --service HOST --store PATH HOST IN OUT [HOST IN OUT].. | rehearse SEED COUNT\n"
+                "usage: pubsubd serve --service HOST --store PATH HOST IN OUT [HOST IN OUT].. | rehearse SEED COUNT | compact PATH NEW\n"
             }
             Status::OpenFault => "open fault\n",
             Status::StoreDamaged { at: _ } => "store damaged at ",
             Status::StoreFault => "store fault\n",
             Status::StoreFull => "store full\n",
+            Status::Occupied => "store occupied\n",
             Status::StreamFault => "stream fault\n",
             Status::StreamLong => "stream too long\n",
             Status::Memory => "out of memory\n",

@@ -8,10 +8,12 @@ ghost use Rattle.ps_words.specs.Well.{IsWellServed};
 ghost use Rattle.ps_words.specs.Words.{command_of, hosts_of};
 ghost use Rattle.ps_words.specs.declared.command.Command.{Command};
 ghost use Rattle.ps_serve.specs.Came.{IsCame, IsTold, status_in};
+ghost use Rattle.ps_serve.specs.Compacting.{Compacts, compacted_by};
 ghost use Rattle.ps_serve.specs.Outside.{outside};
 ghost use Rattle.ps_serve.specs.Runs.{AsksInOrder, IsReported, Leaves, LeavesOthers, RanOver, Runs, openings_of, reported_from, served_by};
 ghost use Rattle.ps_serve.specs.Statuses.{report_of};
 
+use crate::compacting::compact_stores;
 use crate::status::Status;
 use crate::storing::{Run, serve_store};
 use crate::telling::tell_numbers;
@@ -26,7 +28,7 @@ use std::random::RandomSource;
 use std::sync::Wait;
 use std::thread::Threads;
 
-fn refused(why: WorldRefusal) -> Status
+pub(crate) fn refused(why: WorldRefusal) -> Status
     ensures open { result ≡ Status.OpenFault → why ≡ WorldRefusal.Failed }
     ensures only { (result ≡ Status.OpenFault) ⊎ (result ≡ Status.Memory) }
 {
@@ -162,10 +164,13 @@ fn run_words<R: RandomSource + Wait + Threads + Sync, W: World>(
         → (status_in result ≡ Status.Usage) ⊎ (status_in result ≡ Status.Memory) }
     ensures runs { IfSome (served_by (command_of words.now)) (Runs W.Store.tells (outside W.World world.old)
         (outside W.World world.new) (W.lefts world.old) (W.lefts world.new) (status_in result)) }
+    ensures compacts { IfSome (compacted_by (command_of words.now)) (Compacts W.Store.tells
+        (outside W.World world.old) (outside W.World world.new) (W.lefts world.old) (W.lefts world.new)
+        (status_in result)) }
     ensures came { IsCame (command_of words.now) result }
     ensures open { status_in result ≡ Status.OpenFault → FailedToOpen W.World world.old world.new }
     ensures asked { AsksInOrder (openings_of (command_of words.now)) (W.asked world.old) (W.asked world.new) }
-    ensures others { Leaves (served_by (command_of words.now)) (outside W.World world.old)
+    ensures others { Leaves (command_of words.now) (outside W.World world.old)
         (outside W.World world.new) (W.lefts world.old) (W.lefts world.new) }
     ensures reported { W.reported world.new ≡ W.reported world.old }
     ensures since { reported_from (status_in result) (W.faults world.old) (W.last_opening world.new)
@@ -180,6 +185,9 @@ fn run_words<R: RandomSource + Wait + Threads + Sync, W: World>(
             },
         ) => Came::Ended(serve(rt, alloc, &service, &store, streams.as_slice(), world)),
         Ok(Command::Rehearse { seed, count }) => rehearsed(rt, alloc, seed, count),
+        Ok(Command::Compact { store, new }) => {
+            Came::Ended(compact_stores(rt, alloc, &store, &new, world))
+        }
         Err(WordsRefusal::Usage) => Came::Ended(Status::Usage),
         Err(WordsRefusal::Memory) => Came::Ended(Status::Memory),
     }
@@ -214,6 +222,9 @@ fn tell<W: World>(status: Status, world: &mut W)
 /// that the store had at its start; one at its end leaves a prefix that holds every entry on which something rests that was written (`HasOneList`,
 /// `IsAcknowledged`). Each other answer than [`Status::Done`] has its cause, but for want of memory.
 ///
+/// A store is compacted to a new one where its bytes have a list of entries and the new one's are those of an empty store: the new store spells the rows of the
+/// list, which serve on as the list would, and a crash leaves of it no entries or all (`Compacts`, `ComesOf`). The store's own list stays.
+///
 /// A rehearsal touches nothing of the world but its reports: the five lines of its numbers, which are those of a run of two streams in memory (`IsTold`,
 /// `Rehearsed` of ps_rehearse). Where one of these reports fails nothing is reported after it, and the answer is [`Status::StreamFault`].
 pub fn run<R: RandomSource + Wait + Threads + Sync, W: World>(
@@ -226,9 +237,11 @@ pub fn run<R: RandomSource + Wait + Threads + Sync, W: World>(
     ensures usage { command_of words.now ≡ None → (result ≡ Status.Usage) ⊎ (result ≡ Status.Memory) }
     ensures runs { IfSome (served_by (command_of words.now)) (Runs W.Store.tells (outside W.World world.old)
         (outside W.World world.new) (W.lefts world.old) (W.lefts world.new) result) }
+    ensures compacts { IfSome (compacted_by (command_of words.now)) (Compacts W.Store.tells
+        (outside W.World world.old) (outside W.World world.new) (W.lefts world.old) (W.lefts world.new) result) }
     ensures open { result ≡ Status.OpenFault → FailedToOpen W.World world.old world.new }
     ensures asked { AsksInOrder (openings_of (command_of words.now)) (W.asked world.old) (W.asked world.new) }
-    ensures others { Leaves (served_by (command_of words.now)) (outside W.World world.old)
+    ensures others { Leaves (command_of words.now) (outside W.World world.old)
         (outside W.World world.new) (W.lefts world.old) (W.lefts world.new) }
     ensures reported { IsTold (command_of words.now) (W.reported world.old) (W.reported world.new) (W.faults world.old)
         (reported_from result (W.faults world.old) (W.last_opening world.new)) (W.faults world.new) result }

@@ -8,6 +8,8 @@
 #[cfg(test)]
 mod alone;
 #[cfg(test)]
+mod compacted;
+#[cfg(test)]
 mod faults;
 #[cfg(test)]
 mod lines;

@@ -1,17 +1,17 @@
 -- What a command of the grammar has.
-use Rattle.std.proofs.Common.{◌≡◌, ℕ, zero, suc, Bool, true, false, cond, not, ◌&&◌, List, [], ◌∷◌, length, Option, Some, None, option_map, refl, ap, ◌∙◌, subst, arith}
-use Rattle.std.specs.Prelude.{nat_le}
+use Rattle.std.proofs.Common.{◌≡◌, ◌≢◌, ℕ, zero, suc, Bool, true, false, cond, not, ◌&&◌, List, [], ◌∷◌, length, Option, Some, None, option_map, refl, sym, ap, ◌∙◌, subst, arith}
+use Rattle.std.specs.Prelude.{◌==◌, nat_le}
 use Rattle.std.specs.List.{list_any, slice_get}
 use Rattle.std.specs.Str.{bytes_eq}
-use Rattle.std.proofs.lemmas.Bool.{and_parts, or_parts}
+use Rattle.std.proofs.lemmas.Bool.{and_parts, or_parts, true≢false}
 use Rattle.std.proofs.lemmas.Bool.Decides.{nat_tests}
 use Rattle.std.proofs.lemmas.Option.{slice_get-map}
 use Rattle.std.proofs.lemmas.Slice.Eq.{bytes_eq-Decides}
 use Rattle.ps_model.specs.Entries.{IsHostName}
-use Rattle.ps_words.specs.Words.{all_differ, are_hosts, are_names, host_of, hosts_of, is_few, names_of, served, stream_of, streams_of, with_first}
+use Rattle.ps_words.specs.Words.{all_differ, are_hosts, are_names, are_two, compacted, host_of, hosts_of, is_few, names_of, served, stream_of, streams_of, with_first}
 use Rattle.ps_words.specs.Well.{AreApart, IsWell, IsWellServed}
 use Rattle.ps_words.specs.declared.command.Command.{Command}
-use Rattle.ps_words.specs.declared.command.Command.TheVariants.{Serve}
+use Rattle.ps_words.specs.declared.command.Command.TheVariants.{Compact, Serve}
 use Rattle.ps_words.specs.declared.command.Stream.{Stream}
 use Rattle.ps_words.proofs.Hosts.{host-name, host-some}
 
@@ -152,3 +152,22 @@ well-from word over words (Some by) (Some streams) c is cut e =
 
 pub served-well : (word over : List ℕ) (words : List (List ℕ)) (c : Command) → served (host_of word) over (streams_of words) ≡ Some c → IsWell c
 served-well word over words c e = well-from word over words (host_of word) (streams_of words) c refl refl e
+
+-- ---- a command to compact
+
+some-name : (name : List ℕ) → not (length name == 0) ≡ true → name ≢ []
+some-name name is none = absurd (true≢false (sym is ∙ ap (λ (l : List ℕ). not (length l == 0)) none))
+
+two-apart : (store new : List ℕ) → not (bytes_eq store new) ≡ true → store ≢ new
+two-apart store new is same = absurd (true≢false (sym is ∙ ap not ((bytes_eq-Decides store new).1 same)))
+
+two-parts : (t : Bool) (store new : List ℕ) (c : Command) → cond t (Some (Compact store new)) None ≡ Some c → (t ≡ true) × (Compact store new ≡ c)
+two-parts true store new c e = (refl, cc e)
+two-parts false store new c e = absurd (cc e)
+
+pub compacted-well : (store new : List ℕ) (c : Command) → compacted store new ≡ Some c → IsWell c
+compacted-well store new c e =
+    let p = two-parts (are_two store new) store new c e in
+    let both = and_parts (not (length store == 0) && not (length new == 0)) (not (bytes_eq store new)) p.0 in
+    let names = and_parts (not (length store == 0)) (not (length new == 0)) both.0 in
+    subst IsWell p.1 (record { from = some-name store names.0; to = some-name new names.1; apart = two-apart store new both.1 })

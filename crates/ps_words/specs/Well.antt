@@ -3,7 +3,7 @@ use Rattle.std.specs.Prelude.{◌≡◌, ◌≢◌, ◌<◌, ◌≤◌, ◌^◌,
 use Rattle.std.specs.List.{slice_get}
 use Rattle.ps_model.specs.Entries.{IsHostName}
 use Rattle.ps_words.specs.declared.command.Command.{Command}
-use Rattle.ps_words.specs.declared.command.Command.TheVariants.{Serve, Rehearse}
+use Rattle.ps_words.specs.declared.command.Command.TheVariants.{Serve, Rehearse, Compact}
 use Rattle.ps_words.specs.declared.command.Stream.{Stream}
 
 -- no two streams have one such part
@@ -25,6 +25,12 @@ pub record IsWellRehearsed (of many : ℕ) : Type 0 where
   pub some : 1 ≤ many
   pub few : many ≤ 100000
 
+pub record IsWellCompacted (store new : List ℕ) : Type 0 where
+  pub from : store ≢ []
+  pub to : new ≢ []
+  pub apart : store ≢ new
+
 abbrev pub IsWell : Command → Type 0
 IsWell (Serve service store streams) = IsWellServed service store streams
 IsWell (Rehearse seed count) = IsWellRehearsed seed count
+IsWell (Compact store new) = IsWellCompacted store new

@@ -7,7 +7,7 @@ use Rattle.ps_types.specs.Values.{are_digits}
 use Rattle.ps_types.specs.declared.jid.Jid.{Jid}
 use Rattle.ps_model.specs.Stanza.{jid_of}
 use Rattle.ps_words.specs.declared.command.Command.{Command}
-use Rattle.ps_words.specs.declared.command.Command.TheVariants.{Serve, Rehearse}
+use Rattle.ps_words.specs.declared.command.Command.TheVariants.{Serve, Rehearse, Compact}
 use Rattle.ps_words.specs.declared.command.Stream.{Stream}
 
 -- an address without a local part and a resource is its host
@@ -94,7 +94,16 @@ rehearsal seed count = None
 abbrev pub rehearsed : List ℕ → List ℕ → Option Command
 rehearsed seed count = rehearsal (number_between 0 (2 ^ 64 - 1) seed) (number_between 1 100000 count)
 
--- ---- the two forms
+-- ---- a new store
+
+-- the two stores have names, and these differ
+abbrev pub are_two : List ℕ → List ℕ → Bool
+are_two store new = not (length store == 0) && not (length new == 0) && not (bytes_eq store new)
+
+abbrev pub compacted : List ℕ → List ℕ → Option Command
+compacted store new = if are_two store new then Some (Compact store new) else None
+
+-- ---- the three forms
 
 -- `serve --service HOST --store PATH HOST IN OUT ..`
 abbrev pub serve_of : List (List ℕ) → Option Command
@@ -107,9 +116,14 @@ abbrev pub rehearse_of : List (List ℕ) → Option Command
 rehearse_of (rehearse ∷ seed ∷ count ∷ []) = if bytes_eq rehearse (codes "rehearse") then rehearsed seed count else None
 rehearse_of words = None
 
+-- `compact PATH NEW`
+abbrev pub compact_of : List (List ℕ) → Option Command
+compact_of (compact ∷ store ∷ new ∷ []) = if bytes_eq compact (codes "compact") then compacted store new else None
+compact_of words = None
+
 abbrev pub either : Option Command → Option Command → Option Command
 either (Some command) other = Some command
 either None other = other
 
 abbrev pub command_of : List (List ℕ) → Option Command
-command_of words = either (serve_of words) (rehearse_of words)
+command_of words = either (serve_of words) (either (rehearse_of words) (compact_of words))

@@ -24,4 +24,9 @@ pub enum Command {
         seed: u64,
         count: u64,
     },
+    /// To write a store that begins with the rows of another, where an empty store is.
+    Compact {
+        store: Text,
+        new: Text,
+    },
 }

@@ -2,7 +2,7 @@
 ghost use Rattle.std.specs.Prelude.{◌≡◌, Some, None, IfOk, IsErrOf};
 ghost use Rattle.ps_words.specs.Words.{command_of, host_in as host_in_address, host_of};
 ghost use Rattle.ps_words.specs.Words.{is_few as is_few_by, is_serve as is_serve_by};
-ghost use Rattle.ps_words.specs.Words.{rehearsed, served_by, stream_in, streams_of};
+ghost use Rattle.ps_words.specs.Words.{compacted, rehearsed, served_by, stream_in, streams_of};
 ghost use Rattle.ps_words.specs.Well.{IsWell};
 
 use crate::apart::{are_apart, are_names};
@@ -133,6 +133,19 @@ fn read_rehearse(seed: &Text, count: &Text) -> Result<Command, WordsRefusal>
     Ok(Command::Rehearse { seed, count })
 }
 
+fn read_compact(store: &Text, new: &Text) -> Result<Command, WordsRefusal>
+    ensures ok { IfOk result (λ c. compacted store.now new.now ≡ Some c) }
+    ensures usage { IsErrOf result WordsRefusal.Usage → compacted store.now new.now ≡ None }
+{
+    if store.is_empty() || (new.is_empty() || store.is(new.as_str())) {
+        return Err(WordsRefusal::Usage);
+    }
+    Ok(Command::Compact {
+        store: store.clone()?,
+        new: new.clone()?,
+    })
+}
+
 /// The command that the words after the program's name are. `Usage` says that they are none.
 pub fn read_words(alloc: Global, words: &[Text]) -> Result<Command, WordsRefusal>
     ensures ok { IfOk result (λ c. command_of words.now ≡ Some c) }
@@ -151,6 +164,7 @@ pub fn read_words(alloc: Global, words: &[Text]) -> Result<Command, WordsRefusal
             read_serve(alloc, service, store, streams)
         }
         [rehearse, seed, count] if rehearse.is("rehearse") => read_rehearse(seed, count),
+        [compact, path, new] if compact.is("compact") => read_compact(path, new),
         _ => Err(WordsRefusal::Usage),
     }
 }
