@@ -3,13 +3,12 @@
 
 ENTRIES publishes (1000000) go to ITEMS items (10000), ten a node, so most of them put a new item in the place of an
 older one. Beside the compacted store stands one that as many entries made as it has rows (a store of ITEMS publishes
-and its nodes). Each opening is one run that serves no line.
+and its nodes). Each opening is one run that serves no line. Seconds are those of the processor.
 """
 import os
 import pathlib
 import subprocess
 import sys
-import time
 
 sys.path.insert(0, str(pathlib.Path(__file__).resolve().parents[2] / "tests" / "lines"))
 import stanzas
@@ -22,13 +21,12 @@ WHO = "ann@a.example/1"
 
 
 def measured(words):
-    """Runs the program; returns seconds and peak megabytes."""
-    start = time.monotonic()
+    """Runs the program; returns seconds of the processor and peak megabytes."""
     started = subprocess.Popen([program, *map(str, words)])
     _, status, used = os.wait4(started.pid, 0)
     if status:
         sys.exit(f"the program ended with status {os.waitstatus_to_exitcode(status)}")
-    return time.monotonic() - start, used.ru_maxrss / 1024
+    return used.ru_utime + used.ru_stime, used.ru_maxrss / 1024
 
 
 def serve(store, lines):
