@@ -1,6 +1,7 @@
 // Words that are commands, and words that are none.
+use ps_base::Listed;
 use ps_types::Text;
-use ps_words::{Command, WordsRefusal, read_words};
+use ps_words::{Command, Stream, WordsRefusal, read_words};
 use std::alloc::Global;
 use std::process::Abort;
 use std::test::Fail;
@@ -34,10 +35,8 @@ fn with_streams(alloc: Global, count: u64) -> Result<String, Fail> {
     Ok(words)
 }
 
-#[test]
-fn streams_are_read_in_order(rt: HostRuntime) -> Result<(), Fail> {
-    let alloc = rt.alloc();
-    let words = "serve --service PubSub.Example --store s A.Example i1 o1 b.example i2 o2";
+// The service, the store and the streams of a command to serve.
+fn served(alloc: Global, words: &str) -> Result<(Text, Text, Listed<Stream>), Fail> {
     match read(alloc, words)? {
         Ok(
             Command::Serve {
@@ -45,43 +44,76 @@ fn streams_are_read_in_order(rt: HostRuntime) -> Result<(), Fail> {
                 store,
                 streams,
             },
-        ) => {
-            assert_eq!(rt; service.as_str(), "pubsub.example");
-            assert_eq!(rt; store.as_str(), "s");
-            assert_eq!(rt; streams.as_slice().len(), 2);
-            let Some(first) = streams.as_slice().first() else {
-                return Ok(());
-            };
-            assert_eq!(rt; first.host.as_str(), "a.example");
-            assert_eq!(rt; first.source.as_str(), "i1");
-            assert_eq!(rt; first.sink.as_str(), "o1");
-            let Some(last) = streams.as_slice().last() else {
-                return Ok(());
-            };
-            assert_eq!(rt; last.host.as_str(), "b.example");
-            assert_eq!(rt; last.source.as_str(), "i2");
-            assert_eq!(rt; last.sink.as_str(), "o2");
-        }
-        _ => assert!(rt; false, "{words} is not read"),
+        ) => Ok((service, store, streams)),
+        Ok(
+            Command::Compact {
+                store: _store,
+                new: _new,
+            },
+        ) => Err("it compacts".into()),
+        Ok(Command::Rehearse { seed: _, count: _ }) => Err("it rehearses".into()),
+        Err(_) => Err("it is no command".into()),
     }
+}
+
+#[test]
+fn streams_are_read_in_order(rt: HostRuntime) -> Result<(), Fail> {
+    let alloc = rt.alloc();
+    let words = "serve --service PubSub.Example --store s A.Example i1 o1 b.example i2 o2";
+    let (service, store, streams) = served(alloc, words)?;
+    assert_eq!(rt; service.as_str(), "pubsub.example");
+    assert_eq!(rt; store.as_str(), "s");
+    assert_eq!(rt; streams.as_slice().len(), 2);
+    let Some(first) = streams.as_slice().first() else {
+        return Ok(());
+    };
+    assert_eq!(rt; first.host.as_str(), "a.example");
+    assert_eq!(rt; first.source.as_str(), "i1");
+    assert_eq!(rt; first.sink.as_str(), "o1");
+    let Some(last) = streams.as_slice().last() else {
+        return Ok(());
+    };
+    assert_eq!(rt; last.host.as_str(), "b.example");
+    assert_eq!(rt; last.source.as_str(), "i2");
+    assert_eq!(rt; last.sink.as_str(), "o2");
     Ok(())
 }
 
 #[test]
 fn sixteen_streams_and_no_more(rt: HostRuntime) -> Result<(), Fail> {
     let alloc = rt.alloc();
-    match read(alloc, with_streams(alloc, 16)?.as_str())? {
+    let (_service, _store, streams) = served(alloc, with_streams(alloc, 16)?.as_str())?;
+    assert_eq!(rt; streams.as_slice().len(), 16);
+    is_usage(&rt, alloc, with_streams(alloc, 0)?.as_str())?;
+    is_usage(&rt, alloc, with_streams(alloc, 17)?.as_str())
+}
+
+// The two stores of a command to compact.
+fn compacted(alloc: Global, words: &str) -> Result<(Text, Text), Fail> {
+    match read(alloc, words)? {
         Ok(
             Command::Serve {
                 service: _service,
                 store: _store,
-                streams,
+                streams: _streams,
             },
-        ) => assert_eq!(rt; streams.as_slice().len(), 16),
-        _ => assert!(rt; false, "16 streams are not read"),
+        ) => Err("it serves".into()),
+        Ok(Command::Compact { store, new }) => Ok((store, new)),
+        Ok(Command::Rehearse { seed: _, count: _ }) => Err("it rehearses".into()),
+        Err(_) => Err("it is no command".into()),
     }
-    is_usage(&rt, alloc, with_streams(alloc, 0)?.as_str())?;
-    is_usage(&rt, alloc, with_streams(alloc, 17)?.as_str())
+}
+
+#[test]
+fn two_stores_are_read(rt: HostRuntime) -> Result<(), Fail> {
+    let alloc = rt.alloc();
+    let (store, new) = compacted(alloc, "compact s s.new")?;
+    assert_eq!(rt; store.as_str(), "s");
+    assert_eq!(rt; new.as_str(), "s.new");
+    is_usage(&rt, alloc, "compact s s")?;
+    is_usage(&rt, alloc, "compact s ")?;
+    is_usage(&rt, alloc, "compact s")?;
+    is_usage(&rt, alloc, "compact s t u")
 }
 
 #[test]
