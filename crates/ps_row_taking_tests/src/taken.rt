@@ -48,10 +48,8 @@ fn five_rows_are_taken_in_their_order(rt: HostRuntime) -> Result<(), Fail> {
     let i1 = item(alloc, "news", "i1", None)?;
     assert!(rt; take(alloc, &mut tables, Row::Item(i1))? == Some(0));
     assert!(rt; take(alloc, &mut tables, notice(alloc, "bob@b.example/1", LINE)?)? == Some(1));
-    assert_eq!(rt;
-        tables.nodes.len() + tables.affils.len() + tables.subs.len() + tables.items.len(),
-        4
-    );
+    assert!(rt; tables.nodes.len() == 1 && tables.affils.len() == 1);
+    assert!(rt; tables.subs.len() == 1 && tables.items.len() == 1);
     Ok(())
 }
 
