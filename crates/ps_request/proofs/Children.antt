@@ -1,49 +1,20 @@
 -- Children that are gone through from one to the next of a name.
-use Rattle.std.proofs.Common.{◌≡◌, ℕ, Bool, true, false, cond, ◌==◌, List, [], ◌∷◌, ◌++◌, length, Option, Some, None, unwrap_or, option_map, filter, map, refl, sym, ap, subst, ◌∙◌, append_assoc, append-nil, arith}
+use Rattle.std.proofs.Common.{◌≡◌, ℕ, Bool, true, false, cond, ◌==◌, List, [], ◌∷◌, ◌++◌, length, Option, Some, None, unwrap_or, option_map, refl, sym, ap, subst, ◌∙◌, append_assoc, append-nil, arith}
 use Rattle.std.specs.Prelude.{is_none, is_some, not, option_and_then}
 use Rattle.std.proofs.lemmas.Bool.Decides.{nat_tests}
-use Rattle.std.proofs.lemmas.List.Elements.{filter_map-append}
-use Rattle.std.specs.List.{filter_map}
-use Rattle.ps_types.specs.declared.form.Field.{Field}
-use Rattle.ps_types.specs.Forms.{field_of}
 use Rattle.ps_types.specs.declared.request.AskRow.{AskRow}
 use Rattle.ps_types.specs.Namespaces.{pubsub_ns}
 use Rattle.ps_types.specs.Shape.{attr_text, trees_in}
 use Rattle.ps_types.specs.Tree.{Tree, Nodes, none, branch, words, is_named, child_at}
 use Rattle.ps_model.specs.Grammar.{first_tree, form_in, form_after, jid_in, row_by, row_then, rows_in}
-use Rattle.ps_request.specs.Kids.{next_named}
+use Rattle.ps_forms.specs.Kids.{next_named}
+use Rattle.ps_forms.proofs.Children.{named, found, absent}
 use Rattle.ps_request.specs.Only.{only}
-
-abbrev pub named : List ℕ → List ℕ → Nodes → List Tree
-named name ns n = filter (is_named name ns) (trees_in n)
 
 pair-from : {T : Type 0} (a b : T) → Some a ≡ Some b → a ≡ b
 pair-from a b h = ap (λ o. unwrap_or o a) h
 
-found-step : (b : Bool) (name ns : List ℕ) (t : Tree) (kids : Nodes) (u : Tree) (rest : Nodes)
-    → (next_named name ns kids ≡ Some (u, rest) → named name ns kids ≡ u ∷ named name ns rest)
-    → cond b (Some (t, kids)) (next_named name ns kids) ≡ Some (u, rest) → cond b (t ∷ named name ns kids) (named name ns kids) ≡ u ∷ named name ns rest
-found-step true name ns t kids u rest ih h = subst (λ (p : Tree × Nodes). t ∷ named name ns kids ≡ p.0 ∷ named name ns p.1) (pair-from (t, kids) (u, rest) h) refl
-found-step false name ns t kids u rest ih h = ih h
-
--- the next child of the name is the first of those of the name
-pub found : (name ns : List ℕ) (n : Nodes) (u : Tree) (rest : Nodes) → next_named name ns n ≡ Some (u, rest) → named name ns n ≡ u ∷ named name ns rest
-found name ns none u rest h = absurd (cc)
-found name ns (branch t kids) u rest h = found-step (is_named name ns t) name ns t kids u rest (found name ns kids u rest) h
-found name ns (words s kids) u rest h = found name ns kids u rest h
-
-absent-step : (b : Bool) (name ns : List ℕ) (t : Tree) (kids : Nodes)
-    → (next_named name ns kids ≡ None → named name ns kids ≡ [])
-    → cond b (Some (t, kids)) (next_named name ns kids) ≡ None → cond b (t ∷ named name ns kids) (named name ns kids) ≡ []
-absent-step true name ns t kids ih h = absurd (cc)
-absent-step false name ns t kids ih h = ih h
-
-pub absent : (name ns : List ℕ) (n : Nodes) → next_named name ns n ≡ None → named name ns n ≡ []
-absent name ns none h = refl
-absent name ns (branch t kids) h = absent-step (is_named name ns t) name ns t kids (absent name ns kids) h
-absent name ns (words s kids) h = absent name ns kids h
-
--- the same of trees of any name
+-- the first tree is the first of the trees
 pub first-found : (n : Nodes) (u : Tree) (rest : Nodes) → first_tree n ≡ Some (u, rest) → trees_in n ≡ u ∷ trees_in rest
 first-found none u rest h = absurd (cc)
 first-found (branch t kids) u rest h = subst (λ (p : Tree × Nodes). t ∷ trees_in kids ≡ p.0 ∷ trees_in p.1) (pair-from (t, kids) (u, rest) h) refl
@@ -54,16 +25,7 @@ first-absent none h = refl
 first-absent (branch t kids) h = absurd (cc)
 first-absent (words s kids) h = first-absent kids h
 
--- one more of what is made of each
-pub one-more : {X Y : Type 0} (f : X → Y) (done all : List Y) (xs : List X) (x : X) (rest : List X) (y : Y) (new : List Y)
-    → xs ≡ x ∷ rest → new ≡ done ++ y ∷ [] → y ≡ f x → done ++ map f xs ≡ all → new ++ map f rest ≡ all
-one-more f done all xs x rest y new e n m h =
-    ap (λ (l : List _). l ++ map f rest) n ∙ append_assoc done (y ∷ []) (map f rest) ∙ ap (λ v. done ++ v ∷ map f rest) m ∙ ap (λ (l : List _). done ++ map f l) (sym e) ∙ h
-
-pub no-more : {X Y : Type 0} (f : X → Y) (done all : List Y) (xs : List X) → xs ≡ [] → done ++ map f xs ≡ all → done ≡ all
-no-more f done all xs e h = sym (append-nil done) ∙ ap (λ (l : List _). done ++ map f l) (sym e) ∙ h
-
--- the same of the trees themselves
+-- one more of the trees
 pub one-tree : (done all xs : List Tree) (x : Tree) (rest : List Tree) (y : Tree) (new : List Tree)
     → xs ≡ x ∷ rest → new ≡ done ++ y ∷ [] → y ≡ x → done ++ xs ≡ all → new ++ rest ≡ all
 one-tree done all xs x rest y new e n m h =
@@ -135,13 +97,3 @@ only-one name ns n r t e f = sym (ap only (found name ns n t r (sym e) ∙ ap (�
 
 pub only-none : (name ns : List ℕ) (n : Nodes) → None ≡ next_named name ns n → None ≡ only (named name ns n)
 only-none name ns n e = sym (ap only (absent name ns n (sym e)))
-
--- one more field
-pub more-fields : (done new all : List Field) (xs : List Tree) (t : Tree) (rest : List Tree)
-    → xs ≡ t ∷ rest → new ≡ done ++ filter_map field_of (t ∷ []) → done ++ filter_map field_of xs ≡ all → new ++ filter_map field_of rest ≡ all
-more-fields done new all xs t rest e n h =
-    ap (λ (l : List Field). l ++ filter_map field_of rest) n ∙ append_assoc done (filter_map field_of (t ∷ [])) (filter_map field_of rest)
-    ∙ ap (λ (l : List Field). done ++ l) (sym (filter_map-append field_of (t ∷ []) rest)) ∙ ap (λ (l : List Tree). done ++ filter_map field_of l) (sym e) ∙ h
-
-pub no-fields : (done all : List Field) (xs : List Tree) → xs ≡ [] → done ++ filter_map field_of xs ≡ all → done ≡ all
-no-fields done all xs e h = sym (append-nil done) ∙ ap (λ (l : List Tree). done ++ filter_map field_of l) (sym e) ∙ h

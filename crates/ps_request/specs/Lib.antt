@@ -1,5 +1,4 @@
 pub mod Answer
-pub mod Kids
 pub mod Only
 pub mod Heads
 pub mod Taking

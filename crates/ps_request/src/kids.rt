@@ -1,39 +1,19 @@
 // The children of an element, one after the other.
-ghost use Rattle.std.specs.Prelude.{◌≡◌, ◌<◌, ◌==◌, ◌++◌, [], ◌∷◌, length, map, option_map, string_bytes, IfOk, IfSome, OnOk};
+ghost use Rattle.std.specs.Prelude.{◌≡◌, ◌<◌, ◌==◌, length, map, option_map, IfOk, IfSome};
 ghost use Rattle.ps_types.specs.Elem.{nodes};
-ghost use Rattle.ps_types.specs.Shape.{attr_text, children_of, trees_of, tree_text, text_in};
+ghost use Rattle.ps_types.specs.Shape.{attr_text, children_of, trees_of};
 ghost use Rattle.ps_model.specs.AskPublish.{item_in, items_in};
 ghost use Rattle.ps_model.specs.Grammar.{first_tree, form_after, id_in, jid_in, row_by, rows_in};
 ghost use Rattle.ps_request.specs.Answer.{AreRows};
-ghost use Rattle.ps_request.specs.Kids.{next_named};
 
 use crate::parts::{form_of_part, id_of, jid_at};
-use ps_forms::{attr, has_name};
+use ps_forms::{attr, next_child};
 use ps_spaces::{PUBSUB, PUBSUB_OWNER};
 use ps_types::{
     AskItem, AskItems, AskRow, AskRows, Child, Condition, Elem, Listed, Memory, PlanRefusal, Text,
     Texts,
 };
 use std::alloc::{AllocError, Global};
-
-/// The first child tree of that name and namespace, and the children after it.
-pub(crate) fn next_child<'a>(
-    kids: &'a [Child],
-    name: &str,
-    ns: &str,
-) -> Option<(&'a Elem, &'a [Child])>
-    ensures next { option_map (λ p. (p.0.now, nodes p.1.now)) result ≡ next_named name.now ns.now (nodes kids.now) }
-    ensures fewer { IfSome result (λ p. length p.1.now < length kids.now) }
-{
-    for (i, kid) in kids.iter().enumerate() {
-        if let Child::Tree(tree) = kid {
-            if has_name(tree, name, ns) {
-                return Some((tree, &kids[i + 1..]));
-            }
-        }
-    }
-    None
-}
 
 /// The first child tree, and the children after it.
 pub(crate) fn next_tree(kids: &[Child]) -> Option<(&Elem, &[Child])>
@@ -66,44 +46,6 @@ pub(crate) fn form_behind(rest: &[Child], name: &str) -> Result<Option<Elem>, Al
         Some((part, _)) => form_of_part(part),
         None => Ok(None),
     }
-}
-
-/// The text of an element: its text children, one after the other.
-pub(crate) fn text_of(alloc: Global, elem: &Elem) -> Result<Text, AllocError>
-    ensures { IfOk result (λ t. t ≡ tree_text elem.now) }
-{
-    let mut text = String::new(alloc);
-    for kid in elem.kids.as_slice() {
-        add_words(&mut text, kid)?;
-    }
-    Ok(Text::from_string(text))
-}
-
-fn add_words(text: &mut String, kid: &Child) -> Result<(), AllocError>
-    ensures ok { OnOk result (string_bytes text.new ≡ string_bytes text.old ++ text_in (nodes (kid.now ∷ []))) }
-{
-    match kid {
-        Child::Words(words) => text.push_str(words.as_str()),
-        Child::Tree(_) => Ok(()),
-    }
-}
-
-/// The texts of the child trees of that name and namespace.
-pub(crate) fn texts_of(
-    alloc: Global,
-    elem: &Elem,
-    name: &str,
-    ns: &str,
-) -> Result<Texts, AllocError>
-    ensures { IfOk result (λ texts. texts ≡ map tree_text (children_of name.now ns.now elem.now)) }
-{
-    let mut texts = Listed::new(alloc);
-    let mut rest = elem.kids.as_slice();
-    while let Some((child, after)) = next_child(rest, name, ns) {
-        texts.push(text_of(alloc, child)?)?;
-        rest = after;
-    }
-    Ok(texts)
 }
 
 /// The ids of the items.

@@ -7,10 +7,9 @@ ghost use Rattle.ps_model.specs.Grammar.{jid_in};
 ghost use Rattle.ps_request.specs.Answer.{Gives};
 ghost use Rattle.ps_request.specs.Only.{only};
 
-use crate::kids::{next_child, texts_of};
 use crate::parts::{is_of_type, jid_at};
 use crate::stanza::is_host;
-use ps_forms::attr;
+use ps_forms::{attr, next_child, texts_of};
 use ps_spaces::{CAPS, DISCO_INFO, ROSTER};
 use ps_types::{Ask, AskContact, Caps, Condition, Elem, Jid, PlanRefusal, Text};
 use std::alloc::{AllocError, Global};

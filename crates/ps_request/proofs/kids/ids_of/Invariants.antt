@@ -4,7 +4,7 @@ use Rattle.ps_types.specs.Elem.{nodes}
 use Rattle.ps_types.specs.Namespaces.{pubsub_ns}
 use Rattle.ps_model.specs.AskPublish.{items_in}
 use Rattle.ps_model.specs.Grammar.{id_in}
-use Rattle.ps_request.proofs.Children.{named}
+use Rattle.ps_forms.proofs.Children.{named}
 use Rattle.ps_request.proofs.kids.ids_of.Given as goal
 
 abbrev pub invariant-loop-item : goal.invariant-loop-item

@@ -1,7 +1,8 @@
 use Rattle.std.proofs.Common.{sym, refl, ◌∙◌}
 use Rattle.ps_types.specs.Elem.{nodes}
 use Rattle.ps_types.specs.Namespaces.{owner_ns}
-use Rattle.ps_request.proofs.Children.{found, absent, more-rows, bad-row, end-rows}
+use Rattle.ps_forms.proofs.Children.{found, absent}
+use Rattle.ps_request.proofs.Children.{more-rows, bad-row, end-rows}
 use Rattle.ps_request.proofs.kids.rows_of.Goals as goal
 
 pub returns-in-None : goal.returns-in-None

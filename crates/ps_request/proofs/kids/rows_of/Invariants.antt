@@ -3,7 +3,8 @@ use Rattle.ps_types.specs.Elem.{nodes}
 use Rattle.ps_types.specs.Namespaces.{owner_ns}
 use Rattle.ps_types.specs.Shape.{children_of}
 use Rattle.ps_model.specs.Grammar.{rows_in}
-use Rattle.ps_request.proofs.Children.{named, behind}
+use Rattle.ps_forms.proofs.Children.{named}
+use Rattle.ps_request.proofs.Children.{behind}
 use Rattle.ps_request.proofs.kids.rows_of.Given as goal
 
 abbrev pub invariant-loop-elem : goal.invariant-loop-elem

@@ -4,7 +4,8 @@ use Rattle.ps_types.specs.Elem.{nodes}
 use Rattle.ps_types.specs.Namespaces.{roster_ns}
 use Rattle.ps_types.specs.Tree.{nodes_of}
 use Rattle.ps_request.specs.Only.{only}
-use Rattle.ps_request.proofs.Children.{named, only-two, only-one, only-none}
+use Rattle.ps_forms.proofs.Children.{named}
+use Rattle.ps_request.proofs.Children.{only-two, only-one, only-none}
 use Rattle.ps_request.proofs.router.only_item.Goals as goal
 
 pub returns-in-Some-next_child : goal.returns-in-Some-next_child
