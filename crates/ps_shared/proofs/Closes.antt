@@ -17,10 +17,11 @@ use Rattle.ps_store.specs.Stand.{IsKept, OpenedAt, disk_in}
 use Rattle.ps_store.specs.declared.store.Store.{Store}
 use Rattle.ps_store.proofs.Keeping.{kept_on}
 use Rattle.ps_shared.specs.Closed.{HasClosed}
-use Rattle.ps_shared.specs.Homes.{ArchiveStands, HomeStands, maker_of, state_mark, world_at}
-use Rattle.ps_shared.specs.Origin.{Origin}
-use Rattle.ps_shared.proofs.Framing.{broken_later}
-use Rattle.ps_shared.proofs.Logs.{prefix_follows, same_cut}
+use Rattle.ps_flush.specs.Homes.{ArchiveStands, HomeStands, maker_of, state_mark, store_mark, world_at}
+use Rattle.ps_flush.specs.Origin.{Origin}
+use Rattle.ps_flush.proofs.Closing.{both_broken, same_numbers}
+use Rattle.ps_flush.proofs.Framing.{broken_later}
+use Rattle.ps_flush.proofs.Logs.{prefix_follows, same_cut}
 
 -- fewer steps are counted on
 kept_less : {D : Type 0} (g : Ghosts D) (at : OpenedAt) (disk : D) (few firm : ℕ) (w : World) → few ≤ firm → IsKept g at disk firm w → IsKept g at disk few w
@@ -32,7 +33,7 @@ kept_less g at disk few firm w le is = record {
   since_start = is.since_start;
 }
 
-pub closed_ok : {V J D : Type 0} {g : Ghosts D} (o : Origin) (v : State) (y : Store D g) (log l : List Deed) (seats : List (TwinSeat V J Deed)) → HomeStands o v log → ArchiveStands o y l → Prefix l log → v.flushed ≤ store.firm_of y → state_mark v ≡ store.mark_of y
+pub closed_ok : {V J D : Type 0} {g : Ghosts D} (o : Origin) (v : State) (y : Store D g) (log l : List Deed) (seats : List (TwinSeat V J Deed)) → HomeStands o v log → ArchiveStands o y l → Prefix l log → v.flushed ≤ store.firm_of y → state_mark v ≡ store_mark y
     → ((k : ℕ) (s : TwinSeat V J Deed) → slice_get seats k ≡ Some s → Later maker_of (number_of s) (seen_of s) log) → HasClosed o v y seats
 closed_ok {V} {J} {D} {g} o v y log l seats home archive front firm mark later =
     let w = world_at o l in
@@ -48,10 +49,12 @@ closed_ok {V} {J} {D} {g} o v y log l seats home archive front firm mark later =
       whole = λ quiet. (
           let whole = archive.whole (broken_later w u follows quiet) in
           let b = home.stands.batch in
-          let count : v.count ≡ y.count = ap (λ p. p.0) mark in
+          let unbroken = home.stands.broken ∙ quiet in
+          let count : v.count ≡ y.count = ap (λ p. p.0) (same_numbers o v y log l home archive front mark unbroken) in
           let cut = same_cut b.begun w.entries (entries_of v.batch) follows.more (sym b.all ∙ follows.entries) (b.size ∙ (count ∙ whole.count)) in
           b.all ∙ ap (λ E. E ++ entries_of v.batch) cut.0);
       firm = firm;
-      mark = mark;
+      broken = both_broken o v y log l home archive front mark;
+      mark = same_numbers o v y log l home archive front mark;
       later = later;
     }

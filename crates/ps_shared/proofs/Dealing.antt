@@ -9,11 +9,11 @@ use Rattle.ps_deeds.specs.Did.{NoneInHand}
 use Rattle.ps_deeds.specs.Own.{AreOwned}
 use Rattle.ps_deeds.specs.declared.deed.Deed.{Deed}
 use Rattle.ps_shared.specs.Calls.{IsPass}
-use Rattle.ps_shared.specs.Homes.{world_at}
-use Rattle.ps_shared.specs.Origin.{Origin}
+use Rattle.ps_flush.specs.Homes.{world_at}
+use Rattle.ps_flush.specs.Origin.{Origin}
 use Rattle.ps_shared.specs.Passes.{AreFresh, AreOf, IsFresh, OurTwin, named}
-use Rattle.ps_shared.specs.declared.home.Archive.{Archive}
-use Rattle.ps_shared.specs.declared.home.Home.{Home}
+use Rattle.ps_flush.specs.declared.home.Archive.{Archive}
+use Rattle.ps_flush.specs.declared.home.Home.{Home}
 use Rattle.ps_shared.specs.declared.hall.HostPasses.{HostPasses}
 use Rattle.ps_shared.specs.declared.hall.Pass.{Pass}
 use Rattle.ps_shared.specs.declared.opening.Names.{Names}

@@ -1,6 +1,7 @@
 -- What a writer has in hand, over what others do and what it does itself.
 use Rattle.std.proofs.Common.{◌≡◌, ℕ, ⊎_elim, List, [], ◌∷◌, ◌++◌, Some, None, length, ap, sym, ◌∙◌, subst}
 use Rattle.std.specs.Prelude.{slice_get, OnErr, Result, Ok, Err}
+use Rattle.ps_model.specs.Machine.{run}
 use Rattle.ps_model.specs.TheCore.{the_core}
 use Rattle.ps_model.specs.World.{World}
 use Rattle.ps_model.specs.declared.steps.Step.{Step}
@@ -17,14 +18,15 @@ use Rattle.ps_state.specs.Stand.{flight_of}
 use Rattle.ps_state.specs.declared.state.HostRow.{HostRow}
 use Rattle.ps_state.specs.declared.state.State.{State}
 use Rattle.ps_state.specs.declared.answers.HandedRefusal.{HandedRefusal}
+use Rattle.ps_state.specs.declared.answers.HandedRefusal.TheVariants.{Store, Full, Memory}
 use Rattle.ps_shared.specs.Calls.{RecordDoes}
-use Rattle.ps_shared.specs.Doing.{Does}
-use Rattle.ps_shared.specs.Flush.{Flushes}
-use Rattle.ps_shared.specs.Homes.{HomeStands, maker_of, world_at}
-use Rattle.ps_shared.specs.Origin.{Origin}
-use Rattle.ps_shared.specs.Steps.{record_steps}
-use Rattle.ps_shared.proofs.Homing.{home_differ}
-use Rattle.ps_shared.proofs.Logs.{none_of, owned_behind, world_both, world_more}
+use Rattle.ps_flush.specs.Doing.{Does}
+use Rattle.ps_flush.specs.Flush.{Flushes}
+use Rattle.ps_flush.specs.Homes.{HomeStands, maker_of, world_at}
+use Rattle.ps_flush.specs.Origin.{Origin}
+use Rattle.ps_shared.specs.Steps.{record_steps, refused_steps}
+use Rattle.ps_flush.proofs.Homing.{home_differ}
+use Rattle.ps_flush.proofs.Logs.{none_of, owned_behind, world_both, world_more}
 use Rattle.ps_shared.proofs.Recording.{hand_is}
 
 module _ (o : Origin) (v : State) (k : ℕ) (old found : List Deed) (is : HomeStands o v found) (later : Later maker_of k old found) (host : List ℕ) (writes : IsWriterOf o.hosts k host) where
@@ -49,10 +51,15 @@ pub hand_row : (o : Origin) (v : State) (log : List Deed) (at : ℕ) (host : Lis
 hand_row o v log at host a is hand row was same =
     hand_is row.in_hand v.flushed a (ap (λ f. flight_of row.in_hand f a) is.stands.flushed ∙ (sym (is.stands.hands at row was a (hand.host ∙ sym same)) ∙ hand.this))
 
--- after a refusal it is as before
-pub hand_refused : {T : Type 0} (o : Origin) (log : List Deed) (by bytes : ℕ) (host : List ℕ) (a : Jid) (result : Result T HandedRefusal) → HasInHand host a (world_at o log) → OnErr result (HasInHand host a (world_at o (log ++ deeds by bytes (record_steps a result))))
+-- after a refusal it is as before, also where the writer ended
+hand_still : (boot host : List ℕ) (a : Jid) (w : World) (why : HandedRefusal) → HasInHand host a w → HasInHand host a (run the_core boot w (refused_steps host why))
+hand_still boot host a w Store hand = hand
+hand_still boot host a w Full hand = record { host = hand.host; this = hand.this; others = hand.others }
+hand_still boot host a w Memory hand = hand
+
+pub hand_refused : {T : Type 0} (o : Origin) (log : List Deed) (by bytes : ℕ) (host : List ℕ) (a : Jid) (result : Result T HandedRefusal) → HasInHand host a (world_at o log) → OnErr result (HasInHand host a (world_at o (log ++ deeds by bytes (record_steps host a result))))
 hand_refused o log by bytes host a (Ok t) hand = tt
-hand_refused o log by bytes host a (Err e) hand = subst (HasInHand host a) (sym (world_more o log by bytes [])) hand
+hand_refused o log by bytes host a (Err e) hand = subst (HasInHand host a) (sym (world_more o log by bytes (refused_steps host e))) (hand_still o.boot host a (world_at o log) e hand)
 
 -- a call of a pass, less exactly
 pub did_less : (o : Origin) (k : ℕ) (old new : List Deed) (one two : World → List Step → Type 0) → ((w : World) (steps : List Step) → one w steps → two w steps) → Does o k old new one → Does o k old new two

@@ -5,10 +5,10 @@ use Rattle.ps_disk.specs.declared.device.Disk.{Ghosts}
 use Rattle.ps_twin.specs.declared.twin.TwinSeat.{TwinSeat}
 use Rattle.ps_twin.specs.Seats.{AreAll, IsFree, IsSeatOf, number_of, seats_of}
 use Rattle.ps_deeds.specs.declared.deed.Deed.{Deed}
-use Rattle.ps_shared.specs.Origin.{Origin}
+use Rattle.ps_flush.specs.Origin.{Origin}
 use Rattle.ps_shared.specs.Passes.{AreOf, ArePasses, OurTwin, seats_in}
-use Rattle.ps_shared.specs.declared.home.Archive.{Archive}
-use Rattle.ps_shared.specs.declared.home.Home.{Home}
+use Rattle.ps_flush.specs.declared.home.Archive.{Archive}
+use Rattle.ps_flush.specs.declared.home.Home.{Home}
 use Rattle.ps_shared.specs.declared.hall.HostPasses.{HostPasses}
 
 module _ {B D : Type 0} {g : Ghosts D} where

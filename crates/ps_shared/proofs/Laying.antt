@@ -18,10 +18,11 @@ use Rattle.ps_state.specs.declared.answers.Receipt.{Receipt}
 use Rattle.ps_state.specs.declared.state.State.{State}
 use Rattle.ps_state.proofs.Sizes.{body-more}
 use Rattle.ps_shared.specs.Calls.{IsCause, IsReceipt, LayDoes}
-use Rattle.ps_shared.specs.Homes.{HomeStands, NoRoom, bytes_in, world_at}
-use Rattle.ps_shared.specs.Origin.{Origin}
+use Rattle.ps_flush.specs.Homes.{HomeStands, NoRoom, bytes_in, world_at}
+use Rattle.ps_flush.specs.Origin.{Origin}
 use Rattle.ps_shared.specs.Steps.{is_full, lay_steps}
-use Rattle.ps_shared.proofs.Homing.{Rooms}
+use Rattle.ps_flush.proofs.Homing.{Rooms}
+use Rattle.ps_flush.proofs.Quiet.{AreQuiet}
 
 full_is : (full : Bool) (reply : Option (List ℕ)) (entry : Option Entry) → is_full (outcome_of full reply entry) ≡ full
 full_is true reply entry = refl
@@ -91,6 +92,11 @@ module _ (o : Origin) (v now : State) (log : List Deed) (is : HomeStands o v log
 pub lay_owned : (hosts : List (List ℕ)) (by bytes : ℕ) (host : List ℕ) (arrival : Arrival) (result : Result Receipt ArriveRefusal) → IsReaderOf hosts by host → AreOwned hosts (deeds by bytes (lay_steps host arrival result))
 lay_owned hosts by bytes host arrival (Ok r) reads = (reads, tt)
 lay_owned hosts by bytes host arrival (Err e) reads = tt
+
+-- a line tells of no fault
+pub lay_quiet : (host : List ℕ) (arrival : Arrival) (result : Result Receipt ArriveRefusal) → AreQuiet (lay_steps host arrival result)
+lay_quiet host arrival (Ok r) = (tt, tt)
+lay_quiet host arrival (Err e) = tt
 
 pub lay_few : (host : List ℕ) (arrival : Arrival) (result : Result Receipt ArriveRefusal) → length (lay_steps host arrival result) < 3
 lay_few host arrival (Ok r) = omega arith

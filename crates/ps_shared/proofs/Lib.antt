@@ -1,16 +1,10 @@
-pub mod Lives
-pub mod Logs
-pub mod Homing
-pub mod Seating
-pub mod Framing
-pub mod Flushing
 pub mod Passing
 pub mod Laying
 pub mod Telling
+pub mod Refusals
 pub mod Recording
 pub mod Flying
 pub mod Closes
 pub mod Gathering
 pub mod Dealing
 pub mod Starting
-pub mod Histories

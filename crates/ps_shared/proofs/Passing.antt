@@ -7,9 +7,9 @@ use Rattle.ps_deeds.specs.Own.{AreOwned, IsReaderOf, IsWriterOf}
 use Rattle.ps_deeds.specs.declared.deed.Deed.{Deed}
 use Rattle.ps_state.specs.declared.state.State.{State}
 use Rattle.ps_shared.specs.Calls.{IsPass, IsReader, IsWriter}
-use Rattle.ps_shared.specs.Origin.{Origin}
-use Rattle.ps_shared.specs.Seat.{HasLeft, MayCall}
-use Rattle.ps_shared.proofs.Seating.{free_kept}
+use Rattle.ps_flush.specs.Origin.{Origin}
+use Rattle.ps_flush.specs.Seat.{HasLeft, MayCall}
+use Rattle.ps_flush.proofs.Seating.{free_kept}
 
 module _ {V J : Type 0} (o : Origin) (t : Twin V J Deed) (at : ℕ) (host : List ℕ) where
   pub reads_at : (s : TwinSeat V J Deed) (k : ℕ) → k ≡ number_of s → IsReader o t at host s → IsReaderOf o.hosts k host

@@ -1,10 +1,13 @@
--- An entry that no line makes, by the world that its holding found.
-use Rattle.std.proofs.Common.{◌≡◌, ℕ, ◌+◌, ◌<◌, Bool, true, false, List, Option, Some, None, length, refl, subst, arith}
-use Rattle.std.specs.Prelude.{nat_le, if◌then◌else◌, IfErr, OnOk, Result, Ok, Err}
+-- An entry that no line makes, or the end of who would have made it, by the world that the holding found.
+use Rattle.std.proofs.Common.{◌≡◌, ℕ, ◌+◌, ◌<◌, ◌≤◌, Bool, true, false, List, [], ◌∷◌, ◌++◌, Option, Some, None, length, refl, sym, subst, arith}
+use Rattle.std.specs.Prelude.{nat_le, if◌then◌else◌, Result, Ok, Err}
+use Rattle.ps_model.specs.Entries.{spelling}
 use Rattle.ps_model.specs.Machine.{run}
 use Rattle.ps_model.specs.TheCore.{the_core}
 use Rattle.ps_model.specs.World.{Nothing, Unrecorded, Recorded, World}
-use Rattle.ps_model.specs.declared.steps.Step.TheVariants.{Record, Gone}
+use Rattle.ps_model.specs.declared.steps.Role.TheVariants.{Reader, Writer}
+use Rattle.ps_model.specs.declared.steps.Step.{Step}
+use Rattle.ps_model.specs.declared.steps.Step.TheVariants.{Ended}
 use Rattle.ps_types.proofs.Same.{same_jid-Decides}
 use Rattle.ps_types.specs.Same.{same_jid}
 use Rattle.ps_types.specs.declared.entry.Entry.{Entry}
@@ -13,17 +16,23 @@ use Rattle.ps_types.specs.declared.jid.Jid.{Jid}
 use Rattle.ps_deeds.specs.Did.{HasInHand}
 use Rattle.ps_deeds.specs.Own.{AreOwned, IsReaderOf, IsWriterOf, deeds}
 use Rattle.ps_deeds.specs.declared.deed.Deed.{Deed}
-use Rattle.ps_state.specs.Gone.{IsRecorded, NotRecorded, NotRecordedIn}
+use Rattle.ps_state.specs.Gone.{NotRecordedIn}
 use Rattle.ps_state.specs.Stand.{Stands, bytes_with, flight_of, hand_flight}
+use Rattle.ps_state.specs.Steps.{KeepsNumbers}
 use Rattle.ps_state.specs.declared.answers.HandedRefusal.{HandedRefusal}
 use Rattle.ps_state.specs.declared.answers.HandedRefusal.TheVariants.{Store, Full, Memory}
 use Rattle.ps_state.specs.declared.state.Hand.{Hand}
 use Rattle.ps_state.specs.declared.state.State.{State}
-use Rattle.ps_shared.specs.Calls.{GoneDoes, IsNoRecord, RecordDoes}
-use Rattle.ps_shared.specs.Homes.{HomeStands, world_at}
-use Rattle.ps_shared.specs.Origin.{Origin}
+use Rattle.ps_state.proofs.Sizes.{body-more}
+use Rattle.ps_shared.specs.Calls.{FoundOver, IsNoRecord, LayGoneDoes, RecordDoes}
+use Rattle.ps_shared.specs.Ending.{LaysOrEnds, RecordsOrEnds}
+use Rattle.ps_flush.specs.Homes.{HomeStands, bytes_in, world_at}
+use Rattle.ps_flush.specs.Origin.{Origin}
 use Rattle.ps_shared.specs.Steps.{gone_steps, record_steps}
-use Rattle.ps_shared.proofs.Homing.{Rooms}
+use Rattle.ps_flush.proofs.Homing.{Rooms, bytes_on}
+use Rattle.ps_flush.proofs.Logs.{calm_of}
+use Rattle.ps_flush.proofs.Quiet.{AreQuiet}
+use Rattle.ps_shared.proofs.Refusals.{refused_stands}
 
 -- ---- what is in hand
 
@@ -53,52 +62,92 @@ module _ (o : Origin) (v now : State) (log : List Deed) (is : HomeStands o v log
   abbrev w : World
   w = world_at o log
 
-  refused_stands : (e : Entry) (why : HandedRefusal) → NotRecordedIn v now e why w → Stands now w
-  refused_stands e Store h = h.1
-  refused_stands e Full h = h.2
-  refused_stands e Memory h = h.1
+  refused_is : (mid : State) (e : Entry) (why : HandedRefusal) → NotRecordedIn v mid e why w → IsNoRecord o w e why
+  refused_is mid e Store h = h.0
+  refused_is mid e Full h = (h.0, record { kept = v; stands = is.stands; long = subst (λ x. x.whole < v.length + bytes_with v.batch e) is.limits h.1 })
+  refused_is mid e Memory h = h.0
 
-  refused_is : (e : Entry) (why : HandedRefusal) → NotRecordedIn v now e why w → IsNoRecord o w e why
-  refused_is e Store h = h.0
-  refused_is e Full h = (h.0, record { kept = v; stands = is.stands; long = subst (λ x. x.whole < v.length + bytes_with v.batch e) is.limits h.1 })
-  refused_is e Memory h = h.0
+  pub record_stands : {T : Type 0} (host : List ℕ) (a : Jid) (result : Result T HandedRefusal) → RecordsOrEnds v now host a result → Stands now (run the_core o.boot w (record_steps host a result))
+  record_stands host a (Ok t) did = (did o.boot is.named w is.stands).stands
+  record_stands host a (Err e) did = did.2 o.boot is.named w (refused_stands v did.0 (Handed a) e w (did.1 w is.stands))
 
-  pub record_stands : {T : Type 0} (a : Jid) (result : Result T HandedRefusal) → OnOk result (IsRecorded v now (Handed a) (Record a)) → IfErr result (λ e. NotRecorded v now (Handed a) e) → Stands now (run the_core o.boot w (record_steps a result))
-  record_stands a (Ok t) ok err = (ok o.boot is.named w is.stands).stands
-  record_stands a (Err e) ok err = refused_stands (Handed a) e (err w is.stands)
+  pub record_does : {T : Type 0} (host : List ℕ) (a : Jid) (result : Result T HandedRefusal) → HasInHand host a w → RecordsOrEnds v now host a result → RecordDoes o host a result w (record_steps host a result)
+  record_does host a (Ok t) hand did = (hand, (did o.boot is.named w is.stands).unbroken, refl)
+  record_does host a (Err e) hand did = (refused_is did.0 (Handed a) e (did.1 w is.stands), refl)
 
-  pub record_does : {T : Type 0} (host : List ℕ) (a : Jid) (result : Result T HandedRefusal) → HasInHand host a w → OnOk result (IsRecorded v now (Handed a) (Record a)) → IfErr result (λ e. NotRecorded v now (Handed a) e) → RecordDoes o host a result w (record_steps a result)
-  record_does host a (Ok t) hand ok err = (hand, (ok o.boot is.named w is.stands).unbroken, refl)
-  record_does host a (Err e) hand ok err = (refused_is (Handed a) e (err w is.stands), refl)
+  pub gone_stands : {T : Type 0} (host : List ℕ) (result : Result T HandedRefusal) → LaysOrEnds v now host result → Stands now (run the_core o.boot w (gone_steps host result))
+  gone_stands host (Ok t) did = (did o.boot is.named w is.stands).stands
+  gone_stands host (Err e) did = did.2 o.boot is.named w (refused_stands v did.0 (GoneEntry host) e w (did.1 w is.stands))
 
-  pub gone_stands : {T : Type 0} (host : List ℕ) (result : Result T HandedRefusal) → OnOk result (IsRecorded v now (GoneEntry host) (Gone host)) → IfErr result (λ e. NotRecorded v now (GoneEntry host) e) → Stands now (run the_core o.boot w (gone_steps host result))
-  gone_stands host (Ok t) ok err = (ok o.boot is.named w is.stands).stands
-  gone_stands host (Err e) ok err = refused_stands (GoneEntry host) e (err w is.stands)
+  pub gone_does : {T : Type 0} (host : List ℕ) (result : Result T HandedRefusal) → LaysOrEnds v now host result → LayGoneDoes o host result w (gone_steps host result)
+  gone_does host (Ok t) did = ((did o.boot is.named w is.stands).unbroken, refl)
+  gone_does host (Err e) did = (refused_is did.0 (GoneEntry host) e (did.1 w is.stands), refl)
 
-  pub gone_does : {T : Type 0} (host : List ℕ) (result : Result T HandedRefusal) → OnOk result (IsRecorded v now (GoneEntry host) (Gone host)) → IfErr result (λ e. NotRecorded v now (GoneEntry host) e) → GoneDoes o host result w (gone_steps host result)
-  gone_does host (Ok t) ok err = ((ok o.boot is.named w is.stands).unbroken, refl)
-  gone_does host (Err e) ok err = (refused_is (GoneEntry host) e (err w is.stands), refl)
-
-  pub record_rooms : {T : Type 0} (by : ℕ) (a : Jid) (result : Result T HandedRefusal) → Rooms o w now by (record_steps a result)
-  record_rooms by a (Ok t) = ((omega arith, tt), tt)
-  record_rooms by a (Err e) = tt
+  pub record_rooms : {T : Type 0} (by : ℕ) (host : List ℕ) (a : Jid) (result : Result T HandedRefusal) → Rooms o w now by (record_steps host a result)
+  record_rooms by host a (Ok t) = ((omega arith, tt), tt)
+  record_rooms by host a (Err Store) = tt
+  record_rooms by host a (Err Full) = ((omega arith, tt), tt)
+  record_rooms by host a (Err Memory) = tt
 
   pub gone_rooms : {T : Type 0} (by : ℕ) (host : List ℕ) (result : Result T HandedRefusal) → Rooms o w now by (gone_steps host result)
   gone_rooms by host (Ok t) = ((omega arith, tt), tt)
-  gone_rooms by host (Err e) = tt
+  gone_rooms by host (Err e) = ((omega arith, tt), tt)
+
+  -- ---- how long the store was
+
+  -- an entry that found no room passes the limit behind the bytes that the state then has
+  too_long : (mid : State) (e : Entry) → NotRecordedIn v mid e Full w → bytes_in v ≤ bytes_in now → o.limits.whole < bytes_in now + length (spelling e)
+  too_long mid e h le =
+      let a = subst (λ x. x.whole < v.length + bytes_with v.batch e) is.limits h.1 in
+      let b = body-more v.batch e in
+      omega (arith, a, b, le)
+
+  found_over : (mid : State) (e : Entry) (by : ℕ) (step : Step) (new : List Deed) → NotRecordedIn v mid e Full w → bytes_in v ≤ bytes_in now → new ≡ log ++ deeds by (bytes_in now) (step ∷ []) → FoundOver o e new
+  found_over mid e by step new h le seen = record { front = log; deed = record { by = by; step = step; bytes = bytes_in now }; rest = []; is = seen; over = too_long mid e h le }
+
+  pub record_over : {T : Type 0} (by : ℕ) (host : List ℕ) (a : Jid) (result : Result T HandedRefusal) (new : List Deed) → RecordsOrEnds v now host a result → bytes_in v ≤ bytes_in now → new ≡ log ++ deeds by (bytes_in now) (record_steps host a result) → result ≡ Err Full → FoundOver o (Handed a) new
+  record_over by host a (Ok t) new did le seen full = absurd (cc full)
+  record_over by host a (Err Store) new did le seen full = absurd (cc full)
+  record_over by host a (Err Full) new did le seen full = found_over did.0 (Handed a) by (Ended host Writer) new (did.1 w is.stands) le seen
+  record_over by host a (Err Memory) new did le seen full = absurd (cc full)
+
+  pub gone_over : {T : Type 0} (by : ℕ) (host : List ℕ) (result : Result T HandedRefusal) (new : List Deed) → LaysOrEnds v now host result → bytes_in v ≤ bytes_in now → new ≡ log ++ deeds by (bytes_in now) (gone_steps host result) → result ≡ Err Full → FoundOver o (GoneEntry host) new
+  gone_over by host (Ok t) new did le seen full = absurd (cc full)
+  gone_over by host (Err Store) new did le seen full = absurd (cc full)
+  gone_over by host (Err Full) new did le seen full = found_over did.0 (GoneEntry host) by (Ended host Reader) new (did.1 w is.stands) le seen
+  gone_over by host (Err Memory) new did le seen full = absurd (cc full)
+
+  -- the state then has no fewer bytes
+  pub bytes_grow : (by : ℕ) (steps : List Step) → Stands now (run the_core o.boot w steps) → AreOwned o.hosts (deeds by (bytes_in now) steps) → KeepsNumbers v now → bytes_in v ≤ bytes_in now
+  bytes_grow by steps stands owned kept = bytes_on o.boot v now w steps is.stands stands (calm_of o.hosts by (bytes_in now) steps owned) kept.count kept.length_same
 
 module _ {T : Type 0} where
-  pub record_owned : (hosts : List (List ℕ)) (by bytes : ℕ) (a : Jid) (result : Result T HandedRefusal) → IsWriterOf hosts by a.host → AreOwned hosts (deeds by bytes (record_steps a result))
-  record_owned hosts by bytes a (Ok t) writes = (writes, tt)
-  record_owned hosts by bytes a (Err e) writes = tt
+  pub record_owned : (hosts : List (List ℕ)) (by bytes : ℕ) (host : List ℕ) (a : Jid) (result : Result T HandedRefusal) → a.host ≡ host → IsWriterOf hosts by host → AreOwned hosts (deeds by bytes (record_steps host a result))
+  record_owned hosts by bytes host a (Ok t) same writes = (subst (IsWriterOf hosts by) (sym same) writes, tt)
+  record_owned hosts by bytes host a (Err Store) same writes = tt
+  record_owned hosts by bytes host a (Err Full) same writes = (writes, tt)
+  record_owned hosts by bytes host a (Err Memory) same writes = tt
 
-  pub record_few : (a : Jid) (result : Result T HandedRefusal) → length (record_steps a result) < 3
-  record_few a (Ok t) = omega arith
-  record_few a (Err e) = omega arith
+  -- none of it tells of a fault
+  pub record_quiet : (host : List ℕ) (a : Jid) (result : Result T HandedRefusal) → AreQuiet (record_steps host a result)
+  record_quiet host a (Ok t) = (tt, tt)
+  record_quiet host a (Err Store) = tt
+  record_quiet host a (Err Full) = (tt, tt)
+  record_quiet host a (Err Memory) = tt
+
+  pub gone_quiet : (host : List ℕ) (result : Result T HandedRefusal) → AreQuiet (gone_steps host result)
+  gone_quiet host (Ok t) = (tt, tt)
+  gone_quiet host (Err e) = (tt, tt)
+
+  pub record_few : (host : List ℕ) (a : Jid) (result : Result T HandedRefusal) → length (record_steps host a result) < 3
+  record_few host a (Ok t) = omega arith
+  record_few host a (Err Store) = omega arith
+  record_few host a (Err Full) = omega arith
+  record_few host a (Err Memory) = omega arith
 
   pub gone_owned : (hosts : List (List ℕ)) (by bytes : ℕ) (host : List ℕ) (result : Result T HandedRefusal) → IsReaderOf hosts by host → AreOwned hosts (deeds by bytes (gone_steps host result))
   gone_owned hosts by bytes host (Ok t) reads = (reads, tt)
-  gone_owned hosts by bytes host (Err e) reads = tt
+  gone_owned hosts by bytes host (Err e) reads = (reads, tt)
 
   pub gone_few : (host : List ℕ) (result : Result T HandedRefusal) → length (gone_steps host result) < 3
   gone_few host (Ok t) = omega arith

@@ -21,12 +21,13 @@ use Rattle.ps_state.specs.declared.answers.Next.{Next as Told}
 use Rattle.ps_state.specs.declared.answers.Next.TheVariants as told
 use Rattle.ps_state.specs.declared.state.State.{State}
 use Rattle.ps_shared.specs.Calls.{HasHand, NextDoes, Tells}
-use Rattle.ps_shared.specs.Homes.{HomeStands, world_at}
-use Rattle.ps_shared.specs.Origin.{Origin}
+use Rattle.ps_flush.specs.Homes.{HomeStands, world_at}
+use Rattle.ps_flush.specs.Origin.{Origin}
 use Rattle.ps_shared.specs.Steps.{next_steps}
 use Rattle.ps_shared.specs.Told.{IsToldAs}
 use Rattle.ps_shared.specs.declared.answers.Next.{Next}
-use Rattle.ps_shared.proofs.Homing.{Rooms}
+use Rattle.ps_flush.proofs.Homing.{Rooms}
+use Rattle.ps_flush.proofs.Quiet.{AreQuiet}
 
 -- where nothing is in flight, the first notice is said that is durable
 said_if : (b : Bool) (a : Jid) (n : Note) → b ≡ true → (if b then words.Note a n ∷ [] else []) ≡ words.Note a n ∷ []
@@ -92,6 +93,14 @@ module _ (o : Origin) (v now : State) (log : List Deed) (is : HomeStands o v log
   next_rooms by (Ok told.NotYet) = tt
   next_rooms by (Ok told.Over) = tt
   next_rooms by (Err e) = tt
+
+-- what a writer gets tells of no fault
+pub next_quiet : {E : Type 0} (host : List ℕ) (result : Result Told E) → AreQuiet (next_steps host result)
+next_quiet host (Ok (told.Reply text)) = (tt, tt)
+next_quiet host (Ok (told.Notice to text)) = (tt, tt)
+next_quiet host (Ok told.NotYet) = tt
+next_quiet host (Ok told.Over) = tt
+next_quiet host (Err e) = tt
 
 pub next_few : {E : Type 0} (host : List ℕ) (result : Result Told E) → length (next_steps host result) < 3
 next_few host (Ok (told.Reply text)) = omega arith

@@ -1,9 +1,10 @@
 -- What the calls of the hall say.
-use Rattle.std.specs.Prelude.{◌≡◌, ◌≢◌, ◌⊎◌, ℕ, ◌+◌, ◌<◌, ◌≤◌, Bool, true, false, List, [], ◌∷◌, length, Option, Some, None, Result, Ok, Err, slice_get}
+use Rattle.std.specs.Prelude.{◌≡◌, ◌≢◌, ◌⊎◌, ℕ, ◌+◌, ◌<◌, ◌≤◌, Bool, true, false, List, [], ◌∷◌, ◌++◌, length, Option, Some, None, Result, Ok, Err, slice_get}
 use Rattle.ps_types.specs.declared.entry.Arrival.{Arrival}
 use Rattle.ps_types.specs.declared.entry.Entry.{Entry}
 use Rattle.ps_types.specs.declared.entry.Entry.TheVariants.{Handed, Gone as GoneEntry}
 use Rattle.ps_types.specs.declared.jid.Jid.{Jid}
+use Rattle.ps_model.specs.Entries.{spelling}
 use Rattle.ps_model.specs.World.{World}
 use Rattle.ps_model.specs.declared.steps.Role.TheVariants.{Reader}
 use Rattle.ps_model.specs.declared.steps.Step.{Step}
@@ -23,12 +24,12 @@ use Rattle.ps_state.specs.declared.answers.HandedRefusal.{HandedRefusal}
 use Rattle.ps_state.specs.declared.answers.HandedRefusal.TheVariants.{Store, Full, Memory}
 use Rattle.ps_state.specs.declared.answers.Receipt.{Receipt}
 use Rattle.ps_state.specs.declared.state.State.{State}
-use Rattle.ps_shared.specs.Doing.{Adds, Does}
-use Rattle.ps_shared.specs.Flush.{Flushes, NotFlushed}
-use Rattle.ps_shared.specs.Homes.{world_at}
-use Rattle.ps_shared.specs.Origin.{Origin}
-use Rattle.ps_shared.specs.Seat.{MayCall}
-use Rattle.ps_shared.specs.Steps.{is_full}
+use Rattle.ps_flush.specs.Doing.{Adds, Does}
+use Rattle.ps_flush.specs.Flush.{Flushes, NotFlushed}
+use Rattle.ps_flush.specs.Homes.{world_at}
+use Rattle.ps_flush.specs.Origin.{Origin}
+use Rattle.ps_flush.specs.Seat.{MayCall}
+use Rattle.ps_shared.specs.Steps.{is_full, refused_steps}
 use Rattle.ps_shared.specs.declared.answers.Next.{Next}
 use Rattle.ps_shared.specs.declared.answers.Next.TheVariants.{Reply, Notice, NotYet, Over}
 
@@ -118,10 +119,18 @@ IsNoRecord o w e Store = w.broken ≡ true
 IsNoRecord o w e Full = (w.broken ≡ false) × IsTooLong o w e
 IsNoRecord o w e Memory = w.broken ≡ false
 
--- the notice in hand is recorded
+-- behind the bytes that some deed among these tells of, the entry passes the limit
+pub record FoundOver (o : Origin) (e : Entry) (seen : List Deed) : Type 0 where
+  pub front : List Deed
+  pub deed : Deed
+  pub rest : List Deed
+  pub is : seen ≡ front ++ deed ∷ rest
+  pub over : o.limits.whole < deed.bytes + length (spelling e)
+
+-- the notice in hand is recorded, or the writer ends where there is no room
 abbrev pub RecordDoes : {T : Type 0} → Origin → List ℕ → Jid → Result T HandedRefusal → World → List Step → Type 0
 RecordDoes o host a (Ok t) w steps = HasInHand host a w × (w.broken ≡ false) × (steps ≡ Record a ∷ [])
-RecordDoes o host a (Err e) w steps = IsNoRecord o w (Handed a) e × (steps ≡ [])
+RecordDoes o host a (Err e) w steps = IsNoRecord o w (Handed a) e × (steps ≡ refused_steps host e)
 
 pub record RecordedThen (o : Origin) (k : ℕ) (host : List ℕ) (a : Jid) (old new : List Deed) (Then : List Deed → List Deed → Type 0) : Type 0 where
   pub mid : List Deed
@@ -142,7 +151,7 @@ pub record GoneThen (o : Origin) (k : ℕ) (host : List ℕ) (old new : List Dee
   pub gone : Does o k old mid (GoneDoes o host (Ok (tt {0})))
   pub after : Then mid new
 
--- up to the holding in which the reader ends
+-- up to what ends the reader
 abbrev pub IsGone : {T : Type 0} → Origin → ℕ → List ℕ → List Deed → List Deed → Result T HandedRefusal → Type 0
 IsGone o k host old new (Ok t) = GoneThen o k host old new (Flushes o k)
 IsGone o k host old new (Err e) = Does o k old new (GoneDoes {T = Unit {0}} o host (Err e)) ⊎ ((e ≡ Store) × GoneThen o k host old new (NotFlushed o k))
@@ -151,6 +160,17 @@ IsGone o k host old new (Err e) = Does o k old new (GoneDoes {T = Unit {0}} o ho
 pub record HasGone {T : Type 0} (o : Origin) (k : ℕ) (host : List ℕ) (old new : List Deed) (result : Result T HandedRefusal) : Type 0 where
   pub before : List Deed
   pub gone : IsGone o k host old before result
+  pub ended : Adds o k before new (Ended host Reader)
+
+-- in one holding the Gone is laid, or the reader ends
+abbrev pub LayGoneDoes : {T : Type 0} → Origin → List ℕ → Result T HandedRefusal → World → List Step → Type 0
+LayGoneDoes o host (Ok t) w steps = GoneDoes o host (Ok (tt {0})) w steps
+LayGoneDoes o host (Err e) w steps = IsNoRecord o w (GoneEntry host) e × (steps ≡ Ended host Reader ∷ [])
+
+-- what came of the flush, and then the reader has ended
+pub record EndsThen (o : Origin) (k : ℕ) (host : List ℕ) (old new : List Deed) (Then : List Deed → List Deed → Type 0) : Type 0 where
+  pub before : List Deed
+  pub after : Then old before
   pub ended : Adds o k before new (Ended host Reader)
 
 -- ---- by the pass of a seat
@@ -169,8 +189,11 @@ module _ {V J : Type 0} where
   abbrev pub SeatHanded : {T : Type 0} → Origin → List ℕ → Jid → TwinSeat V J Deed → TwinSeat V J Deed → Result T HandedRefusal → Type 0
   SeatHanded o host a old new result = HasHanded o (number_of old) host a (seen_of old) (seen_of new) result
 
-  abbrev pub SeatRecorded : {T : Type 0} → Origin → List ℕ → TwinSeat V J Deed → TwinSeat V J Deed → Result T HandedRefusal → Type 0
-  SeatRecorded o host old new result = IsGone o (number_of old) host (seen_of old) (seen_of new) result
+  abbrev pub SeatFlushesAndEnds : Origin → List ℕ → TwinSeat V J Deed → TwinSeat V J Deed → Type 0
+  SeatFlushesAndEnds o host old new = EndsThen o (number_of old) host (seen_of old) (seen_of new) (Flushes o (number_of old))
+
+  abbrev pub SeatFailsAndEnds : Origin → List ℕ → TwinSeat V J Deed → TwinSeat V J Deed → Type 0
+  SeatFailsAndEnds o host old new = EndsThen o (number_of old) host (seen_of old) (seen_of new) (NotFlushed o (number_of old))
 
   abbrev pub SeatGone : {T : Type 0} → Origin → List ℕ → TwinSeat V J Deed → TwinSeat V J Deed → Result T HandedRefusal → Type 0
   SeatGone o host old new result = HasGone o (number_of old) host (seen_of old) (seen_of new) result

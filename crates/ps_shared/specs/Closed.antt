@@ -1,5 +1,5 @@
 -- What the hall gives back at its end.
-use Rattle.std.specs.Prelude.{◌≡◌, ◌≤◌, ℕ, false, List, ◌++◌, Some, slice_get}
+use Rattle.std.specs.Prelude.{◌≡◌, ◌≤◌, ℕ, false, List, ◌++◌, Some, is_some, slice_get}
 use Rattle.ps_disk.specs.declared.device.Disk.{Ghosts}
 use Rattle.ps_twin.specs.declared.twin.TwinSeat.{TwinSeat}
 use Rattle.ps_twin.specs.Seats.{seen_of, number_of}
@@ -8,10 +8,10 @@ use Rattle.ps_turn.specs.History.{Later}
 use Rattle.ps_deeds.specs.declared.deed.Deed.{Deed}
 use Rattle.ps_state.specs.Stand.{entries_of}
 use Rattle.ps_state.specs.declared.state.State.{State}
-use Rattle.ps_store.specs.Stand.{IsKept, disk_in, firm_of, mark_of}
+use Rattle.ps_store.specs.Stand.{IsKept, broken_in, disk_in, firm_of, mark_of}
 use Rattle.ps_store.specs.declared.store.Store.{Store}
-use Rattle.ps_shared.specs.Homes.{ArchiveStands, HomeStands, maker_of, state_mark, world_at}
-use Rattle.ps_shared.specs.Origin.{Origin}
+use Rattle.ps_flush.specs.Homes.{ArchiveStands, HomeStands, maker_of, numbers_of, world_at}
+use Rattle.ps_flush.specs.Origin.{Origin}
 
 -- The state stands for the deeds of all passes, and the store for a beginning of them. What each pass has seen is a beginning too, behind which nothing is
 -- of its own making.
@@ -28,6 +28,7 @@ pub record HasClosed {V J D : Type 0} {g : Ghosts D} (o : Origin) (v : State) (y
   pub whole : (world_at o log).broken ≡ false → (world_at o log).entries ≡ (world_at o list).entries ++ entries_of v.batch
   -- what the state counts as flushed the store has made durable
   pub firm : v.flushed ≤ firm_of y
-  -- both have begun the same frames
-  pub mark : state_mark v ≡ mark_of y
+  -- both tell of a fault, or neither; and then both have begun the same frames
+  pub broken : v.broken ≡ is_some (broken_in y)
+  pub mark : v.broken ≡ false → numbers_of v ≡ mark_of y
   pub later : (k : ℕ) (s : TwinSeat V J Deed) → slice_get seats k ≡ Some s → Later maker_of (number_of s) (seen_of s) log

@@ -1,12 +1,7 @@
-pub mod Origin
-pub mod Homes
-pub mod Seat
-pub mod Doing
-pub mod Flush
 pub mod Steps
+pub mod Ending
 pub mod Told
 pub mod Calls
 pub mod Start
 pub mod Passes
 pub mod Closed
-pub mod History

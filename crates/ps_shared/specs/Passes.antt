@@ -6,10 +6,10 @@ use Rattle.ps_twin.specs.declared.twin.Twin.{Twin}
 use Rattle.ps_twin.specs.Seats.{seen_of}
 use Rattle.ps_deeds.specs.declared.deed.Deed.{Deed}
 use Rattle.ps_shared.specs.Calls.{HasHand, IsReader, IsWriter}
-use Rattle.ps_shared.specs.Homes.{world_at}
-use Rattle.ps_shared.specs.Origin.{Origin}
-use Rattle.ps_shared.specs.declared.home.Archive.{Archive}
-use Rattle.ps_shared.specs.declared.home.Home.{Home}
+use Rattle.ps_flush.specs.Homes.{world_at}
+use Rattle.ps_flush.specs.Origin.{Origin}
+use Rattle.ps_flush.specs.declared.home.Archive.{Archive}
+use Rattle.ps_flush.specs.declared.home.Home.{Home}
 use Rattle.ps_shared.specs.declared.hall.HostPasses.{HostPasses}
 use Rattle.ps_shared.specs.declared.hall.Pass.{Pass}
 use Rattle.ps_shared.specs.declared.opening.Names.{Names}

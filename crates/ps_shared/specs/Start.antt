@@ -9,8 +9,8 @@ use Rattle.ps_state.specs.Stand.{Stands}
 use Rattle.ps_state.specs.declared.state.State.{State}
 use Rattle.ps_store.specs.Stand.{StoreStands, mark_of}
 use Rattle.ps_store.specs.declared.store.Store.{Store}
-use Rattle.ps_shared.specs.Homes.{state_mark}
-use Rattle.ps_shared.specs.Origin.{Origin}
+use Rattle.ps_flush.specs.Homes.{numbers_of}
+use Rattle.ps_flush.specs.Origin.{Origin}
 
 -- The two values stand for the world that begins with the list and a Boot, and no step, and the state counts on nothing as flushed. It has these hosts, at
 -- least one and not too many.
@@ -25,4 +25,4 @@ pub record MayStart {D : Type 0} {g : Ghosts D} (o : Origin) (v : State) (y : St
   pub state : Stands v (start the_core o.boot o.list)
   pub archive : StoreStands o.at y (start the_core o.boot o.list)
   pub flushed : v.flushed ≡ 0
-  pub mark : state_mark v ≡ mark_of y
+  pub mark : numbers_of v ≡ mark_of y

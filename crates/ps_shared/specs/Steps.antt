@@ -2,13 +2,15 @@
 use Rattle.std.specs.Prelude.{ℕ, Bool, true, false, List, [], ◌∷◌, Result, Ok, Err}
 use Rattle.ps_types.specs.declared.entry.Arrival.{Arrival}
 use Rattle.ps_types.specs.declared.jid.Jid.{Jid}
+use Rattle.ps_model.specs.declared.steps.Role.TheVariants.{Reader, Writer}
 use Rattle.ps_model.specs.declared.steps.Step.{Step}
-use Rattle.ps_model.specs.declared.steps.Step.TheVariants.{Arrive, Take, Emit, Record, Gone}
+use Rattle.ps_model.specs.declared.steps.Step.TheVariants.{Arrive, Take, Emit, Record, Gone, Ended}
 use Rattle.ps_state.specs.declared.answers.Outcome.{Outcome}
 use Rattle.ps_state.specs.declared.answers.Outcome.TheVariants.{Committed, Answered, Silent, Full}
 use Rattle.ps_state.specs.declared.answers.Receipt.{Receipt}
 use Rattle.ps_state.specs.declared.answers.ArriveRefusal.{ArriveRefusal}
 use Rattle.ps_state.specs.declared.answers.HandedRefusal.{HandedRefusal}
+use Rattle.ps_state.specs.declared.answers.HandedRefusal.TheVariants as refusal
 use Rattle.ps_state.specs.declared.answers.Next.{Next}
 use Rattle.ps_state.specs.declared.answers.Next.TheVariants.{Reply, Notice, NotYet, Over}
 
@@ -32,10 +34,17 @@ abbrev pub next_steps : {E : Type 0} → List ℕ → Result Next E → List Ste
 next_steps host (Ok n) = step_of host n
 next_steps host (Err e) = []
 
-abbrev pub record_steps : {T : Type 0} → Jid → Result T HandedRefusal → List Step
-record_steps to (Ok t) = Record to ∷ []
-record_steps to (Err e) = []
+-- the writer has ended for want of room, and not for another refusal
+abbrev pub refused_steps : List ℕ → HandedRefusal → List Step
+refused_steps host refusal.Full = Ended host Writer ∷ []
+refused_steps host refusal.Store = []
+refused_steps host refusal.Memory = []
 
+abbrev pub record_steps : {T : Type 0} → List ℕ → Jid → Result T HandedRefusal → List Step
+record_steps host to (Ok t) = Record to ∷ []
+record_steps host to (Err e) = refused_steps host e
+
+-- the reader has ended for any refusal
 abbrev pub gone_steps : {T : Type 0} → List ℕ → Result T HandedRefusal → List Step
 gone_steps host (Ok t) = Gone host ∷ []
-gone_steps host (Err e) = []
+gone_steps host (Err e) = Ended host Reader ∷ []

@@ -3,15 +3,14 @@ ghost use Rattle.std.specs.Prelude.{◌≡◌, OnErr, OnOk};
 ghost use Rattle.ps_state.specs.Shape.{IsArrival};
 ghost use Rattle.ps_twin.specs.Seats.{number_of};
 ghost use Rattle.ps_shared.specs.Calls.{IsPass, IsReader, LayDoes, SeatArrived};
-ghost use Rattle.ps_shared.specs.Doing.{Makes};
-ghost use Rattle.ps_shared.specs.Flush.{SeatFlushes, SeatNotFlushed};
+ghost use Rattle.ps_flush.specs.Doing.{Makes};
+ghost use Rattle.ps_flush.specs.Flush.{SeatFlushes, SeatNotFlushed};
 
 use crate::bell::concerns_others;
-use crate::flush::{FlushRefusal, flush_seat};
 use crate::hall::{Hall, Pass};
-use crate::home::Opening;
 use crate::leaving::leave_laid;
 use ps_disk::Disk;
+use ps_flush::{FlushRefusal, Opening, flush_seat};
 use ps_state::{ArriveRefusal, Receipt};
 use ps_types::Arrival;
 use std::sync::Wait;

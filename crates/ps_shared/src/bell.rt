@@ -1,8 +1,8 @@
 // The bells, which wake who rests.
 use crate::hall::{Hall, Pass};
-use crate::home::Opening;
 use ps_base::Memory;
 use ps_disk::Disk;
+use ps_flush::Opening;
 use ps_state::{ArriveRefusal, Outcome, Receipt, State};
 use std::alloc::Global;
 use std::sync::{Condvar, Wait};
@@ -76,8 +76,8 @@ impl<B: Opening, D: Disk> Hall<B, D> {
 
     /// Rests until the bell of the pass's host has rung since it was heard, or so long has gone by; perhaps for less. It rings at the end of each call after
     /// which its writer may find something, also where that is refused: [`Hall::flush`] or [`Hall::history`] of its reader, or of another's that laid an entry
-    /// while a notice waited for one of its addresses, [`Hall::gone`] and [`Hall::writer_ended`] of any. That who rests is woken is all that it does: no clause
-    /// speaks of it.
+    /// while a notice waited for one of its addresses, [`Hall::gone`] and [`Hall::writer_ended`] of any, and [`Hall::handed`] of any whose writer ended or whose
+    /// frame failed. That who rests is woken is all that it does: no clause speaks of it.
     pub fn rest<R: Wait>(&self, rt: &R, pass: &Pass<B, D>, heard: u64, longest: Duration) {
         if let Some(bell) = self.bells.bells.get(pass.at) {
             bell.sleep(rt, heard, longest);

@@ -5,8 +5,8 @@ ghost use Rattle.ps_shared.specs.Closed.{HasClosed};
 ghost use Rattle.ps_shared.specs.Passes.{ArePasses, seats_in};
 
 use crate::hall::{Hall, HostPasses, Room};
-use crate::home::{Archive, Home, Opening};
 use ps_disk::Disk;
+use ps_flush::{Archive, Home, Opening};
 use ps_state::State;
 use ps_store::Store;
 use ps_twin::{Twin, TwinSeat};

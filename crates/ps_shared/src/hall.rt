@@ -3,8 +3,8 @@ ghost use Rattle.std.specs.Prelude.{◌≡◌, ◌≤◌, ◌+◌, [], length, v
 ghost use Rattle.ps_twin.specs.Seats.{seats_of};
 
 use crate::bell::Bells;
-use crate::home::{Archive, Home, Opening};
 use ps_disk::Disk;
+use ps_flush::{Archive, Home, Opening};
 use ps_twin::{Twin, TwinSeat};
 use ps_types::{Jid, Text};
 use std::sync::Mutex;

@@ -1,6 +1,6 @@
 //! The hall: the service over its store, shared by the readers and the writers of all hosts, each in a thread of its own.
 //!
-//! A [`Hall`] has a `Twin` (`ps_twin`) of two values: the state (`ps_state`) in a [`Home`], and the store (`ps_store`) in an [`Archive`]. Each caller has a
+//! A [`Hall`] has a `Twin` (`ps_twin`) of two values (`ps_flush`): the state in a [`Home`], and the store in an [`Archive`]. Each caller has a
 //! [`Pass`], which names its host, and whose seat knows what the caller has seen. A reader's calls are [`Hall::arrive`], which is [`Hall::lay`] and then
 //! [`Hall::flush`], and [`Hall::gone`]; a writer's are [`Hall::next`], [`Hall::handed`] and [`Hall::writer_ended`], and between them
 //! [`Hall::rest`], which the other calls end by a bell. While one caller writes a frame, which
@@ -10,13 +10,12 @@
 //! pass had seen before and has seen since (`specs/Calls.antt`): what others had added, and then the steps that the call made, of which the answer tells at
 //! the world that the call found. So no clause speaks of the state before and after, which other callers change.
 //!
-//! - `specs/Origin.antt`: what stood when the hall was opened, which [`Opening`] names. `specs/Homes.antt`: when the two values stand for a list of deeds.
-//! - `specs/Doing.antt`: `Passes`, others added deeds; `Does` and `Adds`, and then the pass its own. `specs/Flush.antt`: `Flushes`, all that the pass
-//!   had seen is durable; `NotFlushed`, the disk failed.
+//! - Of `ps_flush`: `Origin`, what stood when the hall was opened, which [`Opening`] names; `Passes`, others added deeds; `Does` and `Adds`, and then the pass
+//!   its own; `Flushes`, all that the pass had seen is durable; `NotFlushed`, the disk failed; `HasHistory`, the list of entries as it is read again.
 //! - `specs/Calls.antt`: `IsReader` and `IsWriter`, whose pass it is; `HasHand`, what a writer has in hand; `LayDoes`, `NextDoes`, `RecordDoes` and `GoneDoes`,
-//!   the steps of one holding by its answer, with the cause of each refusal; `Arrived`, `HasHanded` and `HasGone`, whole calls.
+//!   the steps of one holding by its answer, with the cause of each refusal; `Arrived`, `HasHanded` and `HasGone`, whole calls; `FoundOver`, that a deed tells
+//!   how long the store was where an entry found no room.
 //! - `specs/Start.antt`: what a hall is opened over. `specs/Passes.antt`: the passes of all hosts, from [`Hall::new`] to [`Hall::close`].
-//! - `specs/History.antt`: the list of entries, read again by [`Hall::history`].
 //! - `specs/Closed.antt`: what the two values say together once all passes are back.
 //!
 //! Nothing is promised of waiting: not that a caller's turn comes, nor when.
@@ -26,20 +25,18 @@ mod answers;
 mod arrive;
 mod bell;
 mod closing;
-mod flush;
+mod ending;
 mod gone;
 mod hall;
 mod handed;
 mod history;
-mod home;
 mod leaving;
 mod next;
 mod opening;
 
 pub use answers::{EndCause, Next};
-pub use flush::FlushRefusal;
 pub use hall::{Hall, HostPasses, Pass};
-pub use home::{Archive, Home, Opening};
 pub use opening::NoHall;
+pub use ps_flush::{Archive, FlushRefusal, Home, Opening};
 pub use ps_journal::EntriesRefusal;
 pub use ps_state::{ArriveRefusal, HandedRefusal, Limits, Outcome, Receipt};

@@ -1,15 +1,15 @@
 // What a writer is to do next.
 ghost use Rattle.std.specs.Prelude.{◌≡◌, None};
 ghost use Rattle.ps_shared.specs.Calls.{HandAt, IsWriter, NextDoes};
-ghost use Rattle.ps_shared.specs.Doing.{Makes};
+ghost use Rattle.ps_flush.specs.Doing.{Makes};
 ghost use Rattle.ps_shared.specs.Told.{IsToldAs};
 
 use crate::answers::Next;
 use crate::hall::{Hall, Pass};
-use crate::home::Opening;
 use crate::leaving::leave_told;
 use ps_base::Memory;
 use ps_disk::Disk;
+use ps_flush::Opening;
 use ps_types::Jid;
 use std::sync::Wait;
 

@@ -6,9 +6,9 @@ ghost use Rattle.ps_shared.specs.Start.{MayStart};
 
 use crate::bell::Bells;
 use crate::hall::{Hall, HostPasses, Pass, Room};
-use crate::home::{Archive, Home, Opening};
 use ps_base::Memory;
 use ps_disk::Disk;
+use ps_flush::{Archive, Home, Opening};
 use ps_state::State;
 use ps_store::Store;
 use ps_twin::{Twin, TwinRefusal, TwinSeat};

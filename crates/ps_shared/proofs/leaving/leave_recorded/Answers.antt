@@ -1,5 +1,5 @@
 use contract.BorrowLft.{⊑_static}
-use Rattle.ps_shared.proofs.Lives.{archive_lasts, home_lasts}
+use Rattle.ps_flush.proofs.Lives.{archive_lasts, home_lasts}
 use Rattle.ps_shared.proofs.leaving.leave_recorded.Goals as goal
 
 pub leave-requires : goal.leave-requires

@@ -4,8 +4,8 @@ use Rattle.ps_model.specs.declared.steps.Step.TheVariants.{Ended}
 use Rattle.ps_deeds.specs.Own.{deeds}
 use Rattle.ps_twin.specs.Seats.{seen_of, number_of}
 use Rattle.ps_state.specs.Steps.{Goes}
-use Rattle.ps_shared.specs.Homes.{bytes_in, world_at}
-use Rattle.ps_shared.proofs.Homing.{did_by, home_few, home_here, home_row, notes}
+use Rattle.ps_flush.specs.Homes.{bytes_in, world_at}
+use Rattle.ps_flush.proofs.Homing.{did_by, home_few, home_here, home_row, notes}
 use Rattle.ps_shared.proofs.Passing.{reader_on, reads_at}
 use Rattle.ps_shared.proofs.hall.Hall.end_reader.Goals as goal
 
@@ -31,7 +31,7 @@ leave_ended-requires g c κs within =
         within.1,
         (
           e.twin,
-          notes o c.args.self.now.twin s v now (Ended host Reader ∷ []) e.twin e.held e.value e.firm e.mark x.kept
+          notes o c.args.self.now.twin s v now (Ended host Reader ∷ []) e.twin e.held e.value e.firm e.mark x.kept (tt, tt)
               (reads_at o c.args.self.now.twin c.args.pass.now.at host c.args.pass.now.seat (number_of s) e.number c.requires.reader, tt)
               (λ le. ((omega arith, tt), tt)) (omega arith) (goes o.boot e.value.named (world_at o (seen_of s)) e.value.stands),
         ),

@@ -1,4 +1,4 @@
-use Rattle.ps_shared.proofs.Flushing.{flushed_owned}
+use Rattle.ps_flush.proofs.Flushing.{flushed_owned}
 use Rattle.ps_shared.proofs.Passing.{pass_after}
 use Rattle.ps_twin.specs.Seats.{seen_of, number_of}
 use Rattle.ps_shared.proofs.hall.Hall.flush.Goals as goal

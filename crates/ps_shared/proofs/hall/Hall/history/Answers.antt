@@ -1,7 +1,7 @@
 use Rattle.std.proofs.Common.{inl, refl}
 use Rattle.ps_twin.specs.Seats.{number_of, seen_of}
-use Rattle.ps_shared.proofs.Flushing.{flushed_owned}
-use Rattle.ps_shared.proofs.Histories.{history_err, history_ok, read_owned}
+use Rattle.ps_flush.proofs.Flushing.{flushed_owned}
+use Rattle.ps_flush.proofs.Histories.{history_err, history_ok, read_owned}
 use Rattle.ps_shared.proofs.Passing.{pass_after}
 use Rattle.ps_shared.proofs.hall.Hall.history.Goals as goal
 

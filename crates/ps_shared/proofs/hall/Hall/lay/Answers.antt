@@ -4,10 +4,10 @@ use Rattle.ps_deeds.specs.Own.{deeds}
 use Rattle.ps_twin.specs.Seats.{seen_of, number_of}
 use Rattle.ps_state.specs.Arrive.{Laid, NotLaid}
 use Rattle.ps_shared.specs.Calls.{LayDoes}
-use Rattle.ps_shared.specs.Homes.{bytes_in}
+use Rattle.ps_flush.specs.Homes.{bytes_in}
 use Rattle.ps_shared.specs.Steps.{lay_steps}
-use Rattle.ps_shared.proofs.Homing.{did_by, home_few, home_here, home_row, home_standing, notes}
-use Rattle.ps_shared.proofs.Laying.{lay_does, lay_few, lay_owned, lay_rooms, lay_stands}
+use Rattle.ps_flush.proofs.Homing.{did_by, home_few, home_here, home_row, home_standing, notes}
+use Rattle.ps_shared.proofs.Laying.{lay_does, lay_few, lay_owned, lay_quiet, lay_rooms, lay_stands}
 use Rattle.ps_shared.proofs.Passing.{reader_on, reads_at}
 use Rattle.ps_shared.proofs.hall.Hall.lay.Goals as goal
 
@@ -39,7 +39,7 @@ leave_laid-requires g c κs within =
         within.1,
         (
           e.twin,
-          notes o c.args.self.now.twin s v now (lay_steps host arrival result) e.twin e.held e.value e.firm e.mark x.kept
+          notes o c.args.self.now.twin s v now (lay_steps host arrival result) e.twin e.held e.value e.firm e.mark x.kept (lay_quiet host arrival result)
               (lay_owned o.hosts (number_of s) (bytes_in now) host arrival result (reads_at o c.args.self.now.twin c.args.pass.now.at host c.args.pass.now.seat (number_of s) e.number c.requires.reader))
               (lay_rooms o v now (seen_of s) e.value host arrival (number_of s) result ok) (lay_few host arrival result)
               (lay_stands o v now (seen_of s) e.value host arrival result ok err),

@@ -1,6 +1,6 @@
 use Rattle.ps_deeds.specs.Own.{deeds}
 use Rattle.ps_twin.specs.Seats.{number_of}
-use Rattle.ps_shared.specs.Homes.{bytes_in}
+use Rattle.ps_flush.specs.Homes.{bytes_in}
 use Rattle.ps_shared.specs.Steps.{lay_steps}
 use Rattle.ps_shared.proofs.hall.Hall.lay.Given as goal
 

@@ -1,9 +1,8 @@
 use Rattle.std.proofs.Common.{◌≡◌, ◌+◌, [], length, ap, sym, ◌∙◌, subst, arith}
 use Rattle.ps_twin.specs.Seats.{seats_of}
 use Rattle.ps_state.specs.declared.state.State.{State}
-use Rattle.ps_store.specs.Stand.{mark_of}
-use Rattle.ps_shared.specs.Homes.{ArchiveStands, HomeStands, state_mark}
-use Rattle.ps_shared.proofs.Starting.{no_deeds}
+use Rattle.ps_flush.specs.Homes.{ArchiveStands, HomeStands, state_mark, store_mark}
+use Rattle.ps_shared.proofs.Starting.{no_deeds, one_mark}
 use Rattle.ps_shared.proofs.hall.Hall.new.Goals as goal
 
 pub new-requires-3-clause-both : goal.new-requires-3-clause-both
@@ -14,7 +13,7 @@ new-requires-3-clause-both g c =
       empty = subst (λ (v : State). HomeStands o v []) (sym c.new.ensures) home;
       journal_empty = subst (λ y. ArchiveStands o y []) (sym c.new-2.ensures) c.requires.archive;
       firm = ap (λ (v : State). v.flushed) c.new.ensures ∙ c.requires.flushed;
-      mark = ap (λ (v : State). state_mark v) c.new.ensures ∙ (c.requires.mark ∙ sym (ap (λ y. mark_of y) c.new-2.ensures));
+      mark = ap (λ (v : State). state_mark v) c.new.ensures ∙ (one_mark o c.args.state c.args.store c.args.hosts.now c.requires ∙ sym (ap (λ y. store_mark y) c.new-2.ensures));
     }
 
 pub invariant_of-hall : goal.invariant_of-hall

@@ -5,13 +5,13 @@ use Rattle.ps_deeds.specs.Own.{deeds}
 use Rattle.ps_twin.specs.Seats.{seen_of, number_of}
 use Rattle.ps_state.specs.Next.{IsNext}
 use Rattle.ps_shared.specs.Calls.{HasHand, NextDoes}
-use Rattle.ps_shared.specs.Homes.{bytes_in, world_at}
+use Rattle.ps_flush.specs.Homes.{bytes_in, world_at}
 use Rattle.ps_shared.specs.Steps.{next_steps}
 use Rattle.ps_shared.proofs.Flying.{free_found}
-use Rattle.ps_shared.proofs.Homing.{did_by, home_few, home_here, home_row, notes}
-use Rattle.ps_shared.proofs.Logs.{world_more}
+use Rattle.ps_flush.proofs.Homing.{did_by, home_few, home_here, home_row, notes}
+use Rattle.ps_flush.proofs.Logs.{world_more}
 use Rattle.ps_shared.proofs.Passing.{writer_on, writes_at}
-use Rattle.ps_shared.proofs.Telling.{next_does, next_few, next_hand, next_owned, next_rooms, next_stands}
+use Rattle.ps_shared.proofs.Telling.{next_does, next_few, next_hand, next_owned, next_quiet, next_rooms, next_stands}
 use Rattle.ps_shared.proofs.hall.Hall.next.Goals as goal
 
 pub next-next-requires-clause-here : goal.next-next-requires-clause-here
@@ -38,7 +38,7 @@ leave_told-requires g c κs within =
         within.1,
         (
           e.twin,
-          notes o c.args.self.now.twin s v now (next_steps host result) e.twin e.held e.value e.firm e.mark x.kept (next_owned o v now (seen_of s) e.value host (number_of s) (bytes_in now) result ok writes)
+          notes o c.args.self.now.twin s v now (next_steps host result) e.twin e.held e.value e.firm e.mark x.kept (next_quiet host result) (next_owned o v now (seen_of s) e.value host (number_of s) (bytes_in now) result ok writes)
               (λ le. next_rooms o v now (seen_of s) e.value host (number_of s) result) (next_few host result) (next_stands o v now (seen_of s) e.value host result ok x.err),
         ),
       ),

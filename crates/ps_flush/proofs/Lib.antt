@@ -1,0 +1,10 @@
+pub mod Lives
+pub mod Logs
+pub mod Quiet
+pub mod Marking
+pub mod Homing
+pub mod Seating
+pub mod Framing
+pub mod Flushing
+pub mod Histories
+pub mod Closing
