@@ -19,9 +19,9 @@ use Rattle.ps_state.specs.declared.answers.HandedRefusal.{HandedRefusal}
 use Rattle.ps_state.specs.declared.answers.HandedRefusal.TheVariants.{Store as NotStored}
 use Rattle.ps_state.specs.declared.answers.Receipt.{Receipt}
 use Rattle.ps_shared.specs.Calls.{Arrived, GoneThen, HasGone, IsGone, LaidThen}
-use Rattle.ps_shared.specs.Doing.{Does, Passes}
-use Rattle.ps_shared.specs.Flush.{Flushes, FlushesAll, NotFlushed, TellsFault}
-use Rattle.ps_shared.specs.Origin.{Origin}
+use Rattle.ps_flush.specs.Doing.{Does, Passes}
+use Rattle.ps_flush.specs.Flush.{Flushes, FlushesAll, NotFlushed, TellsFault}
+use Rattle.ps_flush.specs.Origin.{Origin}
 use Rattle.ps_streams.specs.declared.read.ReadEnd.{ReadEnd}
 use Rattle.ps_streams.specs.declared.read.ReadEnd.TheVariants.{Store}
 use Rattle.ps_streams.specs.Reading.{Brought, Keeps}

@@ -1,7 +1,6 @@
 -- Why a writer ended.
 use Rattle.std.proofs.Common.{◌≡◌, ℕ, ◌⊎◌, ⊎_elim, inl, inr, Bool, true, false, List, [], ◌++◌, Option, Some, None, Result, Ok, Err, refl, ap, sym, ◌∙◌, subst}
 use Rattle.ps_types.specs.declared.entry.Arrival.{Arrival}
-use Rattle.ps_types.specs.declared.entry.Entry.TheVariants.{Handed}
 use Rattle.ps_types.specs.declared.jid.Jid.{Jid}
 use Rattle.ps_types.specs.Same.{same_jid}
 use Rattle.ps_types.proofs.Same.{same_jid-Decides}
@@ -13,22 +12,21 @@ use Rattle.ps_model.specs.declared.steps.Role.TheVariants.{Writer}
 use Rattle.ps_model.specs.declared.steps.Step.{Step}
 use Rattle.ps_model.specs.declared.steps.Step.TheVariants.{Ended}
 use Rattle.ps_model.proofs.TheLaws.{the-laws}
-use Rattle.ps_world.proofs.Lists.{assoc, nil-right}
 use Rattle.ps_deeds.specs.declared.deed.Deed.{Deed}
-use Rattle.ps_deeds.specs.Own.{AllDiffer, IsWriterOf, deeds}
+use Rattle.ps_deeds.specs.Own.{AllDiffer, IsWriterOf}
 use Rattle.ps_deeds.proofs.Doing.{did-between, did-world, world-append}
 use Rattle.ps_deeds.proofs.Flying.{still-run}
 use Rattle.ps_deeds.proofs.Passing.{did-follows, passed-follows}
 use Rattle.ps_state.specs.declared.answers.ArriveRefusal.{ArriveRefusal}
 use Rattle.ps_state.specs.declared.answers.ArriveRefusal.TheVariants.{Store as NoStore}
 use Rattle.ps_state.specs.declared.answers.HandedRefusal.{HandedRefusal}
-use Rattle.ps_state.specs.declared.answers.HandedRefusal.TheVariants.{Full, Store}
-use Rattle.ps_shared.specs.Calls.{Arrived, HasGone, HasHand, HasHanded, IsGone, IsTooLong}
-use Rattle.ps_shared.specs.Doing.{Adds, Does, Passes}
-use Rattle.ps_shared.specs.Flush.{Flushes, TellsFault}
-use Rattle.ps_shared.specs.Homes.{world_at}
-use Rattle.ps_shared.specs.Origin.{Origin}
-use Rattle.ps_streams.specs.Speaking.{HadNoRoom, HasLanded}
+use Rattle.ps_state.specs.declared.answers.HandedRefusal.TheVariants.{Store}
+use Rattle.ps_shared.specs.Calls.{Arrived, HasGone, HasHand, HasHanded, IsGone}
+use Rattle.ps_flush.specs.Doing.{Adds, Does, Passes}
+use Rattle.ps_flush.specs.Flush.{Flushes, TellsFault}
+use Rattle.ps_flush.specs.Homes.{world_at}
+use Rattle.ps_flush.specs.Origin.{Origin}
+use Rattle.ps_streams.specs.Speaking.{HasLanded}
 use Rattle.ps_streams.proofs.Looping.{the_err}
 
 -- what is in hand was not recorded, and nothing else of the host is in flight
@@ -60,21 +58,6 @@ module _ (o : Origin) (k : ℕ) where
     pub handed-store : (e : HandedRefusal) → e ≡ Store → HasHanded {T = T} o k h to old new (Err e) → (at new).broken ≡ true
     handed-store e same is = store-is (subst (λ (x : HandedRefusal). HasHanded {T = T} o k h to old new (Err x)) same is)
 
-    -- there was no room
-    full-is : to.host ≡ h → HasHanded {T = T} o k h to old new (Err Full) → HadNoRoom o h new
-    full-is here (inl did) = record {
-      front = new;
-      rest = [];
-      is = sym (nil-right new);
-      to = to;
-      here = here;
-      long = subst (λ (w : World). IsTooLong o w (Handed to)) (sym (quiet-world old new did did.does.1)) did.does.0.1;
-    }
-    full-is here (inr h) = absurd (cc h.0)
-
-    pub handed-full : (e : HandedRefusal) → e ≡ Full → to.host ≡ h → HasHanded {T = T} o k h to old new (Err e) → HadNoRoom o h new
-    handed-full e same here is = full-is here (subst (λ (x : HandedRefusal). HasHanded {T = T} o k h to old new (Err x)) same is)
-
   -- ---- after the last step
 
   pub landed-on : AllDiffer o.hosts → (h : List ℕ) → IsWriterOf o.hosts k h → (g : List ℕ) (old new : List Deed) → Adds o k old new (Ended g Writer) → HasLanded h (at old) → HasLanded h (at new)
@@ -87,16 +70,6 @@ module _ (o : Origin) (k : ℕ) where
 
   pub broken-on : {Did : World → List Step → Type 0} (old new : List Deed) → Does o k old new Did → (at old).broken ≡ true → (at new).broken ≡ true
   broken-on old new did e = (did-follows the_core the-laws o.boot o.list o.hosts k old new did).broken e
-
-  pub room-on : {Did : World → List Step → Type 0} (h : List ℕ) (old new : List Deed) → Does o k old new Did → HadNoRoom o h old → HadNoRoom o h new
-  room-on h old new did had = record {
-    front = had.front;
-    rest = had.rest ++ (did.between ++ deeds k did.bytes did.steps);
-    is = did.seen ∙ (assoc old did.between (deeds k did.bytes did.steps) ∙ (ap (λ l. l ++ (did.between ++ deeds k did.bytes did.steps)) had.is ∙ assoc had.front had.rest (did.between ++ deeds k did.bytes did.steps)));
-    to = had.to;
-    here = had.here;
-    long = had.long;
-  }
 
 -- ---- a reader
 

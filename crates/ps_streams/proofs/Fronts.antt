@@ -9,19 +9,18 @@ use Rattle.ps_model.specs.declared.steps.Step.TheVariants.{Ended, Gone}
 use Rattle.ps_model.proofs.TheLaws.{the-laws}
 use Rattle.ps_world.proofs.Lists.{assoc, nil-right}
 use Rattle.ps_deeds.specs.declared.deed.Deed.{Deed}
-use Rattle.ps_deeds.specs.Own.{deeds, own_steps}
+use Rattle.ps_deeds.specs.Own.{HasNoEnd, deeds, own_steps}
 use Rattle.ps_deeds.proofs.Doing.{did-own}
+use Rattle.ps_deeds.proofs.Owning.{own-append, own-none}
 use Rattle.ps_deeds.proofs.Passing.{passed-own}
 use Rattle.ps_state.specs.declared.answers.ArriveRefusal.{ArriveRefusal}
 use Rattle.ps_state.specs.declared.answers.ArriveRefusal.TheVariants.{Closed}
 use Rattle.ps_state.specs.declared.answers.HandedRefusal.{HandedRefusal}
-use Rattle.ps_state.specs.declared.answers.HandedRefusal.TheVariants.{Full}
 use Rattle.ps_shared.specs.Calls.{Arrived, HasGone, IsGone}
-use Rattle.ps_shared.specs.Doing.{Does, Passes}
-use Rattle.ps_shared.specs.Flush.{Flushes, FlushesAll, NotFlushed, TellsFault}
-use Rattle.ps_shared.specs.Origin.{Origin}
-use Rattle.ps_streams.specs.Reading.{FoundAt, FoundClosed, FoundNoEnd, SaidGone}
-use Rattle.ps_streams.proofs.Looping.{the_err}
+use Rattle.ps_flush.specs.Doing.{Does, Passes}
+use Rattle.ps_flush.specs.Flush.{Flushes, FlushesAll, NotFlushed, TellsFault}
+use Rattle.ps_flush.specs.Origin.{Origin}
+use Rattle.ps_streams.specs.Reading.{FoundClosed, SaidGone}
 
 -- what was seen grows
 abbrev pub Grows : List Deed → List Deed → Type 0
@@ -30,8 +29,14 @@ Grows old new = (more : List Deed) × (new ≡ old ++ more)
 grow-more : (old mid new : List Deed) → Grows old mid → Grows mid new → Grows old new
 grow-more old mid new a b = (a.0 ++ b.0, b.1 ∙ (ap (λ l. l ++ b.0) a.1 ∙ assoc old a.0 b.0))
 
-pub found-on : (o : Origin) {Holds : World → Type 0} (old new : List Deed) → Grows old new → FoundAt o old Holds → FoundAt o new Holds
-found-on o old new g had = record { front = had.front; rest = had.rest ++ g.0; is = g.1 ∙ (ap (λ l. l ++ g.0) had.is ∙ assoc had.front had.rest g.0); holds = had.holds }
+pub closed-on : (o : Origin) (h : List ℕ) (k : ℕ) (old new : List Deed) → Grows old new → FoundClosed o h k old → FoundClosed o h k new
+closed-on o h k old new g had = record {
+  front = had.front;
+  rest = had.rest ++ g.0;
+  is = g.1 ∙ (ap (λ l. l ++ g.0) had.is ∙ assoc had.front had.rest g.0);
+  closed = had.closed;
+  before = had.before;
+}
 
 module _ (o : Origin) (k : ℕ) where
   grows-did : {Did : World → List Step → Type 0} (old new : List Deed) → Does o k old new Did → Grows old new
@@ -68,19 +73,18 @@ module _ (o : Origin) (k : ℕ) where
 
     -- ---- causes
 
-    closed-is : (a : Arrival) (old new : List Deed) → Arrived o k h old new a (Err Closed) → FoundClosed o h new
-    closed-is a old new (inl did) = record { front = old ++ did.between; rest = deeds k did.bytes did.steps; is = did.seen; holds = did.does.0 }
-    closed-is a old new (inr l) = absurd (cc l.0)
+    closed-is : (a : Arrival) (old new : List Deed) → HasNoEnd (own_steps k old) → Arrived o k h old new a (Err Closed) → FoundClosed o h k new
+    closed-is a old new none (inl did) = record {
+      front = old ++ did.between;
+      rest = deeds k did.bytes did.steps;
+      is = did.seen;
+      closed = did.does.0;
+      before = subst HasNoEnd (sym (own-append k old did.between ∙ (ap (λ r. own_steps k old ++ r) (own-none k did.between did.none) ∙ nil-right (own_steps k old)))) none;
+    }
+    closed-is a old new none (inr l) = absurd (cc l.0)
 
-    pub arrived-closed : (a : Arrival) (old new : List Deed) (e : ArriveRefusal) → e ≡ Closed → Arrived o k h old new a (Err e) → FoundClosed o h new
-    arrived-closed a old new e same is = closed-is a old new (subst (λ (x : ArriveRefusal). Arrived o k h old new a (Err x)) same is)
-
-    full-is : (T : Type 0) (old new : List Deed) → IsGone o k h old new (the_err T Full) → FoundNoEnd o h new
-    full-is T old new (inl did) = record { front = old ++ did.between; rest = deeds k did.bytes did.steps; is = did.seen; holds = did.does.0.1 }
-    full-is T old new (inr g) = absurd (cc g.0)
-
-    pub gone-full : {T : Type 0} (old new : List Deed) (r : Result T HandedRefusal) → HasGone o k h old new r → r ≡ Err Full → FoundNoEnd o h new
-    gone-full {T} old new r g e = found-on o g.before new (grows-did g.before new g.ended) (full-is T old g.before (subst (λ (q : Result T HandedRefusal). IsGone o k h old g.before q) e g.gone))
+    pub arrived-closed : (a : Arrival) (old new : List Deed) (e : ArriveRefusal) → e ≡ Closed → HasNoEnd (own_steps k old) → Arrived o k h old new a (Err e) → FoundClosed o h k new
+    arrived-closed a old new e same none is = closed-is a old new none (subst (λ (x : ArriveRefusal). Arrived o k h old new a (Err x)) same is)
 
     -- ---- the Gone
 

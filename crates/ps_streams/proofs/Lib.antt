@@ -2,6 +2,7 @@ pub mod Moving
 pub mod Bytes
 pub mod Saying
 pub mod Looping
+pub mod Ending
 pub mod Causes
 pub mod Lines
 pub mod Bringing

@@ -5,15 +5,15 @@ use Rattle.ps_model.specs.declared.steps.Role.TheVariants.{Writer}
 use Rattle.ps_model.specs.declared.steps.Step.TheVariants.{Ended}
 use Rattle.ps_world.proofs.Lists.{assoc, nil-right}
 use Rattle.ps_deeds.specs.declared.deed.Deed.{Deed}
-use Rattle.ps_deeds.specs.Over.{IsOver, WriterDone}
+use Rattle.ps_deeds.specs.Over.{IsOver}
 use Rattle.ps_deeds.specs.Own.{AreOwned, deeds}
 use Rattle.ps_deeds.specs.Words.{Word, notes_in}
 use Rattle.ps_deeds.proofs.Owning.{own-none}
 use Rattle.ps_deeds.proofs.Wording.{notes-in-append}
-use Rattle.ps_shared.specs.Doing.{Adds}
-use Rattle.ps_shared.specs.Homes.{world_at}
-use Rattle.ps_shared.specs.Origin.{Origin}
-use Rattle.ps_streams.specs.Speaking.{Speaks, Spoke, SpokeWhole, said_in}
+use Rattle.ps_flush.specs.Doing.{Adds}
+use Rattle.ps_flush.specs.Homes.{world_at}
+use Rattle.ps_flush.specs.Origin.{Origin}
+use Rattle.ps_streams.specs.Speaking.{DoneOnce, GoesOn, Speaks, Spoke, SpokeWhole, said_in}
 use Rattle.ps_streams.proofs.Bytes.{written-more, written-none}
 use Rattle.ps_streams.proofs.Moving.{Moved, moved-one}
 
@@ -72,16 +72,19 @@ module _ (o : Origin) where
         cut = a.cut;
       }
 
-  pub writer-end : (k j : ℕ) (h g : List ℕ) (mid new : List Deed) → j ≡ k → g ≡ h → IsOver the_core o.hosts h (world_at o mid) → Adds o j mid new (Ended g Writer) → WriterDone the_core o.boot o.list o.hosts h k new
-  writer-end k j h g mid new same host over added =
+  pub writer-end : (k j : ℕ) (h g : List ℕ) (old mid new : List Deed) → j ≡ k → g ≡ h → GoesOn k old mid → IsOver the_core o.hosts h (world_at o mid) → Adds o j mid new (Ended g Writer) → DoneOnce o h k old new
+  writer-end k j h g old mid new same host went over added =
       let d = subst (λ (n : ℕ). Adds o n mid new (Ended h Writer)) same (subst (λ (x : List ℕ). Adds o j mid new (Ended x Writer)) host added) in
       record {
-        before = mid;
-        between = d.between;
-        bytes = d.bytes;
-        is = d.seen ∙ ap (λ ss. (mid ++ d.between) ++ deeds k d.bytes ss) d.does;
-        none = own-none k d.between d.none;
-        over = over;
+        done = record {
+          before = mid;
+          between = d.between;
+          bytes = d.bytes;
+          is = d.seen ∙ ap (λ ss. (mid ++ d.between) ++ deeds k d.bytes ss) d.does;
+          none = own-none k d.between d.none;
+          over = over;
+        };
+        once = went;
       }
 
 abbrev pub the_err : (T : Type 0) {E : Type 0} → E → Result T E

@@ -13,11 +13,12 @@ use Rattle.ps_deeds.specs.Words.{Word, records_in, says}
 use Rattle.ps_deeds.proofs.Doing.{did-records, did-words}
 use Rattle.ps_deeds.proofs.Passing.{passed-by, passed-own, passed-words}
 use Rattle.ps_state.specs.declared.answers.HandedRefusal.{HandedRefusal}
-use Rattle.ps_shared.specs.Calls.{HasHanded, RecordedThen}
-use Rattle.ps_shared.specs.Doing.{Does, Passes}
-use Rattle.ps_shared.specs.Flush.{Flushes, FlushesAll, NotFlushed, TellsFault}
-use Rattle.ps_shared.specs.Homes.{world_at}
-use Rattle.ps_shared.specs.Origin.{Origin}
+use Rattle.ps_state.specs.declared.answers.HandedRefusal.TheVariants.{Full, Memory, Store}
+use Rattle.ps_shared.specs.Calls.{HasHanded, RecordDoes, RecordedThen}
+use Rattle.ps_flush.specs.Doing.{Does, Passes}
+use Rattle.ps_flush.specs.Flush.{Flushes, FlushesAll, NotFlushed, TellsFault}
+use Rattle.ps_flush.specs.Homes.{world_at}
+use Rattle.ps_flush.specs.Origin.{Origin}
 use Rattle.ps_streams.specs.Speaking.{said_in}
 
 -- the pass said these words, and made at most so many Records of each address
@@ -88,7 +89,13 @@ module _ (o : Origin) (k : ℕ) where
       (moved-did old r.mid r.recorded [] (once to) (ap (says the_core o.boot (world_at o (old ++ r.recorded.between))) r.recorded.does.2) (λ a. (let x = ap (records_in a) r.recorded.does.2 in omega (arith, x))))
       (after r.mid r.after)
 
+  -- after a refusal the pass may have said that its writer has ended
+  moved-refused : (host : List ℕ) (to : Jid) (old new : List Deed) (e : HandedRefusal) → Does o k old new (RecordDoes {T = Unit {0}} o host to (Err e)) → Moved o k old new [] (once to)
+  moved-refused host to old new Store did = moved-did old new did [] (once to) (ap (says the_core o.boot (world_at o (old ++ did.between))) did.does.1) (λ a. (let x = ap (records_in a) did.does.1 in omega (arith, x)))
+  moved-refused host to old new Full did = moved-did old new did [] (once to) (ap (says the_core o.boot (world_at o (old ++ did.between))) did.does.1) (λ a. (let x = ap (records_in a) did.does.1 in omega (arith, x)))
+  moved-refused host to old new Memory did = moved-did old new did [] (once to) (ap (says the_core o.boot (world_at o (old ++ did.between))) did.does.1) (λ a. (let x = ap (records_in a) did.does.1 in omega (arith, x)))
+
   pub moved-handed : {T : Type 0} (host : List ℕ) (to : Jid) (old new : List Deed) (r : Result T HandedRefusal) → HasHanded o k host to old new r → Moved o k old new [] (once to)
   moved-handed host to old new (Ok t) h = moved-recorded host to old new (Flushes o k) (λ mid f. moved-flushes mid new f) h
-  moved-handed host to old new (Err e) (inl did) = moved-did old new did [] (once to) (ap (says the_core o.boot (world_at o (old ++ did.between))) did.does.1) (λ a. (let x = ap (records_in a) did.does.1 in omega (arith, x)))
+  moved-handed host to old new (Err e) (inl did) = moved-refused host to old new e did
   moved-handed host to old new (Err e) (inr h) = moved-recorded host to old new (NotFlushed o k) (λ mid f. moved-not-flushed mid new f) h.1

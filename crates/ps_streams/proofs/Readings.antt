@@ -12,7 +12,7 @@ use Rattle.ps_deeds.proofs.Owning.{arrivals-append}
 use Rattle.ps_state.specs.declared.answers.HandedRefusal.{HandedRefusal}
 use Rattle.ps_state.specs.declared.answers.HandedRefusal.TheVariants.{Store as NotStored}
 use Rattle.ps_shared.specs.Calls.{HasGone}
-use Rattle.ps_shared.specs.Origin.{Origin}
+use Rattle.ps_flush.specs.Origin.{Origin}
 use Rattle.ps_wire.specs.Reading.{IsWithoutLine}
 use Rattle.ps_streams.specs.declared.read.ReadEnd.{ReadEnd}
 use Rattle.ps_streams.specs.declared.read.ReadEnd.TheVariants.{Ended, Long, ReadFault, Store}

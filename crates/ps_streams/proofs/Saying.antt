@@ -27,9 +27,9 @@ use Rattle.ps_deeds.proofs.Doing.{did-free, did-world, same-either}
 use Rattle.ps_state.specs.Next.{IsFirstNotice, IsFirstReply, NoNotice, NoReply, some_reads}
 use Rattle.ps_state.specs.declared.answers.HandedRefusal.{HandedRefusal}
 use Rattle.ps_shared.specs.Calls.{HasHand, HasHanded, NextDoes, Tells}
-use Rattle.ps_shared.specs.Doing.{Does}
-use Rattle.ps_shared.specs.Homes.{world_at}
-use Rattle.ps_shared.specs.Origin.{Origin}
+use Rattle.ps_flush.specs.Doing.{Does}
+use Rattle.ps_flush.specs.Homes.{world_at}
+use Rattle.ps_flush.specs.Origin.{Origin}
 use Rattle.ps_shared.specs.Passes.{OurTwin}
 use Rattle.ps_shared.specs.declared.answers.Next.{Next}
 use Rattle.ps_shared.specs.declared.answers.Next.TheVariants.{Notice, Over, Reply}

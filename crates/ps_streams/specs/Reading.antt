@@ -5,9 +5,7 @@ use Rattle.ps_types.specs.declared.entry.Arrival.{Arrival}
 use Rattle.ps_types.specs.declared.entry.Arrival.TheVariants.{Line, TooLong}
 use Rattle.ps_outside.specs.Clock.{noted}
 use Rattle.ps_wire.specs.Reading.{IsWithoutLine}
-use Rattle.ps_types.specs.declared.entry.Entry.TheVariants.{Gone as GoneEntry}
 use Rattle.ps_model.specs.TheCore.{the_core}
-use Rattle.ps_model.specs.World.{World}
 use Rattle.ps_model.specs.declared.steps.Step.{Step}
 use Rattle.ps_model.specs.declared.steps.Step.TheVariants.{Gone}
 use Rattle.ps_twin.specs.declared.twin.TwinSeat.{TwinSeat}
@@ -17,9 +15,8 @@ use Rattle.ps_deeds.specs.Did.{IsKept}
 use Rattle.ps_deeds.specs.Over.{ReaderDone}
 use Rattle.ps_deeds.specs.Own.{AreOwned, HasNoEnd, arrivals_in, own_steps}
 use Rattle.ps_state.specs.Shape.{IsArrival}
-use Rattle.ps_shared.specs.Calls.{IsTooLong}
-use Rattle.ps_shared.specs.Homes.{world_at}
-use Rattle.ps_shared.specs.Origin.{Origin}
+use Rattle.ps_flush.specs.Homes.{world_at}
+use Rattle.ps_flush.specs.Origin.{Origin}
 use Rattle.ps_streams.specs.declared.read.ReadEnd.{ReadEnd}
 use Rattle.ps_streams.specs.declared.read.ReadEnd.TheVariants.{Closed, Ended, Full, Long, Memory, ReadFault, Store}
 
@@ -140,20 +137,13 @@ pub record SaidGone (host : List ℕ) (k : ℕ) (seen : List Deed) : Type 0 wher
   pub rest : List Step
   pub is : own_steps k seen ≡ front ++ Gone host ∷ rest
 
--- this holds of the world at a front of what was seen
-pub record FoundAt (o : Origin) (seen : List Deed) (Holds : World → Type 0) : Type 0 where
+-- at a front of what was seen the host's writer had ended, and the pass had not said that its reader has
+pub record FoundClosed (o : Origin) (host : List ℕ) (k : ℕ) (seen : List Deed) : Type 0 where
   pub front : List Deed
   pub rest : List Deed
   pub is : seen ≡ front ++ rest
-  pub holds : Holds (world_at o front)
-
--- the host's writer has ended
-abbrev pub FoundClosed : Origin → List ℕ → List Deed → Type 0
-FoundClosed o host seen = FoundAt o seen (λ w. (w.hosts host).writer_ended ≡ true)
-
--- that its callers are gone would pass the limit
-abbrev pub FoundNoEnd : Origin → List ℕ → List Deed → Type 0
-FoundNoEnd o host seen = FoundAt o seen (λ w. IsTooLong o w (GoneEntry host))
+  pub closed : ((world_at o front).hosts host).writer_ended ≡ true
+  pub before : HasNoEnd (own_steps k front)
 
 abbrev pub AreFew : List Arrival → Type 0
 AreFew missing = (missing ≡ []) ⊎ ((a : Arrival) × (missing ≡ a ∷ []))
@@ -209,6 +199,11 @@ pub record StreamRead (o : Origin) (host : List ℕ) (k : ℕ) (old new : List D
 -- ---- by the pass of a seat
 
 module _ {V J : Type 0} where
+  -- a pass that had not said that its reader has ended found the host's writer ended
+  abbrev pub SeatFoundClosed : Origin → List ℕ → TwinSeat V J Deed → TwinSeat V J Deed → Type 0
+  SeatFoundClosed o host old new =
+      HasNoEnd (own_steps (number_of old) (seen_of old)) → FoundClosed o host (number_of old) (seen_of new)
+
   abbrev pub SeatTakes : {T : Type 0} → Origin → TwinSeat V J Deed → TwinSeat V J Deed → Arrival → Result T ReadEnd → Type 0
   SeatTakes o old new a result = Takes o (number_of old) (seen_of old) (seen_of new) a result
 

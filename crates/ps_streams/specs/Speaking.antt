@@ -6,6 +6,9 @@ use Rattle.ps_types.specs.declared.jid.Jid.{Jid}
 use Rattle.ps_model.specs.Machine.{start}
 use Rattle.ps_model.specs.TheCore.{the_core}
 use Rattle.ps_model.specs.World.{Nothing, Unrecorded, World}
+use Rattle.ps_model.specs.declared.steps.Role.TheVariants.{Reader, Writer}
+use Rattle.ps_model.specs.declared.steps.Step.{Step}
+use Rattle.ps_model.specs.declared.steps.Step.TheVariants.{Arrive, Flush, Take, Emit, Record, Gone, Ended, Broken, Crash}
 use Rattle.ps_disk.specs.declared.device.Disk.{Ghosts}
 use Rattle.ps_twin.specs.declared.twin.TwinSeat.{TwinSeat}
 use Rattle.ps_twin.specs.Seats.{number_of, seen_of}
@@ -13,9 +16,9 @@ use Rattle.ps_deeds.specs.declared.deed.Deed.{Deed}
 use Rattle.ps_deeds.specs.Over.{IsOver, WriterDone}
 use Rattle.ps_deeds.specs.Own.{AreOwned, own_steps, words_by}
 use Rattle.ps_deeds.specs.Words.{Word, bytes_of, notes_in, records_in}
-use Rattle.ps_shared.specs.Calls.{HandAt, IsTooLong, IsWriter}
-use Rattle.ps_shared.specs.Homes.{world_at}
-use Rattle.ps_shared.specs.Origin.{Origin}
+use Rattle.ps_shared.specs.Calls.{FoundOver, HandAt, IsWriter}
+use Rattle.ps_flush.specs.Homes.{world_at}
+use Rattle.ps_flush.specs.Origin.{Origin}
 use Rattle.ps_shared.specs.Passes.{OurTwin}
 use Rattle.ps_shared.specs.declared.hall.Pass.{Pass}
 
@@ -61,14 +64,43 @@ pub record SpokeWhole (o : Origin) (k : ℕ) (old new : List Deed) (before now :
 
 -- ---- ends
 
--- at a front of what was seen a Record of a notice to an address of the host would pass the limit
+-- at a deed that was seen the store was so long that a Record of a notice to an address of the host would pass the limit
 pub record HadNoRoom (o : Origin) (host : List ℕ) (seen : List Deed) : Type 0 where
-  pub front : List Deed
-  pub rest : List Deed
-  pub is : seen ≡ front ++ rest
   pub to : Jid
   pub here : to.host ≡ host
-  pub long : IsTooLong o (world_at o front) (Handed to)
+  pub over : FoundOver o (Handed to) seen
+
+-- the step does not say that a writer has ended
+abbrev pub IsNoWriterEnd : Step → Type 0
+IsNoWriterEnd (Arrive g arrival full) = Unit {0}
+IsNoWriterEnd (Flush m) = Unit {0}
+IsNoWriterEnd (Take g) = Unit {0}
+IsNoWriterEnd (Emit a) = Unit {0}
+IsNoWriterEnd (Record a) = Unit {0}
+IsNoWriterEnd (Gone g) = Unit {0}
+IsNoWriterEnd (Ended g Reader) = Unit {0}
+IsNoWriterEnd (Ended g Writer) = ⊥
+IsNoWriterEnd Broken = Unit {0}
+IsNoWriterEnd (Crash m) = Unit {0}
+
+abbrev pub HasNoWriterEnd : List Step → Type 0
+HasNoWriterEnd [] = Unit {0}
+HasNoWriterEnd (s ∷ ss) = IsNoWriterEnd s × HasNoWriterEnd ss
+
+-- if the pass had not said that its writer has ended, it still has not
+abbrev pub GoesOn : ℕ → List Deed → List Deed → Type 0
+GoesOn k old new = HasNoWriterEnd (own_steps k old) → HasNoWriterEnd (own_steps k new)
+
+-- it said so in its last step, and in none before
+pub record EndsOnce (host : List ℕ) (k : ℕ) (old new : List Deed) : Type 0 where
+  pub front : List Step
+  pub is : own_steps k new ≡ front ++ Ended host Writer ∷ []
+  pub once : HasNoWriterEnd (own_steps k old) → HasNoWriterEnd front
+
+-- it found that all is said and no reader runs, and then said that its writer has ended, as in none of its steps before
+pub record DoneOnce (o : Origin) (host : List ℕ) (k : ℕ) (old new : List Deed) : Type 0 where
+  pub done : WriterDone the_core o.boot o.list o.hosts host k new
+  pub once : HasNoWriterEnd (own_steps k old) → HasNoWriterEnd (own_steps k done.before)
 
 -- each Record of a notice to an address of the host was flushed
 abbrev pub HasLanded : List ℕ → World → Type 0
@@ -102,9 +134,15 @@ module _ {V J : Type 0} where
   abbrev pub FindsOver : Origin → List ℕ → TwinSeat V J Deed → Type 0
   FindsOver o host s = IsOver the_core o.hosts host (world_at o (seen_of s))
 
-  -- it found that, and then said that its writer has ended
+  abbrev pub SeatGoesOn : TwinSeat V J Deed → TwinSeat V J Deed → Type 0
+  SeatGoesOn old new = GoesOn (number_of old) (seen_of old) (seen_of new)
+
+  abbrev pub SeatEndsOnce : List ℕ → TwinSeat V J Deed → TwinSeat V J Deed → Type 0
+  SeatEndsOnce host old new = EndsOnce host (number_of old) (seen_of old) (seen_of new)
+
+  -- it found that all is said for the host and no reader runs, and then said once that its writer has ended
   abbrev pub IsWriterDone : Origin → List ℕ → TwinSeat V J Deed → TwinSeat V J Deed → Type 0
-  IsWriterDone o host old new = WriterDone the_core o.boot o.list o.hosts host (number_of old) (seen_of new)
+  IsWriterDone o host old new = DoneOnce o host (number_of old) (seen_of old) (seen_of new)
 
 module _ {B D : Type 0} {g : Ghosts D} where
   -- a writer's pass, with nothing in hand

@@ -3,12 +3,13 @@ ghost use Rattle.std.specs.Prelude.{◌≡◌, ◌⊎◌, ◌<◌, ◌≤◌, �
 ghost use Rattle.ps_base.specs.Causes.{Rose};
 ghost use Rattle.ps_wire.specs.AtEnd.{nothing_of};
 ghost use Rattle.ps_wire.specs.Reading.{Gave, IsWithoutLine, given_of, rest_of, source_of, stopped_of};
+ghost use Rattle.ps_types.specs.declared.entry.Entry.{Entry};
 ghost use Rattle.ps_model.specs.Entries.{IsMoment};
 ghost use Rattle.ps_state.specs.Shape.{IsArrival};
 ghost use Rattle.ps_twin.specs.Seats.{number_of, seen_of};
-ghost use Rattle.ps_shared.specs.Calls.{IsReader, SeatArrived};
+ghost use Rattle.ps_shared.specs.Calls.{FoundOver, IsReader, SeatArrived};
 ghost use Rattle.ps_streams.specs.Speaking.{FindsBroken, IsSamePass};
-ghost use Rattle.ps_streams.specs.Reading.{ClockGives, Comes, FoundClosed, FoundNoEnd, NoneComes, SaidGone, SeatNextRead, SeatReads, SeatStreamRead, SeatTakes, WasAsked, brings_all, says_gone};
+ghost use Rattle.ps_streams.specs.Reading.{ClockGives, Comes, NoneComes, SaidGone, SeatFoundClosed, SeatNextRead, SeatReads, SeatStreamRead, SeatTakes, WasAsked, brings_all, says_gone};
 
 use crate::idle::{FOR_ROOM, await_news};
 use ps_disk::Disk;
@@ -186,7 +187,8 @@ fn take_line<B: Opening, D: Disk, R: Wait + Threads + Sync>(
     ensures takes { SeatTakes B.origin pass.old.seat pass.new.seat arrival.now result }
     ensures some { IfErr result (λ e. brings_all e ≡ true → ⊥) }
     ensures store { IsErrOf result ReadEnd.Store → FindsBroken B.origin pass.new.seat }
-    ensures closed { IsErrOf result ReadEnd.Closed → FoundClosed B.origin pass.old.host (seen_of pass.new.seat) }
+    ensures closed { IsErrOf result ReadEnd.Closed
+        → SeatFoundClosed B.origin pass.old.host pass.old.seat pass.new.seat }
     ensures room { IsErrOf result ReadEnd.Full → ⊥ }
 {
     match arrive_once(rt, hall, pass, arrival) {
@@ -217,7 +219,8 @@ fn read_next<B: Opening, D: Disk, R: Wait + Threads + Sync, S: Source, C: Clock>
         → Rose (S.faults (source_of lines.old)) (S.faults (source_of lines.new)) }
     ensures long { IsErrOf result ReadEnd.Long → given_of lines.new ≡ 2 ^ 40 }
     ensures store { IsErrOf result ReadEnd.Store → FindsBroken B.origin pass.new.seat }
-    ensures closed { IsErrOf result ReadEnd.Closed → FoundClosed B.origin pass.old.host (seen_of pass.new.seat) }
+    ensures closed { IsErrOf result ReadEnd.Closed
+        → SeatFoundClosed B.origin pass.old.host pass.old.seat pass.new.seat }
     ensures room { IsErrOf result ReadEnd.Full → ⊥ }
     ensures gave { Gave (S.left (source_of lines.old)) (S.left (source_of lines.new))
         (given_of lines.old) (given_of lines.new) }
@@ -255,7 +258,7 @@ fn read_lines<B: Opening, D: Disk, R: Wait + Threads + Sync, S: Source, C: Clock
         → Rose (S.faults (source_of lines.old)) (S.faults (source_of lines.new)) }
     ensures long { result ≡ ReadEnd.Long → given_of lines.new ≡ 2 ^ 40 }
     ensures store { result ≡ ReadEnd.Store → FindsBroken B.origin pass.new.seat }
-    ensures closed { result ≡ ReadEnd.Closed → FoundClosed B.origin pass.old.host (seen_of pass.new.seat) }
+    ensures closed { result ≡ ReadEnd.Closed → SeatFoundClosed B.origin pass.old.host pass.old.seat pass.new.seat }
     ensures room { result ≡ ReadEnd.Full → ⊥ }
     ensures gave { Gave (S.left (source_of lines.old)) (S.left (source_of lines.new))
         (given_of lines.old) (given_of lines.new) }
@@ -294,8 +297,9 @@ pub fn read_stream<B: Opening, D: Disk, R: Wait + Threads + Sync, S: Source, C: 
         → Rose (S.faults (source_of lines.old)) (S.faults (source_of lines.new)) }
     ensures long { result ≡ ReadEnd.Long → given_of lines.new ≡ 2 ^ 40 }
     ensures store { result ≡ ReadEnd.Store → FindsBroken B.origin pass.new.seat }
-    ensures closed { result ≡ ReadEnd.Closed → FoundClosed B.origin pass.old.host (seen_of pass.new.seat) }
-    ensures full { result ≡ ReadEnd.Full → FoundNoEnd B.origin pass.old.host (seen_of pass.new.seat) }
+    ensures closed { result ≡ ReadEnd.Closed → SeatFoundClosed B.origin pass.old.host pass.old.seat pass.new.seat }
+    ensures full { result ≡ ReadEnd.Full
+        → FoundOver B.origin (Entry.Gone pass.old.host) (seen_of pass.new.seat) }
     ensures gone { says_gone result ≡ true
         → SaidGone pass.old.host (number_of pass.old.seat) (seen_of pass.new.seat) }
     ensures gave { Gave (S.left (source_of lines.old)) (S.left (source_of lines.new))

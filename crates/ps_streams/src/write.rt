@@ -1,9 +1,9 @@
 // The writer of a stream.
-ghost use Rattle.std.specs.Prelude.{◌≡◌, ◌≢◌, ◌≤◌, IfOk, IsErrOf, IsFalse, OnOk};
+ghost use Rattle.std.specs.Prelude.{◌≡◌, ◌≢◌, ◌≤◌, true, IfOk, IsErrOf, IsFalse, OnOk};
 ghost use Rattle.ps_base.specs.Causes.{Rose};
 ghost use Rattle.ps_deeds.specs.Own.{AllDiffer};
 ghost use Rattle.ps_shared.specs.Calls.{IsWriter};
-ghost use Rattle.ps_streams.specs.Speaking.{FindsBroken, FindsLanded, FindsOver, FoundNoRoom, IsSamePass, IsWriterDone, MaySpeak, SeatSpeaks};
+ghost use Rattle.ps_streams.specs.Speaking.{FindsBroken, FindsLanded, FindsOver, FoundNoRoom, IsSamePass, IsWriterDone, MaySpeak, SeatEndsOnce, SeatGoesOn, SeatSpeaks};
 
 use crate::idle::{FOR_LINES, await_news};
 use ps_disk::Disk;
@@ -18,6 +18,7 @@ fn end_of(refusal: HandedRefusal) -> EndCause
     ensures written { result ≡ EndCause.WriteFault → ⊥ }
     ensures store { result ≡ EndCause.Store → refusal ≡ HandedRefusal.Store }
     ensures full { result ≡ EndCause.Full → refusal ≡ HandedRefusal.Full }
+    ensures from_full { refusal ≡ HandedRefusal.Full → result ≡ EndCause.Full }
     ensures other { (result ≡ EndCause.Store → ⊥) → refusal ≢ HandedRefusal.Store }
 {
     match refusal {
@@ -27,7 +28,18 @@ fn end_of(refusal: HandedRefusal) -> EndCause
     }
 }
 
-// Writes one line, or waits where there is none now. False: all is said.
+// Whether the writer has ended with the call that answered so: a Record that found no room ended it.
+fn has_ended(why: EndCause) -> bool
+    ensures full { result ≡ true → why ≡ EndCause.Full }
+    ensures other { IsFalse result → why ≢ EndCause.Full }
+{
+    match why {
+        EndCause::Full => true,
+        EndCause::WriteFault | EndCause::Store | EndCause::Memory | EndCause::Finished => false,
+    }
+}
+
+// Writes one line, or waits where there is none now. False: all is said. A Record that finds no room has ended the writer.
 fn write_next<B: Opening, D: Disk, R: Wait + Threads + Sync, K: Sink>(
     rt: &R,
     hall: &Hall<B, D>,
@@ -47,6 +59,8 @@ fn write_next<B: Opening, D: Disk, R: Wait + Threads + Sync, K: Sink>(
     ensures cause { IsErrOf result EndCause.WriteFault → Rose (K.faults sink.old) (K.faults sink.new) }
     ensures store { IsErrOf result EndCause.Store → FindsBroken B.origin pass.new.seat }
     ensures full { IsErrOf result EndCause.Full → FoundNoRoom B.origin pass.old.host pass.new.seat }
+    ensures going { (IsErrOf result EndCause.Full → ⊥) → SeatGoesOn pass.old.seat pass.new.seat }
+    ensures ended { IsErrOf result EndCause.Full → SeatEndsOnce pass.old.host pass.old.seat pass.new.seat }
     ensures landed { (IsErrOf result EndCause.Store → ⊥) → FindsLanded B.origin pass.old.host pass.new.seat }
 {
     let heard = hall.news(pass);
@@ -71,7 +85,7 @@ fn write_next<B: Opening, D: Disk, R: Wait + Threads + Sync, K: Sink>(
     }
 }
 
-// Writes lines until all is said.
+// Writes lines until all is said. Where a Record found no room the writer has ended.
 fn write_lines<B: Opening, D: Disk, R: Wait + Threads + Sync, K: Sink>(
     rt: &R,
     hall: &Hall<B, D>,
@@ -89,6 +103,8 @@ fn write_lines<B: Opening, D: Disk, R: Wait + Threads + Sync, K: Sink>(
     ensures cause { result ≡ EndCause.WriteFault → Rose (K.faults sink.old) (K.faults sink.new) }
     ensures store { result ≡ EndCause.Store → FindsBroken B.origin pass.new.seat }
     ensures full { result ≡ EndCause.Full → FoundNoRoom B.origin pass.old.host pass.new.seat }
+    ensures going { (result ≡ EndCause.Full → ⊥) → SeatGoesOn pass.old.seat pass.new.seat }
+    ensures ended { result ≡ EndCause.Full → SeatEndsOnce pass.old.host pass.old.seat pass.new.seat }
     ensures landed { (result ≡ EndCause.Store → ⊥) → FindsLanded B.origin pass.old.host pass.new.seat }
 {
     for _ in rt.forever() {
@@ -102,7 +118,7 @@ fn write_lines<B: Opening, D: Disk, R: Wait + Threads + Sync, K: Sink>(
 }
 
 /// Writes each reply and each notice of the pass's host until all is said, and says then that its writer has ended. It ends before that where the sink or
-/// the disk fails, where a Record finds no room, or without memory, and answers which.
+/// the disk fails, where a Record finds no room, or without memory, and answers which. In any case its pass says last, and once, that the writer has ended.
 pub fn write_stream<B: Opening, D: Disk, R: Wait + Threads + Sync, K: Sink>(
     rt: &R,
     hall: &Hall<B, D>,
@@ -115,6 +131,7 @@ pub fn write_stream<B: Opening, D: Disk, R: Wait + Threads + Sync, K: Sink>(
     ensures same { IsSamePass pass.old pass.new }
     ensures spoke { SeatSpeaks B.origin pass.old.seat pass.new.seat (K.written sink.old) (K.written sink.new)
         (result ≡ EndCause.WriteFault) }
+    ensures ended { SeatEndsOnce pass.old.host pass.old.seat pass.new.seat }
     ensures done { result ≡ EndCause.Finished → IsWriterDone B.origin pass.old.host pass.old.seat pass.new.seat }
     ensures later { K.faults sink.old ≤ K.faults sink.new }
     ensures cause { result ≡ EndCause.WriteFault → Rose (K.faults sink.old) (K.faults sink.new) }
@@ -123,6 +140,9 @@ pub fn write_stream<B: Opening, D: Disk, R: Wait + Threads + Sync, K: Sink>(
     ensures landed { (result ≡ EndCause.Store → ⊥) → FindsLanded B.origin pass.old.host pass.new.seat }
 {
     let why = write_lines(rt, hall, pass, sink);
+    if has_ended(why) {
+        return why;
+    }
     hall.writer_ended(rt, pass, why);
     why
 }

@@ -1,6 +1,6 @@
 use Rattle.ps_twin.specs.Seats.{number_of, seen_of}
 use Rattle.ps_shared.specs.Calls.{IsReader}
-use Rattle.ps_shared.specs.Doing.{Passes}
+use Rattle.ps_flush.specs.Doing.{Passes}
 use Rattle.ps_streams.specs.Speaking.{IsSamePass}
 use Rattle.ps_streams.proofs.read.arrive_once.Given as goal
 

@@ -1,11 +1,13 @@
-use Rattle.std.proofs.Common.{◌+◌, inl, inr, sym, ap, ◌∙◌, refl}
+use Rattle.std.proofs.Common.{ℕ, ◌+◌, List, inl, inr, sym, ap, ◌∙◌, subst, refl}
+use Rattle.ps_types.specs.declared.entry.Entry.TheVariants.{Gone}
 use Rattle.ps_twin.specs.Seats.{number_of, seen_of}
 use Rattle.ps_wire.specs.Reading.{rest_of, source_of}
 use Rattle.ps_streams.proofs.Bringing.{gone-as}
 use Rattle.ps_state.specs.declared.answers.HandedRefusal.{HandedRefusal}
+use Rattle.ps_shared.specs.Calls.{FoundOver}
 use Rattle.ps_streams.specs.Reading.{brings_all, says_gone}
 use Rattle.ps_streams.proofs.Causes.{stream-broken}
-use Rattle.ps_streams.proofs.Fronts.{found-on, gone-full, gone-grows, said-gone}
+use Rattle.ps_streams.proofs.Fronts.{closed-on, gone-grows, said-gone}
 use Rattle.ps_streams.proofs.Looping.{err-same, the_err}
 use Rattle.ps_streams.proofs.Readings.{stream-read}
 use Rattle.ps_streams.proofs.read.read_stream.Goals as goal
@@ -66,18 +68,10 @@ returns-in-Ok-clause-gone g c = λ e. (
     said-gone o k h (seen_of mid.seat) (seen_of c.gone.new.pass.seat) c.gone.result gone c.in-Ok.field-0 c.in-Ok.is)
 
 pub returns-in-Err-clause-gone : goal.returns-in-Err-clause-gone
-returns-in-Err-clause-gone g c = λ e. (
-    let o = g.B.Opening.origin in
-    let w = c.read_lines-end.ensures in
-    let mid = c.read_lines-end.new.pass in
-    let k = number_of c.args.pass.now.seat in
-    let h = c.args.pass.now.host in
-    let same = w.reader.number ∙ (ap (λ n. n + n) w.same.at ∙ sym c.requires.reader.number) in
-    let gone = gone-as o (number_of mid.seat) k mid.host h (seen_of mid.seat) (seen_of c.gone.new.pass.seat) c.gone.result same w.same.host c.gone.ensures.gone in
-    absurd (c.worse.ensures.never e))
+returns-in-Err-clause-gone g c = λ e. absurd (c.worse.ensures.never e)
 
 pub returns-in-Ok-clause-closed : goal.returns-in-Ok-clause-closed
-returns-in-Ok-clause-closed g c = λ e. (
+returns-in-Ok-clause-closed g c = λ e none. (
     let o = g.B.Opening.origin in
     let w = c.read_lines-end.ensures in
     let mid = c.read_lines-end.new.pass in
@@ -85,40 +79,19 @@ returns-in-Ok-clause-closed g c = λ e. (
     let h = c.args.pass.now.host in
     let same = w.reader.number ∙ (ap (λ n. n + n) w.same.at ∙ sym c.requires.reader.number) in
     let gone = gone-as o (number_of mid.seat) k mid.host h (seen_of mid.seat) (seen_of c.gone.new.pass.seat) c.gone.result same w.same.host c.gone.ensures.gone in
-    found-on o (seen_of mid.seat) (seen_of c.gone.new.pass.seat) (gone-grows o k h (seen_of mid.seat) (seen_of c.gone.new.pass.seat) c.gone.result gone) (w.closed e))
+    closed-on o h k (seen_of mid.seat) (seen_of c.gone.new.pass.seat) (gone-grows o k h (seen_of mid.seat) (seen_of c.gone.new.pass.seat) c.gone.result gone) (w.closed e none))
 
 pub returns-in-Err-clause-closed : goal.returns-in-Err-clause-closed
-returns-in-Err-clause-closed g c = λ e. (
-    let o = g.B.Opening.origin in
-    let w = c.read_lines-end.ensures in
-    let mid = c.read_lines-end.new.pass in
-    let k = number_of c.args.pass.now.seat in
-    let h = c.args.pass.now.host in
-    let same = w.reader.number ∙ (ap (λ n. n + n) w.same.at ∙ sym c.requires.reader.number) in
-    let gone = gone-as o (number_of mid.seat) k mid.host h (seen_of mid.seat) (seen_of c.gone.new.pass.seat) c.gone.result same w.same.host c.gone.ensures.gone in
-    absurd (c.worse.ensures.never (ap says_gone e)))
+returns-in-Err-clause-closed g c = λ e. absurd (c.worse.ensures.never (ap says_gone e))
 
 pub returns-in-Ok-clause-full : goal.returns-in-Ok-clause-full
-returns-in-Ok-clause-full g c = λ e. (
-    let o = g.B.Opening.origin in
-    let w = c.read_lines-end.ensures in
-    let mid = c.read_lines-end.new.pass in
-    let k = number_of c.args.pass.now.seat in
-    let h = c.args.pass.now.host in
-    let same = w.reader.number ∙ (ap (λ n. n + n) w.same.at ∙ sym c.requires.reader.number) in
-    let gone = gone-as o (number_of mid.seat) k mid.host h (seen_of mid.seat) (seen_of c.gone.new.pass.seat) c.gone.result same w.same.host c.gone.ensures.gone in
-    absurd (w.room e))
+returns-in-Ok-clause-full g c = λ e. absurd (c.read_lines-end.ensures.room e)
 
 pub returns-in-Err-clause-full : goal.returns-in-Err-clause-full
 returns-in-Err-clause-full g c = λ e. (
-    let o = g.B.Opening.origin in
     let w = c.read_lines-end.ensures in
-    let mid = c.read_lines-end.new.pass in
-    let k = number_of c.args.pass.now.seat in
-    let h = c.args.pass.now.host in
-    let same = w.reader.number ∙ (ap (λ n. n + n) w.same.at ∙ sym c.requires.reader.number) in
-    let gone = gone-as o (number_of mid.seat) k mid.host h (seen_of mid.seat) (seen_of c.gone.new.pass.seat) c.gone.result same w.same.host c.gone.ensures.gone in
-    gone-full o k h (seen_of mid.seat) (seen_of c.gone.new.pass.seat) c.gone.result gone (elim (c.worse.ensures.from_full e) [ inl a ↦ absurd (w.room a) | inr b ↦ c.in-Err.is ∙ ap (λ (x : HandedRefusal). the_err (Unit {0}) x) b ]))
+    subst (λ (h : List ℕ). FoundOver g.B.Opening.origin (Gone h) (seen_of c.gone.new.pass.seat)) w.same.host
+    (c.in-Err.ensures.over (elim (c.worse.ensures.from_full e) [ inl a ↦ absurd (w.room a) | inr b ↦ ap (λ (x : HandedRefusal). the_err (Unit {0}) x) b ])))
 
 pub returns-in-Err-clause-early : goal.returns-in-Err-clause-early
 returns-in-Err-clause-early g c = λ e. absurd (c.worse.ensures.some (ap brings_all e))

@@ -18,5 +18,5 @@ returns-in-Err-clause-store g c = λ e.
     arrived-store g.B.Opening.origin (number_of c.args.pass.now.seat) c.args.pass.now.host c.args.arrival.now (seen_of c.args.pass.now.seat) (seen_of c.arrive_once.new.pass.seat) c.in-Err.refusal (c.end_of_line.ensures.from_store (err-same c.end_of_line.result _ e)) c.in-Err.ensures.arrived
 
 pub returns-in-Err-clause-closed : goal.returns-in-Err-clause-closed
-returns-in-Err-clause-closed g c = λ e.
-    arrived-closed g.B.Opening.origin (number_of c.args.pass.now.seat) c.args.pass.now.host c.args.arrival.now (seen_of c.args.pass.now.seat) (seen_of c.arrive_once.new.pass.seat) c.in-Err.refusal (c.end_of_line.ensures.from_closed (err-same c.end_of_line.result _ e)) c.in-Err.ensures.arrived
+returns-in-Err-clause-closed g c = λ e none.
+    arrived-closed g.B.Opening.origin (number_of c.args.pass.now.seat) c.args.pass.now.host c.args.arrival.now (seen_of c.args.pass.now.seat) (seen_of c.arrive_once.new.pass.seat) c.in-Err.refusal (c.end_of_line.ensures.from_closed (err-same c.end_of_line.result _ e)) none c.in-Err.ensures.arrived

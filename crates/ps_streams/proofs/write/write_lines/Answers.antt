@@ -4,6 +4,7 @@ use Rattle.ps_twin.specs.Seats.{number_of, seen_of}
 use Rattle.ps_shared.specs.declared.answers.EndCause.{EndCause}
 use Rattle.ps_shared.specs.declared.answers.EndCause.TheVariants.{WriteFault}
 use Rattle.ps_streams.specs.Speaking.{FindsLanded, FindsOver, FoundNoRoom}
+use Rattle.ps_streams.proofs.Ending.{ends-after, ends-as, goes-as}
 use Rattle.ps_streams.proofs.Looping.{begun-whole, err-same, speaks-on, the_err, whole-on}
 use Rattle.ps_streams.proofs.write.write_lines.Goals as goal
 
@@ -13,6 +14,7 @@ loop-init g c = (
   record { at = refl; host = refl },
   begun-whole g.B.Opening.origin (number_of c.args.pass.now.seat) (seen_of c.args.pass.now.seat) (g.K.Sink.written c.args.sink.now) c.requires.ready.writer.pass.owned,
   omega arith,
+  λ none. none,
 )
 
 pub write_next-requires-clause-ready : goal.write_next-requires-clause-ready
@@ -37,6 +39,7 @@ loop-preserved g c =
       record { at = c.write_next.ensures.same.at ∙ c.loop.invariant.1.at; host = c.write_next.ensures.same.host ∙ c.loop.invariant.1.host },
       whole-on o k j old mid new first second third (IsErrOf {T = Bool} {E = EndCause} (Ok c.in-Ok-true.field-0) WriteFault) same (λ no. absurd (cc no)) i.2 c.in-Ok-true.ensures.spoke,
       omega (arith, before, later),
+      λ none. goes-as j k mid new same (c.in-Ok-true.ensures.going (λ e. absurd (cc e))) (i.4 none),
     )
 
 pub returns-in-Ok-false-clause-same : goal.returns-in-Ok-false-clause-same
@@ -60,6 +63,16 @@ returns-in-Ok-false-clause-spoke g c =
 pub returns-in-Ok-false-clause-over : goal.returns-in-Ok-false-clause-over
 returns-in-Ok-false-clause-over g c = λ e. subst (λ (h : List ℕ). FindsOver g.B.Opening.origin h c.write_next.new.pass.seat) c.loop.invariant.1.host (c.in-Ok-false.ensures.over c.in-Ok-false.field-0-test)
 
+pub returns-in-Ok-false-clause-going : goal.returns-in-Ok-false-clause-going
+returns-in-Ok-false-clause-going g c = λ no none. (
+    let i = c.loop.invariant in
+    let k = number_of c.args.pass.now.seat in
+    let j = number_of c.loop.pass.seat in
+    let mid = seen_of c.loop.pass.seat in
+    let new = seen_of c.write_next.new.pass.seat in
+    let same = i.0.writer.number ∙ (ap (λ n. n + n + 1) i.1.at ∙ sym c.requires.ready.writer.number) in
+    goes-as j k mid new same (c.in-Ok-false.ensures.going (λ e. absurd (cc e))) (i.4 none))
+
 pub returns-in-Ok-false-clause-later : goal.returns-in-Ok-false-clause-later
 returns-in-Ok-false-clause-later g c = let before = c.loop.invariant.3 in let later = c.write_next.ensures.later in omega (arith, before, later)
 
@@ -80,6 +93,27 @@ returns-in-Err-clause-spoke g c =
     let third = g.K.Sink.written c.write_next.new.sink in
     let same = i.0.writer.number ∙ (ap (λ n. n + n + 1) i.1.at ∙ sym c.requires.ready.writer.number) in
     speaks-on o k j old mid new first second third (IsErrOf {T = Bool} {E = EndCause} (Err c.in-Err.why) WriteFault) _ same (λ e. err-same c.in-Err.why WriteFault e) i.2 c.in-Err.ensures.spoke
+
+pub returns-in-Err-clause-going : goal.returns-in-Err-clause-going
+returns-in-Err-clause-going g c = λ no none. (
+    let i = c.loop.invariant in
+    let k = number_of c.args.pass.now.seat in
+    let j = number_of c.loop.pass.seat in
+    let mid = seen_of c.loop.pass.seat in
+    let new = seen_of c.write_next.new.pass.seat in
+    let same = i.0.writer.number ∙ (ap (λ n. n + n + 1) i.1.at ∙ sym c.requires.ready.writer.number) in
+    goes-as j k mid new same (c.in-Err.ensures.going (λ e. no (err-same c.in-Err.why _ e))) (i.4 none))
+
+pub returns-in-Err-clause-ended : goal.returns-in-Err-clause-ended
+returns-in-Err-clause-ended g c = λ e. (
+    let i = c.loop.invariant in
+    let k = number_of c.args.pass.now.seat in
+    let j = number_of c.loop.pass.seat in
+    let h = c.args.pass.now.host in
+    let mid = seen_of c.loop.pass.seat in
+    let new = seen_of c.write_next.new.pass.seat in
+    let same = i.0.writer.number ∙ (ap (λ n. n + n + 1) i.1.at ∙ sym c.requires.ready.writer.number) in
+    ends-after h k (seen_of c.args.pass.now.seat) mid new i.4 (ends-as j k c.loop.pass.host h mid new same i.1.host (c.in-Err.ensures.ended (ap (λ (w : EndCause). the_err Bool w) e))))
 
 pub returns-in-Err-clause-later : goal.returns-in-Err-clause-later
 returns-in-Err-clause-later g c = let before = c.loop.invariant.3 in let later = c.write_next.ensures.later in omega (arith, before, later)

@@ -1,5 +1,5 @@
 use Rattle.std.proofs.Common.{◌≤◌}
-use Rattle.ps_streams.specs.Speaking.{IsSamePass, MaySpeak, SeatSpokeWhole}
+use Rattle.ps_streams.specs.Speaking.{IsSamePass, MaySpeak, SeatGoesOn, SeatSpokeWhole}
 use Rattle.ps_streams.proofs.write.write_lines.Given as goal
 
 abbrev pub invariant-loop : goal.invariant-loop
@@ -8,3 +8,4 @@ invariant-loop g l =
     × IsSamePass l.initial.pass l.pass
     × SeatSpokeWhole g.B.Opening.origin l.initial.pass.seat l.pass.seat (g.K.Sink.written l.initial.sink) (g.K.Sink.written l.sink)
     × (g.K.Sink.faults l.initial.sink ≤ g.K.Sink.faults l.sink)
+    × SeatGoesOn l.initial.pass.seat l.pass.seat

@@ -4,12 +4,14 @@ use Rattle.ps_base.specs.declared.Memory.{Memory}
 use Rattle.ps_twin.specs.Seats.{number_of, seen_of}
 use Rattle.ps_wire.specs.Writing.{AppendsFront}
 use Rattle.ps_types.specs.declared.jid.Jid.{Jid}
+use Rattle.ps_state.specs.declared.answers.HandedRefusal.{HandedRefusal}
 use Rattle.ps_shared.specs.Calls.{HasHand}
-use Rattle.ps_shared.specs.Homes.{world_at}
+use Rattle.ps_flush.specs.Homes.{world_at}
 use Rattle.ps_shared.specs.declared.answers.Next.TheVariants.{NotYet, Notice, Over, Reply}
 use Rattle.ps_shared.specs.declared.answers.EndCause.{EndCause}
 use Rattle.ps_streams.specs.Speaking.{HasLanded}
-use Rattle.ps_streams.proofs.Causes.{hand-landed, handed-full, handed-store}
+use Rattle.ps_streams.proofs.Causes.{hand-landed, handed-store}
+use Rattle.ps_streams.proofs.Ending.{ends-after, goes-handed, goes-next, handed-ends}
 use Rattle.ps_streams.proofs.Looping.{err-same, the_err}
 use Rattle.ps_streams.proofs.Saying.{free_of, handed-as, next-as, note-part, note-whole, over-found, quiet-speaks, reply-part, reply-whole, told, writes_of}
 use Rattle.ps_streams.proofs.write.write_next.Goals as goal
@@ -131,16 +133,79 @@ returns-in-Ok-write_line-clause-store g c = λ e.
     handed-store o k (Unit {0}) h t.to new (seen_of c.handed.new.pass.seat) c.in-Err-handed.refusal (c.end_of.ensures.store (err-same c.end_of.result _ e)) (handed-as {T = Unit {0}} o (number_of c.next.new.pass.seat) k c.next.new.pass.host h t.to new (seen_of c.handed.new.pass.seat) (Err c.in-Err-handed.refusal) same c.next.ensures.same.1 (c.in-Err-handed.ensures.handed t.to t.in_hand)))
 
 pub returns-in-Ok-write_line-clause-full : goal.returns-in-Ok-write_line-clause-full
-returns-in-Ok-write_line-clause-full g c = λ e.
-    (let o = g.B.Opening.origin in
+returns-in-Ok-write_line-clause-full g c = λ e. (
+    let o = g.B.Opening.origin in
     let k = number_of c.args.pass.now.seat in
     let h = c.args.pass.now.host in
     let hand = c.next.new.pass.in_hand in
     let old = seen_of c.args.pass.now.seat in
     let new = seen_of c.next.new.pass.seat in
     let t = told o k h Memory hand old new c.in-Ok-Notice.line (next-as o k h Memory hand old new c.in-Ok-Notice.field-0 (Notice c.in-Ok-Notice.line) c.in-Ok-Notice.field-0-is c.in-Ok-Notice.ensures.does) c.requires.differ (writes_of o c.args.hall.now.twin c.args.pass.now c.requires.ready) (free_of o c.args.hall.now.twin c.args.pass.now c.requires.ready) in
+    record {
+      to = t.to;
+      here = t.host;
+      over = c.in-Err-handed.ensures.over t.to t.in_hand (ap (λ (x : HandedRefusal). the_err (Unit {0}) x) (c.end_of.ensures.full (err-same c.end_of.result _ e)));
+    })
+
+pub returns-in-Ok-clause-going : goal.returns-in-Ok-clause-going
+returns-in-Ok-clause-going g c = λ no. goes-next g.B.Opening.origin (number_of c.args.pass.now.seat) c.args.pass.now.host c.next.new.pass.in_hand (seen_of c.args.pass.now.seat) (seen_of c.next.new.pass.seat) c.next.result c.next.ensures.does
+
+pub returns-in-Ok-Reply-clause-going : goal.returns-in-Ok-Reply-clause-going
+returns-in-Ok-Reply-clause-going g c = λ no. goes-next g.B.Opening.origin (number_of c.args.pass.now.seat) c.args.pass.now.host c.next.new.pass.in_hand (seen_of c.args.pass.now.seat) (seen_of c.next.new.pass.seat) c.next.result c.next.ensures.does
+
+pub returns-in-Ok-Notice-clause-going : goal.returns-in-Ok-Notice-clause-going
+returns-in-Ok-Notice-clause-going g c = λ no. goes-next g.B.Opening.origin (number_of c.args.pass.now.seat) c.args.pass.now.host c.next.new.pass.in_hand (seen_of c.args.pass.now.seat) (seen_of c.next.new.pass.seat) c.next.result c.next.ensures.does
+
+pub returns-in-Ok-NotYet-clause-going : goal.returns-in-Ok-NotYet-clause-going
+returns-in-Ok-NotYet-clause-going g c = λ no. goes-next g.B.Opening.origin (number_of c.args.pass.now.seat) c.args.pass.now.host c.next.new.pass.in_hand (seen_of c.args.pass.now.seat) (seen_of c.next.new.pass.seat) c.next.result c.next.ensures.does
+
+pub returns-in-Ok-Over-clause-going : goal.returns-in-Ok-Over-clause-going
+returns-in-Ok-Over-clause-going g c = λ no. goes-next g.B.Opening.origin (number_of c.args.pass.now.seat) c.args.pass.now.host c.next.new.pass.in_hand (seen_of c.args.pass.now.seat) (seen_of c.next.new.pass.seat) c.next.result c.next.ensures.does
+
+pub returns-clause-going : goal.returns-clause-going
+returns-clause-going g c = λ no. goes-next g.B.Opening.origin (number_of c.args.pass.now.seat) c.args.pass.now.host c.next.new.pass.in_hand (seen_of c.args.pass.now.seat) (seen_of c.next.new.pass.seat) c.next.result c.next.ensures.does
+
+pub returns-in-Ok-handed-clause-going : goal.returns-in-Ok-handed-clause-going
+returns-in-Ok-handed-clause-going g c = λ no none. (
+    let o = g.B.Opening.origin in
+    let k = number_of c.args.pass.now.seat in
+    let h = c.args.pass.now.host in
+    let hand = c.next.new.pass.in_hand in
+    let old = seen_of c.args.pass.now.seat in
+    let new = seen_of c.next.new.pass.seat in
+    let last = seen_of c.handed.new.pass.seat in
+    let t = told o k h Memory hand old new c.in-Ok-Notice.line (next-as o k h Memory hand old new c.in-Ok-Notice.field-0 (Notice c.in-Ok-Notice.line) c.in-Ok-Notice.field-0-is c.in-Ok-Notice.ensures.does) c.requires.differ (writes_of o c.args.hall.now.twin c.args.pass.now c.requires.ready) (free_of o c.args.hall.now.twin c.args.pass.now c.requires.ready) in
     let same = c.next.ensures.writer.number ∙ (ap (λ n. n + n + 1) c.next.ensures.same.0 ∙ sym c.requires.ready.writer.number) in
-    handed-full o k (Unit {0}) h t.to new (seen_of c.handed.new.pass.seat) c.in-Err-handed.refusal (c.end_of.ensures.full (err-same c.end_of.result _ e)) t.host (handed-as {T = Unit {0}} o (number_of c.next.new.pass.seat) k c.next.new.pass.host h t.to new (seen_of c.handed.new.pass.seat) (Err c.in-Err-handed.refusal) same c.next.ensures.same.1 (c.in-Err-handed.ensures.handed t.to t.in_hand)))
+    goes-handed o k h t.to new last c.handed.result (λ e. absurd (cc (sym c.in-Ok-handed.is ∙ e))) (handed-as o (number_of c.next.new.pass.seat) k c.next.new.pass.host h t.to new last c.handed.result same c.next.ensures.same.1 (c.handed.ensures.handed t.to t.in_hand))
+    (goes-next o k h hand old new c.next.result c.next.ensures.does none))
+
+pub returns-in-Ok-write_line-clause-going : goal.returns-in-Ok-write_line-clause-going
+returns-in-Ok-write_line-clause-going g c = λ no none. (
+    let o = g.B.Opening.origin in
+    let k = number_of c.args.pass.now.seat in
+    let h = c.args.pass.now.host in
+    let hand = c.next.new.pass.in_hand in
+    let old = seen_of c.args.pass.now.seat in
+    let new = seen_of c.next.new.pass.seat in
+    let last = seen_of c.handed.new.pass.seat in
+    let t = told o k h Memory hand old new c.in-Ok-Notice.line (next-as o k h Memory hand old new c.in-Ok-Notice.field-0 (Notice c.in-Ok-Notice.line) c.in-Ok-Notice.field-0-is c.in-Ok-Notice.ensures.does) c.requires.differ (writes_of o c.args.hall.now.twin c.args.pass.now c.requires.ready) (free_of o c.args.hall.now.twin c.args.pass.now c.requires.ready) in
+    let same = c.next.ensures.writer.number ∙ (ap (λ n. n + n + 1) c.next.ensures.same.0 ∙ sym c.requires.ready.writer.number) in
+    goes-handed o k h t.to new last (the_err (Unit {0}) c.in-Err-handed.refusal) (λ e. no (ap (λ (w : EndCause). the_err Bool w) (c.end_of.ensures.from_full (err-same c.in-Err-handed.refusal _ e)))) (handed-as {T = Unit {0}} o (number_of c.next.new.pass.seat) k c.next.new.pass.host h t.to new last (Err c.in-Err-handed.refusal) same c.next.ensures.same.1 (c.in-Err-handed.ensures.handed t.to t.in_hand))
+    (goes-next o k h hand old new c.next.result c.next.ensures.does none))
+
+pub returns-in-Ok-write_line-clause-ended : goal.returns-in-Ok-write_line-clause-ended
+returns-in-Ok-write_line-clause-ended g c = λ e. (
+    let o = g.B.Opening.origin in
+    let k = number_of c.args.pass.now.seat in
+    let h = c.args.pass.now.host in
+    let hand = c.next.new.pass.in_hand in
+    let old = seen_of c.args.pass.now.seat in
+    let new = seen_of c.next.new.pass.seat in
+    let last = seen_of c.handed.new.pass.seat in
+    let t = told o k h Memory hand old new c.in-Ok-Notice.line (next-as o k h Memory hand old new c.in-Ok-Notice.field-0 (Notice c.in-Ok-Notice.line) c.in-Ok-Notice.field-0-is c.in-Ok-Notice.ensures.does) c.requires.differ (writes_of o c.args.hall.now.twin c.args.pass.now c.requires.ready) (free_of o c.args.hall.now.twin c.args.pass.now c.requires.ready) in
+    let same = c.next.ensures.writer.number ∙ (ap (λ n. n + n + 1) c.next.ensures.same.0 ∙ sym c.requires.ready.writer.number) in
+    ends-after h k old new last (goes-next o k h hand old new c.next.result c.next.ensures.does)
+    (handed-ends o k h t.to new last (Unit {0}) c.in-Err-handed.refusal (c.end_of.ensures.full (err-same c.end_of.result _ e)) (handed-as {T = Unit {0}} o (number_of c.next.new.pass.seat) k c.next.new.pass.host h t.to new last (Err c.in-Err-handed.refusal) same c.next.ensures.same.1 (c.in-Err-handed.ensures.handed t.to t.in_hand))))
 
 pub returns-in-Ok-clause-landed : goal.returns-in-Ok-clause-landed
 returns-in-Ok-clause-landed g c = λ no. hand-landed c.next.new.pass.in_hand c.args.pass.now.host (world_at g.B.Opening.origin (seen_of c.next.new.pass.seat)) c.next.ensures.hand
