@@ -13,7 +13,7 @@ use Rattle.ps_model.specs.World.{World}
 use Rattle.ps_deeds.specs.Lines.{Came, HasLines}
 use Rattle.ps_deeds.specs.Over.{IsComplete}
 use Rattle.ps_deeds.specs.Words.{Word, bytes_of, text_of}
-use Rattle.ps_shared.specs.Origin.{Origin}
+use Rattle.ps_flush.specs.Origin.{Origin}
 use Rattle.ps_shared.specs.declared.answers.EndCause.TheVariants.{Finished, WriteFault, Store as WriterStore}
 use Rattle.ps_streams.specs.Speaking.{Written}
 use Rattle.ps_streams.specs.declared.read.ReadEnd.TheVariants.{Ended as ReadAll, Store as ReaderStore}

@@ -6,7 +6,7 @@ use Rattle.ps_types.specs.declared.entry.Entry.{Entry}
 use Rattle.ps_model.specs.Store.{spelled}
 use Rattle.ps_model.proofs.OneList.{one_list}
 use Rattle.ps_opening.specs.Opens.{IsOpen, at_from}
-use Rattle.ps_shared.specs.Origin.{Origin}
+use Rattle.ps_flush.specs.Origin.{Origin}
 use Rattle.ps_shared.specs.Start.{MayStart}
 use Rattle.ps_state.specs.declared.answers.Limits.{Limits}
 use Rattle.ps_state.specs.declared.state.State.{State}

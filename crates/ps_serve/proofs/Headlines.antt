@@ -1,6 +1,6 @@
 -- What is said of a store and its streams, by what was opened and what came of the hall.
 use Rattle.std.proofs.Common.{◌≡◌, ◌≢◌, ◌⊎◌, inl, inr, ℕ, ◌+◌, ◌-◌, ◌≤◌, ◌<◌, List, [], ◌∷◌, ◌++◌, length, refl, sym, ◌∙◌, ap, subst, arith, length-append}
-use Rattle.std.specs.Prelude.{map, take}
+use Rattle.std.specs.Prelude.{None, map, take}
 use Rattle.ps_types.specs.declared.entry.Entry.{Entry}
 use Rattle.ps_types.specs.declared.entry.Entry.TheVariants.{Boot}
 use Rattle.ps_disk.specs.declared.device.Disk.{Ghosts as DiskGhosts}
@@ -15,10 +15,10 @@ use Rattle.ps_opening.specs.Opens.{IsOpen, OpenNot}
 use Rattle.ps_opening.specs.declared.opened.OpenWhy.{OpenWhy}
 use Rattle.ps_opening.specs.declared.opened.OpenWhy.TheVariants as why
 use Rattle.ps_ports.specs.declared.port.Port.{Port}
-use Rattle.ps_shared.specs.Origin.{Origin}
+use Rattle.ps_flush.specs.Origin.{Origin}
 use Rattle.ps_state.specs.declared.state.State.{State}
 use Rattle.ps_store.specs.Left.{IsFront}
-use Rattle.ps_store.specs.Stand.{disk_in}
+use Rattle.ps_store.specs.Stand.{broken_in, disk_in}
 use Rattle.ps_store.specs.declared.store.Store.{Store}
 use Rattle.ps_world.proofs.Lists.{take-front, take-whole}
 use Rattle.ps_workers.specs.Headline.{Worked, base_of}
@@ -28,12 +28,13 @@ use Rattle.ps_serve.specs.Crashes.{HasWhole}
 use Rattle.ps_serve.specs.Ends.{worst_in, worst_of}
 use Rattle.ps_serve.specs.Headline.{Headline, Idle, IdleCause, the_limits}
 use Rattle.ps_serve.specs.Outside.{held_as}
-use Rattle.ps_serve.specs.Room.{LacksRoom, max_whole}
+use Rattle.ps_serve.specs.Room.{max_whole}
 use Rattle.ps_serve.specs.Starts.{at_of, start_of}
 use Rattle.ps_serve.specs.declared.status.Status.{Status}
-use Rattle.ps_serve.specs.declared.status.Status.TheVariants.{StoreFault, Memory}
+use Rattle.ps_serve.specs.declared.status.Status.TheVariants.{StoreFault}
 use Rattle.ps_serve.specs.declared.storing.Run.{Run}
-use Rattle.ps_serve.proofs.Ranks.{none-broke}
+use Rattle.ps_serve.proofs.Causes.{calm, fault-is, first-cause, full-is, is-serving, none-broke, not-finished, whole-is}
+use Rattle.ps_serve.proofs.Ranks.{serving}
 
 -- a store that has entries has a closed gate behind its frames
 has-length : (bytes : List ℕ) (E : List Entry) (len : ℕ) → 0 < length E → spelled bytes E → ((bs : List (List ℕ)) → Begun bytes bs → len ≡ gate_at bs + 1) → HasLength bytes len
@@ -120,19 +121,29 @@ module _ {D : Type 0} {g : DiskGhosts D} (disk : D) (service : List ℕ) (hosts 
     enough-durable : length base ≤ durable w
     enough-durable = (let o = l.serves.opened in let s = l.serves.stands.sound.opened in omega (arith, o, s))
 
-    whole-store : run.status ≢ StoreFault → run.status ≢ Memory → g.tells → HasWhole (held_as g (disk_in l.store)) w.entries l.state.length
-    whole-store fault memory tells =
-        let both = l.ends.whole fault memory in
-        let all = l.serves.whole both.1 both.0 in
-        let len = l.serves.length_is both.1 both.0 in
+    abbrev worked : List Worked
+    worked = works ports l.ended
+
+    by-streams : broken_in l.store ≡ None → run.status ≡ worst_of worked
+    by-streams none = l.ends.streams none ∙ sym same
+
+    unbroken : run.status ≢ StoreFault → broken_in l.store ≡ None
+    unbroken = whole-is origin_at l.state l.store worked l.serves run.status l.ends.broken by-streams
+
+    whole-store : run.status ≢ StoreFault → g.tells → HasWhole (held_as g (disk_in l.store)) w.entries l.state.length
+    whole-store fault tells =
+        let none = unbroken fault in
+        let quiet = calm origin_at l.state l.store worked l.serves none in
+        let all = l.serves.whole quiet none in
+        let len = l.serves.length_is quiet none in
         record {
           spells = all.seen tells;
           lasts = all.lasts tells;
           long = has-length (g.seen (disk_in l.store)) w.entries l.state.length some-entries (all.seen tells)
-              (λ bs begun. len ∙ l.closed.long tells both.0 bs (subst (λ (d : D). Begun (g.seen d) bs) (sym l.closed.is) begun));
+              (λ bs begun. len ∙ l.closed.long tells none bs (subst (λ (d : D). Begun (g.seen d) bs) (sym l.closed.is) begun));
         }
 
-    at-store : Headline g.tells service hosts (works ports l.ended) (held_as g disk) (held_as g (disk_in l.store)) (g.left_since (disk_in l.store)) run.status
+    at-store : Headline g.tells service hosts worked (held_as g disk) (held_as g (disk_in l.store)) (g.left_since (disk_in l.store)) run.status
     at-store = record {
       origin = origin_at;
       hosts_are = refl;
@@ -156,14 +167,17 @@ module _ {D : Type 0} {g : DiskGhosts D} (disk : D) (service : List ℕ) (hosts 
       };
       streams = λ i h t at_h at_t.
           let p = l.serves.streams i h t at_h at_t in
-          (p.0, λ of fin. p.1 (none-broke (works ports l.ended) run.status of (same ∙ l.ends.streams of)) fin);
+          (p.0, λ not fin. p.1 (none-broke origin_at l.state l.store worked l.serves (unbroken not)) fin);
       others = l.serves.others;
       ended = record {
-        streams = λ of. same ∙ l.ends.streams of;
+        streams = first-cause origin_at l.state l.store worked l.serves run.status l.ends.broken by-streams;
         whole = whole-store;
-        store = λ e. rose-since (g.faults disk) (g.faults (disk_in y0)) (g.faults (disk_in l.store)) later (l.serves.fault (l.ends.store e));
-        full = λ e. subst (λ (hs : List (List ℕ)). LacksRoom hs l.state.length) l.serves.rows (l.ends.full e);
-        served = l.ends.served;
+        store = λ e.
+            rose-since (g.faults disk) (g.faults (disk_in y0)) (g.faults (disk_in l.store)) later
+            (l.serves.fault (fault-is origin_at l.state l.store worked l.serves run.status l.ends.broken by-streams e));
+        full = full-is origin_at l.state l.store worked l.serves run.status l.ends.broken by-streams is.limits_are;
+        closed = not-finished origin_at l.state l.store worked l.serves;
+        served = is-serving origin_at l.state l.store worked l.serves run.status l.ends.broken by-streams (serving (λ (t : Worked). t.read) (λ (t : Worked). t.wrote) worked);
       };
     }
 

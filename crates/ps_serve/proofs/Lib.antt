@@ -3,7 +3,7 @@ mod Works
 mod Ranks
 mod Stored
 mod Pairs
-mod Fulls
+mod Causes
 mod Headlines
 mod Opened
 mod Over

@@ -8,7 +8,7 @@ use Rattle.ps_model.specs.Store.{spelled}
 use Rattle.ps_opening.specs.Left.{Fronts, OpenLeaves}
 use Rattle.ps_opening.specs.Opens.{IsOpen}
 use Rattle.ps_ports.specs.declared.port.Port.{Port}
-use Rattle.ps_shared.specs.Origin.{Origin}
+use Rattle.ps_flush.specs.Origin.{Origin}
 use Rattle.ps_shared.specs.Start.{MayStart}
 use Rattle.ps_state.specs.declared.answers.Limits.{Limits}
 use Rattle.ps_state.specs.declared.state.State.{State}

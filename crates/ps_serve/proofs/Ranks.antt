@@ -1,64 +1,152 @@
--- The worst of the causes is none of the lesser ones.
-use Rattle.std.proofs.Common.{◌≡◌, inl, inr, ℕ, zero, suc, ◌≤◌, Bool, true, false, List, [], ◌∷◌, Some, refl, sym, ap, subst, arith}
+-- The first of the causes of all workers is that of some worker.
+use Rattle.std.proofs.Common.{◌≡◌, ◌⊎◌, ⊎_elim, inl, inr, ℕ, suc, Bool, true, false, List, [], ◌∷◌, Some, refl}
 use Rattle.std.specs.Prelude.{nat_lt, slice_get, if◌then◌else◌}
-use Rattle.std.proofs.lemmas.Bool.Decides.{nat_tests}
 use Rattle.ps_shared.specs.declared.answers.EndCause.{EndCause}
 use Rattle.ps_shared.specs.declared.answers.EndCause.TheVariants as writer
 use Rattle.ps_streams.specs.declared.read.ReadEnd.{ReadEnd}
 use Rattle.ps_streams.specs.declared.read.ReadEnd.TheVariants as reader
-use Rattle.ps_workers.specs.Headline.{NoneBroke, Worked}
-use Rattle.ps_serve.specs.Ends.{IsOfStreams, rank, stream_status, worst, worst_of, write_status}
+use Rattle.ps_workers.specs.Headline.{Worked}
+use Rattle.ps_serve.specs.Ends.{IsServing, closed_status, rank, stream_status, worst, worst_in, worst_of, write_status}
 use Rattle.ps_serve.specs.declared.status.Status.{Status}
-use Rattle.ps_serve.specs.declared.status.Status.TheVariants.{StoreFault}
+use Rattle.ps_serve.specs.declared.status.Status.TheVariants.{Done, Memory, StoreFault, StoreFull, StreamFault, StreamLong}
 
-pick-left : (x y : Status) (b : Bool) → nat_lt (rank x) (rank y) ≡ b → rank x ≤ rank (if b then y else x)
-pick-left x y true e = grind (arith, nat_tests, e)
-pick-left x y false e = omega arith
+-- ---- of two
 
-pick-right : (x y : Status) (b : Bool) → nat_lt (rank x) (rank y) ≡ b → rank y ≤ rank (if b then y else x)
-pick-right x y true e = omega arith
-pick-right x y false e = grind (arith, nat_tests, e)
+-- what both have the worst has
+picked : (P : Status → Type 0) (x y : Status) (b : Bool) → P x → P y → P (if b then y else x)
+picked P x y true p q = q
+picked P x y false p q = p
 
-pub worst-left : (x y : Status) → rank x ≤ rank (worst x y)
-worst-left x y = pick-left x y (nat_lt (rank x) (rank y)) refl
+of-both : (P : Status → Type 0) (x y : Status) → P x → P y → P (worst x y)
+of-both P x y p q = picked P x y (nat_lt (rank x) (rank y)) p q
 
-pub worst-right : (x y : Status) → rank y ≤ rank (worst x y)
-worst-right x y = pick-right x y (nat_lt (rank x) (rank y)) refl
+-- the worst is the one or the other
+either : (x y s : Status) → worst x y ≡ s → (x ≡ s) ⊎ (y ≡ s)
+either x y s = of-both (λ z. z ≡ s → (x ≡ s) ⊎ (y ≡ s)) x y (λ e. inl e) (λ e. inr e)
 
--- a fault of the disk that a worker met is the worst of its stream
-pub reader-store : (w : EndCause) → 5 ≤ rank (stream_status reader.Store w)
-reader-store w = worst-left StoreFault (write_status w)
+-- ---- of a stream
 
-pub writer-store : (r : ReadEnd) → 5 ≤ rank (stream_status r writer.Store)
-writer-store reader.Ended = omega arith
-writer-store reader.ReadFault = omega arith
-writer-store reader.Long = omega arith
-writer-store reader.Closed = omega arith
-writer-store reader.Store = omega arith
-writer-store reader.Full = omega arith
-writer-store reader.Memory = omega arith
+-- which worker's cause a status is
+module _ (s : Status) (IsRead : ReadEnd → Type 0) (IsWrote : EndCause → Type 0) where
+  record Causes : Type 0 where
+    write : (w : EndCause) → write_status w ≡ s → IsWrote w
+    closed : (w : EndCause) → closed_status w ≡ s → IsWrote w
+    fault : StreamFault ≡ s → ⊥
+    long : StreamLong ≡ s → ⊥
+    memory : Memory ≡ s → ⊥
+    store : StoreFault ≡ s → IsRead reader.Store
+    full : StoreFull ≡ s → IsRead reader.Full
 
-pub each-within : (ts : List Worked) (i : ℕ) (t : Worked) → slice_get ts i ≡ Some t → rank (stream_status t.read t.wrote) ≤ rank (worst_of ts)
-each-within [] i t e = absurd (cc e)
-each-within (u ∷ us) zero t e =
-    let same : u ≡ t = cc e in
-    subst (λ (x : Worked). rank (stream_status x.read x.wrote) ≤ rank (worst_of (u ∷ us))) same (worst-left (stream_status u.read u.wrote) (worst_of us))
-each-within (u ∷ us) (suc i) t e =
-    let low = each-within us i t e in
-    let more = worst-right (stream_status u.read u.wrote) (worst_of us) in
-    omega (arith, low, more)
+  abbrev Met : ReadEnd → EndCause → Type 0
+  Met r w = IsRead r ⊎ IsWrote w
 
-of-streams : (st : Status) → IsOfStreams st → rank st ≤ 2
-of-streams st (inl e) = subst (λ (s : Status). rank s ≤ 2) (sym e) (omega arith)
-of-streams st (inr (inl e)) = subst (λ (s : Status). rank s ≤ 2) (sym e) (omega arith)
-of-streams st (inr (inr e)) = subst (λ (s : Status). rank s ≤ 2) (sym e) (omega arith)
+  met-worst : (c : Causes) (r : ReadEnd) (w : EndCause) (x : Status) → (x ≡ s → IsRead r) → worst x (write_status w) ≡ s → Met r w
+  met-worst c r w x by e = ⊎_elim (λ f. inl (by f)) (λ f. inr (c.write w f)) (either x (write_status w) s e)
 
--- where the status is one of streams, no worker met such a fault
-pub none-broke : (ts : List Worked) (st : Status) → IsOfStreams st → worst_of ts ≡ st → NoneBroke ts
-none-broke ts st of same i t here =
-    let low = each-within ts i t here in
-    let two = of-streams st of in
-    let is : rank (worst_of ts) ≡ rank st = ap rank same in (
-      λ e. absurd (let five = reader-store t.wrote in let is_five : rank (stream_status t.read t.wrote) ≡ rank (stream_status reader.Store t.wrote) = ap (λ (r : ReadEnd). rank (stream_status r t.wrote)) e in omega (arith, low, two, is, five, is_five)),
-      λ e. absurd (let five = writer-store t.read in let is_five : rank (stream_status t.read t.wrote) ≡ rank (stream_status t.read writer.Store) = ap (λ (w : EndCause). rank (stream_status t.read w)) e in omega (arith, low, two, is, five, is_five)),
-    )
+  met : (c : Causes) (r : ReadEnd) (w : EndCause) → stream_status r w ≡ s → Met r w
+  met c reader.Ended w e = inr (c.write w e)
+  met c reader.ReadFault w e = met-worst c reader.ReadFault w StreamFault (λ f. absurd (c.fault f)) e
+  met c reader.Long w e = met-worst c reader.Long w StreamLong (λ f. absurd (c.long f)) e
+  met c reader.Closed w e = inr (c.closed w e)
+  met c reader.Store w e = met-worst c reader.Store w StoreFault c.store e
+  met c reader.Full w e = met-worst c reader.Full w StoreFull c.full e
+  met c reader.Memory w e = met-worst c reader.Memory w Memory (λ f. absurd (c.memory f)) e
+
+write-store : (w : EndCause) → write_status w ≡ StoreFault → w ≡ writer.Store
+write-store writer.Store e = refl
+write-store writer.Finished e = absurd (cc e)
+write-store writer.WriteFault e = absurd (cc e)
+write-store writer.Full e = absurd (cc e)
+write-store writer.Memory e = absurd (cc e)
+
+closed-store : (w : EndCause) → closed_status w ≡ StoreFault → w ≡ writer.Store
+closed-store writer.Store e = refl
+closed-store writer.Finished e = absurd (cc e)
+closed-store writer.WriteFault e = absurd (cc e)
+closed-store writer.Full e = absurd (cc e)
+closed-store writer.Memory e = absurd (cc e)
+
+write-full : (w : EndCause) → write_status w ≡ StoreFull → w ≡ writer.Full
+write-full writer.Full e = refl
+write-full writer.Finished e = absurd (cc e)
+write-full writer.WriteFault e = absurd (cc e)
+write-full writer.Store e = absurd (cc e)
+write-full writer.Memory e = absurd (cc e)
+
+closed-full : (w : EndCause) → closed_status w ≡ StoreFull → w ≡ writer.Full
+closed-full writer.Full e = refl
+closed-full writer.Finished e = absurd (cc e)
+closed-full writer.WriteFault e = absurd (cc e)
+closed-full writer.Store e = absurd (cc e)
+closed-full writer.Memory e = absurd (cc e)
+
+-- a fault of the disk is one that a worker met
+pub met-store : (r : ReadEnd) (w : EndCause) → stream_status r w ≡ StoreFault → (r ≡ reader.Store) ⊎ (w ≡ writer.Store)
+met-store = met StoreFault (λ r. r ≡ reader.Store) (λ w. w ≡ writer.Store)
+    (record {
+      write = write-store;
+      closed = closed-store;
+      fault = λ e. cc e;
+      long = λ e. cc e;
+      memory = λ e. cc e;
+      store = λ e. refl;
+      full = λ e. absurd (cc e);
+    })
+
+-- and for want of room some worker ended
+pub met-full : (r : ReadEnd) (w : EndCause) → stream_status r w ≡ StoreFull → (r ≡ reader.Full) ⊎ (w ≡ writer.Full)
+met-full = met StoreFull (λ r. r ≡ reader.Full) (λ w. w ≡ writer.Full)
+    (record {
+      write = write-full;
+      closed = closed-full;
+      fault = λ e. cc e;
+      long = λ e. cc e;
+      memory = λ e. cc e;
+      store = λ e. absurd (cc e);
+      full = λ e. refl;
+    })
+
+-- ---- of all streams
+
+-- one of them has it
+pub record IsOf (ts : List Worked) (s : Status) : Type 0 where
+  pub at : ℕ
+  pub stream : Worked
+  pub here : slice_get ts at ≡ Some stream
+  pub is : stream_status stream.read stream.wrote ≡ s
+
+later : (t : Worked) (ts : List Worked) (s : Status) → IsOf ts s → IsOf (t ∷ ts) s
+later t ts s o = record { at = suc o.at; stream = o.stream; here = o.here; is = o.is }
+
+pub some-stream : (ts : List Worked) (s : Status) → (Done ≡ s → ⊥) → worst_of ts ≡ s → IsOf ts s
+some-stream [] s not e = absurd (not e)
+some-stream (t ∷ ts) s not e =
+    ⊎_elim (λ f. record { at = 0; stream = t; here = refl; is = f }) (λ f. later t ts s (some-stream ts s not f)) (either (stream_status t.read t.wrote) (worst_of ts) s e)
+
+-- each is a status of a run that served
+write-serving : (w : EndCause) → IsServing (write_status w)
+write-serving writer.Finished = tt
+write-serving writer.WriteFault = tt
+write-serving writer.Store = tt
+write-serving writer.Full = tt
+write-serving writer.Memory = tt
+
+closed-serving : (w : EndCause) → IsServing (closed_status w)
+closed-serving writer.Finished = tt
+closed-serving writer.WriteFault = tt
+closed-serving writer.Store = tt
+closed-serving writer.Full = tt
+closed-serving writer.Memory = tt
+
+stream-serving : (r : ReadEnd) (w : EndCause) → IsServing (stream_status r w)
+stream-serving reader.Ended w = write-serving w
+stream-serving reader.ReadFault w = of-both IsServing StreamFault (write_status w) tt (write-serving w)
+stream-serving reader.Long w = of-both IsServing StreamLong (write_status w) tt (write-serving w)
+stream-serving reader.Closed w = closed-serving w
+stream-serving reader.Store w = of-both IsServing StoreFault (write_status w) tt (write-serving w)
+stream-serving reader.Full w = of-both IsServing StoreFull (write_status w) tt (write-serving w)
+stream-serving reader.Memory w = of-both IsServing Memory (write_status w) tt (write-serving w)
+
+pub serving : {E : Type 0} (read : E → ReadEnd) (wrote : E → EndCause) (es : List E) → IsServing (worst_in read wrote es)
+serving read wrote [] = tt
+serving read wrote (e ∷ es) = of-both IsServing (stream_status (read e) (wrote e)) (worst_in read wrote es) (stream-serving (read e) (wrote e)) (serving read wrote es)

@@ -1,10 +1,9 @@
 -- What comes of serving streams over a disk.
-use Rattle.std.specs.Prelude.{◌≡◌, ◌≢◌, ◌⊎◌, ℕ, ◌+◌, List, None, false, true, is_some, length, map}
+use Rattle.std.specs.Prelude.{◌≡◌, ◌⊎◌, ℕ, ◌+◌, List, None, true, is_some, length, map}
 use Rattle.ps_disk.specs.declared.device.Disk.{Ghosts as DiskGhosts}
 use Rattle.ps_model.specs.Store.{Begun, gate_at}
 use Rattle.ps_ports.specs.declared.port.Port.{Port}
-use Rattle.ps_shared.specs.Origin.{Origin}
-use Rattle.ps_state.specs.Rows.{names}
+use Rattle.ps_flush.specs.Origin.{Origin}
 use Rattle.ps_state.specs.declared.state.State.{State}
 use Rattle.ps_store.specs.Stand.{broken_in, disk_in, length_in}
 use Rattle.ps_store.specs.declared.store.Store.{Store}
@@ -12,10 +11,9 @@ use Rattle.ps_opening.specs.declared.opened.OpenWhy.{OpenWhy}
 use Rattle.ps_opening.specs.declared.opened.OpenWhy.TheVariants as why
 use Rattle.ps_workers.specs.Headline.{Serves, Worked}
 use Rattle.ps_workers.specs.declared.serving.Ended.{Ended}
-use Rattle.ps_serve.specs.Ends.{IsOfStreams, IsServing, worst_in}
+use Rattle.ps_serve.specs.Ends.{worst_in}
 use Rattle.ps_serve.specs.Headline.{Headline, Idle}
 use Rattle.ps_serve.specs.Outside.{held_as}
-use Rattle.ps_serve.specs.Room.{LacksRoom}
 use Rattle.ps_serve.specs.declared.status.Status.{Status}
 use Rattle.ps_serve.specs.declared.status.Status.TheVariants.{StoreDamaged, StoreFault, StoreFull, Memory}
 use Rattle.ps_serve.specs.declared.storing.Run.{Run}
@@ -28,15 +26,11 @@ not_opened why.Full = StoreFull
 not_opened why.Memory = Memory
 
 module _ {D : Type 0} {g : DiskGhosts D} where
-  -- why a run ended that gave back this state and this store
-  pub record HasStatus {L C K : Type 0} (v : State) (y : Store D g) (ended : List (Ended L C K)) (status : Status)
-      : Type 0 where
-    pub streams : IsOfStreams status
-        → worst_in (λ (e : Ended L C K). e.read) (λ (e : Ended L C K). e.wrote) ended ≡ status
-    pub store : status ≡ StoreFault → is_some (broken_in y) ≡ true
-    pub whole : status ≢ StoreFault → status ≢ Memory → (broken_in y ≡ None) × (v.broken ≡ false)
-    pub full : status ≡ StoreFull → LacksRoom (names v.rows.items) v.length
-    pub served : IsServing status
+  -- how a run ended that gave back this store
+  pub record HasStatus {L C K : Type 0} (y : Store D g) (ended : List (Ended L C K)) (status : Status) : Type 0 where
+    pub broken : is_some (broken_in y) ≡ true → status ≡ StoreFault
+    pub streams : broken_in y ≡ None
+        → status ≡ worst_in (λ (e : Ended L C K). e.read) (λ (e : Ended L C K). e.wrote) ended
 
   -- the disk of a store that was closed
   pub record HasClosed (y : Store D g) (disk : D) : Type 0 where
@@ -53,7 +47,7 @@ module _ {D L C K : Type 0} (g : DiskGhosts D) (works : List (Port L C K) → Li
     pub size : length ended ≡ length ports
     pub back : run.ports.items ≡ map (λ (e : Ended L C K). e.port) ended
     pub serves : Serves o state store (works ports ended)
-    pub ends : HasStatus state store ended run.status
+    pub ends : HasStatus store ended run.status
     pub closed : HasClosed store run.disk
 
   -- there was no memory for a hall

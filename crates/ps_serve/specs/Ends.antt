@@ -1,5 +1,5 @@
--- The status of a run over its streams: the first of the causes for which their workers ended.
-use Rattle.std.specs.Prelude.{◌≡◌, ◌⊎◌, ℕ, nat_lt, List, [], ◌∷◌, if◌then◌else◌}
+-- The status of a run over its streams: the first of the causes for which their workers ended, but where the store failed.
+use Rattle.std.specs.Prelude.{ℕ, nat_lt, List, [], ◌∷◌, if◌then◌else◌}
 use Rattle.ps_shared.specs.declared.answers.EndCause.{EndCause}
 use Rattle.ps_shared.specs.declared.answers.EndCause.TheVariants as writer
 use Rattle.ps_streams.specs.declared.read.ReadEnd.{ReadEnd}
@@ -32,7 +32,7 @@ write_status writer.Store = StoreFault
 write_status writer.Full = StoreFull
 write_status writer.Memory = Memory
 
--- a reader that finds its writer ended has that one's cause, which is not that all was said
+-- A reader that finds its writer ended has that one's cause. No stream ends so whose writer finished (`closed` of `HasEnded` and of ps_workers' `HasReasons`).
 abbrev pub closed_status : EndCause → Status
 closed_status writer.Finished = Memory
 closed_status writer.WriteFault = StreamFault
@@ -57,10 +57,6 @@ worst_in read wrote (e ∷ es) = worst (stream_status (read e) (wrote e)) (worst
 
 abbrev pub worst_of : List Worked → Status
 worst_of worked = worst_in (λ (t : Worked). t.read) (λ (t : Worked). t.wrote) worked
-
--- the statuses of a run whose store took all, and in which memory did not run out
-abbrev pub IsOfStreams : Status → Type 0
-IsOfStreams status = (status ≡ Done) ⊎ ((status ≡ StreamFault) ⊎ (status ≡ StreamLong))
 
 -- a status of a run that served
 abbrev pub IsServing : Status → Type 0

@@ -15,13 +15,14 @@ use Rattle.ps_model.specs.World.{World, durable}
 use Rattle.ps_opening.specs.Opens.{PassesBy}
 use Rattle.ps_outside.specs.Held.{HeldStore}
 use Rattle.ps_deeds.specs.Own.{IsServed}
-use Rattle.ps_shared.specs.Origin.{Origin}
+use Rattle.ps_flush.specs.Origin.{Origin}
 use Rattle.ps_shared.specs.declared.answers.EndCause.TheVariants.{Finished}
 use Rattle.ps_state.specs.declared.answers.Limits.{Limits}
 use Rattle.ps_store.specs.Left.{IsFront}
+use Rattle.ps_streams.specs.declared.read.ReadEnd.TheVariants.{Closed}
 use Rattle.ps_workers.specs.Headline.{IsAllSaid, ServesStream, Worked, base_of}
 use Rattle.ps_serve.specs.Crashes.{FrontsSince, HasWhole, IsTidy, LeftSince}
-use Rattle.ps_serve.specs.Ends.{IsOfStreams, IsServing, worst_of}
+use Rattle.ps_serve.specs.Ends.{IsServing, worst_of}
 use Rattle.ps_serve.specs.Room.{LacksRoom, max_whole}
 use Rattle.ps_serve.specs.declared.status.Status.{Status}
 use Rattle.ps_serve.specs.declared.status.Status.TheVariants.{Done, Usage, OpenFault, StoreDamaged, StoreFault, StoreFull, Occupied, Memory, StreamFault, StreamLong}
@@ -75,17 +76,18 @@ pub record HasOneList (tells : Type 0) (o : Origin) (w : World) (old new : HeldS
 -- why the run ended so
 pub record HasEnded (tells : Type 0) (o : Origin) (w : World) (worked : List Worked) (old new : HeldStore) (len : ℕ)
     (status : Status) : Type 0 where
-  -- the first of the causes of all workers
-  pub streams : IsOfStreams status → worst_of worked ≡ status
-  -- but for a fault of the disk, and for want of memory, the store has the whole list
-  pub whole : status ≢ StoreFault → status ≢ Memory → tells → HasWhole new w.entries len
+  -- but for a fault of the disk it is the first of the causes of all workers, and the store has the whole list
+  pub streams : status ≢ StoreFault → worst_of worked ≡ status
+  pub whole : status ≢ StoreFault → tells → HasWhole new w.entries len
   pub store : status ≡ StoreFault → Rose old.faults new.faults
   pub full : status ≡ StoreFull → LacksRoom o.hosts len
+  -- where a reader found its writer ended, that one had not finished
+  pub closed : (i : ℕ) (t : Worked) → slice_get worked i ≡ Some t → t.read ≡ Closed → t.wrote ≢ Finished
   pub served : IsServing status
 
 -- All streams were served over one list of entries, each as `ServesStream` says: its lines stand in the list in their order, and its sink has their replies and
--- the notices of its host, which are read back from its bytes. Where the store took all and memory did not run out, all is said for each stream whose writer
--- finished. An address of another host keeps its notices.
+-- the notices of its host, which are read back from its bytes. But for a fault of the disk all is said for each stream whose writer finished. An address of another
+-- host keeps its notices.
 pub record Headline (tells : Type 0) (service : List ℕ) (hosts : List (List ℕ)) (worked : List Worked)
     (old new : HeldStore) (left : ℕ → List ℕ → Type 0) (status : Status) : Type 0 where
   pub origin : Origin
@@ -97,7 +99,7 @@ pub record Headline (tells : Type 0) (service : List ℕ) (hosts : List (List �
   pub list : HasOneList tells origin world old new left
   pub streams : (i : ℕ) (h : List ℕ) (t : Worked) → slice_get hosts i ≡ Some h → slice_get worked i ≡ Some t
       → (s : ServesStream origin tells (len + 5) world h t)
-      × (IsOfStreams status → t.wrote ≡ Finished → IsAllSaid origin tells world h (len + 5) t s)
+      × (status ≢ StoreFault → t.wrote ≡ Finished → IsAllSaid origin tells world h (len + 5) t s)
   pub others : (a : Jid) → (IsServed hosts a.host → ⊥)
       → handed world.entries a ≡ handed (base_of origin) a
   pub ended : HasEnded tells origin world worked old new len status

@@ -1,13 +1,10 @@
 -- When an entry that ends a run finds no room in the store.
-use Rattle.std.specs.Prelude.{◌≡◌, ◌⊎◌, ℕ, ◌+◌, ◌<◌, List, Option, Some, None, length, slice_get}
+use Rattle.std.specs.Prelude.{◌⊎◌, ℕ, ◌+◌, ◌<◌, List, length}
 use Rattle.ps_types.specs.declared.entry.Entry.{Entry}
 use Rattle.ps_types.specs.declared.entry.Entry.TheVariants.{Gone, Handed}
 use Rattle.ps_types.specs.declared.jid.Jid.{Jid}
-use Rattle.ps_model.specs.Entries.{IsHostName, spelling}
+use Rattle.ps_model.specs.Entries.{spelling}
 use Rattle.ps_deeds.specs.Own.{IsServed}
-use Rattle.ps_state.specs.Stand.{IsOf}
-use Rattle.ps_state.specs.declared.state.Hand.{Hand}
-use Rattle.ps_state.specs.declared.state.HostRow.{HostRow}
 
 -- at most this many bytes are written for all entries
 abbrev pub max_whole : ℕ
@@ -31,21 +28,3 @@ pub record LacksHanded (hosts : List (List ℕ)) (len : ℕ) : Type 0 where
 
 abbrev pub LacksRoom : List (List ℕ) → ℕ → Type 0
 LacksRoom hosts len = LacksGone hosts len ⊎ LacksHanded hosts len
-
--- ---- in the rows of hosts
-
--- the row is of a host as it is printed, and its writer has a notice to the host in hand, if any
-pub record IsNamed (row : HostRow) : Type 0 where
-  pub name : IsHostName row.host
-  pub hand : (h : Hand) → row.in_hand ≡ Some h → IsOf row.host h.to
-
-abbrev pub AreNamed : List HostRow → Type 0
-AreNamed rows = (k : ℕ) (row : HostRow) → slice_get rows k ≡ Some row → IsNamed row
-
--- it has one in hand whose Handed passes the limit
-abbrev pub IsHandOver : List ℕ → Option Hand → ℕ → Type 0
-IsHandOver host None len = ⊥
-IsHandOver host (Some h) len = (h.to.host ≡ host) × IsOver (Handed h.to) len
-
-abbrev pub HasHandOver : HostRow → ℕ → Type 0
-HasHandOver row len = IsHandOver row.host row.in_hand len

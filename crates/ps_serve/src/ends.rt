@@ -1,27 +1,14 @@
 // The status of a run over its streams.
-ghost use Rattle.std.specs.Prelude.{◌≡◌, ◌≢◌, ◌⊎◌, ◌≤◌, ◌^◌, true, false, IfOk, is_some, None, length};
-ghost use Rattle.ps_model.specs.Entries.{IsEntry, spelling};
-ghost use Rattle.ps_state.specs.Rows.{names};
-ghost use Rattle.ps_state.specs.Stand.{IsStanding};
+ghost use Rattle.std.specs.Prelude.{◌≡◌, true, is_some, None};
 ghost use Rattle.ps_store.specs.Stand.{broken_in};
-ghost use Rattle.ps_types.specs.declared.entry.Entry.{Entry};
-ghost use Rattle.ps_serve.specs.Ends.{IsOfStreams, IsServing, closed_status, rank as rank_of, stream_status, worst, worst_in, write_status};
-ghost use Rattle.ps_serve.specs.Room.{AreNamed, HasHandOver, IsNamed, IsOver, LacksRoom};
+ghost use Rattle.ps_serve.specs.Ends.{closed_status, rank as rank_of, stream_status, worst, worst_in, write_status};
 
 use crate::status::Status;
-use ps_base::Memory;
 use ps_disk::Disk;
-use ps_record::Batch;
 use ps_shared::EndCause;
-use ps_state::{HostRow, State};
 use ps_store::Store;
 use ps_streams::ReadEnd;
-use ps_types::Entry;
 use ps_workers::Ended;
-use std::alloc::Global;
-
-// How many bytes a store has at most.
-const WHOLE: u64 = 1 << 30;
 
 fn rank(status: Status) -> u8
     ensures { result ≡ rank_of status }
@@ -58,7 +45,7 @@ fn of_writer(wrote: EndCause) -> Status
     }
 }
 
-// The cause of a writer that its reader found ended.
+// The cause of a writer that its reader found ended. It is never that it finished.
 fn of_closed(wrote: EndCause) -> Status
     ensures { result ≡ closed_status wrote }
 {
@@ -95,98 +82,13 @@ pub(crate) fn worst_end<L, C, K>(ended: &[Ended<L, C, K>]) -> Status
     worse(of_stream(first.read, first.wrote), worst_end(others))
 }
 
-// Whether the entry finds no room behind so many bytes.
-fn lacks(alloc: Global, entry: &Entry, len: u64) -> Result<bool, Memory>
-    requires entry { IsEntry entry.now }
-    requires short { length (spelling entry.now) ≤ 2 ^ 30 }
-    requires fits { len ≤ 2 ^ 30 }
-    ensures { IfOk result (λ b. b ≡ true → IsOver entry.now len) }
-{
-    let mut batch = Batch::new(alloc)?;
-    batch.push(entry)?;
-    Ok(len + (5 + batch.len()) > WHOLE)
-}
-
-fn lacks_gone(alloc: Global, row: &HostRow, len: u64) -> Result<bool, Memory>
-    requires row { IsNamed row.now }
-    requires fits { len ≤ 2 ^ 30 }
-    ensures { IfOk result (λ b. b ≡ true → IsOver (Entry.Gone row.now.host) len) }
-{
-    let gone = Entry::Gone {
-        host: row.host.clone()?,
-    };
-    lacks(alloc, &gone, len)
-}
-
-fn lacks_handed(alloc: Global, row: &HostRow, len: u64) -> Result<bool, Memory>
-    requires row { IsNamed row.now }
-    requires fits { len ≤ 2 ^ 30 }
-    ensures { IfOk result (λ b. b ≡ true → HasHandOver row.now len) }
-{
-    match &row.in_hand {
-        None => Ok(false),
-        Some(hand) => {
-            let handed = Entry::Handed {
-                to: hand.to.clone()?,
-            };
-            lacks(alloc, &handed, len)
-        }
-    }
-}
-
-// Whether the end of some host's callers, or the record of a notice that some writer has in hand, finds no room.
-fn lacks_room(alloc: Global, rows: &[HostRow], len: u64) -> Result<bool, Memory>
-    requires rows { AreNamed rows.now }
-    requires fits { len ≤ 2 ^ 30 }
-    ensures { IfOk result (λ b. b ≡ true → LacksRoom (names rows.now) len) }
-{
-    let Some((row, others)) = rows.split_first() else {
-        return Ok(false);
-    };
-    Ok(
-        lacks_gone(alloc, row, len)?
-            || (lacks_handed(alloc, row, len)? || lacks_room(alloc, others, len)?),
-    )
-}
-
-// The store is full only where that shows at the end.
-fn if_full(alloc: Global, state: &State) -> Status
-    requires standing { IsStanding state.now }
-    ensures full { result ≡ Status.StoreFull → LacksRoom (names state.now.rows.items) state.now.length }
-    ensures only { (result ≡ Status.StoreFull) ⊎ (result ≡ Status.Memory) }
-{
-    match lacks_room(alloc, &state.rows, state.length) {
-        Ok(true) => Status::StoreFull,
-        Ok(false) | Err(Memory) => Status::Memory,
-    }
-}
-
-/// The status of a run whose hall has given back these two values. A fault of the disk comes first, and a cause that doesn't show in them is none.
-pub(crate) fn status_of<D: Disk, L, C, K>(
-    alloc: Global,
-    state: &State,
-    store: &Store<D>,
-    ended: &[Ended<L, C, K>],
-) -> Status
-    requires standing { IsStanding state.now }
-    ensures streams { IsOfStreams result → worst_in (λ e. e.read) (λ e. e.wrote) ended.now ≡ result }
-    ensures store { result ≡ Status.StoreFault → is_some (broken_in store.now) ≡ true }
-    ensures whole { result ≢ Status.StoreFault → result ≢ Status.Memory
-        → (broken_in store.now ≡ None) × (state.now.broken ≡ false) }
-    ensures full { result ≡ Status.StoreFull → LacksRoom (names state.now.rows.items) state.now.length }
-    ensures served { IsServing result }
+/// The status of a run whose hall has given back this store: a fault of it comes first, and then the causes of the workers.
+pub(crate) fn status_of<D: Disk, L, C, K>(store: &Store<D>, ended: &[Ended<L, C, K>]) -> Status
+    ensures broken { is_some (broken_in store.now) ≡ true → result ≡ Status.StoreFault }
+    ensures streams { broken_in store.now ≡ None → result ≡ worst_in (λ e. e.read) (λ e. e.wrote) ended.now }
 {
     if store.is_broken() {
         return Status::StoreFault;
     }
-    if state.broken {
-        return Status::Memory;
-    }
-    match worst_end(ended) {
-        Status::Done => Status::Done,
-        Status::StreamLong => Status::StreamLong,
-        Status::StreamFault => Status::StreamFault,
-        Status::StoreFull => if_full(alloc, state),
-        _ => Status::Memory,
-    }
+    worst_end(ended)
 }

@@ -8,7 +8,7 @@
 //! that is durable, and a crash at any moment since the run's start a front that has all entries of the store. `ServesStream` (of ps_workers), for each
 //! stream: its lines that came are the first of its source, each answered at its place, no older than the stream's earlier ones; its sink has a front of
 //! their replies, and of each address's notices just those after the ones that were recorded before; what was written rests on durable entries; and so it
-//! reads, the replies and the other stanzas to each address told apart by the bytes of the sink (`ReadsBack`). `IsAllSaid`: nothing is left to say, where the store took all and the stream's writer finished. `HasEnded`: the cause of each status. Where no line came
+//! reads, the replies and the other stanzas to each address told apart by the bytes of the sink (`ReadsBack`). `IsAllSaid`: nothing is left to say, but for a fault of the disk, where the stream's writer finished. `HasEnded`: the cause of each status. Where no line came
 //! (`RanIdle`) the entries of the store stand, with or without the Boot; where an opening failed nothing has changed (`Untouched`).
 //!
 //! A rehearsal (ps_rehearse) is a run of two streams in memory, of which five numbers are reported; `specs/Numbers.antt` has their lines, `specs/Came.antt` what
@@ -16,7 +16,7 @@
 //!
 //! Compacting (ps_compact) opens two stores, and writes a new one that begins with the rows of the other: `specs/Compacting.antt` (`Compacts`).
 //!
-//! `specs/Ends.antt` says which cause of the workers comes first, `specs/Room.antt` when a store is full, `specs/Crashes.antt` what a crash leaves,
+//! `specs/Ends.antt` says which cause of the workers comes first, `specs/Room.antt` when a store is full for an entry that ends a run, `specs/Crashes.antt` what a crash leaves,
 //! `specs/Outside.antt` what a world tells.
 #![tactic(auto)]
 

@@ -61,7 +61,8 @@ impl Status {
         match self {
             Status::Done => "",
             Status::Usage => {
-                "usage: pubsubd serve --service HOST --store PATH HOST IN OUT [HOST IN OUT].. | rehearse SEED COUNT | compact PATH NEW\n"
+                "usage: pubsubd serve --service HOST --store PATH HOST IN OUT [HOST IN OUT].. \
+                 | rehearse SEED COUNT | compact PATH NEW\n"
             }
             Status::OpenFault => "open fault\n",
             Status::StoreDamaged { at: _ } => "store damaged at ",

@@ -120,8 +120,8 @@ fn live<
             ports,
         },
         Ok((hall, passes)) => {
-            let (state, store, ended) = serve(rt, alloc, hall, passes, ports, room);
-            let status = status_of(alloc, &state, &store, &ended);
+            let (_, store, ended) = serve(rt, alloc, hall, passes, ports, room);
+            let status = status_of(&store, &ended);
             Run {
                 status,
                 disk: store.close(),

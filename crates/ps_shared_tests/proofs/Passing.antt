@@ -2,7 +2,7 @@
 use Rattle.std.proofs.Common.{◌≡◌, ℕ, zero, suc, ◌<◌, List, [], ◌∷◌, Some, length, arith, subst}
 use Rattle.std.specs.Prelude.{slice_get, slice_set}
 use Rattle.ps_disk.specs.declared.device.Disk.{Ghosts}
-use Rattle.ps_shared.specs.Origin.{Origin}
+use Rattle.ps_flush.specs.Origin.{Origin}
 use Rattle.ps_shared.specs.Passes.{AreFresh, AreOf, ArePasses, OurTwin}
 use Rattle.ps_shared.specs.declared.hall.HostPasses.{HostPasses}
 use Rattle.ps_shared_tests.specs.Passes.{IsFree, Reads, Writes}

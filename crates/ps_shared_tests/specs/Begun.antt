@@ -3,7 +3,7 @@ use Rattle.std.specs.Prelude.{ℕ, List, [], ◌∷◌, codes}
 use Rattle.ps_disk.specs.declared.device.Disk.{Ghosts}
 use Rattle.ps_types.specs.declared.entry.Entry.{Entry}
 use Rattle.ps_opening.specs.Opens.{at_from}
-use Rattle.ps_shared.specs.Origin.{Origin}
+use Rattle.ps_flush.specs.Origin.{Origin}
 use Rattle.ps_state.specs.declared.state.State.{State}
 use Rattle.ps_store.specs.declared.store.Store.{Store}
 

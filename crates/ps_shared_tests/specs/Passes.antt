@@ -2,7 +2,7 @@
 use Rattle.std.specs.Prelude.{◌≡◌, None}
 use Rattle.ps_disk.specs.declared.device.Disk.{Ghosts}
 use Rattle.ps_shared.specs.Calls.{HandAt, IsReader, IsWriter}
-use Rattle.ps_shared.specs.Origin.{Origin}
+use Rattle.ps_flush.specs.Origin.{Origin}
 use Rattle.ps_shared.specs.Passes.{OurTwin}
 use Rattle.ps_shared.specs.declared.hall.Pass.{Pass}
 

@@ -17,7 +17,7 @@ use Rattle.ps_deeds.specs.declared.deed.Deed.{Deed}
 use Rattle.ps_deeds.specs.Lines.{Came, HasLines, came, came_if}
 use Rattle.ps_deeds.specs.Own.{steps_in}
 use Rattle.ps_deeds.proofs.Lining.{step-lines}
-use Rattle.ps_shared.specs.Homes.{HadNoRoom, NoRoom}
+use Rattle.ps_flush.specs.Homes.{HadNoRoom, NoRoom}
 use Rattle.ps_workers.specs.Told.{AreFull, PassesLimit}
 
 module _ (limit upto : ℕ) (h : List ℕ) where

@@ -26,11 +26,11 @@ use Rattle.ps_deeds.proofs.Handing.{hands-none}
 use Rattle.ps_deeds.proofs.Lining.{begun-lines, run-lines}
 use Rattle.ps_deeds.proofs.Owning.{calm, own-append, own-arrivals, own-none, own-records, own-words, words-by-append, words-by-none}
 use Rattle.ps_deeds.proofs.Wording.{recorded-few}
-use Rattle.ps_shared.specs.Homes.{HadNoRoom, maker_of, world_at}
-use Rattle.ps_shared.specs.Origin.{Origin}
+use Rattle.ps_flush.specs.Homes.{HadNoRoom, maker_of, world_at}
+use Rattle.ps_flush.specs.Origin.{Origin}
 use Rattle.ps_shared.specs.declared.answers.EndCause.{EndCause}
 use Rattle.ps_shared.specs.declared.answers.EndCause.TheVariants.{Finished, WriteFault}
-use Rattle.ps_shared.proofs.Logs.{none_of}
+use Rattle.ps_flush.proofs.Logs.{none_of}
 use Rattle.ps_streams.specs.Reading.{Lined}
 use Rattle.ps_workers.specs.Headline.{IsAllSaid, ServesStream, Worked, base_of}
 use Rattle.ps_workers.specs.Told.{AreOurs, IsAcknowledged}
@@ -141,7 +141,7 @@ module _ (o : Origin) (log : List Deed) (lawful : IsLawful the_core o.list) (nam
           causes = record { read_later = r.later; read_fault = r.fault; long = r.long; early = r.early; write_later = w.later; write_fault = w.fault };
         },
         λ all finished. (
-            let d = w.done finished in
+            let d = (w.done finished).done in
             let last_deed = deeds (i + i + 1) d.bytes (Ends h Writer ∷ []) in
             let rest = (d.between ++ last_deed) ++ kept_too.after in
             let complete : IsComplete the_core base h at cs (whole ++ last) =

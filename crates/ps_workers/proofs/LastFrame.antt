@@ -19,12 +19,13 @@ use Rattle.ps_store.specs.Stand.{IsKept, IsWhole, OpenedAt, StoreStands, broken_
 use Rattle.ps_store.specs.declared.store.Frame.{Frame}
 use Rattle.ps_store.specs.declared.store.Store.{Store}
 use Rattle.ps_shared.specs.Closed.{HasClosed}
-use Rattle.ps_shared.specs.Flush.{IsFrameOf}
-use Rattle.ps_shared.specs.Homes.{bytes_in, world_at}
-use Rattle.ps_shared.specs.Origin.{Origin}
-use Rattle.ps_shared.proofs.Framing.{loaded_ok}
-use Rattle.ps_shared.proofs.Homing.{bytes_given}
-use Rattle.ps_shared.proofs.Logs.{prefix_follows, room_more}
+use Rattle.ps_flush.specs.Flush.{IsFrameOf}
+use Rattle.ps_flush.specs.Homes.{bytes_in, world_at}
+use Rattle.ps_flush.specs.Origin.{Origin}
+use Rattle.ps_flush.proofs.Framing.{loaded_ok}
+use Rattle.ps_flush.proofs.Homing.{bytes_given}
+use Rattle.ps_flush.proofs.Logs.{prefix_follows, room_more}
+use Rattle.ps_flush.proofs.Marking.{quiet_mark, whole_mark}
 use Rattle.ps_workers.specs.Closing.{HasEnded}
 
 -- fewer steps are counted on
@@ -58,8 +59,8 @@ module _ {V J D : Type 0} {g : Ghosts D} (o : Origin) (v now : State) (y : Store
 
   -- what each store that is left at the end has to tell
   ended : (z : Store D g) → (g.tells → IsKept g o.at (disk_in z) now.flushed after) → (now.broken ≡ false → broken_in z ≡ None → IsWhole z after) → (now.broken ≡ false → broken_in z ≡ None → now.length ≡ length_in z)
-      → (is_some (broken_in z) ≡ true → Rose o.at.faults (g.faults (disk_in z))) → o.at.faults ≤ g.faults (disk_in z) → o.at.bytes ≤ length_in z → HasEnded o now z seats
-  ended z kept whole length_is fault faults grows = record {
+      → (now.broken ≡ true → is_some (broken_in z) ≡ true) → (is_some (broken_in z) ≡ true → Rose o.at.faults (g.faults (disk_in z))) → o.at.faults ≤ g.faults (disk_in z) → o.at.bytes ≤ length_in z → HasEnded o now z seats
+  ended z kept whole length_is broken fault faults grows = record {
     log = closed.log;
     lawful = closed.home.lawful;
     named = closed.home.named;
@@ -71,6 +72,7 @@ module _ {V J D : Type 0} {g : Ghosts D} (o : Origin) (v now : State) (y : Store
     kept = kept;
     whole = whole;
     length_is = length_is;
+    broken = broken;
     fault = fault;
     faults = faults;
     grows = grows;
@@ -85,12 +87,16 @@ module _ {V J D : Type 0} {g : Ghosts D} (o : Origin) (v now : State) (y : Store
       (λ tells. subst (λ n. IsKept g o.at (disk_in y) n after) (sym did.kept.flushed) (closed.kept tells))
       (λ quiet. absurd (false≢true (sym quiet ∙ broken)))
       (λ quiet. absurd (false≢true (sym quiet ∙ broken)))
+      (λ told. sym closed.broken ∙ (sym did.kept.broken ∙ told))
       (λ torn. a.fault (a.broken ∙ torn))
       a.faults
       a.grows
 
   loaded : now.broken ≡ false → Loaded o.at y f before after
-  loaded quiet = loaded_ok o v now y f before after closed.archive closed.home.stands (prefix_follows o closed.list closed.log closed.front closed.home.owned) closed.mark (sym did.kept.broken ∙ quiet) did
+  loaded quiet =
+      let still = sym did.kept.broken ∙ quiet in
+      let mark = quiet_mark v still ∙ (closed.mark still ∙ sym (whole_mark y (sym closed.broken ∙ still))) in
+      loaded_ok o v now y f before after closed.archive closed.home.stands (prefix_follows o closed.list closed.log closed.front closed.home.owned) mark still did
 
   -- the frame was written
   ended_written : (z : Store D g) → now.broken ≡ false → Writes y z f → mark_of z ≡ (f.count, f.length) → firm_of z ≡ f.steps → HasEnded o now z seats
@@ -101,6 +107,7 @@ module _ {V J D : Type 0} {g : Ghosts D} (o : Origin) (v now : State) (y : Store
       (λ tells. kept_less g o.at (disk_in z) now.flushed (firm_of z) after (let a = stands.flushed in let b = stands.sound.flushed in let c = did.steps in let e = did.kept.steps in let h = stands.steps in omega (arith, a, b, c, e, h, firm)) (s.kept tells))
       (λ still none. s.whole calm)
       (λ still none. long ∙ (sym (ap (λ p. p.1) mark) ∙ (s.whole calm).length_is))
+      (λ told. absurd (false≢true (sym quiet ∙ told)))
       (λ torn. s.fault (s.broken ∙ torn))
       s.faults
       s.grows
@@ -113,6 +120,7 @@ module _ {V J D : Type 0} {g : Ghosts D} (o : Origin) (v now : State) (y : Store
       (λ tells. kept_less g o.at (disk_in z) now.flushed (firm_of z) after (let a = did.kept.flushed in let b = closed.firm in omega (arith, a, b, firm)) (t.kept tells))
       (λ still none. absurd (false≢true (sym (ap is_some none) ∙ t.broken)))
       (λ still none. absurd (false≢true (sym (ap is_some none) ∙ t.broken)))
+      (λ told. absurd (false≢true (sym quiet ∙ told)))
       (λ torn. t.fault)
       t.faults
       t.grows

@@ -2,6 +2,8 @@ pub mod Acknowledging
 pub mod Leaving
 pub mod Filling
 pub mod Heading
+pub mod Finishing
+pub mod Reasons
 pub mod Spelled
 pub mod Given
 pub mod ReadBack

@@ -42,15 +42,15 @@ use Rattle.ps_disk.specs.declared.device.Disk as Disk
 use Rattle.ps_twin.proofs.twin.Twin.TheSendSync as twin
 use Rattle.ps_twin.proofs.twin.TwinSeat.TheSendSync as seat
 use Rattle.ps_shared.proofs.bell.Bells.TheSendSync as bells
-use Rattle.ps_shared.proofs.home.Archive.TheSendSync as archive
+use Rattle.ps_flush.proofs.home.Archive.TheSendSync as archive
 use Rattle.ps_shared.specs.contracts.hall.Hall as Hall
 use Rattle.ps_shared.specs.contracts.hall.Pass as Pass
 use Rattle.ps_shared.specs.contracts.hall.Room as Room
 use Rattle.ps_twin.specs.contracts.twin.TwinSeat as TwinSeat
-use Rattle.ps_shared.specs.contracts.home.Archive as Archive
+use Rattle.ps_flush.specs.contracts.home.Archive as Archive
 use Rattle.ps_deeds.specs.contracts.deed.Deed as Deed
-use Rattle.ps_shared.specs.contracts.home.Home as Home
-use Rattle.ps_shared.specs.declared.home.Opening as Opening
+use Rattle.ps_flush.specs.contracts.home.Home as Home
+use Rattle.ps_flush.specs.declared.home.Opening as Opening
 
 entry : IsSend Entry.the_row
 entry = search (elem_send, text.the_send, std.crosses, sendable) depth 60 fits 20000

@@ -22,8 +22,8 @@ use Rattle.ps_deeds.specs.Over.{AllRead, HasRead}
 use Rattle.ps_deeds.specs.Own.{AllDiffer, steps_in}
 use Rattle.ps_deeds.proofs.Owning.{calm}
 use Rattle.ps_deeds.proofs.Unserved.{none-handed}
-use Rattle.ps_shared.specs.Homes.{maker_of, world_at}
-use Rattle.ps_shared.specs.Origin.{Origin}
+use Rattle.ps_flush.specs.Homes.{maker_of, world_at}
+use Rattle.ps_flush.specs.Origin.{Origin}
 use Rattle.ps_shared.specs.Passes.{AreFresh, ArePasses, OurTwin, seats_in}
 use Rattle.ps_shared.specs.declared.hall.HostPasses.{HostPasses}
 use Rattle.ps_shared.specs.declared.hall.Pass.{Pass}
@@ -31,12 +31,13 @@ use Rattle.ps_state.specs.declared.state.State.{State}
 use Rattle.ps_store.specs.Stand.{disk_in}
 use Rattle.ps_store.specs.declared.store.Store.{Store}
 use Rattle.ps_workers.specs.Closing.{HasEnded}
-use Rattle.ps_workers.specs.Headline.{NoneBroke, Serves, Worked}
+use Rattle.ps_workers.specs.Headline.{HasReasons, NoneBroke, Serves, Worked}
 use Rattle.ps_workers.specs.Teams.{ArePaired, ended_in, passes_in, team, worked_of}
 use Rattle.ps_workers.specs.Working.{DidWork, IsReady, ReaderMade, WriterMade}
 use Rattle.ps_workers.specs.declared.serving.Ended.{Ended}
 use Rattle.ps_workers.specs.declared.work.Worker.{Worker}
 use Rattle.ps_workers.proofs.Heading.{HasSeen, has_seen, serves_stream}
+use Rattle.ps_workers.proofs.Reasons.{reasons}
 use Rattle.ps_workers.proofs.Spelled.{durable-spelled}
 use Rattle.ps_workers.proofs.Teaming.{AllDid, all_did, are_paired, ended_size, made_at, passes_back, seats_at, team_length, team_ready, worked_size}
 
@@ -106,6 +107,7 @@ module _ {B D S C K : Type 0} {g : Ghosts D} {s : SourceGhosts S} (o : Origin) (
         limits = ended.limits;
         rows = ended.rows;
         opened = on.opened;
+        broken = ended.broken;
         fault = ended.fault;
         faults = ended.faults;
         grows = ended.grows;
@@ -117,6 +119,11 @@ module _ {B D S C K : Type 0} {g : Ghosts D} {s : SourceGhosts S} (o : Origin) (
             (subst (λ (k : List ℕ). ReaderMade o k (i + i) (seen_of m.1.reader.seat) x.source x.source_now x.clock x.clock_now x.read) host m.3.reader) (seen_reader i m.1 m.2)
             (subst (λ (k : List ℕ). WriterMade o k (i + i + 1) (seen_of m.1.writer.seat) x.sink x.sink_now x.wrote) host m.3.writer) (seen_writer i m.1 m.2) in
             (r.0, λ none finished. r.1 (all_read none) finished);
+        reasons = λ i h x here there.
+            let m = made_at o t clock_of sink_of ps ports ws same all passes i x there in
+            let host : m.0 ≡ h = some_same m.0 h (sym m.3.here ∙ here) in
+            subst (λ (k : List ℕ). HasReasons o v y k x) host
+            (reasons o v y (seats_in (passes_in ws)) ended differ i m.0 m.3.here x (seen_of m.1.reader.seat) (seen_of m.1.writer.seat) m.3.reader (seen_reader i m.1 m.2) m.3.writer (seen_writer i m.1 m.2));
         others = λ a unserved. none-handed the_core o.boot o.hosts a.host unserved the-laws ended.named o.list ended.lawful ended.log ended.owned a refl;
       }
 

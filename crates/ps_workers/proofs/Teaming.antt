@@ -10,7 +10,7 @@ use Rattle.ps_outside.specs.Held.{Held, HeldClock}
 use Rattle.ps_ports.specs.declared.port.Port.{Port}
 use Rattle.ps_twin.specs.Seats.{number_of, seen_of}
 use Rattle.ps_shared.specs.Calls.{IsReader, IsWriter}
-use Rattle.ps_shared.specs.Origin.{Origin}
+use Rattle.ps_flush.specs.Origin.{Origin}
 use Rattle.ps_shared.specs.Passes.{AreFresh, AreOf, ArePasses, IsFresh, OurTwin, seats_in}
 use Rattle.ps_shared.specs.declared.answers.EndCause.{EndCause}
 use Rattle.ps_shared.specs.declared.answers.EndCause.TheVariants.{Finished}

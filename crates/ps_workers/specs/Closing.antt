@@ -15,11 +15,11 @@ use Rattle.ps_state.specs.Stand.{Stands}
 use Rattle.ps_state.specs.declared.state.State.{State}
 use Rattle.ps_store.specs.Stand.{IsKept, IsWhole, broken_in, disk_in, length_in}
 use Rattle.ps_store.specs.declared.store.Store.{Store}
-use Rattle.ps_shared.specs.Homes.{HadNoRoom, maker_of, world_at}
-use Rattle.ps_shared.specs.Origin.{Origin}
+use Rattle.ps_flush.specs.Homes.{HadNoRoom, maker_of, world_at}
+use Rattle.ps_flush.specs.Origin.{Origin}
 
--- The state stands for the deeds of all passes; where nothing failed the store has all their entries; and what each pass has seen is a beginning of the deeds,
--- behind which nothing is of its own making.
+-- The state stands for the deeds of all passes; where nothing failed the store has all their entries, and a fault that the state tells of is the store's; and what
+-- each pass has seen is a beginning of the deeds, behind which nothing is of its own making.
 pub record HasEnded {V J D : Type 0} {g : Ghosts D} (o : Origin) (v : State) (y : Store D g) (seats : List (TwinSeat V J Deed)) : Type 0 where
   pub log : List Deed
   pub lawful : IsLawful the_core o.list
@@ -32,6 +32,7 @@ pub record HasEnded {V J D : Type 0} {g : Ghosts D} (o : Origin) (v : State) (y 
   pub kept : g.tells → IsKept g o.at (disk_in y) v.flushed (world_at o log)
   pub whole : v.broken ≡ false → broken_in y ≡ None → IsWhole y (world_at o log)
   pub length_is : v.broken ≡ false → broken_in y ≡ None → v.length ≡ length_in y
+  pub broken : v.broken ≡ true → is_some (broken_in y) ≡ true
   pub fault : is_some (broken_in y) ≡ true → Rose o.at.faults (g.faults (disk_in y))
   pub faults : o.at.faults ≤ g.faults (disk_in y)
   pub grows : o.at.bytes ≤ length_in y

@@ -5,10 +5,10 @@ use Rattle.std.specs.List.{AllByRecursion}
 use Rattle.ps_base.specs.Causes.{Rose}
 use Rattle.ps_types.specs.declared.jid.Jid.{Jid}
 use Rattle.ps_types.specs.declared.entry.Entry.{Entry}
-use Rattle.ps_types.specs.declared.entry.Entry.TheVariants.{Boot}
+use Rattle.ps_types.specs.declared.entry.Entry.TheVariants.{Boot, Gone, Handed}
 use Rattle.ps_disk.specs.declared.device.Disk.{Ghosts}
 use Rattle.ps_model.specs.Core.{handed}
-use Rattle.ps_model.specs.Entries.{AreEntries}
+use Rattle.ps_model.specs.Entries.{AreEntries, spelling}
 use Rattle.ps_model.specs.TheCore.{the_core}
 use Rattle.ps_model.specs.World.{World, durable}
 use Rattle.ps_outside.specs.Held.{Held, HeldClock}
@@ -17,9 +17,9 @@ use Rattle.ps_deeds.specs.Over.{IsComplete, IsFront}
 use Rattle.ps_deeds.specs.Own.{IsServed}
 use Rattle.ps_deeds.specs.Words.{Word, notes_in}
 use Rattle.ps_said.specs.Laws.{IsOneLine}
-use Rattle.ps_shared.specs.Origin.{Origin}
+use Rattle.ps_flush.specs.Origin.{Origin}
 use Rattle.ps_shared.specs.declared.answers.EndCause.{EndCause}
-use Rattle.ps_shared.specs.declared.answers.EndCause.TheVariants.{WriteFault, Finished, Store as WriterStore}
+use Rattle.ps_shared.specs.declared.answers.EndCause.TheVariants.{WriteFault, Finished, Store as WriterStore, Full as WriterFull}
 use Rattle.ps_state.specs.Rows.{names}
 use Rattle.ps_state.specs.Stand.{Stands}
 use Rattle.ps_state.specs.declared.state.State.{State}
@@ -28,7 +28,7 @@ use Rattle.ps_store.specs.declared.store.Store.{Store}
 use Rattle.ps_streams.specs.Reading.{Lined, says_gone}
 use Rattle.ps_streams.specs.Speaking.{IsFew, Written}
 use Rattle.ps_streams.specs.declared.read.ReadEnd.{ReadEnd}
-use Rattle.ps_streams.specs.declared.read.ReadEnd.TheVariants.{Ended, Long, ReadFault, Store as ReaderStore}
+use Rattle.ps_streams.specs.declared.read.ReadEnd.TheVariants.{Ended, Long, ReadFault, Closed, Store as ReaderStore, Full as ReaderFull}
 use Rattle.ps_workers.specs.Sinks.{OfGained, ReadsBack, ReadsWhole}
 use Rattle.ps_workers.specs.Told.{AreFull, AreOurs, HasGoneBehind, IsAcknowledged}
 
@@ -60,6 +60,21 @@ pub record HasCauses (t : Worked) : Type 0 where
   pub early : t.read ≡ Ended → GaveFewer t.source.bytes t.source_now.bytes
   pub write_later : t.sink.faults ≤ t.sink_now.faults
   pub write_fault : t.wrote ≡ WriteFault → Rose t.sink.faults t.sink_now.faults
+
+-- a Handed to some address of the host would pass the limit behind so many bytes
+pub record LacksRecord (limit bytes : ℕ) (h : List ℕ) : Type 0 where
+  pub to : Jid
+  pub here : to.host ≡ h
+  pub over : limit < bytes + length (spelling (Handed to))
+
+-- And why by the state and the store at the end. A worker that met a fault of the disk leaves a store that tells of it; one that found no room would find none at the
+-- end; and where a reader found its writer ended, that one had not finished.
+pub record HasReasons {D : Type 0} {g : Ghosts D} (o : Origin) (v : State) (y : Store D g) (h : List ℕ) (t : Worked) : Type 0 where
+  pub read_store : t.read ≡ ReaderStore → is_some (broken_in y) ≡ true
+  pub read_full : t.read ≡ ReaderFull → o.limits.whole < v.length + 5 + length (spelling (Gone h))
+  pub write_store : t.wrote ≡ WriterStore → is_some (broken_in y) ≡ true
+  pub write_full : t.wrote ≡ WriterFull → LacksRecord o.limits.whole (v.length + 5) h
+  pub closed : t.read ≡ Closed → t.wrote ≢ Finished
 
 -- the list that the store had, and the Boot
 abbrev pub base_of : Origin → List Entry
@@ -101,7 +116,7 @@ NoneBroke worked = (i : ℕ) (t : Worked) → slice_get worked i ≡ Some t → 
 
 -- The list of entries is lawful and begins with what the store had and the Boot. A crash leaves a front of it that has all durable entries, each of which has a
 -- spelling, and where nothing failed the store has all of it. Each stream is served so, and where no worker met a fault of the disk, all is said for a stream
--- whose writer finished. An address of a host that is not served keeps its notices.
+-- whose writer finished. Each worker's cause shows at the end. An address of a host that is not served keeps its notices.
 pub record Serves {D : Type 0} {g : Ghosts D} (o : Origin) (v : State) (y : Store D g) (worked : List Worked) : Type 0 where
   pub world : World
   pub stands : Stands v world
@@ -114,6 +129,7 @@ pub record Serves {D : Type 0} {g : Ghosts D} (o : Origin) (v : State) (y : Stor
   pub limits : v.limits ≡ o.limits
   pub rows : names v.rows.items ≡ o.hosts
   pub opened : world.opened ≡ length (base_of o)
+  pub broken : v.broken ≡ true → is_some (broken_in y) ≡ true
   pub fault : is_some (broken_in y) ≡ true → Rose o.at.faults (g.faults (disk_in y))
   pub faults : o.at.faults ≤ g.faults (disk_in y)
   pub grows : o.at.bytes ≤ length_in y
@@ -121,4 +137,5 @@ pub record Serves {D : Type 0} {g : Ghosts D} (o : Origin) (v : State) (y : Stor
   pub streams : (i : ℕ) (h : List ℕ) (t : Worked) → slice_get o.hosts i ≡ Some h → slice_get worked i ≡ Some t
       → (s : ServesStream o g.tells (v.length + 5) world h t)
       × (NoneBroke worked → t.wrote ≡ Finished → IsAllSaid o g.tells world h (v.length + 5) t s)
+  pub reasons : (i : ℕ) (h : List ℕ) (t : Worked) → slice_get o.hosts i ≡ Some h → slice_get worked i ≡ Some t → HasReasons o v y h t
   pub others : (a : Jid) → (IsServed o.hosts a.host → ⊥) → handed world.entries a ≡ handed (base_of o) a

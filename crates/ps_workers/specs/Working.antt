@@ -6,20 +6,20 @@ use Rattle.ps_wire.specs.Reading.{IsFresh, source_of}
 use Rattle.ps_wire.specs.declared.lines.Lines.{Lines}
 use Rattle.ps_wire.specs.declared.streams.Source.{Ghosts as SourceGhosts}
 use Rattle.ps_outside.specs.Held.{Held, HeldClock}
-use Rattle.ps_model.specs.TheCore.{the_core}
+use Rattle.ps_types.specs.declared.entry.Entry.TheVariants.{Gone}
 use Rattle.ps_twin.specs.Seats.{number_of, seen_of}
-use Rattle.ps_deeds.specs.Over.{WriterDone}
 use Rattle.ps_deeds.specs.declared.deed.Deed.{Deed}
-use Rattle.ps_shared.specs.Calls.{IsReader, IsWriter}
-use Rattle.ps_shared.specs.Origin.{Origin}
+use Rattle.ps_shared.specs.Calls.{FoundOver, IsReader, IsWriter}
+use Rattle.ps_flush.specs.Homes.{world_at}
+use Rattle.ps_flush.specs.Origin.{Origin}
 use Rattle.ps_shared.specs.Passes.{OurTwin}
 use Rattle.ps_shared.specs.declared.answers.EndCause.{EndCause}
-use Rattle.ps_shared.specs.declared.answers.EndCause.TheVariants.{WriteFault, Finished}
+use Rattle.ps_shared.specs.declared.answers.EndCause.TheVariants.{WriteFault, Finished, Store as WriterStore, Full as WriterFull}
 use Rattle.ps_shared.specs.declared.hall.Pass.{Pass}
-use Rattle.ps_streams.specs.Reading.{SaidGone, StreamRead, says_gone}
-use Rattle.ps_streams.specs.Speaking.{IsSamePass, MaySpeak, Speaks}
+use Rattle.ps_streams.specs.Reading.{FoundClosed, SaidGone, StreamRead, says_gone}
+use Rattle.ps_streams.specs.Speaking.{DoneOnce, HadNoRoom, IsSamePass, MaySpeak, Speaks}
 use Rattle.ps_streams.specs.declared.read.ReadEnd.{ReadEnd}
-use Rattle.ps_streams.specs.declared.read.ReadEnd.TheVariants.{Ended, Long, ReadFault}
+use Rattle.ps_streams.specs.declared.read.ReadEnd.TheVariants.{Ended, Long, ReadFault, Closed, Store as ReaderStore, Full as ReaderFull}
 use Rattle.ps_workers.specs.Headline.{GaveAll, GaveFewer}
 use Rattle.ps_workers.specs.declared.work.Work.{Work}
 use Rattle.ps_workers.specs.declared.work.Work.TheVariants.{Reader, Writer}
@@ -46,13 +46,18 @@ pub record ReaderMade (o : Origin) (host : List ℕ) (k : ℕ) (seen : List Deed
   pub fault : end ≡ ReadFault → Rose source.faults now.faults
   pub long : end ≡ Long → GaveAll source.bytes now.bytes
   pub early : end ≡ Ended → GaveFewer source.bytes now.bytes
+  pub broke : end ≡ ReaderStore → (world_at o seen).broken ≡ true
+  pub full : end ≡ ReaderFull → FoundOver o (Gone host) seen
+  pub closed : end ≡ Closed → FoundClosed o host k seen
 
 -- a writer's
 pub record WriterMade (o : Origin) (host : List ℕ) (k : ℕ) (seen : List Deed) (sink now : Held) (why : EndCause) : Type 0 where
   pub speaks : Speaks o k [] seen sink.bytes now.bytes (why ≡ WriteFault)
-  pub done : why ≡ Finished → WriterDone the_core o.boot o.list o.hosts host k seen
+  pub done : why ≡ Finished → DoneOnce o host k [] seen
   pub later : sink.faults ≤ now.faults
   pub fault : why ≡ WriteFault → Rose sink.faults now.faults
+  pub broke : why ≡ WriterStore → (world_at o seen).broken ≡ true
+  pub full : why ≡ WriterFull → HadNoRoom o host seen
 
 -- ---- by what the work is
 

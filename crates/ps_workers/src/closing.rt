@@ -1,5 +1,5 @@
 // The end of a hall, with the last frame.
-ghost use Rattle.ps_shared.specs.Flush.{IsFrameOf};
+ghost use Rattle.ps_flush.specs.Flush.{IsFrameOf};
 ghost use Rattle.ps_shared.specs.Passes.{ArePasses, seats_in};
 ghost use Rattle.ps_state.specs.Stand.{IsStanding};
 ghost use Rattle.ps_workers.specs.Closing.{HasEnded};

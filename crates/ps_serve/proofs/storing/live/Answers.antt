@@ -1,4 +1,4 @@
-use Rattle.std.proofs.Common.{inl, inr, refl, ap, sym, ◌∙◌}
+use Rattle.std.proofs.Common.{inl, inr, refl, ap, ◌∙◌}
 use Rattle.ps_store.specs.Stand.{disk_in}
 use Rattle.ps_serve.specs.Ends.{worst_in}
 use Rattle.ps_serve.proofs.storing.live.Goals as goal
@@ -14,18 +14,15 @@ pub returns-in-Ok-new : goal.returns-in-Ok-new
 returns-in-Ok-new g c =
     let told = c.status_of-status.ensures in
     inl (record {
-      state = c.serve-state.result.0;
-      store = c.serve-state.result.1;
-      ended = c.serve-state.result.2.items;
-      size = c.serve-state.ensures.size;
+      state = c.serve-store.result.0;
+      store = c.serve-store.result.1;
+      ended = c.serve-store.result.2.items;
+      size = c.serve-store.ensures.size;
       back = c.ports_of.ensures;
-      serves = c.serve-state.ensures.serves;
+      serves = c.serve-store.ensures.serves;
       ends = record {
-        streams = λ of. ap (λ l. worst_in (λ e. e.read) (λ e. e.wrote) l) (sym c.deref.ensures.value) ∙ told.streams of;
-        store = told.store;
-        whole = told.whole;
-        full = told.full;
-        served = told.served;
+        broken = told.broken;
+        streams = λ none. told.streams none ∙ ap (λ l. worst_in (λ e. e.read) (λ e. e.wrote) l) c.deref.ensures.value;
       };
       closed = record { is = c.close-in-Ok-new.ensures.disk; long = c.close-in-Ok-new.ensures.long };
     })

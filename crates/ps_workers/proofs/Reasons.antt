@@ -1,0 +1,63 @@
+-- Why the workers of a stream ended, by the state and the store at the end of the hall.
+use Rattle.std.proofs.Common.{◌≡◌, ℕ, ◌+◌, ◌<◌, true, List, [], ◌∷◌, ◌++◌, Some, is_some, length, ap, ◌∙◌, arith}
+use Rattle.std.specs.Prelude.{slice_get}
+use Rattle.ps_types.specs.declared.entry.Entry.{Entry}
+use Rattle.ps_disk.specs.declared.device.Disk.{Ghosts}
+use Rattle.ps_model.specs.Entries.{spelling}
+use Rattle.ps_model.specs.Machine.{start}
+use Rattle.ps_model.specs.TheCore.{the_core}
+use Rattle.ps_model.specs.declared.steps.Role.TheVariants.{Writer}
+use Rattle.ps_model.specs.declared.steps.Step.TheVariants.{Ended}
+use Rattle.ps_world.proofs.Lists.{assoc}
+use Rattle.ps_twin.specs.declared.twin.TwinSeat.{TwinSeat}
+use Rattle.ps_deeds.specs.Own.{AllDiffer, deeds}
+use Rattle.ps_deeds.specs.declared.deed.Deed.{Deed}
+use Rattle.ps_flush.specs.Homes.{world_at}
+use Rattle.ps_flush.specs.Origin.{Origin}
+use Rattle.ps_flush.proofs.Logs.{prefix_follows, within_room}
+use Rattle.ps_shared.specs.Calls.{FoundOver}
+use Rattle.ps_shared.specs.declared.answers.EndCause.TheVariants.{Finished}
+use Rattle.ps_state.specs.declared.state.State.{State}
+use Rattle.ps_store.specs.Stand.{broken_in}
+use Rattle.ps_store.specs.declared.store.Store.{Store}
+use Rattle.ps_streams.specs.declared.read.ReadEnd.TheVariants.{Closed}
+use Rattle.ps_workers.specs.Closing.{HasEnded}
+use Rattle.ps_workers.specs.Headline.{HasReasons, Worked}
+use Rattle.ps_workers.specs.Working.{ReaderMade, WriterMade}
+use Rattle.ps_workers.proofs.Finishing.{never-both}
+use Rattle.ps_workers.proofs.Heading.{HasSeen}
+
+module _ {V J D : Type 0} {g : Ghosts D} (o : Origin) (v : State) (y : Store D g) (seats : List (TwinSeat V J Deed)) (ended : HasEnded o v y seats) where
+  -- a fault that a pass saw told is the store's
+  broke : (k : ℕ) (seen : List Deed) → HasSeen k seen ended.log → (world_at o seen).broken ≡ true → is_some (broken_in y) ≡ true
+  broke k seen kept b = ended.broken (ended.stands.broken ∙ (prefix_follows o seen ended.log (kept.after, kept.is) ended.owned).broken b)
+
+  -- what found no room at a deed finds none at the end
+  over : (k : ℕ) (seen : List Deed) (e : Entry) → HasSeen k seen ended.log → FoundOver o e seen → o.limits.whole < v.length + 5 + length (spelling e)
+  over k seen e kept f =
+      let is = kept.is ∙ (ap (λ l. l ++ kept.after) f.is ∙ assoc f.front (f.deed ∷ f.rest) kept.after) in
+      let low = within_room o.limits.changes (v.length + 5) o.boot (start the_core o.boot o.list) ended.log f.front (f.rest ++ kept.after) f.deed ended.full is in
+      let high = f.over in
+      omega (arith, low, high)
+
+  module _ (differ : AllDiffer o.hosts) (i : ℕ) (h : List ℕ) (here : slice_get o.hosts i ≡ Some h) (t : Worked) (seen seen_too : List Deed)
+      (r : ReaderMade o h (i + i) seen t.source t.source_now t.clock t.clock_now t.read) (kept : HasSeen (i + i) seen ended.log)
+      (w : WriterMade o h (i + i + 1) seen_too t.sink t.sink_now t.wrote) (kept_too : HasSeen (i + i + 1) seen_too ended.log) where
+    not-finished : t.read ≡ Closed → t.wrote ≡ Finished → ⊥
+    not-finished closed finished =
+        let f = r.closed closed in
+        let d = w.done finished in
+        let last = deeds (i + i + 1) d.done.bytes (Ended h Writer ∷ []) in
+        never-both o ended.log ended.owned differ i h here f.front (f.rest ++ kept.after) d.done.before ((d.done.between ++ last) ++ kept_too.after)
+        (kept.is ∙ (ap (λ l. l ++ kept.after) f.is ∙ assoc f.front f.rest kept.after))
+        (kept_too.is ∙ (ap (λ l. l ++ kept_too.after) (d.done.is ∙ assoc d.done.before d.done.between last) ∙ assoc d.done.before (d.done.between ++ last) kept_too.after))
+        f.before f.closed (d.once tt) (d.done.over.readers i h here)
+
+    pub reasons : HasReasons o v y h t
+    reasons = record {
+      read_store = λ e. broke (i + i) seen kept (r.broke e);
+      read_full = λ e. over (i + i) seen _ kept (r.full e);
+      write_store = λ e. broke (i + i + 1) seen_too kept_too (w.broke e);
+      write_full = λ e. (let f = w.full e in record { to = f.to; here = f.here; over = over (i + i + 1) seen_too _ kept_too f.over });
+      closed = not-finished;
+    }
