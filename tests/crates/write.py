@@ -4,9 +4,10 @@
     write.py            writes crates.txt
     write.py --check    says whether crates.txt is what would be written, and whether the table names what each crate uses
 
-A line of the table names a crate, its flags, and the libraries that its own files use. The toolchain wants each library
-that stands anywhere below as well, so a line of crates.txt has all of them; `only` before the colon leaves a line as it
-is. The crates stand by layer, which is one more than the highest layer of what a crate uses, and by name.
+A line of the table names a crate, its flags, and the libraries that its own files use; `only` before the colon says that it may name more. No line
+names what stands further below, which the toolchain finds by itself: it goes from each crate to all that its line names, and again from each of these,
+by every way that leads there, so long lines cost it minutes before each proof. The crates stand by layer, which is one more than the highest layer of
+what a crate uses, and by name.
 """
 
 import os
@@ -37,15 +38,6 @@ def table():
     return rows
 
 
-def below(rows, name, seen):
-    """Adds to `seen` all that stands below a crate."""
-    for use in rows[name][1] if name in rows else ():
-        if use not in seen:
-            seen.add(use)
-            below(rows, use, seen)
-    return seen
-
-
 def layers(rows):
     """Returns the layer of each crate and library; what isn't a crate of ours is of layer 0."""
     found = {}
@@ -72,8 +64,7 @@ def written(rows):
     lines = [HEAD]
     for name in sorted(rows, key=place):
         flags, uses = rows[name]
-        if "only" not in flags:
-            uses = sorted(below(rows, name, set()), key=place)
+        uses = sorted(uses, key=place)
         words = [name] + [flag for flag in flags if flag != "only"]
         lines.append(" ".join(words) + ":" + "".join(" " + use for use in uses) + "\n")
     return "".join(lines)
