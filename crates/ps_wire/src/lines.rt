@@ -1,6 +1,7 @@
 // The lines of a source, one at a time.
-ghost use Rattle.std.specs.Prelude.{◌≡◌, ◌⊎◌, ◌≤◌, ◌<◌, ◌^◌, [], Some, None, IfOk, OnOk, IfErr, IfSome, IsErrOf, IsTrue, Contains};
+ghost use Rattle.std.specs.Prelude.{◌≡◌, ◌⊎◌, ◌≤◌, ◌<◌, ◌^◌, [], Some, None, true, false, IfOk, OnOk, IfErr, IfSome, IsErrOf, IsTrue, Contains};
 ghost use Rattle.ps_base.specs.Causes.{Rose};
+ghost use Rattle.ps_types.specs.Lines.{NoNewline};
 ghost use Rattle.ps_wire.specs.AtEnd.{nothing_of};
 ghost use Rattle.ps_wire.specs.declared.lines.NextLineRefusal.TheVariants.{ReadFault, Memory as OutOfMemory};
 
@@ -104,6 +105,14 @@ impl<S: Source> Lines<S> {
             stopped: _,
         } = self;
         source
+    }
+
+    /// Whether a whole line is held. Then the next call leaves the source alone, so that it waits for nobody.
+    pub fn holds_line(&self) -> bool
+        ensures some { result ≡ true → Contains (held_of self.now) 10 }
+        ensures none { result ≡ false → NoNewline (held_of self.now) }
+    {
+        find_newline(self.held.bytes()).is_some()
     }
 
     /// The next line. It reads only while it holds no whole line and the input hasn't ended. Where the source fails, or has given all that

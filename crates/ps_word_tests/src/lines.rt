@@ -8,7 +8,7 @@ use std::fs;
 use std::process::Abort;
 use std::test::Fail;
 
-// Five answers of a reader over these bytes, whose reads of these numbers fail.
+// Five answers of a reader over these bytes, whose reads of these numbers fail, each behind a plus where a whole line was held before it.
 fn answers(rt: &HostRuntime, bytes: &[u8], failing: &[u64]) -> Result<String, Fail> {
     let source = MemSource::new(rt.alloc(), bytes, failing)?;
     let mut lines = match Lines::new(rt.alloc(), source) {
@@ -37,6 +37,9 @@ fn word_of(next: &Result<NextLine, NextLineRefusal>) -> &str {
 fn five(rt: &HostRuntime, lines: &mut Lines<MemSource>) -> Result<String, Fail> {
     let mut told = String::new(rt.alloc());
     for _ in 0..5 {
+        if lines.holds_line() {
+            told.push_str("+")?;
+        }
         let next = lines.next(rt.alloc());
         told.push_str(word_of(&next))?;
         told.push_str(";")?;
@@ -58,13 +61,13 @@ fn put_long_lines(rt: &HostRuntime, text: &mut String) -> Result<(), Fail> {
 fn a_line_ends_at_its_newline_or_at_the_end(rt: HostRuntime) -> Result<(), Fail> {
     assert_eq!(rt;
         answers(&rt, b"one\n\ntwo", &[])?.as_str(),
-        "one;;two;(end);(end);"
+        "one;+;two;(end);(end);"
     );
 
     let mut text = String::new(rt.alloc());
     put_long_lines(&rt, &mut text)?;
     let told = answers(&rt, text.as_bytes(), &[])?;
-    assert_eq!(rt; told.as_str(), "(many);(too long);last;(end);(end);");
+    assert_eq!(rt; told.as_str(), "(many);(too long);+last;(end);(end);");
     Ok(())
 }
 
