@@ -11,11 +11,11 @@ ghost use Rattle.ps_row_entries.specs.Written.{written};
 use crate::counters::{add_counters, addresses, are_made_few};
 use crate::queues::move_queues;
 use ps_base::Memory;
-use ps_core::Service;
 use ps_fanout::in_order;
 use ps_opening::Kept;
 use ps_outbox::Outboxes;
 use ps_record::{Batch, BatchRefusal};
+use ps_state::Service;
 use ps_types::Entry;
 use std::alloc::Global;
 

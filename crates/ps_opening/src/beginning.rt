@@ -10,10 +10,10 @@ ghost use Rattle.ps_opening.specs.Left.{FrontsIn};
 
 use crate::opened::OpenWhy;
 use ps_base::Memory;
-use ps_core::Service;
 use ps_disk::Disk;
 use ps_journal::{AppendRefusal, Journal};
 use ps_record::Batch;
+use ps_state::Service;
 use ps_types::Entry;
 use std::alloc::Global;
 use std::thread::Threads;

@@ -1,10 +1,9 @@
 // What comes of an opening.
 use ps_base::Memory;
-use ps_core::Service;
 use ps_disk::Disk;
 use ps_journal::Placed;
 use ps_outbox::Outboxes;
-use ps_state::State;
+use ps_state::{Service, State};
 use ps_store::Store;
 
 /// The state and the store, before the first step, and the entries that the store had, each with its offset.

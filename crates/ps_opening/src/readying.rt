@@ -6,9 +6,8 @@ ghost use Rattle.ps_types.specs.declared.entry.Entry.{Entry};
 
 use crate::opened::Rebuilt;
 use ps_base::Memory;
-use ps_core::Service;
 use ps_outbox::Outboxes;
-use ps_state::HostRow;
+use ps_state::{HostRow, Service};
 use ps_types::{Entry, Text};
 use std::alloc::Global;
 use std::random::RandomSource;

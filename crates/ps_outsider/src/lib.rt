@@ -16,4 +16,5 @@ mod stepping;
 
 pub use deed::{Deed, Said};
 pub use laws::{each_deed_is_secret, each_line_is_due};
+pub use ps_core::Service;
 pub use stepping::{is_due, step};

@@ -1,7 +1,6 @@
 // Two services go through lines side by side.
 use crate::rows::{commits, evictions, handed, items};
-use ps_core::Service;
-use ps_outsider::{Deed, Said, is_due, step};
+use ps_outsider::{Deed, Said, Service, is_due, step};
 use ps_types::{Arrival, Bytes, Entry, Jid, Notice, Text};
 use std::alloc::Global;
 use std::mem;

@@ -12,9 +12,9 @@ use Rattle.ps_types.specs.declared.entry.Arrival.TheVariants.{Line, TooLong}
 use Rattle.ps_types.proofs.Lines.{lines_of_written}
 use Rattle.ps_model.proofs.OneLine.{print-line}
 use Rattle.ps_outside.specs.Clock.{noted}
-use Rattle.ps_streams.specs.Reading.{AreLinesOf, CameOf, HaveMoments, IsEnd, Lined, WasAsked, all_noted, brings_all, told_moment}
-use Rattle.ps_streams.specs.declared.read.ReadEnd.{ReadEnd}
-use Rattle.ps_streams.specs.declared.read.ReadEnd.TheVariants.{Ended}
+use Rattle.ps_workers.specs.Reading.{AreLinesOf, CameOf, HaveMoments, IsEnd, Lined, WasAsked, all_noted, brings_all, told_moment}
+use Rattle.ps_workers.specs.ReadEnd.{ReadEnd}
+use Rattle.ps_workers.specs.ReadEnd.TheVariants.{Ended}
 use Rattle.ps_dealt.specs.Dealing.{IsShort}
 use Rattle.ps_rehearse.specs.Rehearsed.{arrival_of}
 use Rattle.ps_rehearse.specs.Still.{zeros}

@@ -13,12 +13,12 @@ use Rattle.ps_model.specs.World.{World}
 use Rattle.ps_deeds.specs.Lines.{Came, HasLines}
 use Rattle.ps_deeds.specs.Over.{IsComplete}
 use Rattle.ps_deeds.specs.Words.{Word, bytes_of, text_of}
-use Rattle.ps_flush.specs.Origin.{Origin}
-use Rattle.ps_shared.specs.declared.answers.EndCause.TheVariants.{Finished, WriteFault, Store as WriterStore}
-use Rattle.ps_streams.specs.Speaking.{Written}
-use Rattle.ps_streams.specs.declared.read.ReadEnd.TheVariants.{Ended as ReadAll, Store as ReaderStore}
-use Rattle.ps_state.specs.declared.answers.Limits.{Limits}
-use Rattle.ps_state.specs.declared.state.State.{State}
+use Rattle.ps_workers.specs.Origin.{Origin}
+use Rattle.ps_workers.specs.EndCause.TheVariants.{Finished, WriteFault, Store as WriterStore}
+use Rattle.ps_workers.specs.Speaking.{Written}
+use Rattle.ps_workers.specs.ReadEnd.TheVariants.{Ended as ReadAll, Store as ReaderStore}
+use Rattle.ps_workers.specs.Limits.{Limits}
+use Rattle.ps_workers.specs.State.{State}
 use Rattle.ps_store.specs.declared.store.Store.{Store}
 use Rattle.ps_workers.specs.Headline.{IsAllSaid, NoneBroke, Serves, ServesStream, Worked, base_of}
 use Rattle.ps_dealt.specs.Counted.{how_many, is_error, is_notice, is_result}

@@ -6,10 +6,10 @@ use Rattle.ps_types.specs.declared.entry.Entry.{Entry}
 use Rattle.ps_model.specs.Store.{spelled}
 use Rattle.ps_model.proofs.OneList.{one_list}
 use Rattle.ps_opening.specs.Opens.{IsOpen, at_from}
-use Rattle.ps_flush.specs.Origin.{Origin}
-use Rattle.ps_shared.specs.Start.{MayStart}
-use Rattle.ps_state.specs.declared.answers.Limits.{Limits}
-use Rattle.ps_state.specs.declared.state.State.{State}
+use Rattle.ps_workers.specs.Origin.{Origin}
+use Rattle.ps_workers.specs.Start.{MayStart}
+use Rattle.ps_workers.specs.Limits.{Limits}
+use Rattle.ps_workers.specs.State.{State}
 use Rattle.ps_model.specs.Machine.{start}
 use Rattle.ps_model.specs.TheCore.{the_core}
 use Rattle.ps_store.specs.Stand.{OpenedAt, StoreStands, disk_in, length_in}

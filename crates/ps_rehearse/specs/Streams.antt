@@ -3,8 +3,8 @@ use Rattle.std.specs.Prelude.{◌≡◌, ℕ, ◌+◌, ◌∷◌, [], Bool, List
 use Rattle.ps_types.specs.Lines.{whole_lines}
 use Rattle.ps_types.specs.Tree.{Tree}
 use Rattle.ps_ports.specs.declared.port.Port.{Port}
-use Rattle.ps_shared.specs.declared.answers.EndCause.TheVariants.{Finished}
-use Rattle.ps_streams.specs.declared.read.ReadEnd.TheVariants.{Ended as ReadAll}
+use Rattle.ps_workers.specs.EndCause.TheVariants.{Finished}
+use Rattle.ps_workers.specs.ReadEnd.TheVariants.{Ended as ReadAll}
 use Rattle.ps_wire.specs.Reading.{IsFresh, source_of}
 use Rattle.ps_wire.specs.declared.lines.Lines.{Lines}
 use Rattle.ps_wire.specs.declared.memory.MemSink.{MemSink}

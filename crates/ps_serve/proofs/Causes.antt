@@ -4,13 +4,13 @@ use Rattle.std.specs.Prelude.{is_some, slice_get}
 use Rattle.std.proofs.lemmas.Bool.{false≢true}
 use Rattle.std.proofs.lemmas.Option.{slice_get_within}
 use Rattle.ps_disk.specs.declared.device.Disk.{Ghosts as DiskGhosts}
-use Rattle.ps_flush.specs.Origin.{Origin}
-use Rattle.ps_shared.specs.declared.answers.EndCause.TheVariants.{Finished}
-use Rattle.ps_state.specs.declared.answers.Limits.{Limits}
-use Rattle.ps_state.specs.declared.state.State.{State}
+use Rattle.ps_workers.specs.Origin.{Origin}
+use Rattle.ps_workers.specs.EndCause.TheVariants.{Finished}
+use Rattle.ps_workers.specs.Limits.{Limits}
+use Rattle.ps_workers.specs.State.{State}
 use Rattle.ps_store.specs.Stand.{broken_in}
 use Rattle.ps_store.specs.declared.store.Store.{Store}
-use Rattle.ps_streams.specs.declared.read.ReadEnd.TheVariants.{Closed}
+use Rattle.ps_workers.specs.ReadEnd.TheVariants.{Closed}
 use Rattle.ps_workers.specs.Headline.{HasReasons, NoneBroke, Serves, Worked}
 use Rattle.ps_serve.specs.Ends.{IsServing, worst_of}
 use Rattle.ps_serve.specs.Headline.{the_limits}

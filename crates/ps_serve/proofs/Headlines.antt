@@ -15,8 +15,8 @@ use Rattle.ps_opening.specs.Opens.{IsOpen, OpenNot}
 use Rattle.ps_opening.specs.declared.opened.OpenWhy.{OpenWhy}
 use Rattle.ps_opening.specs.declared.opened.OpenWhy.TheVariants as why
 use Rattle.ps_ports.specs.declared.port.Port.{Port}
-use Rattle.ps_flush.specs.Origin.{Origin}
-use Rattle.ps_state.specs.declared.state.State.{State}
+use Rattle.ps_workers.specs.Origin.{Origin}
+use Rattle.ps_workers.specs.State.{State}
 use Rattle.ps_store.specs.Left.{IsFront}
 use Rattle.ps_store.specs.Stand.{broken_in, disk_in}
 use Rattle.ps_store.specs.declared.store.Store.{Store}

@@ -8,10 +8,10 @@ use Rattle.ps_model.specs.Store.{spelled}
 use Rattle.ps_opening.specs.Left.{Fronts, OpenLeaves}
 use Rattle.ps_opening.specs.Opens.{IsOpen}
 use Rattle.ps_ports.specs.declared.port.Port.{Port}
-use Rattle.ps_flush.specs.Origin.{Origin}
-use Rattle.ps_shared.specs.Start.{MayStart}
-use Rattle.ps_state.specs.declared.answers.Limits.{Limits}
-use Rattle.ps_state.specs.declared.state.State.{State}
+use Rattle.ps_workers.specs.Origin.{Origin}
+use Rattle.ps_workers.specs.Start.{MayStart}
+use Rattle.ps_workers.specs.Limits.{Limits}
+use Rattle.ps_workers.specs.State.{State}
 use Rattle.ps_store.specs.Stand.{disk_in}
 use Rattle.ps_store.specs.declared.store.Store.{Store}
 use Rattle.ps_workers.specs.Headline.{Worked}

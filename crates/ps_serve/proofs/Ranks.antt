@@ -1,10 +1,10 @@
 -- The first of the causes of all workers is that of some worker.
 use Rattle.std.proofs.Common.{◌≡◌, ◌⊎◌, ⊎_elim, inl, inr, ℕ, suc, Bool, true, false, List, [], ◌∷◌, Some, refl}
 use Rattle.std.specs.Prelude.{nat_lt, slice_get, if◌then◌else◌}
-use Rattle.ps_shared.specs.declared.answers.EndCause.{EndCause}
-use Rattle.ps_shared.specs.declared.answers.EndCause.TheVariants as writer
-use Rattle.ps_streams.specs.declared.read.ReadEnd.{ReadEnd}
-use Rattle.ps_streams.specs.declared.read.ReadEnd.TheVariants as reader
+use Rattle.ps_workers.specs.EndCause.{EndCause}
+use Rattle.ps_workers.specs.EndCause.TheVariants as writer
+use Rattle.ps_workers.specs.ReadEnd.{ReadEnd}
+use Rattle.ps_workers.specs.ReadEnd.TheVariants as reader
 use Rattle.ps_workers.specs.Headline.{Worked}
 use Rattle.ps_serve.specs.Ends.{IsServing, closed_status, rank, stream_status, worst, worst_in, worst_of, write_status}
 use Rattle.ps_serve.specs.declared.status.Status.{Status}

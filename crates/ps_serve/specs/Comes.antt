@@ -3,8 +3,8 @@ use Rattle.std.specs.Prelude.{◌≡◌, ◌⊎◌, ℕ, ◌+◌, List, None, tr
 use Rattle.ps_disk.specs.declared.device.Disk.{Ghosts as DiskGhosts}
 use Rattle.ps_model.specs.Store.{Begun, gate_at}
 use Rattle.ps_ports.specs.declared.port.Port.{Port}
-use Rattle.ps_flush.specs.Origin.{Origin}
-use Rattle.ps_state.specs.declared.state.State.{State}
+use Rattle.ps_workers.specs.Origin.{Origin}
+use Rattle.ps_workers.specs.State.{State}
 use Rattle.ps_store.specs.Stand.{broken_in, disk_in, length_in}
 use Rattle.ps_store.specs.declared.store.Store.{Store}
 use Rattle.ps_opening.specs.declared.opened.OpenWhy.{OpenWhy}

@@ -1,9 +1,9 @@
 -- The status of a run over its streams: the first of the causes for which their workers ended, but where the store failed.
 use Rattle.std.specs.Prelude.{ℕ, nat_lt, List, [], ◌∷◌, if◌then◌else◌}
-use Rattle.ps_shared.specs.declared.answers.EndCause.{EndCause}
-use Rattle.ps_shared.specs.declared.answers.EndCause.TheVariants as writer
-use Rattle.ps_streams.specs.declared.read.ReadEnd.{ReadEnd}
-use Rattle.ps_streams.specs.declared.read.ReadEnd.TheVariants as reader
+use Rattle.ps_workers.specs.EndCause.{EndCause}
+use Rattle.ps_workers.specs.EndCause.TheVariants as writer
+use Rattle.ps_workers.specs.ReadEnd.{ReadEnd}
+use Rattle.ps_workers.specs.ReadEnd.TheVariants as reader
 use Rattle.ps_workers.specs.Headline.{Worked}
 use Rattle.ps_serve.specs.declared.status.Status.{Status}
 use Rattle.ps_serve.specs.declared.status.Status.TheVariants.{Done, Usage, OpenFault, StoreDamaged, StoreFault, StoreFull, Occupied, Memory, StreamFault, StreamLong}

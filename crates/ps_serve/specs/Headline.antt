@@ -15,11 +15,11 @@ use Rattle.ps_model.specs.World.{World, durable}
 use Rattle.ps_opening.specs.Opens.{PassesBy}
 use Rattle.ps_outside.specs.Held.{HeldStore}
 use Rattle.ps_deeds.specs.Own.{IsServed}
-use Rattle.ps_flush.specs.Origin.{Origin}
-use Rattle.ps_shared.specs.declared.answers.EndCause.TheVariants.{Finished}
-use Rattle.ps_state.specs.declared.answers.Limits.{Limits}
+use Rattle.ps_workers.specs.Origin.{Origin}
+use Rattle.ps_workers.specs.EndCause.TheVariants.{Finished}
+use Rattle.ps_workers.specs.Limits.{Limits}
 use Rattle.ps_store.specs.Left.{IsFront}
-use Rattle.ps_streams.specs.declared.read.ReadEnd.TheVariants.{Closed}
+use Rattle.ps_workers.specs.ReadEnd.TheVariants.{Closed}
 use Rattle.ps_workers.specs.Headline.{IsAllSaid, ServesStream, Worked, base_of}
 use Rattle.ps_serve.specs.Crashes.{FrontsSince, HasWhole, IsTidy, LeftSince}
 use Rattle.ps_serve.specs.Ends.{IsServing, worst_of}

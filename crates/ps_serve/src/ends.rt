@@ -5,10 +5,8 @@ ghost use Rattle.ps_serve.specs.Ends.{closed_status, rank as rank_of, stream_sta
 
 use crate::status::Status;
 use ps_disk::Disk;
-use ps_shared::EndCause;
 use ps_store::Store;
-use ps_streams::ReadEnd;
-use ps_workers::Ended;
+use ps_workers::{EndCause, Ended, ReadEnd};
 
 fn rank(status: Status) -> u8
     ensures { result ≡ rank_of status }

@@ -26,4 +26,5 @@ mod rows;
 mod state;
 
 pub use answers::{ArriveRefusal, HandedRefusal, Limits, Next, Outcome, Receipt};
+pub use ps_core::Service;
 pub use state::{Hand, HostRow, State, Waiting};

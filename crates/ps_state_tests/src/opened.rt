@@ -6,9 +6,8 @@ ghost use Rattle.ps_model.specs.Book.{empty_state};
 ghost use Rattle.ps_state.specs.Stand.{IsStanding};
 ghost use Rattle.ps_state_tests.specs.Fresh.{AreFresh, IsFresh};
 
-use ps_core::Service;
 use ps_outbox::Outboxes;
-use ps_state::{HostRow, Limits, State};
+use ps_state::{HostRow, Limits, Service, State};
 use ps_types::{Entry, Text};
 use std::alloc::Global;
 use std::process::Abort;

@@ -30,4 +30,7 @@ mod closing;
 mod serving;
 mod work;
 
+pub use ps_shared::{EndCause, Hall, NoHall, Opening};
+pub use ps_state::{Limits, State};
+pub use ps_streams::ReadEnd;
 pub use serving::{Ended, Room, serve};
