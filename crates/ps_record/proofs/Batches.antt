@@ -1,8 +1,9 @@
 -- A frame's bytes with one entry more.
-use Rattle.std.proofs.Common.{◌≡◌, ℕ, ◌+◌, ◌-◌, List, [], ◌∷◌, ◌++◌, length, take, drop, refl, sym, ap, ◌∙◌, append_assoc, arith, length-append}
+use Rattle.std.proofs.Common.{◌≡◌, ℕ, ◌+◌, ◌-◌, ◌≤◌, List, [], ◌∷◌, ◌++◌, length, take, drop, refl, sym, ap, ◌∙◌, append_assoc, arith, length-append}
 use Rattle.std.specs.Prelude.{slice_range}
 use Rattle.std.specs.Int.{w32, to_be_bytes}
-use Rattle.std.proofs.lemmas.List.{append-nil, take_at, drop_at}
+use Rattle.std.proofs.Math.Seq.{take-length}
+use Rattle.std.proofs.lemmas.List.{append-nil, take_at, drop_at, drop-append-le, drop-take, length-take-le, take-append-le}
 use Rattle.std.proofs.lemmas.List.Concat.{flat_map-append}
 use Rattle.ps_types.specs.declared.entry.Entry.{Entry}
 use Rattle.ps_model.specs.Entries.{spelling, body, IsEntry, AreEntries}
@@ -38,3 +39,23 @@ piece_push es e frame spelled is same =
 pub are_entries_push : (es : List Entry) (e : Entry) → AreEntries es → IsEntry e → AreEntries (es ++ e ∷ [])
 are_entries_push [] e are is = (is, are)
 are_entries_push (x ∷ es) e are is = (are.0, are_entries_push es e are.1 is)
+
+-- a frame whose gate is taken away, which gets an entry and a gate behind it, and whose first four bytes are written anew
+pub lengthened : (old entry head now : List ℕ) → 5 ≤ length old → length head ≡ 4 → now ≡ (take (length old - 1) old ++ entry) ++ 0 ∷ []
+    → head ++ drop (length head) now ≡ head ++ (take (length old - 1 - 4) (drop 4 old) ++ entry ++ 0 ∷ [])
+lengthened old entry head now long four is =
+    let front = take (length old - 1) old in
+    let front_len : length front ≡ length old - 1 = length-take-le (length old - 1) old (omega (arith, long)) in
+    let cut : length old - 1 ≡ 4 + (length old - 1 - 4) = omega (arith, long) in
+    let kept : drop 4 front ≡ take (length old - 1 - 4) (drop 4 old) = ap (λ (n : ℕ). drop 4 (take n old)) cut ∙ drop-take 4 (length old - 1 - 4) old in
+    ap (λ (l : List ℕ). head ++ l)
+    (ap (λ (n : ℕ). drop n now) four
+    ∙ ap (λ (l : List ℕ). drop 4 l) is
+    ∙ drop-append-le 4 (front ++ entry) (0 ∷ []) (omega (arith, long, front_len, length-append front entry))
+    ∙ ap (λ (l : List ℕ). l ++ 0 ∷ []) (drop-append-le 4 front entry (omega (arith, long, front_len)))
+    ∙ ap (λ (l : List ℕ). l ++ entry ++ 0 ∷ []) kept)
+
+-- all of a list is written over
+pub whole : (bytes before : List ℕ) (len : ℕ) → length bytes ≡ length before → len ≡ length before → take len (bytes ++ drop (length bytes) before) ≡ bytes
+whole bytes before len same count =
+    take-append-le len bytes (drop (length bytes) before) (omega (arith, same, count)) ∙ ap (λ (n : ℕ). take n bytes) (count ∙ sym same) ∙ take-length bytes

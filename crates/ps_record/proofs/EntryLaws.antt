@@ -1,7 +1,7 @@
 -- An entry and its fields.
 use Rattle.std.proofs.Common.{◌≡◌, ℕ, ◌+◌, ◌^◌, ◌<◌, ◌≤◌, List, [], ◌∷◌, ◌++◌, length, nat_le, ◌&&◌, Option, Some, None, refl, sym, ap, subst, ◌∙◌, arith, length-append}
 use Rattle.std.proofs.lemmas.Bool.{leb-true, and_parts}
-use Rattle.ps_types.specs.Address.{IsAddress, jid_text, parts_of, before_at, after_slash, joined, Spells}
+use Rattle.ps_types.specs.Address.{IsAddress, jid_text, before_at, after_slash, Spells}
 use Rattle.ps_types.specs.Print.{print}
 use Rattle.ps_types.specs.Reading.{Reads}
 use Rattle.ps_types.specs.Tree.{Tree}
@@ -11,7 +11,7 @@ use Rattle.ps_types.specs.declared.jid.Jid.{Jid}
 use Rattle.ps_types.proofs.AddressLaws.{text-spells, spells-one}
 use Rattle.ps_types.proofs.PrintLaws.{print_reads, reads_one}
 use Rattle.ps_model.specs.Entries.{spelling, IsEntry, of_host, IsMoment, IsHostName, IsBare, IsWritten}
-use Rattle.ps_record.specs.Raw.{Fields, boot, change, handed, gone, base, fields_of, bytes_of, change_bytes, FitMoment, Fit, raw_at}
+use Rattle.ps_record.specs.Raw.{Fields, fields_of, bytes_of, FitMoment, Fit, raw_at}
 use Rattle.ps_record.proofs.Pieces.{some_is}
 use Rattle.ps_record.proofs.RawLaws.{fields_again}
 

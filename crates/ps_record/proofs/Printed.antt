@@ -1,8 +1,7 @@
 -- Printed forms: an address whose text spells it is in lower case, and a text that is a print is read.
-use Rattle.std.proofs.Common.{◌≡◌, ℕ, ◌+◌, List, [], ◌∷◌, ◌++◌, length, map, take, drop, Option, Some, None, refl, sym, ◌∙◌, ap, subst, arith, length-append}
-use Rattle.std.specs.Prelude.{Result}
+use Rattle.std.proofs.Common.{◌≡◌, ℕ, List, [], ◌∷◌, ◌++◌, length, map, take, drop, refl, sym, ◌∙◌, ap, subst, arith, length-append}
 use Rattle.std.proofs.lemmas.List.{append-nil, take_at, drop_at}
-use Rattle.ps_types.specs.Address.{lower, Parts, AreParts, before_at, after_slash, joined, address_of, Spells, parts_of, jid_text, IsAddress}
+use Rattle.ps_types.specs.Address.{lower, AreParts, before_at, after_slash, joined, address_of, Spells, parts_of, jid_text, IsAddress}
 use Rattle.ps_types.specs.declared.jid.Jid.{Jid}
 use Rattle.ps_types.proofs.AddressLaws.{text-spells, spells-one}
 use Rattle.ps_model.specs.Entries.{of_host, IsHostName, IsBare}

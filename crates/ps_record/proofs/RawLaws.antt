@@ -2,7 +2,7 @@
 use Rattle.std.proofs.Common.{◌≡◌, ℕ, zero, suc, ◌^◌, ◌<◌, List, [], ◌∷◌, ◌++◌, length, Option, Some, None, refl, sym, ap, subst, ◌∙◌, append_assoc}
 use Rattle.std.specs.Int.{w16, w32, w64, to_be_bytes}
 use Rattle.ps_model.specs.Entries.{short, long}
-use Rattle.ps_record.specs.Raw.{Fields, boot, change, handed, gone, base, change_bytes, bytes_of, Fit, FitMoment, ◌>>=◌, number_at, text_at, change_at, moment_at, raw_at}
+use Rattle.ps_record.specs.Raw.{Fields, boot, change, handed, gone, base, bytes_of, Fit, ◌>>=◌, number_at, text_at, change_at, moment_at, raw_at}
 use Rattle.ps_record.proofs.Pieces.{IsBytes, IsBytes-rest, bind_some, some_is, Takes, Takes-then, wide16, wide32, wide64, number_takes, number_again, text_takes, text_again}
 
 -- what was read stands at the front

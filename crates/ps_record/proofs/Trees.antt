@@ -1,8 +1,8 @@
 -- A text that is the print of a tree is read as that tree.
-use Rattle.std.proofs.Common.{◌≡◌, ℕ, List, Some, None, refl, sym, ◌∙◌, ap, subst, arith}
+use Rattle.std.proofs.Common.{◌≡◌, ℕ, List, refl, sym, ◌∙◌, ap, subst, arith}
 use Rattle.serde_json.specs.Data.{Data}
 use Rattle.serde_json.specs.Read.{read}
-use Rattle.ps_types.specs.Form.{IsTree, max_levels}
+use Rattle.ps_types.specs.Form.{IsTree}
 use Rattle.ps_types.specs.Print.{print, client}
 use Rattle.ps_types.specs.Reading.{Reads, IsJson, tree_of}
 use Rattle.ps_types.specs.Tree.{Tree, levels}

@@ -1,5 +1,5 @@
 // Entries that are written at once.
-ghost use Rattle.std.specs.Prelude.{◌≡◌, ◌++◌, ◌∷◌, ◌+◌, ◌-◌, ◌<◌, ◌≤◌, ◌^◌, [], length, slice_range, IfOk, OnOk, OnErr, IsErrOf};
+ghost use Rattle.std.specs.Prelude.{◌≡◌, ◌++◌, ◌∷◌, ◌+◌, ◌-◌, ◌<◌, ◌≤◌, ◌^◌, [], length, drop, slice_range, vec_len, vec_capacity, IfOk, OnOk, OnErr, IsErrOf};
 ghost use Rattle.std.specs.Int.{w32, to_be_bytes};
 ghost use Rattle.ps_model.specs.Entries.{body, spelling, IsEntry, AreEntries};
 ghost use Rattle.ps_record.specs.Batch.{piece};
@@ -54,20 +54,27 @@ fn copy_of(entry: &Entry) -> Result<Entry, Memory>
     Ok(entry.clone()?)
 }
 
-// The frame with one entry more.
-fn frame_with(alloc: Global, frame: &[u8], entry: &[u8]) -> Result<Vec<u8>, Memory>
-    requires long { 5 ≤ length frame.now }
-    requires fits { length frame.now + length entry.now ≤ 2 ^ 30 + 5 }
-    ensures { IfOk result (λ v. v.items ≡ to_be_bytes w32 (length frame.now + length entry.now - 5)
-        ++ slice_range frame.now 4 (length frame.now - 1) ++ entry.now ++ 0 ∷ []) }
+// Writes over the first bytes.
+fn write_front(bytes: &mut [u8], front: &[u8])
+    requires { length front.now ≤ length bytes.old }
+    ensures { bytes.new ≡ front.now ++ drop (length front.now) bytes.old }
+{
+    bytes[..front.len()].copy_from_slice(front);
+}
+
+// The frame has one entry more, for which there is room.
+fn lengthen(frame: &mut Vec<u8>, entry: &[u8])
+    requires long { 5 ≤ length frame.old.items }
+    requires fits { length frame.old.items + length entry.now ≤ 2 ^ 30 + 5 }
+    requires room { vec_len frame.old + length entry.now ≤ vec_capacity frame.old }
+    ensures { frame.new.items ≡ to_be_bytes w32 (length frame.old.items + length entry.now - 5)
+        ++ slice_range frame.old.items 4 (length frame.old.items - 1) ++ entry.now ++ 0 ∷ [] }
 {
     let len = frame.len() + entry.len() - 5;
-    let mut next = Vec::with_capacity(alloc, frame.len() + entry.len())?;
-    next.extend_from_slice(&(len as u32).to_be_bytes())?;
-    next.extend_from_slice(&frame[4..frame.len() - 1])?;
-    next.extend_from_slice(entry)?;
-    next.push(0)?;
-    Ok(next)
+    frame.pop();
+    let _ = frame.extend_from_slice(entry);
+    let _ = frame.push(0);
+    write_front(frame, &(len as u32).to_be_bytes());
 }
 
 // What a frame of these bytes has behind its gate.
@@ -110,7 +117,7 @@ impl Batch {
         })
     }
 
-    /// Adds an entry, in time that grows as the whole batch does. Where memory runs out, the batch is as before.
+    /// Adds an entry, in time that grows as its bytes do. Where memory runs out, the batch is as before.
     pub fn push(&mut self, entry: &Entry) -> Result<(), Memory>
         requires spelled { IsEntry entry.now }
         requires fits { length (body self.old) + length (spelling entry.now) ≤ 2 ^ 30 }
@@ -121,7 +128,7 @@ impl Batch {
         self.push_printed(entry, print.as_slice())
     }
 
-    /// Adds an entry whose tree was printed. Where memory runs out, the batch is as before.
+    /// The same where the tree of the entry was printed. Where memory runs out, the batch is as before.
     pub fn push_printed(&mut self, entry: &Entry, print: &[u8]) -> Result<(), Memory>
         requires spelled { IsEntry entry.now }
         requires printed { print.now ≡ print_in entry.now }
@@ -130,10 +137,10 @@ impl Batch {
         ensures err { OnErr result (self.new ≡ self.old) }
     {
         let bytes = put_printed(self.alloc, entry, print)?;
-        let frame = frame_with(self.alloc, &self.frame, bytes.as_slice())?;
         let entry = copy_of(entry)?;
+        self.frame.try_reserve(bytes.len())?;
         self.entries.push(entry)?;
-        self.frame = frame;
+        lengthen(&mut self.frame, bytes.as_slice());
         Ok(())
     }
 

@@ -1,10 +1,10 @@
-use Rattle.std.proofs.Common.{◌≡◌, ℕ, ◌+◌, List, ◌++◌, length, drop, refl, sym, ◌∙◌, ap, subst, arith, length-append, length-drop}
+use Rattle.std.proofs.Common.{◌≡◌, ℕ, ◌+◌, List, ◌++◌, length, drop, refl, sym, ◌∙◌, ap, arith, length-append, length-drop}
 use Rattle.std.specs.Prelude.{Some}
 use Rattle.ps_types.specs.declared.entry.Entry.{Entry}
 use Rattle.ps_model.specs.Entries.{spelling}
-use Rattle.ps_record.specs.Raw.{Fields, view, fields_of, bytes_of, Fit, raw_at}
-use Rattle.ps_record.proofs.Pieces.{IsBytes, IsBytes-drop, Takes, to_end}
-use Rattle.ps_record.proofs.RawLaws.{Read, fields_takes}
+use Rattle.ps_record.specs.Raw.{Fields, view, fields_of, bytes_of, raw_at}
+use Rattle.ps_record.proofs.Pieces.{IsBytes, IsBytes-drop, to_end}
+use Rattle.ps_record.proofs.RawLaws.{fields_takes}
 use Rattle.ps_record.proofs.EntryLaws.{spelling-fields, none_spelled, no_entry}
 use Rattle.ps_record.proofs.reading.read_entry.Goals as goal
 
