@@ -2,7 +2,7 @@
 """Writes crates.txt from the short table beside this script.
 
     write.py            writes crates.txt
-    write.py --check    says whether crates.txt is what would be written, and whether the table names what each crate uses
+    write.py --check    says whether crates.txt is what would be written, whether the table names what each crate uses, and how many ways lead down
 
 A line of the table names a crate, its flags, and the libraries that its own files use; `only` before the colon says that it may name more. No line
 names what stands further below, which the toolchain finds by itself: it goes from each crate to all that its line names, and again from each of these,
@@ -17,6 +17,8 @@ import sys
 HERE = os.path.dirname(os.path.abspath(__file__))
 ROOT = os.path.dirname(os.path.dirname(HERE))
 CRATES = os.path.join(ROOT, "crates")
+# The gate takes the sum of the texts below a crate once for each way that leads down from it, and that twice: some 1.4 seconds of one processor a thousand ways.
+MOST_WAYS = 450_000
 HEAD = "# Written by tests/crates/write.py from tests/crates/table.txt: change that.\n"
 NAMED = [
     re.compile(r"Rattle\.(\w+)\."),
@@ -51,6 +53,20 @@ def layers(rows):
 
     for name in rows:
         layer(name)
+    return found
+
+
+def ways(rows):
+    """Returns how many ways lead down from each crate, the empty one too."""
+    found = {}
+
+    def count(name):
+        if name not in found:
+            found[name] = 1 + sum(count(use) for use in rows[name][1] if use in rows)
+        return found[name]
+
+    for name in rows:
+        count(name)
     return found
 
 
@@ -106,9 +122,12 @@ def main():
     with open(path, encoding="utf-8") as file:
         if file.read() != text:
             wrong.append("crates.txt isn't what the table gives")
+    count = sum(ways(rows).values())
+    if count > MOST_WAYS:
+        wrong.append(f"{count} ways lead down, more than {MOST_WAYS}: name fewer libraries where a crate between passes on what they have")
     for line in wrong:
         print(line)
-    print(f"{len(rows)} crates, {len(wrong)} misfits")
+    print(f"{len(rows)} crates, {count} ways down, {len(wrong)} misfits")
     return 1 if wrong else 0
 
 
