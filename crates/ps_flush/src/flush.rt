@@ -21,8 +21,8 @@ pub enum FlushRefusal {
     Store,
 }
 
-// The entries that wait become those of a frame.
-fn frame_of(state: &mut State) -> Frame
+/// The entries that wait become those of a frame. They wait no more, so whoever calls it writes them.
+pub fn frame_of(state: &mut State) -> Frame
     requires standing { IsStanding state.old }
     ensures { IsFrameOf state.old state.new result }
 {

@@ -7,6 +7,7 @@
 //!
 //! - [`flush_seat`] makes durable all that a seat has seen: the entries that wait are taken out of the state as one frame, which is written while others go on
 //!   with the state, and in a later holding the Flush is added, or the Broken where the disk failed. Where others have made it durable no frame is written.
+//! - [`frame_of`] takes the entries that wait out of the state, as a frame.
 //! - [`read_seat`] reads the entries of all frames again, with the store in its hands.
 //!
 //! - `specs/Origin.antt`: what stood when the hall was opened, which [`Opening`] names. `specs/Homes.antt`: when the two values stand for a list of deeds.
@@ -22,7 +23,7 @@ mod home;
 mod leaving;
 mod reading;
 
-pub use flush::{FlushRefusal, flush_seat};
+pub use flush::{FlushRefusal, flush_seat, frame_of};
 pub use home::{Archive, Home, Opening};
 pub use ps_journal::EntriesRefusal;
 pub use reading::read_seat;

@@ -1,27 +1,12 @@
 // The end of a hall, with the last frame.
-ghost use Rattle.ps_flush.specs.Flush.{IsFrameOf};
 ghost use Rattle.ps_shared.specs.Passes.{ArePasses, seats_in};
-ghost use Rattle.ps_state.specs.Stand.{IsStanding};
 ghost use Rattle.ps_workers.specs.Closing.{HasEnded};
 
 use ps_disk::Disk;
+use ps_flush::frame_of;
 use ps_shared::{Hall, HostPasses, Opening};
 use ps_state::State;
-use ps_store::{Frame, Store};
-
-// The entries that wait become those of a frame.
-fn frame_of(state: &mut State) -> Frame
-    requires standing { IsStanding state.old }
-    ensures { IsFrameOf state.old state.new result }
-{
-    let batch = state.hand_over();
-    Frame {
-        batch,
-        count: state.count,
-        length: state.length,
-        steps: state.steps,
-    }
-}
+use ps_store::Store;
 
 /// Ends the hall, and writes the entries that still wait unless the disk has failed. Where it fails now, the store tells.
 pub(crate) fn close<B: Opening, D: Disk>(
