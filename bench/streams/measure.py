@@ -120,21 +120,43 @@ def publishing(count):
         return done / took, size // max(done, 1), sum(frames) / max(len(frames), 1), 2 * len(frames) / max(done, 1)
 
 
+def queued_on(count, each=2000):
+    """The same where each stream has its lines at hand."""
+    with tempfile.TemporaryDirectory(dir=STORE) as folder, served(count, folder) as service:
+        senders = [f"pub@h{k}.example/1" for k in range(count)]
+        for at in range(count):
+            ask(service, at, [create(senders[at], 0, f"node-{at}")])
+        lines = [[publish(senders[at], k, f"node-{at}", f"i{k % 20}") for k in range(each)] for at in range(count)]
+        wanted = [stream.count + each for stream in service.streams]
+        before, start = os.path.getsize(f"{folder}/store") - 1, time.monotonic()
+        for stream, some in zip(service.streams, lines):
+            stream.send(*some)
+        service.pump(lambda: all(stream.count >= most for stream, most in zip(service.streams, wanted)), 300)
+        took, done = time.monotonic() - start, each * count
+        size = os.path.getsize(f"{folder}/store") - 1 - before
+        frames = frames_of(f"{folder}/store", before)
+        return done / took, size // done, sum(frames) / max(len(frames), 1), 2 * len(frames) / done
+
+
 def limit(size, folder=STORE):
     """Appends a second of that many bytes, each with two syncs and nothing else."""
     told = subprocess.run([LIMIT, f"{folder}/limit", str(size), "1000"], stdout=subprocess.PIPE, text=True, check=True).stdout.split()
     return 1000 * 1e9 / int(told[2])
 
 
-def publishes():
+def publishes(run=publishing):
     print(f"{'streams':>8} {'publishes/s':>12} {'of one':>7} {'limit/s':>9} {'ratio':>6} {'entries a frame':>16} {'syncs a publish':>16}")
     first = None
     for count in STREAMS:
-        runs = [publishing(count) for _ in range(ROUNDS)]
+        runs = [run(count) for _ in range(ROUNDS)]
         rate, frame, syncs = (median(run[at] for run in runs) for at in (0, 2, 3))
         most = median(limit(runs[0][1]) for _ in range(ROUNDS))
         first = first or rate
         print(f"{count:8} {rate:12.0f} {rate / first:7.2f} {most:9.0f} {rate / most:6.2f} {frame:16.2f} {syncs:16.2f}", flush=True)
+
+
+def queued():
+    publishes(queued_on)
 
 
 def audience(service, count):
@@ -187,6 +209,51 @@ def latency():
                 os.set_blocking(stream.sink, True)
             took = sorted(one_latency(service.streams, k) for k in range(100))
             print(f"{name:>8} {1000 * took[50]:10.2f} {1000 * took[98]:8.2f}", flush=True)
+
+
+def used(child):
+    """The processor's microseconds of a program in its own code and in the system's, and how often one of its threads went to sleep."""
+    stat = pathlib.Path(f"/proc/{child.pid}/stat").read_text().rpartition(")")[2].split()
+    own, system = (int(word) * 1e6 / os.sysconf("SC_CLK_TCK") for word in stat[11:13])
+    slept = 0
+    for task in pathlib.Path(f"/proc/{child.pid}/task").iterdir():
+        slept += sum(int(line.split()[1]) for line in (task / "status").read_text().splitlines() if line.startswith("voluntary"))
+    return own, system, slept
+
+
+def echoed(line):
+    """Microseconds until `cat` has written the line again: what two wakes and this script take."""
+    child = subprocess.Popen(["cat"], stdin=subprocess.PIPE, stdout=subprocess.PIPE, bufsize=0)
+    start, count = time.monotonic(), 0
+    while time.monotonic() < start + SECONDS:
+        os.write(child.stdin.fileno(), line + b"\n")
+        while not os.read(child.stdout.fileno(), 65536).endswith(b"\n"):
+            pass
+        count += 1
+    took = time.monotonic() - start
+    child.stdin.close()
+    child.wait()
+    return 1e6 * took / count
+
+
+def trip():
+    make = lambda k: publish("pub@h0.example/1", k, "quiet", f"i{k % 20}")
+    print(f"{'where':>10} {'us a trip':>10} {'own code':>9} {'system':>7} {'sleeps':>7} {'two syncs':>10}   one publish at a time on one stream")
+    print(f"{'cat':>10} {echoed(make(1)):10.0f}")
+    for name, folder in (("memory", FAST), ("disk", STORE)):
+        with tempfile.TemporaryDirectory(dir=folder) as room, served(1, room) as service:
+            ask(service, 0, [create("pub@h0.example/1", 0, "quiet")])
+            stream = service.streams[0]
+            os.set_blocking(stream.source, True)
+            os.set_blocking(stream.sink, True)
+            size, before = os.path.getsize(f"{room}/store"), used(service.child)
+            start = time.monotonic()
+            count = answered(stream, make, start + SECONDS)
+            took, now = time.monotonic() - start, used(service.child)
+            each = [(b - a) / count for a, b in zip(before, now)]
+            size = (os.path.getsize(f"{room}/store") - size) // count
+        syncs = 1e6 / limit(size, folder)
+        print(f"{name:>10} {1e6 * took / count:10.0f} {each[0]:9.0f} {each[1]:7.0f} {each[2]:7.1f} {syncs:10.0f}", flush=True)
 
 
 def nothing():
@@ -245,7 +312,7 @@ def memory():
 
 
 def main():
-    known = {"publishes": publishes, "notices": notices, "latency": latency, "nothing": nothing, "idle": idle, "memory": memory}
+    known = {"publishes": publishes, "queued": queued, "notices": notices, "latency": latency, "trip": trip, "nothing": nothing, "idle": idle, "memory": memory}
     print(f"{os.cpu_count()} processors, {BUSY}: {load():.1f}")
     for name in sys.argv[5:] or known:
         known[name]()
