@@ -1,9 +1,7 @@
 -- The copies after they changed places.
 use Rattle.std.proofs.Common.{◌≡◌, ◌<◌, ℕ, ◌+◌, true, ap, sym, subst, ◌∙◌}
-use Rattle.std.specs.Prelude.{◌^◌, Option}
+use Rattle.std.specs.Prelude.{◌^◌}
 use Rattle.ps_base.specs.Rows.{Table}
-use Rattle.ps_types.specs.declared.entry.Entry.{Entry}
-use Rattle.ps_types.specs.declared.request.Request.{Request}
 use Rattle.ps_types.specs.declared.rows.TallyRow.{TallyRow}
 use Rattle.ps_model.specs.After.{after}
 use Rattle.ps_books.specs.Addressed.{IsTimely}
@@ -43,15 +41,13 @@ module _ (front back : Part) (kept : Kept) (numbers : Numbers) (before now : Tab
   }
 
 -- an entry that is accepted here, and that the second copy has taken
-pub follows-now : (front back new : Part) (entry kept : Entry) (request : Option Request) → back ≡ front → kept ≡ entry → fits_book front.book entry ≡ true → front.count < 2 ^ 62 → IsTimely entry → Holds front
-    → IsRequestOf back.book.service entry request → new ≡ part_after back entry → Follows front (record { entry = kept; request = request }) new
-follows-now front back new entry kept request even same fits few timely holds asked after = record {
-  is_accepted = subst (λ (e : Entry). fits_book front.book e ≡ true) (sym same) fits;
+pub follows-now : (front back new : Part) (kept : Kept) → back ≡ front → fits_book front.book kept.entry ≡ true → front.count < 2 ^ 62 → IsTimely kept.entry → Holds front
+    → IsRequestOf back.book.service kept.entry kept.request → new ≡ part_after back kept.entry → Follows front kept new
+follows-now front back new kept even fits few timely holds asked after = record {
+  is_accepted = fits;
   few = few;
-  is_timely = subst IsTimely (sym same) timely;
+  is_timely = timely;
   holds = holds;
-  is_requested =
-      subst (λ (e : Entry). IsRequestOf front.book.service e request) (sym same)
-      (subst (λ (p : Part). IsRequestOf p.book.service entry request) even asked);
-  is_after = after ∙ ap (λ (p : Part). part_after p entry) even ∙ ap (part_after front) (sym same);
+  is_requested = subst (λ (p : Part). IsRequestOf p.book.service kept.entry kept.request) even asked;
+  is_after = after ∙ ap (λ (p : Part). part_after p kept.entry) even;
 }

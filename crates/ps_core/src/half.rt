@@ -77,42 +77,43 @@ impl Half {
         })
     }
 
-    /// Takes an entry that is accepted here, and gives the request that its tree is taken as.
-    pub fn take(&mut self, alloc: Global, entry: &Entry) -> Result<Option<Request>, Memory>
-        requires accepted { fits_book (book_of self.old.tables) entry.now ≡ true }
-        requires few { self.old.count < 2 ^ 62 }
-        requires counted { AreCounted (part_of self.old) }
-        requires wants { HasWants self.old }
-        ensures state { OnOk result (part_of self.new ≡ part_after (part_of self.old) entry.now) }
-        ensures wants { OnOk result (HasWants self.new) }
-        ensures request { IfOk result (λ r. IsRequestOf self.old.tables.service entry.now r) }
+    /// The request that the tree of an entry is taken as, which is accepted here.
+    pub fn request_for(&self, alloc: Global, entry: &Entry) -> Result<Option<Request>, Memory>
+        requires accepted { fits_book (book_of self.now.tables) entry.now ≡ true }
+        ensures { IfOk result (λ r. IsRequestOf self.now.tables.service entry.now r) }
     {
         match entry {
-            Entry::Boot { service } => {
-                self.boot(alloc, service)?;
-                Ok(None)
-            }
             Entry::Change {
                 host,
                 line,
                 moment,
                 tree,
             } => {
-                let request = self.take_change(alloc, host, *line, *moment, tree)?;
+                let request = self.request_of(alloc, host, *line, *moment, tree)?;
                 Ok(Some(request))
             }
-            Entry::Gone { host } => {
-                self.leave(host);
+            Entry::Boot { .. } | Entry::Handed { .. } | Entry::Gone { .. } | Entry::Base { .. } => {
                 Ok(None)
             }
-            Entry::Handed { .. } => {
-                self.count += 1;
-                Ok(None)
-            }
-            Entry::Base { row } => {
-                self.take_row(alloc, row)?;
-                Ok(None)
-            }
+        }
+    }
+
+    // The same of the parts of an entry that has one.
+    fn request_of(
+        &self,
+        alloc: Global,
+        host: &Text,
+        _line: u64,
+        _moment: Option<u64>,
+        tree: &Elem,
+    ) -> Result<Request, Memory>
+        requires accepted { fits_book (book_of self.now.tables) (Change host.now _line _moment tree.now) ≡ true }
+        ensures { IfOk result (λ r. asked tree.now r ≡ tree_taken host.now self.now.tables.service tree.now) }
+    {
+        match take_tree(alloc, tree, host, &self.tables.service)? {
+            TakenTree::Asked(request) => Ok(request),
+            TakenTree::Denied(_, _) => unreachable!(),
+            TakenTree::Refused(_) => unreachable!(),
         }
     }
 
@@ -191,47 +192,6 @@ impl Half {
         }
         self.count += 1;
         Ok(())
-    }
-
-    fn take_change(
-        &mut self,
-        alloc: Global,
-        host: &Text,
-        line: u64,
-        moment: Option<u64>,
-        tree: &Elem,
-    ) -> Result<Request, Memory>
-        requires accepted { fits_book (book_of self.old.tables) (Change host.now line moment tree.now) ≡ true }
-        requires few { self.old.count < 2 ^ 62 }
-        requires counted { AreCounted (part_of self.old) }
-        requires wants { HasWants self.old }
-        ensures state { OnOk result
-            (part_of self.new ≡ part_after (part_of self.old) (Change host.now line moment tree.now)) }
-        ensures wants { OnOk result (HasWants self.new) }
-        ensures request { IfOk result (λ r. asked tree.now r ≡ tree_taken host.now self.old.tables.service tree.now) }
-    {
-        let request = self.request_of(alloc, host, line, moment, tree)?;
-        self.take_asked(alloc, host, line, moment, tree, &request)?;
-        Ok(request)
-    }
-
-    // The request that the tree of an entry is taken as.
-    fn request_of(
-        &self,
-        alloc: Global,
-        host: &Text,
-        _line: u64,
-        _moment: Option<u64>,
-        tree: &Elem,
-    ) -> Result<Request, Memory>
-        requires accepted { fits_book (book_of self.now.tables) (Change host.now _line _moment tree.now) ≡ true }
-        ensures { IfOk result (λ r. asked tree.now r ≡ tree_taken host.now self.now.tables.service tree.now) }
-    {
-        match take_tree(alloc, tree, host, &self.tables.service)? {
-            TakenTree::Asked(request) => Ok(request),
-            TakenTree::Denied(_, _) => unreachable!(),
-            TakenTree::Refused(_) => unreachable!(),
-        }
     }
 
     fn take_asked(

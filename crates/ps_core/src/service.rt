@@ -1,5 +1,5 @@
 // The service: what it answers, and the entry that it prepares and commits.
-ghost use Rattle.std.specs.Prelude.{◌≡◌, ◌<◌, ◌^◌, [], true, false, IfOk, OnOk, OnErr, IfSome, IsSome, Some, None, map};
+ghost use Rattle.std.specs.Prelude.{◌≡◌, ◌<◌, ◌^◌, [], true, false, IfOk, OnOk, OnErr, IfSome, IsSome, Some, None, map, option_copied};
 ghost use Rattle.ps_model.specs.After.{after, notices_at};
 ghost use Rattle.ps_model.specs.Base.{book_rows};
 ghost use Rattle.ps_model.specs.Book.{empty_state};
@@ -200,6 +200,16 @@ impl Service {
         accepts_at(self.alloc, &self.front, &self.tallies, entry)
     }
 
+    /// The entry that is prepared, if one is.
+    pub fn prepared(&self) -> Option<&Entry>
+        ensures prepared { option_copied result ≡ self.now.prepared }
+    {
+        match &self.stage {
+            Stage::Prepared(kept, _) => Some(&kept.entry),
+            Stage::Even | Stage::Behind(_) | Stage::Stale => None,
+        }
+    }
+
     /// Prepares an entry that is accepted here, and gives the notices that it will make. The State stays. After an error nothing is prepared.
     pub fn prepare<R: Threads + Sync>(
         &mut self,
@@ -214,24 +224,13 @@ impl Service {
         ensures ok { OnOk result (self.new.prepared ≡ Some entry.now) }
         ensures err { OnErr result (self.new.prepared ≡ None) }
     {
-        let stage = mem::replace(&mut self.stage, Stage::Stale);
-        bring_up(&self.front, &mut self.back, self.alloc, stage)?;
-        let kept = copy_of(entry)?;
-        let request = self.back.take(self.alloc, entry)?;
-        let kept = Kept {
-            entry: kept,
-            request,
-        };
-        let (notices, numbers) = told_and_counted(
-            rt,
-            self.alloc,
-            &self.front,
-            &self.back,
-            &mut self.tallies,
-            &kept,
-        )?;
-        put_stage(&mut self.stage, Stage::Prepared(kept, numbers));
-        Ok(notices)
+        match self.request_for(entry) {
+            Ok(request) => self.prepare_known(rt, entry, request),
+            Err(Memory) => {
+                self.unprepare();
+                Err(Memory)
+            }
+        }
     }
 
     /// The same where the request of the entry is known, as [`Service::answer_with_room`] gives it.
@@ -250,17 +249,39 @@ impl Service {
         ensures ok { OnOk result (self.new.prepared ≡ Some entry.now) }
         ensures err { OnErr result (self.new.prepared ≡ None) }
     {
+        match copy_of(entry) {
+            Ok(entry) => self.prepare_own(rt, entry, request),
+            Err(Memory) => {
+                self.unprepare();
+                Err(Memory)
+            }
+        }
+    }
+
+    /// The same by the entry itself, of which no copy is made then. [`Service::prepared`] tells it.
+    pub fn prepare_own<R: Threads + Sync>(
+        &mut self,
+        rt: &R,
+        entry: Entry,
+        request: Option<Request>,
+    ) -> Result<Vec<Notice>, Memory>
+        requires accepted { accepted self.old.state entry ≡ true }
+        requires timely { IsTimely entry }
+        requires few { self.old.state.count < 2 ^ 62 }
+        requires request { IsRequestOf self.old.state.book.service entry request }
+        ensures state { self.new.state ≡ self.old.state }
+        ensures notices { IfOk result (λ v. v.items ≡ notices_at self.old.state entry) }
+        ensures ok { OnOk result (self.new.prepared ≡ Some entry) }
+        ensures err { OnErr result (self.new.prepared ≡ None) }
+    {
+        let alloc = self.alloc;
+        let kept = Kept { entry, request };
         let stage = mem::replace(&mut self.stage, Stage::Stale);
-        bring_up(&self.front, &mut self.back, self.alloc, stage)?;
-        let kept = copy_of(entry)?;
-        self.back.take_known(self.alloc, entry, &request)?;
-        let kept = Kept {
-            entry: kept,
-            request,
-        };
+        bring_up(&self.front, &mut self.back, alloc, stage)?;
+        self.back.take_known(alloc, &kept.entry, &kept.request)?;
         let (notices, numbers) = told_and_counted(
             rt,
-            self.alloc,
+            alloc,
             &self.front,
             &self.back,
             &mut self.tallies,
@@ -268,6 +289,22 @@ impl Service {
         )?;
         put_stage(&mut self.stage, Stage::Prepared(kept, numbers));
         Ok(notices)
+    }
+
+    // The request that the tree of an entry is taken as, which is accepted here.
+    fn request_for(&self, entry: &Entry) -> Result<Option<Request>, Memory>
+        requires accepted { accepted self.now.state entry.now ≡ true }
+        ensures { IfOk result (λ r. IsRequestOf self.now.state.book.service entry.now r) }
+    {
+        self.front.request_for(self.alloc, entry)
+    }
+
+    // Nothing is prepared any more.
+    fn unprepare(&mut self)
+        ensures state { self.new.state ≡ self.old.state }
+        ensures none { self.new.prepared ≡ None }
+    {
+        put_stage(&mut self.stage, Stage::Stale);
     }
 
     /// Takes the prepared entry. It takes no memory.

@@ -26,7 +26,8 @@ pub struct Said {
     pub notices: Vec<Notice>,
 }
 
-fn arrived(alloc: Global, line: &str, moment: Option<u64>) -> Result<Arrival, Fail> {
+/// A line as it arrives.
+pub fn arrived(alloc: Global, line: &str, moment: Option<u64>) -> Result<Arrival, Fail> {
     let bytes = line.as_bytes().to_vec(alloc)?;
     Ok(Arrival::Line {
         bytes: Bytes::from_vec(bytes),

@@ -1,11 +1,12 @@
-// An entry that is prepared in the place of another, and one that is prepared once more after memory was refused.
-ghost use Rattle.std.specs.Prelude.{◌≡◌, ◌<◌, ◌^◌, true, OnOk, Some};
+// An entry that is prepared in the place of another, one that is prepared once more after memory was refused, and one that is handed over.
+ghost use Rattle.std.specs.Prelude.{◌≡◌, ◌<◌, ◌^◌, true, IfOk, OnOk, Some};
 ghost use Rattle.ps_model.specs.Replay.{accepted};
 ghost use Rattle.ps_books.specs.Addressed.{IsTimely};
+ghost use Rattle.ps_core.specs.Requests.{IsRequestOf};
 
-use crate::lines::{answered, boot, entry_at, is_timely, says};
+use crate::lines::{answered, arrived, boot, entry_at, is_timely, says};
 use ps_core::Service;
-use ps_types::{Entry, Text};
+use ps_types::{Entry, Request, Text};
 use std::alloc::Global;
 use std::process::Abort;
 use std::test::Fail;
@@ -118,4 +119,61 @@ fn goes_on(
 fn what_was_refused_memory_is_prepared_once_more(rt: HostRuntime) -> Result<(), Fail> {
     let mut service = Service::new(rt.alloc())?;
     goes_on(&rt, rt.alloc(), &mut service)
+}
+
+// The entry that the line of `a.example` makes, with its request.
+fn made_by(
+    alloc: Global,
+    service: &Service,
+    line: u64,
+    text: &str,
+) -> Result<(Entry, Option<Request>), Fail>
+    ensures request { IfOk result (λ r. IsRequestOf service.now.state.book.service r.0 r.1) }
+{
+    let host = Text::of(alloc, "a.example")?;
+    let arrival = arrived(alloc, text, None)?;
+    let answered = service.answer_with_room(&host, line, &arrival)?;
+    let (answer, request) = answered.into_parts();
+    let (_, entry) = answer.into_said();
+    match entry {
+        Some(entry) => Ok((entry, request)),
+        None => Err(Fail::new("no entry")),
+    }
+}
+
+// The number of the line whose entry is prepared.
+fn prepared_line(service: &Service) -> Option<u64> {
+    match service.prepared() {
+        Some(Entry::Change { line, .. }) => Some(*line),
+        _ => None,
+    }
+}
+
+// The entry is told from its preparation on until it is committed.
+fn hands_over(
+    rt: &(impl Abort + Threads + Sync),
+    alloc: Global,
+    service: &mut Service,
+) -> Result<(), Fail> {
+    boot(rt, alloc, service)?;
+    let (news, request) = made_by(alloc, service, 7, NEWS)?;
+    let accepted = service.accepts(&news)?;
+    assert!(rt; accepted);
+    let timely = is_timely(&news);
+    assert!(rt; timely);
+    assert!(rt; service.count() < 1000);
+    assert_eq!(rt; prepared_line(service), None);
+    service.prepare_own(rt, news, request)?;
+    assert_eq!(rt; prepared_line(service), Some(7));
+    service.commit();
+    assert_eq!(rt; prepared_line(service), None);
+    let reply = answered(rt, alloc, service, 8, NEWS)?;
+    says(rt, &reply, CONFLICT);
+    Ok(())
+}
+
+#[test]
+fn an_entry_that_is_handed_over_is_told(rt: HostRuntime) -> Result<(), Fail> {
+    let mut service = Service::new(rt.alloc())?;
+    hands_over(&rt, rt.alloc(), &mut service)
 }
