@@ -17,7 +17,8 @@ use std::sync::Wait;
 use std::thread::Threads;
 
 impl<B: Opening, D: Disk> Hall<B, D> {
-    /// Answers one line of the pass's host. What it lays is not handed out before it is flushed.
+    /// Answers one line of the pass's host. What it lays is not handed out before it is flushed, and nobody is woken for it before. Several lines may be laid
+    /// before one [`Hall::flush`].
     pub fn lay<R: Wait + Threads + Sync>(
         &self,
         rt: &R,
@@ -33,7 +34,7 @@ impl<B: Opening, D: Disk> Hall<B, D> {
     {
         let mut home = self.twin.enter(rt, &mut pass.seat);
         let outcome = home.state.lay(rt, pass.at, arrival);
-        pass.concerns_others = concerns_others(&home.state, pass.at, &outcome);
+        pass.concerns_others |= concerns_others(&home.state, pass.at, &outcome);
         leave_laid(
             &self.twin,
             &mut pass.seat,
@@ -45,7 +46,7 @@ impl<B: Opening, D: Disk> Hall<B, D> {
         outcome
     }
 
-    /// Makes durable all that the pass has seen.
+    /// Makes durable all that the pass has seen, and rings for all that it laid since its last flush.
     pub fn flush<R: Wait>(&self, rt: &R, pass: &mut Pass<B, D>) -> Result<(), FlushRefusal>
         requires pass { IsPass B.origin self.now.twin pass.old.at pass.old.host pass.old.seat }
         ensures pass { IsPass B.origin self.now.twin pass.new.at pass.new.host pass.new.seat }
@@ -56,6 +57,7 @@ impl<B: Opening, D: Disk> Hall<B, D> {
     {
         let flushed = flush_seat(&self.twin, rt, &mut pass.seat);
         self.ring_for(pass, flushed.is_err());
+        pass.concerns_others = false;
         flushed
     }
 

@@ -75,9 +75,9 @@ impl<B: Opening, D: Disk> Hall<B, D> {
     }
 
     /// Rests until the bell of the pass's host has rung since it was heard, or so long has gone by; perhaps for less. It rings at the end of each call after
-    /// which its writer may find something, also where that is refused: [`Hall::flush`] or [`Hall::history`] of its reader, or of another's that laid an entry
-    /// while a notice waited for one of its addresses, [`Hall::gone`] and [`Hall::writer_ended`] of any, and [`Hall::handed`] of any whose writer ended or whose
-    /// frame failed. That who rests is woken is all that it does: no clause speaks of it.
+    /// which its writer may find something, also where that is refused: [`Hall::flush`] or [`Hall::history`] of its reader, or of another's that since its last
+    /// one laid an entry while a notice waited for one of its addresses, [`Hall::gone`] and [`Hall::writer_ended`] of any, and [`Hall::handed`] of any whose
+    /// writer ended or whose frame failed. That who rests is woken is all that it does: no clause speaks of it.
     pub fn rest<R: Wait>(&self, rt: &R, pass: &Pass<B, D>, heard: u64, longest: Duration) {
         if let Some(bell) = self.bells.bells.get(pass.at) {
             bell.sleep(rt, heard, longest);

@@ -33,7 +33,7 @@ pub struct Pass<B: Opening, D: Disk> {
     pub(crate) at: usize,
     pub(crate) host: Text,
     pub(crate) in_hand: Option<Jid>,
-    // Whether other hosts may have something to say since the last line that it laid.
+    // Whether other hosts may have something to say of what it laid since its last flush.
     pub(crate) concerns_others: bool,
 }
 

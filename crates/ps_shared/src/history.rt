@@ -32,6 +32,7 @@ impl<B: Opening, D: Disk> Hall<B, D> {
     {
         let flushed = flush_seat(&self.twin, rt, &mut pass.seat);
         self.ring_for(pass, flushed.is_err());
+        pass.concerns_others = false;
         match flushed {
             Ok(()) => read_seat(&self.twin, rt, alloc, &mut pass.seat),
             Err(FlushRefusal::Store) => Err(EntriesRefusal::Store),
