@@ -1,5 +1,5 @@
 -- What holdings of a pass leave of what it brought.
-use Rattle.std.proofs.Common.{◌≡◌, ◌≢◌, ℕ, ◌⊎◌, ⊎_elim, inl, inr, List, [], ◌∷◌, ◌++◌, Result, Ok, Err, length, ap, sym, ◌∙◌, subst}
+use Rattle.std.proofs.Common.{◌≡◌, ℕ, ⊎_elim, inl, inr, List, [], ◌∷◌, ◌++◌, Result, Ok, Err, length, ap, sym, ◌∙◌, subst}
 use Rattle.ps_types.specs.declared.entry.Arrival.{Arrival}
 use Rattle.ps_model.specs.TheCore.{the_core}
 use Rattle.ps_model.specs.World.{World}
@@ -12,19 +12,16 @@ use Rattle.ps_deeds.specs.Own.{AreOwned, HasNoEnd, arrivals_in, own_steps}
 use Rattle.ps_deeds.proofs.Doing.{did-own}
 use Rattle.ps_deeds.proofs.Keeping.{covered-kept, did-kept, flush-keeps, no-end-append}
 use Rattle.ps_deeds.proofs.Owning.{arrivals-append}
-use Rattle.ps_deeds.proofs.Passing.{did-after, passed-by, passed-own}
+use Rattle.ps_deeds.proofs.Passing.{passed-by, passed-own}
 use Rattle.ps_state.specs.declared.answers.ArriveRefusal.{ArriveRefusal}
-use Rattle.ps_state.specs.declared.answers.ArriveRefusal.TheVariants.{Again, Store as NoStore}
 use Rattle.ps_state.specs.declared.answers.HandedRefusal.{HandedRefusal}
 use Rattle.ps_state.specs.declared.answers.HandedRefusal.TheVariants.{Store as NotStored}
 use Rattle.ps_state.specs.declared.answers.Receipt.{Receipt}
-use Rattle.ps_shared.specs.Calls.{Arrived, GoneThen, HasGone, IsGone, LaidThen}
+use Rattle.ps_shared.specs.Calls.{GoneThen, HasGone, IsGone, LayDoes}
 use Rattle.ps_flush.specs.Doing.{Does, Passes}
 use Rattle.ps_flush.specs.Flush.{Flushes, FlushesAll, NotFlushed, TellsFault}
 use Rattle.ps_flush.specs.Origin.{Origin}
-use Rattle.ps_streams.specs.declared.read.ReadEnd.{ReadEnd}
-use Rattle.ps_streams.specs.declared.read.ReadEnd.TheVariants.{Store}
-use Rattle.ps_streams.specs.Reading.{Brought, Keeps}
+use Rattle.ps_streams.specs.Reading.{Brought}
 use Rattle.ps_streams.proofs.Looping.{the_err}
 
 module _ (o : Origin) (k : ℕ) where
@@ -52,18 +49,19 @@ module _ (o : Origin) (k : ℕ) where
       let own = passed-own the_core the-laws o.boot o.list o.hosts k old new p in
       record { own = ap arrivals_in own ∙ sym (nil-right (arrivals_in (own_steps k old))); no_end = λ h. subst HasNoEnd (sym own) h; owned = p.owned }
 
-  quiet : {Did : World → List Step → Type 0} (old new : List Deed) (did : Does o k old new Did) → did.steps ≡ [] → Brought o k old new [] × Keeps o k old new
-  quiet old new did none = (brought-passed old new (passed-by the_core the-laws o.boot o.list o.hosts k old new did none), did-kept the_core the-laws o.boot o.list o.hosts k old new did none)
+  -- a holding without a step
+  pub brought-quiet : {Did : World → List Step → Type 0} (old new : List Deed) (did : Does o k old new Did) → did.steps ≡ [] → Brought o k old new []
+  brought-quiet old new did none = brought-passed old new (passed-by the_core the-laws o.boot o.list o.hosts k old new did none)
 
   brought-all : (m : ℕ) (found new : List Deed) → AreOwned o.hosts found → FlushesAll o k m found new → Brought o k found new []
   brought-all m found new owned (inl others) = subst (λ (l : List Deed). Brought o k found l []) (sym others.0) (brought-none found owned)
   brought-all m found new owned (inr added) = brought-did found new added [] (ap arrivals_in added.does) (subst HasNoEnd (sym added.does) (tt, tt))
 
-  brought-flushes : (old new : List Deed) → Flushes o k old new → Brought o k old new []
+  pub brought-flushes : (old new : List Deed) → Flushes o k old new → Brought o k old new []
   brought-flushes old new f = brought-more old f.found new [] [] (brought-passed old f.found f.passed) (brought-all (length old) f.found new f.passed.owned f.flush)
 
   -- whoever made the Flush, all that the pass laid is flushed
-  flushes-keep : (old new : List Deed) → Flushes o k old new → IsKept the_core o.boot o.list o.hosts k new
+  pub flushes-keep : (old new : List Deed) → Flushes o k old new → IsKept the_core o.boot o.list o.hosts k new
   flushes-keep old new f =
       ⊎_elim (λ others. subst (IsKept the_core o.boot o.list o.hosts k) (sym others.0) (covered-kept the_core the-laws o.boot o.list o.hosts k old f.found f.passed others.1))
       (λ added. flush-keeps the_core the-laws o.boot o.list o.hosts k f.found new added) f.flush
@@ -72,35 +70,17 @@ module _ (o : Origin) (k : ℕ) where
   brought-fault found new owned (inl same) = subst (λ (l : List Deed). Brought o k found l []) (sym same.0) (brought-none found owned)
   brought-fault found new owned (inr added) = brought-did found new added [] (ap arrivals_in added.does) (subst HasNoEnd (sym added.does) (tt, tt))
 
-  brought-not-flushed : (old new : List Deed) → NotFlushed o k old new → Brought o k old new []
+  pub brought-not-flushed : (old new : List Deed) → NotFlushed o k old new → Brought o k old new []
   brought-not-flushed old new f = brought-more old f.found new [] [] (brought-passed old f.found f.passed) (brought-fault f.found new f.passed.owned f.fault)
 
   -- ---- a line
 
-  module _ (h : List ℕ) (a : Arrival) where
-    laid : (old new : List Deed) (r : Receipt) (Then : List Deed → List Deed → Type 0) → ((mid : List Deed) → Then mid new → Brought o k mid new []) → LaidThen o k h old new a r Then → Brought o k old new (a ∷ [])
-    laid old new r Then after l = brought-more old l.mid new (a ∷ []) [] (brought-did old l.mid l.laid (a ∷ []) (ap arrivals_in l.laid.does.1) (subst HasNoEnd (sym l.laid.does.1) (tt, tt))) (after l.mid l.after)
+  module _ (h : List ℕ) (a : Arrival) (old new : List Deed) where
+    pub laid-ok : (r : Receipt) → Does o k old new (LayDoes o h a (Ok r)) → Brought o k old new (a ∷ [])
+    laid-ok r did = brought-did old new did (a ∷ []) (ap arrivals_in did.does.1) (subst HasNoEnd (sym did.does.1) (tt, tt))
 
-    pub takes-ok : (old new : List Deed) (r : Receipt) → Arrived o k h old new a (Ok r) → Brought o k old new (a ∷ []) × Keeps o k old new
-    takes-ok old new r l = (laid old new r (Flushes o k) (λ mid f. brought-flushes mid new f) l, λ kept. flushes-keep l.mid new l.after)
-
-    pub takes-err : (old new : List Deed) (refusal : ArriveRefusal) (e : ReadEnd) → (refusal ≡ NoStore → e ≡ Store) → Arrived o k h old new a (Err refusal) → (Brought o k old new [] ⊎ Brought o k old new (a ∷ [])) × (e ≢ Store → Keeps o k old new)
-    takes-err old new refusal e stored (inl did) = let q = quiet old new did did.does.1 in (inl q.0, λ other. q.1)
-    takes-err old new refusal e stored (inr l) = (inr (laid old new l.1 (NotFlushed o k) (λ mid f. brought-not-flushed mid new f) l.2), λ other. absurd (other (stored l.0)))
-
-    -- behind what others added
-    pub arrived-after : (old mid new : List Deed) → Passes o k old mid → (r : Result Receipt ArriveRefusal) → Arrived o k h mid new a r → Arrived o k h old new a r
-    arrived-after old mid new p (Ok r) l = record { mid = l.mid; laid = did-after the_core the-laws o.boot o.list o.hosts k old mid l.mid p l.laid; after = l.after }
-    arrived-after old mid new p (Err e) (inl did) = inl (did-after the_core the-laws o.boot o.list o.hosts k old mid new p did)
-    arrived-after old mid new p (Err e) (inr l) = inr (l.0, l.1, record { mid = l.2.mid; laid = did-after the_core the-laws o.boot o.list o.hosts k old mid l.2.mid p l.2.laid; after = l.2.after })
-
-    -- a line that has to wait
-    waits : (old new : List Deed) → Arrived o k h old new a (Err Again) → Passes o k old new
-    waits old new (inl did) = passed-by the_core the-laws o.boot o.list o.hosts k old new did did.does.1
-    waits old new (inr l) = absurd (cc l.0)
-
-    pub again-passed : (old new : List Deed) (r : Result Receipt ArriveRefusal) → r ≡ Err Again → Arrived o k h old new a r → Passes o k old new
-    again-passed old new r e is = waits old new (subst (λ (q : Result Receipt ArriveRefusal). Arrived o k h old new a q) e is)
+    pub laid-err : (e : ArriveRefusal) → Does o k old new (LayDoes o h a (Err e)) → Brought o k old new []
+    laid-err e did = brought-quiet old new did did.does.1
 
   -- ---- the end
 
@@ -110,16 +90,21 @@ module _ (o : Origin) (k : ℕ) where
 
     pub gone-brought : {T : Type 0} (old new : List Deed) (r : Result T HandedRefusal) → IsGone o k h old new r → Brought o k old new []
     gone-brought old new (Ok t) l = gone-laid old new (Flushes o k) (λ mid f. brought-flushes mid new f) l
-    gone-brought old new (Err e) (inl did) = (quiet old new did did.does.1).0
+    gone-brought old new (Err e) (inl did) = brought-quiet old new did did.does.1
     gone-brought old new (Err e) (inr l) = gone-laid old new (NotFlushed o k) (λ mid f. brought-not-flushed mid new f) l.1
 
-    pub gone-keeps : {T : Type 0} (old new : List Deed) (r : Result T HandedRefusal) → (r ≡ Err NotStored → ⊥) → IsGone o k h old new r → Keeps o k old new
-    gone-keeps old new (Ok t) other l = λ kept. flushes-keep l.mid new l.after
-    gone-keeps old new (Err e) other (inl did) = (quiet old new did did.does.1).1
-    gone-keeps {T} old new (Err e) other (inr l) = absurd (other (ap (λ (x : HandedRefusal). the_err T x) l.0))
+    pub gone-keeps : {T : Type 0} (old new : List Deed) (r : Result T HandedRefusal) → (r ≡ Err NotStored → ⊥) → IsGone o k h old new r → IsKept the_core o.boot o.list o.hosts k old → IsKept the_core o.boot o.list o.hosts k new
+    gone-keeps old new (Ok t) other l kept = flushes-keep l.mid new l.after
+    gone-keeps old new (Err e) other (inl did) kept = did-kept the_core the-laws o.boot o.list o.hosts k old new did did.does.1 kept
+    gone-keeps {T} old new (Err e) other (inr l) kept = absurd (other (ap (λ (x : HandedRefusal). the_err T x) l.0))
 
 pub gone-as : {T : Type 0} (o : Origin) (j k : ℕ) (g h : List ℕ) (old new : List Deed) (r : Result T HandedRefusal) → j ≡ k → g ≡ h → HasGone o j g old new r → HasGone o k h old new r
 gone-as o j k g h old new r e f is = subst (λ (n : ℕ). HasGone o n h old new r) e (subst (λ (x : List ℕ). HasGone o j x old new r) f is)
 
-pub arrived-as : (o : Origin) (j k : ℕ) (g h : List ℕ) (a : Arrival) (old new : List Deed) (r : Result Receipt ArriveRefusal) → j ≡ k → g ≡ h → Arrived o j g old new a r → Arrived o k h old new a r
-arrived-as o j k g h a old new r e f is = subst (λ (n : ℕ). Arrived o n h old new a r) e (subst (λ (x : List ℕ). Arrived o j x old new a r) f is)
+-- the same pass
+pub brought-as : (o : Origin) (j k : ℕ) (old new : List Deed) (arrivals : List Arrival) → j ≡ k → Brought o j old new arrivals → Brought o k old new arrivals
+brought-as o j k old new arrivals e b = subst (λ (n : ℕ). Brought o n old new arrivals) e b
+
+-- by the same pass later
+pub brought-later : (o : Origin) (j k : ℕ) (old mid new : List Deed) (arrivals : List Arrival) → j ≡ k → Brought o k old mid [] → Brought o j mid new arrivals → Brought o k old new arrivals
+brought-later o j k old mid new arrivals e a b = brought-more o k old mid new [] arrivals a (brought-as o j k mid new arrivals e b)

@@ -21,7 +21,7 @@ use Rattle.ps_state.specs.declared.answers.ArriveRefusal.{ArriveRefusal}
 use Rattle.ps_state.specs.declared.answers.ArriveRefusal.TheVariants.{Store as NoStore}
 use Rattle.ps_state.specs.declared.answers.HandedRefusal.{HandedRefusal}
 use Rattle.ps_state.specs.declared.answers.HandedRefusal.TheVariants.{Store}
-use Rattle.ps_shared.specs.Calls.{Arrived, HasGone, HasHand, HasHanded, IsGone}
+use Rattle.ps_shared.specs.Calls.{HasGone, HasHand, HasHanded, IsGone, LayDoes}
 use Rattle.ps_flush.specs.Doing.{Adds, Does, Passes}
 use Rattle.ps_flush.specs.Flush.{Flushes, TellsFault}
 use Rattle.ps_flush.specs.Homes.{world_at}
@@ -74,17 +74,16 @@ module _ (o : Origin) (k : ℕ) where
 -- ---- a reader
 
 module _ (o : Origin) (k : ℕ) (h : List ℕ) where
-  refused-broken : (a : Arrival) (old new : List Deed) → Arrived o k h old new a (Err NoStore) → (world_at o new).broken ≡ true
-  refused-broken a old new (inl did) = ap (λ (w : World). w.broken) (quiet-world o k old new did did.does.1) ∙ did.does.0.1
-  refused-broken a old new (inr l) = tells-broken o k l.2.after.found new l.2.after.fault
+  refused-broken : (a : Arrival) (old new : List Deed) → Does o k old new (LayDoes o h a (Err NoStore)) → (world_at o new).broken ≡ true
+  refused-broken a old new did = ap (λ (w : World). w.broken) (quiet-world o k old new did did.does.1) ∙ did.does.0.1
 
-  pub arrived-store : (a : Arrival) (old new : List Deed) (e : ArriveRefusal) → e ≡ NoStore → Arrived o k h old new a (Err e) → (world_at o new).broken ≡ true
-  arrived-store a old new e same is = refused-broken a old new (subst (λ (x : ArriveRefusal). Arrived o k h old new a (Err x)) same is)
+  pub laid-store : (a : Arrival) (old new : List Deed) (e : ArriveRefusal) → e ≡ NoStore → Does o k old new (LayDoes o h a (Err e)) → (world_at o new).broken ≡ true
+  laid-store a old new e same did = refused-broken a old new (subst (λ (x : ArriveRefusal). Does o k old new (LayDoes o h a (Err x))) same did)
 
   passed-broken : (old new : List Deed) → Passes o k old new → (world_at o old).broken ≡ true → (world_at o new).broken ≡ true
   passed-broken old new p e = (passed-follows the_core the-laws o.boot o.list o.hosts k old new p).broken e
 
-  flushes-broken : (old new : List Deed) → Flushes o k old new → (world_at o old).broken ≡ true → (world_at o new).broken ≡ true
+  pub flushes-broken : (old new : List Deed) → Flushes o k old new → (world_at o old).broken ≡ true → (world_at o new).broken ≡ true
   flushes-broken old new f e =
       let found = passed-broken old f.found f.passed e in
       ⊎_elim (λ others. ap (λ (l : List Deed). (world_at o l).broken) others.0 ∙ found) (λ added. broken-on o k f.found new added found) f.flush

@@ -16,11 +16,11 @@ use Rattle.ps_deeds.proofs.Passing.{passed-own}
 use Rattle.ps_state.specs.declared.answers.ArriveRefusal.{ArriveRefusal}
 use Rattle.ps_state.specs.declared.answers.ArriveRefusal.TheVariants.{Closed}
 use Rattle.ps_state.specs.declared.answers.HandedRefusal.{HandedRefusal}
-use Rattle.ps_shared.specs.Calls.{Arrived, HasGone, IsGone}
+use Rattle.ps_shared.specs.Calls.{HasGone, IsGone, LayDoes}
 use Rattle.ps_flush.specs.Doing.{Does, Passes}
 use Rattle.ps_flush.specs.Flush.{Flushes, FlushesAll, NotFlushed, TellsFault}
 use Rattle.ps_flush.specs.Origin.{Origin}
-use Rattle.ps_streams.specs.Reading.{FoundClosed, SaidGone}
+use Rattle.ps_streams.specs.Reading.{Brought, FoundClosed, SaidGone}
 
 -- what was seen grows
 abbrev pub Grows : List Deed → List Deed → Type 0
@@ -38,6 +38,11 @@ closed-on o h k old new g had = record {
   before = had.before;
 }
 
+-- found by the same pass later
+pub closed-later : (o : Origin) (j k : ℕ) (g h : List ℕ) (old mid new : List Deed) (arrivals : List Arrival) → j ≡ k → g ≡ h → Brought o k old mid arrivals → (HasNoEnd (own_steps j mid) → FoundClosed o g j new) → HasNoEnd (own_steps k old) → FoundClosed o h k new
+closed-later o j k g h old mid new arrivals e f b had none =
+    subst (λ (n : ℕ). FoundClosed o h n new) e (subst (λ (x : List ℕ). FoundClosed o x j new) f (had (subst (λ (n : ℕ). HasNoEnd (own_steps n mid)) (sym e) (b.no_end none))))
+
 module _ (o : Origin) (k : ℕ) where
   grows-did : {Did : World → List Step → Type 0} (old new : List Deed) → Does o k old new Did → Grows old new
   grows-did old new did = (did.between ++ deeds k did.bytes did.steps, did.seen ∙ assoc old did.between (deeds k did.bytes did.steps))
@@ -52,7 +57,7 @@ module _ (o : Origin) (k : ℕ) where
   grows-all m found new (inl others) = grows-same found new others.0
   grows-all m found new (inr added) = grows-did found new added
 
-  grows-flushes : (old new : List Deed) → Flushes o k old new → Grows old new
+  pub grows-flushes : (old new : List Deed) → Flushes o k old new → Grows old new
   grows-flushes old new f = grow-more old f.found new (grows-passed old f.found f.passed) (grows-all (length old) f.found new f.flush)
 
   grows-fault : (found new : List Deed) → TellsFault o k found new → Grows found new
@@ -73,18 +78,17 @@ module _ (o : Origin) (k : ℕ) where
 
     -- ---- causes
 
-    closed-is : (a : Arrival) (old new : List Deed) → HasNoEnd (own_steps k old) → Arrived o k h old new a (Err Closed) → FoundClosed o h k new
-    closed-is a old new none (inl did) = record {
+    closed-is : (a : Arrival) (old new : List Deed) → HasNoEnd (own_steps k old) → Does o k old new (LayDoes o h a (Err Closed)) → FoundClosed o h k new
+    closed-is a old new none did = record {
       front = old ++ did.between;
       rest = deeds k did.bytes did.steps;
       is = did.seen;
       closed = did.does.0;
       before = subst HasNoEnd (sym (own-append k old did.between ∙ (ap (λ r. own_steps k old ++ r) (own-none k did.between did.none) ∙ nil-right (own_steps k old)))) none;
     }
-    closed-is a old new none (inr l) = absurd (cc l.0)
 
-    pub arrived-closed : (a : Arrival) (old new : List Deed) (e : ArriveRefusal) → e ≡ Closed → HasNoEnd (own_steps k old) → Arrived o k h old new a (Err e) → FoundClosed o h k new
-    arrived-closed a old new e same none is = closed-is a old new none (subst (λ (x : ArriveRefusal). Arrived o k h old new a (Err x)) same is)
+    pub laid-closed : (a : Arrival) (old new : List Deed) (e : ArriveRefusal) → e ≡ Closed → HasNoEnd (own_steps k old) → Does o k old new (LayDoes o h a (Err e)) → FoundClosed o h k new
+    laid-closed a old new e same none did = closed-is a old new none (subst (λ (x : ArriveRefusal). Does o k old new (LayDoes o h a (Err x))) same did)
 
     -- ---- the Gone
 

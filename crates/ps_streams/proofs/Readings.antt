@@ -5,6 +5,7 @@ use Rattle.ps_model.specs.TheCore.{the_core}
 use Rattle.ps_model.proofs.TheLaws.{the-laws}
 use Rattle.ps_world.proofs.Lists.{assoc, nil-right}
 use Rattle.ps_deeds.specs.declared.deed.Deed.{Deed}
+use Rattle.ps_deeds.specs.Did.{IsKept}
 use Rattle.ps_deeds.specs.Own.{AreOwned, arrivals_in, own_steps}
 use Rattle.ps_deeds.proofs.Doing.{did-own}
 use Rattle.ps_deeds.proofs.Keeping.{done-kept}
@@ -16,8 +17,8 @@ use Rattle.ps_flush.specs.Origin.{Origin}
 use Rattle.ps_wire.specs.Reading.{IsWithoutLine}
 use Rattle.ps_streams.specs.declared.read.ReadEnd.{ReadEnd}
 use Rattle.ps_streams.specs.declared.read.ReadEnd.TheVariants.{Ended, Long, ReadFault, Store}
-use Rattle.ps_streams.specs.Reading.{Brought, CameOf, Comes, IsEnd, Keeps, NoneComes, Reads, SoRead, StreamRead, WasAsked, brings_all}
-use Rattle.ps_streams.proofs.Bringing.{brought-more, brought-none, gone-brought, gone-keeps}
+use Rattle.ps_streams.specs.Reading.{Brought, CameOf, Comes, IsEnd, NoneComes, Reads, SoRead, StreamRead, WasAsked, brings_all}
+use Rattle.ps_streams.proofs.Bringing.{brought-as, brought-more, brought-none, gone-brought, gone-keeps}
 use Rattle.ps_streams.proofs.Lines.{asked-more, asked-none, came-more, came-none, end-of}
 
 abbrev Bytes : Type 0
@@ -33,7 +34,7 @@ not-cut e some (inr is) = some (ap brings_all is)
 
 module _ (o : Origin) where
   pub so-begun : (k : ℕ) (seen : List Deed) (before : Bytes) (told : Told) → AreOwned o.hosts seen → SoRead o k seen seen before before told told
-  so-begun k seen before told owned = record { arrived = []; came = came-none before; asked = asked-none told; brought = brought-none o k seen owned; keeps = λ h. h }
+  so-begun k seen before told owned = record { arrived = []; came = came-none before; asked = asked-none told; brought = brought-none o k seen owned }
 
   pub so-more : (k j : ℕ) (old mid new : List Deed) (all rest left : Bytes) (t u v : Told) → j ≡ k → SoRead o k old mid all rest t u → SoRead o j mid new rest left u v → SoRead o k old new all left t v
   so-more k j old mid new all rest left t u v same a b' =
@@ -43,7 +44,6 @@ module _ (o : Origin) where
         came = came-more all rest left a.arrived b.arrived a.came b.came;
         asked = asked-more t u v a.arrived b.arrived a.asked b.asked;
         brought = brought-more o k old mid new a.arrived b.arrived a.brought b.brought;
-        keeps = λ kept. b.keeps (a.keeps kept);
       }
 
   pub reads-ended : (k j : ℕ) (old mid new : List Deed) (all rest left source : Bytes) (t u v : Told) → j ≡ k → SoRead o k old mid all rest t u → SoRead o j mid new rest left u v → IsEnd rest left → Reads o k old new all source t v Ended
@@ -62,7 +62,6 @@ module _ (o : Origin) where
           asked = subst (WasAsked t v) (sym (nil-right s.arrived)) s.asked;
         };
         brought = s.brought;
-        keeps = λ other. s.keeps;
       }
 
   pub reads-more : (k j : ℕ) (old mid new : List Deed) (all rest source : Bytes) (t u v : Told) (e : ReadEnd) → j ≡ k → SoRead o k old mid all rest t u → Reads o j mid new rest source u v e → Reads o k old new all source t v e
@@ -83,45 +82,59 @@ module _ (o : Origin) where
           asked = subst (WasAsked t v) path (asked-more t u v a.arrived (b.arrived ++ l.missing) a.asked l.asked);
         };
         brought = brought-more o k old mid new a.arrived b.arrived a.brought b.brought;
-        keeps = λ other kept. b.keeps other (a.keeps kept);
       }
 
   module _ (k : ℕ) (old new : List Deed) (before left : Bytes) (told now : Told) where
-    pub next-ok : (a : Arrival) → Comes before left told now a → Brought o k old new (a ∷ []) × Keeps o k old new → SoRead o k old new before left told now
-    next-ok a c t = record { arrived = a ∷ []; came = c.came; asked = c.asked; brought = t.0; keeps = t.1 }
+    pub next-ok : (a : Arrival) → Comes before left told now a → Brought o k old new (a ∷ []) → SoRead o k old new before left told now
+    next-ok a c b = record { arrived = a ∷ []; came = c.came; asked = c.asked; brought = b }
 
-    pub next-err : (source : Bytes) (a : Arrival) (e : ReadEnd) → (brings_all e ≡ true → ⊥) → Comes before left told now a → (Brought o k old new [] ⊎ Brought o k old new (a ∷ [])) × (e ≢ Store → Keeps o k old new) → Reads o k old new before source told now e
-    next-err source a e some c t = elim t.0 [
-      | inl b ↦ record {
-        arrived = [];
-        lined = record { missing = a ∷ []; few = inr (a, refl); none = λ is. absurd (some is); left = left; came = c.came; whole = λ is. absurd (some (ap brings_all is)); cut = λ is. absurd (not-cut e some is); asked = c.asked };
-        brought = b;
-        keeps = t.1;
-      }
-      | inr b ↦ record {
-        arrived = a ∷ [];
-        lined = record { missing = []; few = inl refl; none = λ is. refl; left = left; came = c.came; whole = λ is. absurd (some (ap brings_all is)); cut = λ is. absurd (not-cut e some is); asked = c.asked };
-        brought = b;
-        keeps = t.1;
-      }
-    ]
+    pub next-err : (source : Bytes) (a : Arrival) (e : ReadEnd) → (brings_all e ≡ true → ⊥) → Comes before left told now a → Brought o k old new [] → Reads o k old new before source told now e
+    next-err source a e some c b = record {
+      arrived = [];
+      lined = record { missing = a ∷ []; few = inr (a, refl); none = λ is. absurd (some is); left = left; came = c.came; whole = λ is. absurd (some (ap brings_all is)); cut = λ is. absurd (not-cut e some is); asked = c.asked };
+      brought = b;
+    }
 
-  module _ (k : ℕ) (seen : List Deed) (owned : AreOwned o.hosts seen) (before : Bytes) (told now : Told) where
-    pub next-none : (left : Bytes) → NoneComes before left told now → SoRead o k seen seen before left told now × IsEnd before left
-    next-none left c = (record { arrived = []; came = c.came; asked = c.asked; brought = brought-none o k seen owned; keeps = λ h. h }, c.whole)
+  module _ (k : ℕ) (old new : List Deed) (quiet : Brought o k old new []) (before : Bytes) (told now : Told) where
+    pub next-none : (left : Bytes) → NoneComes before left told now → SoRead o k old new before left told now × IsEnd before left
+    next-none left c = (record { arrived = []; came = c.came; asked = c.asked; brought = quiet }, c.whole)
 
-    pub next-stop : (source : Bytes) (e : ReadEnd) → (e ≡ Ended → ⊥) → ((e ≡ ReadFault) ⊎ (e ≡ Long) → IsWithoutLine before source) → WasAsked told now [] → Reads o k seen seen before source told now e
+    pub next-stop : (source : Bytes) (e : ReadEnd) → (e ≡ Ended → ⊥) → ((e ≡ ReadFault) ⊎ (e ≡ Long) → IsWithoutLine before source) → WasAsked told now [] → Reads o k old new before source told now e
     next-stop source e other cut asked = record {
       arrived = [];
       lined = record { missing = []; few = inl refl; none = λ is. refl; left = before; came = came-none before; whole = λ is. absurd (other is); cut = cut; asked = asked };
-      brought = brought-none o k seen owned;
-      keeps = λ other h. h;
+      brought = quiet;
     }
+
+  -- a fault before the next line was asked for
+  pub next-fault : (k : ℕ) (old new : List Deed) → Brought o k old new [] → (before source : Bytes) (told : Told) (e : ReadEnd) → e ≡ Store → Reads o k old new before source told told e
+  next-fault k old new quiet before source told e is =
+      subst (λ (x : ReadEnd). Reads o k old new before source told told x) (sym is)
+      (next-stop k old new quiet before told told source Store (λ x. cc x) (λ x. absurd (elim x [ inl y ↦ cc y | inr y ↦ cc y ])) (asked-none told))
+
+  -- ---- the flush behind the last line
+
+  module _ (k j : ℕ) (old mid new : List Deed) (before source : Bytes) (told now : Told) (end : ReadEnd) (same : j ≡ k) (a : Reads o k old mid before source told now end) (b : Brought o j mid new []) where
+    flushed : Brought o k old new a.arrived
+    flushed = subst (Brought o k old new) (nil-right a.arrived) (brought-more o k old mid new a.arrived [] a.brought (brought-as o j k mid new [] same b))
+
+    pub reads-flushed : Reads o k old new before source told now end
+    reads-flushed = record { arrived = a.arrived; lined = a.lined; brought = flushed }
+
+    reads-broken : Reads o k old new before source told now Store
+    reads-broken = record {
+      arrived = a.arrived;
+      lined = record { missing = a.lined.missing; few = a.lined.few; none = λ is. absurd (cc is); left = a.lined.left; came = a.lined.came; whole = λ is. absurd (cc is); cut = λ is. absurd (elim is [ inl x ↦ cc x | inr x ↦ cc x ]); asked = a.lined.asked };
+      brought = flushed;
+    }
+
+    pub reads-fault : (e : ReadEnd) → e ≡ Store → Reads o k old new before source told now e
+    reads-fault e is = subst (λ (x : ReadEnd). Reads o k old new before source told now x) (sym is) reads-broken
 
   -- ---- the end of a stream
 
-  pub stream-read : {T : Type 0} (h : List ℕ) (k : ℕ) (old mid new : List Deed) (before source : Bytes) (told now : Told) (end final : ReadEnd) (r : Result T HandedRefusal) → (brings_all final ≡ true → final ≡ end) → (end ≡ Store → final ≡ Store) → (r ≡ Err NotStored → final ≡ Store) → Reads o k old mid before source told now end → HasGone o k h mid new r → StreamRead o h k old new before source told now final
-  stream-read h k old mid new before source told now end final r all earlier stored a gone =
+  pub stream-read : {T : Type 0} (h : List ℕ) (k : ℕ) (old mid new : List Deed) (before source : Bytes) (told now : Told) (end final : ReadEnd) (r : Result T HandedRefusal) → (brings_all final ≡ true → final ≡ end) → (end ≡ Store → final ≡ Store) → (r ≡ Err NotStored → final ≡ Store) → Reads o k old mid before source told now end → (end ≢ Store → IsKept the_core o.boot o.list o.hosts k mid) → HasGone o k h mid new r → StreamRead o h k old new before source told now final
+  stream-read h k old mid new before source told now end final r all earlier stored a landed gone =
       let b = subst (Brought o k old gone.before) (nil-right a.arrived) (brought-more o k old mid gone.before a.arrived [] a.brought (gone-brought o k h mid gone.before r gone.gone)) in
       let there = arrivals_in (own_steps k gone.before) in
       let last = did-own the_core the-laws o.boot o.list o.hosts k gone.before new gone.ended in
@@ -141,5 +154,5 @@ module _ (o : Origin) where
         owned = gone.ended.owned;
         done = λ other no_end kept.
             done-kept the_core the-laws o.boot o.list o.hosts k gone.before new gone.ended h gone.ended.does (b.no_end no_end)
-            (gone-keeps o k h mid gone.before r (λ e. other (stored e)) gone.gone (a.keeps (λ e. other (earlier e)) kept));
+            (gone-keeps o k h mid gone.before r (λ e. other (stored e)) gone.gone (landed (λ e. other (earlier e))));
       }

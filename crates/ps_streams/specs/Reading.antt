@@ -101,15 +101,10 @@ pub record Brought (o : Origin) (k : ℕ) (old new : List Deed) (arrivals : List
   pub no_end : HasNoEnd (own_steps k old) → HasNoEnd (own_steps k new)
   pub owned : AreOwned o.hosts new
 
--- all that the pass laid is flushed, as it was before
-abbrev pub Keeps : Origin → ℕ → List Deed → List Deed → Type 0
-Keeps o k old new = IsKept the_core o.boot o.list o.hosts k old → IsKept the_core o.boot o.list o.hosts k new
-
--- one line was brought, or after a refusal perhaps not; only after a fault of the disk it may not be flushed
+-- one line was brought, and none after a refusal
 abbrev pub Takes : {T : Type 0} → Origin → ℕ → List Deed → List Deed → Arrival → Result T ReadEnd → Type 0
-Takes o k old new a (Ok t) = Brought o k old new (a ∷ []) × Keeps o k old new
-Takes o k old new a (Err e) =
-    (Brought o k old new [] ⊎ Brought o k old new (a ∷ [])) × (e ≢ Store → Keeps o k old new)
+Takes o k old new a (Ok t) = Brought o k old new (a ∷ [])
+Takes o k old new a (Err e) = Brought o k old new []
 
 -- all lines that were given were brought
 abbrev pub brings_all : ReadEnd → Bool
@@ -161,14 +156,13 @@ pub record Lined (end : ReadEnd) (before source : Option (List ℕ)) (told now :
   pub cut : (end ≡ ReadFault) ⊎ (end ≡ Long) → IsWithoutLine left source
   pub asked : WasAsked told now (arrived ++ missing)
 
--- so far: all lines that were given were brought, and are flushed
+-- so far: all lines that were given were brought
 pub record SoRead (o : Origin) (k : ℕ) (old new : List Deed) (before left : Option (List ℕ))
     (told now : Option (List (Option ℕ))) : Type 0 where
   pub arrived : List Arrival
   pub came : CameOf before left arrived
   pub asked : WasAsked told now arrived
   pub brought : Brought o k old new arrived
-  pub keeps : Keeps o k old new
 
 -- up to an end
 pub record Reads (o : Origin) (k : ℕ) (old new : List Deed) (before source : Option (List ℕ))
@@ -176,7 +170,6 @@ pub record Reads (o : Origin) (k : ℕ) (old new : List Deed) (before source : O
   pub arrived : List Arrival
   pub lined : Lined end before source told now arrived
   pub brought : Brought o k old new arrived
-  pub keeps : end ≢ Store → Keeps o k old new
 
 -- one more line, or none, or an end
 abbrev pub NextRead : Origin → ℕ → List Deed → List Deed → Option (List ℕ) → Option (List ℕ) → Option (List ℕ)
@@ -203,6 +196,13 @@ module _ {V J : Type 0} where
   abbrev pub SeatFoundClosed : Origin → List ℕ → TwinSeat V J Deed → TwinSeat V J Deed → Type 0
   SeatFoundClosed o host old new =
       HasNoEnd (own_steps (number_of old) (seen_of old)) → FoundClosed o host (number_of old) (seen_of new)
+
+  abbrev pub SeatBrings : Origin → TwinSeat V J Deed → TwinSeat V J Deed → List Arrival → Type 0
+  SeatBrings o old new arrivals = Brought o (number_of old) (seen_of old) (seen_of new) arrivals
+
+  -- all that the pass laid is flushed
+  abbrev pub SeatIsKept : Origin → TwinSeat V J Deed → Type 0
+  SeatIsKept o s = IsKept the_core o.boot o.list o.hosts (number_of s) (seen_of s)
 
   abbrev pub SeatTakes : {T : Type 0} → Origin → TwinSeat V J Deed → TwinSeat V J Deed → Arrival → Result T ReadEnd → Type 0
   SeatTakes o old new a result = Takes o (number_of old) (seen_of old) (seen_of new) a result

@@ -1,6 +1,7 @@
 //! The workers of a stream, each in a thread of its own over the shared hall (`ps_shared`).
 //!
-//! [`read_stream`] takes the lines of its source one after the other, asks a clock for the moment of each, and has the hall answer it; in the end, for whatever
+//! [`read_stream`] takes the lines of its source one after the other, asks a clock for the moment of each, and has the hall answer it. It makes durable what
+//! it laid before it waits, for its source or for room for a reply, and behind the last line: so lines that come together share a frame. In the end, for whatever
 //! cause, it says that the host's callers are gone. What it promises (`specs/Reading.antt`): `StreamRead`, the arrivals that its pass brought are those that
 //! the source gave, in order, each with the moment that the clock told, of which the last alone may be missing, and none where the source ended it; where that
 //! failed or gave all that it may, each line that a newline ended came; all that it laid was flushed before it said that its reader has ended, but after a

@@ -1,5 +1,5 @@
 // The reader of a stream.
-ghost use Rattle.std.specs.Prelude.{◌≡◌, ◌⊎◌, ◌<◌, ◌≤◌, ◌^◌, [], true, None, IfErr, IfOk, IfSome, IfNone, IsErrOf, IsFalse, OnOk};
+ghost use Rattle.std.specs.Prelude.{◌≡◌, ◌≢◌, ◌⊎◌, ◌<◌, ◌≤◌, ◌^◌, [], true, None, IfErr, IfOk, IfSome, IfNone, IsErrOf, IsFalse, OnOk};
 ghost use Rattle.ps_base.specs.Causes.{Rose};
 ghost use Rattle.ps_wire.specs.AtEnd.{nothing_of};
 ghost use Rattle.ps_wire.specs.Reading.{Gave, IsWithoutLine, given_of, rest_of, source_of, stopped_of};
@@ -7,14 +7,15 @@ ghost use Rattle.ps_types.specs.declared.entry.Entry.{Entry};
 ghost use Rattle.ps_model.specs.Entries.{IsMoment};
 ghost use Rattle.ps_state.specs.Shape.{IsArrival};
 ghost use Rattle.ps_twin.specs.Seats.{number_of, seen_of};
-ghost use Rattle.ps_shared.specs.Calls.{FoundOver, IsReader, SeatArrived};
+ghost use Rattle.ps_flush.specs.Flush.{SeatFlushes};
+ghost use Rattle.ps_shared.specs.Calls.{FoundOver, IsReader};
 ghost use Rattle.ps_streams.specs.Speaking.{FindsBroken, IsSamePass};
-ghost use Rattle.ps_streams.specs.Reading.{ClockGives, Comes, NoneComes, SaidGone, SeatFoundClosed, SeatNextRead, SeatReads, SeatStreamRead, SeatTakes, WasAsked, brings_all, says_gone};
+ghost use Rattle.ps_streams.specs.Reading.{ClockGives, Comes, NoneComes, SaidGone, SeatBrings, SeatFoundClosed, SeatIsKept, SeatNextRead, SeatReads, SeatStreamRead, SeatTakes, WasAsked, brings_all, says_gone};
 
 use crate::idle::{FOR_ROOM, await_news};
 use ps_disk::Disk;
 use ps_outside::Clock;
-use ps_shared::{ArriveRefusal, Hall, HandedRefusal, Opening, Pass, Receipt};
+use ps_shared::{ArriveRefusal, FlushRefusal, Hall, HandedRefusal, Opening, Pass};
 use ps_types::Arrival;
 use ps_wire::{Lines, NextLine, NextLineRefusal, Source};
 use std::alloc::Global;
@@ -85,16 +86,6 @@ fn worse(end: ReadEnd, refusal: HandedRefusal) -> ReadEnd
     }
 }
 
-fn must_wait(answer: &Result<Receipt, ArriveRefusal>) -> bool
-    ensures { result ≡ true → IsErrOf answer.now ArriveRefusal.Again }
-{
-    match answer {
-        Err(ArriveRefusal::Again) => true,
-        Err(ArriveRefusal::Closed | ArriveRefusal::Store | ArriveRefusal::Memory) => false,
-        Ok(_) => false,
-    }
-}
-
 // The moment of a line, if the clock tells one that a stamp can tell.
 fn moment<C: Clock>(clock: &mut C) -> Option<u64>
     ensures bound { IsMoment result }
@@ -149,31 +140,45 @@ fn next_arrival<S: Source, C: Clock>(
     }
 }
 
-// Answers the line once there is room for its reply.
-fn arrive_once<B: Opening, D: Disk, R: Wait + Threads + Sync>(
+// Makes durable all that the pass has seen.
+fn flush_all<B: Opening, D: Disk, R: Wait>(
     rt: &R,
     hall: &Hall<B, D>,
     pass: &mut Pass<B, D>,
-    arrival: &Arrival,
-) -> Result<Receipt, ArriveRefusal>
+) -> Result<(), ReadEnd>
     requires reader { IsReader B.origin hall.now.twin pass.old.at pass.old.host pass.old.seat }
-    requires arrival { IsArrival arrival.now }
     ensures reader { IsReader B.origin hall.now.twin pass.new.at pass.new.host pass.new.seat }
     ensures same { IsSamePass pass.old pass.new }
-    ensures arrived { SeatArrived B.origin pass.old.host pass.old.seat pass.new.seat arrival.now result }
+    ensures brings { SeatBrings B.origin pass.old.seat pass.new.seat [] }
+    ensures flushes { OnOk result (SeatFlushes B.origin pass.old.seat pass.new.seat) }
+    ensures fault { IfErr result (λ e. (e ≡ ReadEnd.Store) × FindsBroken B.origin pass.new.seat) }
 {
-    for _ in rt.forever() {
-        let heard = hall.news(pass);
-        let answer = hall.arrive(rt, pass, arrival);
-        if !must_wait(&answer) {
-            return answer;
-        }
-        await_news(rt, hall, pass, heard, FOR_ROOM);
+    match hall.flush(rt, pass) {
+        Ok(()) => Ok(()),
+        Err(FlushRefusal::Store) => Err(ReadEnd::Store),
     }
-    unreachable!()
 }
 
-// Answers the line. An error: the reader is to end.
+// Waits for a reply to be taken. Those that wait may be of lines that only this reader flushes, and what is not flushed is not taken: so it flushes first. That
+// rings its own bell, and what it hears is read behind that.
+fn make_room<B: Opening, D: Disk, R: Wait>(
+    rt: &R,
+    hall: &Hall<B, D>,
+    pass: &mut Pass<B, D>,
+) -> Result<(), ReadEnd>
+    requires reader { IsReader B.origin hall.now.twin pass.old.at pass.old.host pass.old.seat }
+    ensures reader { IsReader B.origin hall.now.twin pass.new.at pass.new.host pass.new.seat }
+    ensures same { IsSamePass pass.old pass.new }
+    ensures brings { SeatBrings B.origin pass.old.seat pass.new.seat [] }
+    ensures fault { IfErr result (λ e. (e ≡ ReadEnd.Store) × FindsBroken B.origin pass.new.seat) }
+{
+    flush_all(rt, hall, pass)?;
+    let heard = hall.news(pass);
+    await_news(rt, hall, pass, heard, FOR_ROOM);
+    Ok(())
+}
+
+// Lays the line once there is room for its reply. An error: the reader is to end.
 fn take_line<B: Opening, D: Disk, R: Wait + Threads + Sync>(
     rt: &R,
     hall: &Hall<B, D>,
@@ -191,13 +196,36 @@ fn take_line<B: Opening, D: Disk, R: Wait + Threads + Sync>(
         → SeatFoundClosed B.origin pass.old.host pass.old.seat pass.new.seat }
     ensures room { IsErrOf result ReadEnd.Full → ⊥ }
 {
-    match arrive_once(rt, hall, pass, arrival) {
-        Ok(_) => Ok(()),
-        Err(refusal) => Err(end_of_line(refusal)),
+    for _ in rt.forever() {
+        match hall.lay(rt, pass, arrival) {
+            Ok(_) => return Ok(()),
+            Err(ArriveRefusal::Again) => make_room(rt, hall, pass)?,
+            Err(refusal) => return Err(end_of_line(refusal)),
+        }
     }
+    unreachable!()
 }
 
-// Answers the line that comes next. False: there was none.
+// Makes durable what the pass laid, unless the next line is at hand: then it shares a frame with that.
+fn flush_to_wait<B: Opening, D: Disk, R: Wait, S: Source>(
+    rt: &R,
+    hall: &Hall<B, D>,
+    pass: &mut Pass<B, D>,
+    lines: &Lines<S>,
+) -> Result<(), ReadEnd>
+    requires reader { IsReader B.origin hall.now.twin pass.old.at pass.old.host pass.old.seat }
+    ensures reader { IsReader B.origin hall.now.twin pass.new.at pass.new.host pass.new.seat }
+    ensures same { IsSamePass pass.old pass.new }
+    ensures brings { SeatBrings B.origin pass.old.seat pass.new.seat [] }
+    ensures fault { IfErr result (λ e. (e ≡ ReadEnd.Store) × FindsBroken B.origin pass.new.seat) }
+{
+    if lines.holds_line() {
+        return Ok(());
+    }
+    flush_all(rt, hall, pass)
+}
+
+// Lays the line that comes next. Where it may have to wait for that, all that was laid is flushed before. False: there was none.
 fn read_next<B: Opening, D: Disk, R: Wait + Threads + Sync, S: Source, C: Clock>(
     rt: &R,
     alloc: Global,
@@ -228,6 +256,7 @@ fn read_next<B: Opening, D: Disk, R: Wait + Threads + Sync, S: Source, C: Clock>
     ensures whole { IfOk result (λ more. IsFalse more
         → S.left (source_of lines.new) ≡ nothing_of (S.left (source_of lines.new))) }
 {
+    flush_to_wait(rt, hall, pass, lines)?;
     match next_arrival(alloc, lines, clock) {
         Ok(Some(arrival)) => match take_line(rt, hall, pass, &arrival) {
             Ok(()) => Ok(true),
@@ -238,7 +267,7 @@ fn read_next<B: Opening, D: Disk, R: Wait + Threads + Sync, S: Source, C: Clock>
     }
 }
 
-// Answers each line of the source.
+// Lays each line of the source.
 fn read_lines<B: Opening, D: Disk, R: Wait + Threads + Sync, S: Source, C: Clock>(
     rt: &R,
     alloc: Global,
@@ -276,8 +305,45 @@ fn read_lines<B: Opening, D: Disk, R: Wait + Threads + Sync, S: Source, C: Clock
     unreachable!()
 }
 
-/// Answers each line of the source, each with the moment that the clock then tells, and ends then the reader of the pass's host. Of several causes it
-/// answers the first in the order `Store`, `Full`, `Memory`, `ReadFault`, `Long`, `Closed`.
+// Lays each line of the source, and leaves none that isn't flushed.
+fn read_all<B: Opening, D: Disk, R: Wait + Threads + Sync, S: Source, C: Clock>(
+    rt: &R,
+    alloc: Global,
+    hall: &Hall<B, D>,
+    pass: &mut Pass<B, D>,
+    lines: &mut Lines<S>,
+    clock: &mut C,
+) -> ReadEnd
+    requires reader { IsReader B.origin hall.now.twin pass.old.at pass.old.host pass.old.seat }
+    requires going { stopped_of lines.old ≡ None }
+    ensures reader { IsReader B.origin hall.now.twin pass.new.at pass.new.host pass.new.seat }
+    ensures same { IsSamePass pass.old pass.new }
+    ensures reads { SeatReads B.origin pass.old.seat pass.new.seat (rest_of lines.old)
+        (S.left (source_of lines.new)) (C.told clock.old) (C.told clock.new) result }
+    ensures kept { result ≢ ReadEnd.Store → SeatIsKept B.origin pass.new.seat }
+    ensures later { S.faults (source_of lines.old) ≤ S.faults (source_of lines.new) }
+    ensures fault { result ≡ ReadEnd.ReadFault
+        → Rose (S.faults (source_of lines.old)) (S.faults (source_of lines.new)) }
+    ensures long { result ≡ ReadEnd.Long → given_of lines.new ≡ 2 ^ 40 }
+    ensures store { result ≡ ReadEnd.Store → FindsBroken B.origin pass.new.seat }
+    ensures closed { result ≡ ReadEnd.Closed → SeatFoundClosed B.origin pass.old.host pass.old.seat pass.new.seat }
+    ensures room { result ≡ ReadEnd.Full → ⊥ }
+    ensures gave { Gave (S.left (source_of lines.old)) (S.left (source_of lines.new))
+        (given_of lines.old) (given_of lines.new) }
+    ensures early { result ≡ ReadEnd.Ended → given_of lines.new < 2 ^ 40 }
+    ensures whole { result ≡ ReadEnd.Ended
+        → S.left (source_of lines.new) ≡ nothing_of (S.left (source_of lines.new)) }
+{
+    let end = read_lines(rt, alloc, hall, pass, lines, clock);
+    match flush_all(rt, hall, pass) {
+        Ok(()) => end,
+        Err(fault) => fault,
+    }
+}
+
+/// Answers each line of the source, each with the moment that the clock then tells, and ends then the reader of the pass's host. Lines that the source gave
+/// together share a frame; none waits for one that the source has yet to give. Of several causes it answers the first in the order `Store`, `Full`, `Memory`,
+/// `ReadFault`, `Long`, `Closed`.
 pub fn read_stream<B: Opening, D: Disk, R: Wait + Threads + Sync, S: Source, C: Clock>(
     rt: &R,
     alloc: Global,
@@ -308,7 +374,7 @@ pub fn read_stream<B: Opening, D: Disk, R: Wait + Threads + Sync, S: Source, C: 
     ensures whole { result ≡ ReadEnd.Ended
         → S.left (source_of lines.new) ≡ nothing_of (S.left (source_of lines.new)) }
 {
-    let end = read_lines(rt, alloc, hall, pass, lines, clock);
+    let end = read_all(rt, alloc, hall, pass, lines, clock);
     match hall.gone(rt, pass) {
         Ok(()) => end,
         Err(refusal) => worse(end, refusal),

@@ -1,10 +1,10 @@
-use Rattle.std.proofs.Common.{ℕ, ◌+◌, List, Bool, Ok, refl, sym, ap, ◌∙◌, subst, arith}
+use Rattle.std.proofs.Common.{◌+◌, Bool, Ok, refl, sym, ap, ◌∙◌, subst, arith}
 use Rattle.ps_twin.specs.Seats.{number_of, seen_of}
-use Rattle.ps_deeds.specs.Own.{HasNoEnd, own_steps}
 use Rattle.ps_wire.specs.Reading.{given_of, rest_of, source_of}
 use Rattle.ps_wire.proofs.Gaining.{gave_none}
 use Rattle.ps_streams.specs.declared.read.ReadEnd.{ReadEnd}
-use Rattle.ps_streams.specs.Reading.{FoundClosed, NextRead}
+use Rattle.ps_streams.specs.Reading.{NextRead}
+use Rattle.ps_streams.proofs.Fronts.{closed-later}
 use Rattle.ps_streams.proofs.Lines.{gave-on}
 use Rattle.ps_streams.proofs.Looping.{the_err}
 use Rattle.ps_streams.proofs.Readings.{reads-ended, reads-more, so-begun, so-more}
@@ -87,15 +87,12 @@ returns-in-Err-clause-reads g c =
 
 pub returns-in-Err-clause-closed : goal.returns-in-Err-clause-closed
 returns-in-Err-clause-closed g c = λ e none. (
-    let o = g.B.Opening.origin in
     let i = c.loop.invariant in
     let k = number_of c.args.pass.now.seat in
     let j = number_of c.loop.pass.seat in
-    let mid = seen_of c.loop.pass.seat in
-    let new = seen_of c.read_next.new.pass.seat in
     let same = i.0.number ∙ (ap (λ n. n + n) i.1.at ∙ sym c.requires.reader.number) in
-    let before = subst (λ (n : ℕ). HasNoEnd (own_steps n mid)) (sym same) (i.2.brought.no_end none) in
-    subst (λ (n : ℕ). FoundClosed o c.args.pass.now.host n new) same (subst (λ (h : List ℕ). FoundClosed o h j new) i.1.host (c.in-Err.ensures.closed (ap (λ (w : ReadEnd). the_err Bool w) e) before)))
+    closed-later g.B.Opening.origin j k c.loop.pass.host c.args.pass.now.host (seen_of c.args.pass.now.seat) (seen_of c.loop.pass.seat) (seen_of c.read_next.new.pass.seat) i.2.arrived same i.1.host i.2.brought
+    (c.in-Err.ensures.closed (ap (λ (w : ReadEnd). the_err Bool w) e)) none)
 
 pub returns-in-Ok-false-clause-gave : goal.returns-in-Ok-false-clause-gave
 returns-in-Ok-false-clause-gave g c =

@@ -1,5 +1,7 @@
 use Rattle.std.proofs.Common.{ℕ, ◌+◌, List, inl, inr, sym, ap, ◌∙◌, subst, refl}
 use Rattle.ps_types.specs.declared.entry.Entry.TheVariants.{Gone}
+use Rattle.ps_model.specs.TheCore.{the_core}
+use Rattle.ps_deeds.specs.Did.{IsKept}
 use Rattle.ps_twin.specs.Seats.{number_of, seen_of}
 use Rattle.ps_wire.specs.Reading.{rest_of, source_of}
 use Rattle.ps_streams.proofs.Bringing.{gone-as}
@@ -15,30 +17,30 @@ use Rattle.ps_streams.proofs.read.read_stream.Goals as goal
 pub returns-in-Ok-clause-read : goal.returns-in-Ok-clause-read
 returns-in-Ok-clause-read g c =
     let o = g.B.Opening.origin in
-    let w = c.read_lines-end.ensures in
-    let mid = c.read_lines-end.new.pass in
+    let w = c.read_all-end.ensures in
+    let mid = c.read_all-end.new.pass in
     let k = number_of c.args.pass.now.seat in
     let h = c.args.pass.now.host in
     let same = w.reader.number ∙ (ap (λ n. n + n) w.same.at ∙ sym c.requires.reader.number) in
     let gone = gone-as o (number_of mid.seat) k mid.host h (seen_of mid.seat) (seen_of c.gone.new.pass.seat) c.gone.result same w.same.host c.gone.ensures.gone in
-    stream-read o h k (seen_of c.args.pass.now.seat) (seen_of mid.seat) (seen_of c.gone.new.pass.seat) (rest_of c.args.lines.now) (g.S.Source.left (source_of c.read_lines-end.new.lines)) (g.C.Clock.told c.args.clock.now) (g.C.Clock.told c.read_lines-end.new.clock) c.read_lines-end.result c.read_lines-end.result c.gone.result (λ is. refl) (λ e. e) (λ e. absurd (cc (sym c.in-Ok.is ∙ e))) w.reads gone
+    stream-read o h k (seen_of c.args.pass.now.seat) (seen_of mid.seat) (seen_of c.gone.new.pass.seat) (rest_of c.args.lines.now) (g.S.Source.left (source_of c.read_all-end.new.lines)) (g.C.Clock.told c.args.clock.now) (g.C.Clock.told c.read_all-end.new.clock) c.read_all-end.result c.read_all-end.result c.gone.result (λ is. refl) (λ e. e) (λ e. absurd (cc (sym c.in-Ok.is ∙ e))) w.reads (λ other. subst (λ (n : ℕ). IsKept the_core o.boot o.list o.hosts n (seen_of mid.seat)) same (w.kept other)) gone
 
 pub returns-in-Err-clause-read : goal.returns-in-Err-clause-read
 returns-in-Err-clause-read g c =
     let o = g.B.Opening.origin in
-    let w = c.read_lines-end.ensures in
-    let mid = c.read_lines-end.new.pass in
+    let w = c.read_all-end.ensures in
+    let mid = c.read_all-end.new.pass in
     let k = number_of c.args.pass.now.seat in
     let h = c.args.pass.now.host in
     let same = w.reader.number ∙ (ap (λ n. n + n) w.same.at ∙ sym c.requires.reader.number) in
     let gone = gone-as o (number_of mid.seat) k mid.host h (seen_of mid.seat) (seen_of c.gone.new.pass.seat) c.gone.result same w.same.host c.gone.ensures.gone in
-    stream-read o h k (seen_of c.args.pass.now.seat) (seen_of mid.seat) (seen_of c.gone.new.pass.seat) (rest_of c.args.lines.now) (g.S.Source.left (source_of c.read_lines-end.new.lines)) (g.C.Clock.told c.args.clock.now) (g.C.Clock.told c.read_lines-end.new.clock) c.read_lines-end.result c.worse.result c.gone.result (λ is. absurd (c.worse.ensures.some is)) c.worse.ensures.earlier (λ e. c.worse.ensures.store (err-same c.in-Err.refusal _ (sym c.in-Err.is ∙ e))) w.reads gone
+    stream-read o h k (seen_of c.args.pass.now.seat) (seen_of mid.seat) (seen_of c.gone.new.pass.seat) (rest_of c.args.lines.now) (g.S.Source.left (source_of c.read_all-end.new.lines)) (g.C.Clock.told c.args.clock.now) (g.C.Clock.told c.read_all-end.new.clock) c.read_all-end.result c.worse.result c.gone.result (λ is. absurd (c.worse.ensures.some is)) c.worse.ensures.earlier (λ e. c.worse.ensures.store (err-same c.in-Err.refusal _ (sym c.in-Err.is ∙ e))) w.reads (λ other. subst (λ (n : ℕ). IsKept the_core o.boot o.list o.hosts n (seen_of mid.seat)) same (w.kept other)) gone
 
 pub returns-in-Ok-clause-store : goal.returns-in-Ok-clause-store
 returns-in-Ok-clause-store g c = λ e. (
     let o = g.B.Opening.origin in
-    let w = c.read_lines-end.ensures in
-    let mid = c.read_lines-end.new.pass in
+    let w = c.read_all-end.ensures in
+    let mid = c.read_all-end.new.pass in
     let k = number_of c.args.pass.now.seat in
     let h = c.args.pass.now.host in
     let same = w.reader.number ∙ (ap (λ n. n + n) w.same.at ∙ sym c.requires.reader.number) in
@@ -48,8 +50,8 @@ returns-in-Ok-clause-store g c = λ e. (
 pub returns-in-Err-clause-store : goal.returns-in-Err-clause-store
 returns-in-Err-clause-store g c = λ e. (
     let o = g.B.Opening.origin in
-    let w = c.read_lines-end.ensures in
-    let mid = c.read_lines-end.new.pass in
+    let w = c.read_all-end.ensures in
+    let mid = c.read_all-end.new.pass in
     let k = number_of c.args.pass.now.seat in
     let h = c.args.pass.now.host in
     let same = w.reader.number ∙ (ap (λ n. n + n) w.same.at ∙ sym c.requires.reader.number) in
@@ -59,8 +61,8 @@ returns-in-Err-clause-store g c = λ e. (
 pub returns-in-Ok-clause-gone : goal.returns-in-Ok-clause-gone
 returns-in-Ok-clause-gone g c = λ e. (
     let o = g.B.Opening.origin in
-    let w = c.read_lines-end.ensures in
-    let mid = c.read_lines-end.new.pass in
+    let w = c.read_all-end.ensures in
+    let mid = c.read_all-end.new.pass in
     let k = number_of c.args.pass.now.seat in
     let h = c.args.pass.now.host in
     let same = w.reader.number ∙ (ap (λ n. n + n) w.same.at ∙ sym c.requires.reader.number) in
@@ -73,8 +75,8 @@ returns-in-Err-clause-gone g c = λ e. absurd (c.worse.ensures.never e)
 pub returns-in-Ok-clause-closed : goal.returns-in-Ok-clause-closed
 returns-in-Ok-clause-closed g c = λ e none. (
     let o = g.B.Opening.origin in
-    let w = c.read_lines-end.ensures in
-    let mid = c.read_lines-end.new.pass in
+    let w = c.read_all-end.ensures in
+    let mid = c.read_all-end.new.pass in
     let k = number_of c.args.pass.now.seat in
     let h = c.args.pass.now.host in
     let same = w.reader.number ∙ (ap (λ n. n + n) w.same.at ∙ sym c.requires.reader.number) in
@@ -85,11 +87,11 @@ pub returns-in-Err-clause-closed : goal.returns-in-Err-clause-closed
 returns-in-Err-clause-closed g c = λ e. absurd (c.worse.ensures.never (ap says_gone e))
 
 pub returns-in-Ok-clause-full : goal.returns-in-Ok-clause-full
-returns-in-Ok-clause-full g c = λ e. absurd (c.read_lines-end.ensures.room e)
+returns-in-Ok-clause-full g c = λ e. absurd (c.read_all-end.ensures.room e)
 
 pub returns-in-Err-clause-full : goal.returns-in-Err-clause-full
 returns-in-Err-clause-full g c = λ e. (
-    let w = c.read_lines-end.ensures in
+    let w = c.read_all-end.ensures in
     subst (λ (h : List ℕ). FoundOver g.B.Opening.origin (Gone h) (seen_of c.gone.new.pass.seat)) w.same.host
     (c.in-Err.ensures.over (elim (c.worse.ensures.from_full e) [ inl a ↦ absurd (w.room a) | inr b ↦ ap (λ (x : HandedRefusal). the_err (Unit {0}) x) b ])))
 
