@@ -10,6 +10,7 @@ Each part has a folder, a store and a process of its own, and time limits. Those
     full     a sink that nobody reads keeps no other stream waiting, and has everything once it is read
     sixteen  sixteen streams at once, a publisher on each and a subscriber on each to all of them
     order    a stream's replies come in the order of its lines, beside notices to the same stream
+    together publishes that are written at once share frames; of the first of two such lines another stream is told without delay
 
 The status is 0 only where each part that was run passed.
 """
@@ -177,7 +178,41 @@ def order(program, folder):
                 same("the items told of", [item for _, (at, item) in told if at == name], [f"i{k}" for k in range(each)])
 
 
-PARTS = {"paced": paced, "open": open_source, "full": full, "sixteen": sixteen, "order": order}
+def frames(store):
+    """How many frames a store has."""
+    text, count, at = pathlib.Path(store).read_bytes(), 0, 8
+    while at < len(text) and text[at] == 1:
+        at += 5 + int.from_bytes(text[at + 1 : at + 5], "big")
+        count += 1
+    return count
+
+
+def together(program, folder):
+    """A writer that nobody wakes looks again after a second: the notices come sooner."""
+    each, rounds = 200, 10
+    with Service(program, folder, ["a.example", "b.example"]) as service:
+        a, b = service.streams
+        ask(service, a, create(ANN, 0, "news"))
+        before = frames(f"{folder}/store")
+        a.send(*(publish(ANN, k, "news", f"i{k}") for k in range(each)))
+        service.pump(lambda: a.count >= 1 + each, 60, what="a reply")
+        same("the replies on a", a.lines(), [result(ANN, 0)] + [published(ANN, k, "news", f"i{k}") for k in range(each)])
+        count = frames(f"{folder}/store") - before
+        if count >= each:
+            raise Wrong(f"{count} frames have {each} publishes that were written at once")
+        ask(service, b, subscribe(BOB, 0, "news"))
+        start = time.monotonic()
+        for k in range(rounds):
+            told = b.count + 1
+            a.send(publish(ANN, each + k, "news", f"i{each + k}"), retrieve(ANN, k, "nothing"))
+            service.pump(lambda: b.count >= told, 30, what="the notice")
+        if time.monotonic() - start > rounds / 2:
+            raise Wrong(f"{rounds} notices came in {time.monotonic() - start:.1f} s")
+        same("the notices on b", b.notices(), [notice("bob@b.example", k + 1, "news", f"i{each + k}") for k in range(rounds)])
+        ends_well(service)
+
+
+PARTS = {"paced": paced, "open": open_source, "full": full, "sixteen": sixteen, "order": order, "together": together}
 
 
 def main():

@@ -120,6 +120,23 @@ fn of_eleven_items_the_oldest_goes(rt: HostRuntime) -> Result<(), Fail> {
     answers(&rt, alloc, input.as_str(), output.as_str())
 }
 
+// One read gives more lines than replies may wait, which are 64: those that were laid are flushed, and taken, before the others are.
+#[test]
+fn more_lines_come_at_once_than_replies_may_wait(rt: HostRuntime) -> Result<(), Fail> {
+    let alloc = rt.alloc();
+    let mut input = String::new(alloc);
+    let mut output = String::new(alloc);
+    for line in 1..1000 {
+        input.push_str("[]\n")?;
+        let refused = format!(in alloc;
+            r#"{{"a":{{"line":"{line}","why":"not-a-tree"}},"n":"refused","ns":"urn:pubsubd:line"}}"#
+        )?;
+        output.push_str(refused.as_str())?;
+        output.push('\n')?;
+    }
+    answers(&rt, alloc, input.as_str(), output.as_str())
+}
+
 // The first line with spaces after it, up to that length.
 fn padded(alloc: Global, length: usize) -> Result<String, Fail> {
     let line = CREATE.trim_end();

@@ -316,10 +316,15 @@ fn a_host_is_served_from_the_opening_to_the_end(rt: HostRuntime) -> Result<(), F
     Ok(())
 }
 
+// The workers have the clock's moment of each line in eight bytes. Their source gives the three lines at once, so that these share a frame: two gates and two
+// lengths less.
+const SHARED: usize = LEFT + 3 * 8 - 2 * 5;
+
 #[test]
 fn the_workers_of_a_stream_answer_all_lines(rt: HostRuntime) -> Result<(), Fail> {
     let disk = MemDisk::new(rt.alloc(), b"", &[])?;
-    let _ = served(&rt, rt.alloc(), disk, Life::Written)?;
+    let disk = served(&rt, rt.alloc(), disk, Life::Written)?;
+    assert_eq!(rt; disk.bytes().len(), SHARED);
     Ok(())
 }
 
