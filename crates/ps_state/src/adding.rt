@@ -91,6 +91,28 @@ fn add(alloc: Global, batch: &mut Option<Batch>, entry: &Entry, print: &[u8]) ->
     }
 }
 
+// The same of the entry that is prepared.
+fn add_prepared(
+    alloc: Global,
+    batch: &mut Option<Batch>,
+    service: &Service,
+    print: &[u8],
+) -> Result<(), Memory>
+    requires some { IsSome service.now.prepared }
+    requires spelled { IfSome service.now.prepared IsEntry }
+    requires printed { IfSome service.now.prepared (λ e. print.now ≡ print_in e) }
+    requires fits { IfSome service.now.prepared
+        (λ e. length (body (entries_of batch.old)) + length (spelling e) ≤ 2 ^ 30) }
+    ensures ok { OnOk result
+        (IfSome service.now.prepared (λ e. batch.new ≡ Some (entries_of batch.old ++ e ∷ []))) }
+    ensures err { OnErr result (batch.new ≡ batch.old) }
+{
+    match service.prepared() {
+        Some(entry) => add(alloc, batch, entry, print),
+        None => unreachable!(),
+    }
+}
+
 // How many bytes the entries have that wait.
 fn waiting(batch: &Option<Batch>) -> u64
     ensures value { result ≡ length (body (entries_of batch.now)) }
@@ -167,23 +189,23 @@ impl State {
     pub(crate) fn make_ready<R: Threads + Sync>(
         &mut self,
         rt: &R,
-        entry: &Entry,
+        entry: Entry,
         print: &[u8],
         request: Option<Request>,
     ) -> Result<Vec<Notice>, Memory>
-        requires sketch { IsSketch entry.now }
-        requires printed { print.now ≡ print_in entry.now }
-        requires accepted { accepted self.old.service.state entry.now ≡ true }
-        requires request { IsRequestOf self.old.service.state.book.service entry.now request }
+        requires sketch { IsSketch entry }
+        requires printed { print.now ≡ print_in entry }
+        requires accepted { accepted self.old.service.state entry ≡ true }
+        requires request { IsRequestOf self.old.service.state.book.service entry request }
         requires few { self.old.service.state.count < 2 ^ 62 }
-        requires fits { bytes_with self.old.batch entry.now ≤ 2 ^ 30 }
-        ensures ok { IfOk result (λ notices. IsReady self.old self.new entry.now notices.items) }
+        requires fits { bytes_with self.old.batch entry ≤ 2 ^ 30 }
+        ensures ok { IfOk result (λ notices. IsReady self.old self.new entry notices.items) }
         ensures err { OnErr result (StaysSame self.old self.new) }
     {
-        know(entry);
-        let notices = self.service.prepare_known(rt, entry, request)?;
+        know(&entry);
+        let notices = self.service.prepare_own(rt, entry, request)?;
         reserve_all(self.alloc, &mut self.queues, notices.as_slice())?;
-        add(self.alloc, &mut self.batch, entry, print)?;
+        add_prepared(self.alloc, &mut self.batch, &self.service, print)?;
         Ok(notices)
     }
 }

@@ -32,20 +32,20 @@ impl State {
     pub(crate) fn ready_within<R: Threads + Sync>(
         &mut self,
         rt: &R,
-        entry: &Entry,
+        entry: Entry,
     ) -> Result<Vec<Notice>, HandedRefusal>
         requires standing { IsStanding self.old }
         requires unbroken { self.old.broken ≡ false }
-        requires sketch { IsSketch entry.now }
-        requires accepted { accepted self.old.service.state entry.now ≡ true }
-        requires plain { IsNoLine entry.now }
-        ensures ok { IfOk result (λ notices. IsReady self.old self.new entry.now notices.items) }
-        ensures room { OnOk result (bytes_after self.old entry.now ≤ self.old.limits.whole) }
-        ensures err { IfErr result (NotRecorded self.old self.new entry.now) }
+        requires sketch { IsSketch entry }
+        requires accepted { accepted self.old.service.state entry ≡ true }
+        requires plain { IsNoLine entry }
+        ensures ok { IfOk result (λ notices. IsReady self.old self.new entry notices.items) }
+        ensures room { OnOk result (bytes_after self.old entry ≤ self.old.limits.whole) }
+        ensures err { IfErr result (NotRecorded self.old self.new entry) }
         ensures kept { KeepsNumbers self.old self.new }
     {
         let limit = self.limits.whole;
-        match self.has_room(entry, &[], limit) {
+        match self.has_room(&entry, &[], limit) {
             Err(Memory) => Err(HandedRefusal::Memory),
             Ok(false) => Err(HandedRefusal::Full),
             Ok(true) => match self.make_ready(rt, entry, &[], None) {
@@ -65,13 +65,13 @@ impl State {
     }
 
     // A Gone waits to be written, if it fits.
-    fn lay_gone<R: Threads + Sync>(&mut self, rt: &R, entry: &Entry) -> Result<(), HandedRefusal>
+    fn lay_gone<R: Threads + Sync>(&mut self, rt: &R, entry: Entry) -> Result<(), HandedRefusal>
         requires few { self.old.steps < 2 ^ 63 }
         requires standing { IsStanding self.old }
         requires unbroken { self.old.broken ≡ false }
-        requires gone { (host : List ℕ) × (entry.now ≡ Entry.Gone host) × IsHostName host }
-        ensures ok { OfGone entry.now (λ host. OnOk result (IsRecorded self.old self.new entry.now (Step.Gone host))) }
-        ensures err { IfErr result (NotRecorded self.old self.new entry.now) }
+        requires gone { (host : List ℕ) × (entry ≡ Entry.Gone host) × IsHostName host }
+        ensures ok { OfGone entry (λ host. OnOk result (IsRecorded self.old self.new entry (Step.Gone host))) }
+        ensures err { IfErr result (NotRecorded self.old self.new entry) }
         ensures kept { KeepsNumbers self.old self.new }
     {
         match self.ready_within(rt, entry) {
@@ -98,7 +98,7 @@ impl State {
         }
         match self.gone_entry(at) {
             Err(Memory) => Err(HandedRefusal::Memory),
-            Ok(entry) => self.lay_gone(rt, &entry),
+            Ok(entry) => self.lay_gone(rt, entry),
         }
     }
 

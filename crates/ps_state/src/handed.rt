@@ -29,14 +29,14 @@ impl State {
         rt: &R,
         at: usize,
         to: Jid,
-        entry: &Entry,
+        entry: Entry,
     ) -> Result<(), HandedRefusal>
         requires here { at < length self.old.rows.items }
         requires few { self.old.steps < 2 ^ 63 }
         requires standing { IsStanding self.old }
         requires unbroken { self.old.broken ≡ false }
         requires hand { AtRow self.old at (λ row. HoldsUnrecorded row to) }
-        requires entry { entry.now ≡ Entry.Handed to }
+        requires entry { entry ≡ Entry.Handed to }
         ensures ok { OnOk result (RecordsHanded self.old self.new to) }
         ensures err { IfErr result (NotRecordsHanded self.old self.new to) }
         ensures kept { KeepsNumbers self.old self.new }
@@ -72,7 +72,7 @@ impl State {
             Err(Memory) => Err(HandedRefusal::Memory),
             Ok(to) => match handed_of(&to) {
                 Err(Memory) => Err(HandedRefusal::Memory),
-                Ok(entry) => self.lay_handed(rt, at, to, &entry),
+                Ok(entry) => self.lay_handed(rt, at, to, entry),
             },
         }
     }

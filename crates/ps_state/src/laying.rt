@@ -21,7 +21,7 @@ use std::thread::Threads;
 // The entry that a line makes, with its print and its request.
 #[derive(Drop)]
 struct Making<'a> {
-    entry: &'a Entry,
+    entry: Entry,
     print: &'a [u8],
     request: Option<Request>,
 }
@@ -98,10 +98,10 @@ impl State {
         requires opened { AtRow self.old at (IsOpenRow self.old) }
         requires arrival { IsArrival _arrival.now }
         requires reply { IsReplyAt self.old at _arrival.now false reply }
-        requires entry { IsEntryAt self.old at _arrival.now false (Some making.entry.now) }
-        requires request { IsRequestFor self.old making.entry.now making.request }
-        requires printed { making.print.now ≡ print_in making.entry.now }
-        requires room { bytes_after self.old making.entry.now ≤ self.old.limits.changes }
+        requires entry { IsEntryAt self.old at _arrival.now false (Some making.entry) }
+        requires request { IsRequestFor self.old making.entry making.request }
+        requires printed { making.print.now ≡ print_in making.entry }
+        requires room { bytes_after self.old making.entry ≤ self.old.limits.changes }
         ensures ok { LaidAt self.old self.new at _arrival.now result }
         ensures err { NotLaidAt self.old self.new at result }
         ensures kept { KeepsNumbers self.old self.new }
@@ -170,18 +170,18 @@ impl State {
         requires opened { AtRow self.old at (IsOpenRow self.old) }
         requires arrival { IsArrival arrival.now }
         requires reply { IsReplyAt self.old at arrival.now false reply }
-        requires entry { IsEntryAt self.old at arrival.now false (Some making.entry.now) }
-        requires request { IsRequestFor self.old making.entry.now making.request }
-        requires printed { making.print.now ≡ print_in making.entry.now }
+        requires entry { IsEntryAt self.old at arrival.now false (Some making.entry) }
+        requires request { IsRequestFor self.old making.entry making.request }
+        requires printed { making.print.now ≡ print_in making.entry }
         ensures ok { LaidAt self.old self.new at arrival.now result }
         ensures err { NotLaidAt self.old self.new at result }
         ensures kept { KeepsNumbers self.old self.new }
     {
         let limit = self.limits.changes;
-        match self.has_room(making.entry, making.print, limit) {
+        match self.has_room(&making.entry, making.print, limit) {
             Err(Memory) => Err(ArriveRefusal::Memory),
             Ok(true) => self.lay_fitting(rt, at, arrival, reply, making),
-            Ok(false) => self.lay_full(at, arrival, making.entry),
+            Ok(false) => self.lay_full(at, arrival, &making.entry),
         }
     }
 
@@ -233,7 +233,7 @@ impl State {
                 Err(Memory) => Err(ArriveRefusal::Memory),
                 Ok(print) => {
                     let making = Making {
-                        entry: &entry,
+                        entry,
                         print: print.as_slice(),
                         request,
                     };

@@ -3,7 +3,7 @@ use Rattle.ps_state.proofs.Calling.{no_memory, sketch_ok, stays}
 use Rattle.ps_state.proofs.state.State.lay_entry.Goals as goal
 
 pub has_room-requires-clause-sketch : goal.has_room-requires-clause-sketch
-has_room-requires-clause-sketch g c = sketch_ok c.args.self.now c.args.at c.args.arrival.now c.args.making.entry.now c.requires.here c.requires.standing c.requires.arrival c.requires.entry
+has_room-requires-clause-sketch g c = sketch_ok c.args.self.now c.args.at c.args.arrival.now c.args.making.entry c.requires.here c.requires.standing c.requires.arrival c.requires.entry
 
 pub has_room-requires-clause-limit : goal.has_room-requires-clause-limit
 has_room-requires-clause-limit g c = c.requires.standing.1.within.changes

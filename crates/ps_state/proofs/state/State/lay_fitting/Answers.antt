@@ -12,10 +12,10 @@ use Rattle.ps_state.proofs.Stepping.{batch_more, keeps_then, lay_ok, numbers_kep
 use Rattle.ps_state.proofs.state.State.lay_fitting.Goals as goal
 
 pub make_ready-requires-clause-sketch : goal.make_ready-requires-clause-sketch
-make_ready-requires-clause-sketch g c κs within = sketch_ok c.args.self.now c.args.at c.args._arrival.now c.args.making.entry.now c.requires.here c.requires.standing c.requires.arrival c.requires.entry
+make_ready-requires-clause-sketch g c κs within = sketch_ok c.args.self.now c.args.at c.args._arrival.now c.args.making.entry c.requires.here c.requires.standing c.requires.arrival c.requires.entry
 
 pub make_ready-requires-clause-accepted : goal.make_ready-requires-clause-accepted
-make_ready-requires-clause-accepted g c κs within = prepares_at c.args.self.now c.args.at c.args._arrival.now c.args.making.entry.now c.requires.here c.requires.standing c.requires.entry
+make_ready-requires-clause-accepted g c κs within = prepares_at c.args.self.now c.args.at c.args._arrival.now c.args.making.entry c.requires.here c.requires.standing c.requires.entry
 
 pub make_ready-requires-clause-few : goal.make_ready-requires-clause-few
 make_ready-requires-clause-few g c κs within = state_few c.args.self.now c.requires.standing
@@ -48,7 +48,7 @@ returns-in-Ok-clause-kept g c =
 pub returns-in-Ok-clause-ok : goal.returns-in-Ok-clause-ok
 returns-in-Ok-clause-ok g c = λ row was.
     let v = c.args.self.now in
-    let e = c.args.making.entry.now in
+    let e = c.args.making.entry in
     let mid = c.make_ready.new.self in
     let now = c.say.new.self in
     let r = c.in-Ok.ensures.ok in

@@ -9,12 +9,12 @@ use Rattle.ps_state.proofs.Stepping.{BatchOn, batch_more, gone_ok, taken}
 use Rattle.ps_state.proofs.state.State.lay_gone.Goals as goal
 
 pub ready_within-requires-clause-accepted : goal.ready_within-requires-clause-accepted
-ready_within-requires-clause-accepted g c κs within = gone_accepted c.args.self.now c.args.entry.now c.requires.standing c.requires.gone
+ready_within-requires-clause-accepted g c κs within = gone_accepted c.args.self.now c.args.entry c.requires.standing c.requires.gone
 
 pub returns-in-Ok-clause-ok : goal.returns-in-Ok-clause-ok
 returns-in-Ok-clause-ok g c = λ host kind.
     let v = c.args.self.now in
-    let e = c.args.entry.now in
+    let e = c.args.entry in
     let r = c.in-Ok.ensures.ok in
     let k = r.rest in
     let mid = c.ready_within.new.self in

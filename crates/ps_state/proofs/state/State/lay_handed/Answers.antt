@@ -15,10 +15,10 @@ use Rattle.ps_state.proofs.Stepping.{BatchOn, batch_more, numbers_kept, taken}
 use Rattle.ps_state.proofs.state.State.lay_handed.Goals as goal
 
 pub ready_within-requires-clause-sketch : goal.ready_within-requires-clause-sketch
-ready_within-requires-clause-sketch g c κs within = handed_sketch c.args.self.now c.args.at c.args.to c.args.entry.now c.requires.here c.requires.standing c.requires.hand c.requires.entry
+ready_within-requires-clause-sketch g c κs within = handed_sketch c.args.self.now c.args.at c.args.to c.args.entry c.requires.here c.requires.standing c.requires.hand c.requires.entry
 
 pub ready_within-requires-clause-accepted : goal.ready_within-requires-clause-accepted
-ready_within-requires-clause-accepted g c κs within = handed_accepted c.args.self.now c.args.at c.args.to c.args.entry.now c.requires.here c.requires.standing c.requires.hand c.requires.entry
+ready_within-requires-clause-accepted g c κs within = handed_accepted c.args.self.now c.args.at c.args.to c.args.entry c.requires.here c.requires.standing c.requires.hand c.requires.entry
 
 pub returns-in-Ok-clause-kept : goal.returns-in-Ok-clause-kept
 returns-in-Ok-clause-kept g c =
@@ -32,7 +32,7 @@ pub returns-in-Ok-clause-ok : goal.returns-in-Ok-clause-ok
 returns-in-Ok-clause-ok g c =
     let v = c.args.self.now in
     let a = c.args.to in
-    let e = c.args.entry.now in
+    let e = c.args.entry in
     let kind : e ≡ Handed a = c.requires.entry in
     let r = c.in-Ok.ensures.ok in
     let k = r.rest in
