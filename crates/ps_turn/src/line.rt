@@ -4,9 +4,10 @@
 // gives back wakes one sleeper, and doesn't wait for it: who comes first is served first, so that the value is never out with a thread that has
 // still to wake. A seat that was woken in vain a few times draws a ticket all the same, and nobody is served before it who has none yet.
 //
-// All sleep on the bell. It has 1 where a seat sleeps that has no ticket, and 2 where one sleeps that has. A seat sets its number, looks once more,
-// and sleeps only while the bell is as it left it. Who gives back looks at the bell after that, and takes what is there before it wakes anyone. A seat
-// that was woken sets its number again before it looks, since others may sleep.
+// All sleep on the bell. Its last two bits have 1 where a seat sleeps that has no ticket, and 2 where one sleeps that has; the others count how often it rang,
+// so it only grows. A seat sets its bit, looks once more, and sleeps only while the bell is as it left it. Who gives back looks at the bell after that, and
+// makes it greater before it wakes anyone: so who has set its bit by then and doesn't sleep yet won't, even where others have set the same bits since. A seat
+// that was woken sets its bit again before it looks, since others may sleep.
 ghost use Rattle.std.specs.Prelude.{◌≡◌, ◌<◌, IfSome, IfNone};
 ghost use mathlib.Core.Option.{none};
 ghost use Rattle.atomic_table.specs.Table.{step};
@@ -200,10 +201,12 @@ pub fn wake<S, V, K, P: TableRule<S, V, K>>(
     requires rings { MayRing (P.holds table.now.key) table.now.table_id.slots seat.old.id seat.old.me line.bell }
     ensures { (seat.new.table_id ≡ seat.old.table_id) × (seat.new.id ≡ seat.old.id) × (seat.new.me ≡ seat.old.me) }
 {
-    if table.peek(line.bell) == 0 {
+    let told = table.peek(line.bell) % 4;
+    if told == 0 {
         return;
     }
-    let asleep = table.swap::<Ring>(seat, line.bell, 0);
+    // What was told goes, unless it has changed since, and the count grows.
+    let asleep = table.fetch_add::<Ring>(seat, line.bell, 4 - told);
     if asleep / 2 % 2 == 1 {
         table.wake_all(line.bell);
     } else {
