@@ -11,6 +11,7 @@ Each part has a folder, a store and a process of its own, and time limits. Those
     sixteen  sixteen streams at once, a publisher on each and a subscriber on each to all of them
     order    a stream's replies come in the order of its lines, beside notices to the same stream
     together publishes that are written at once share frames; of the first of two such lines another stream is told without delay
+    crowd    sixteen streams with many lines each at once, all of which want the lock
 
 The status is 0 only where each part that was run passed.
 """
@@ -212,7 +213,21 @@ def together(program, folder):
         ends_well(service)
 
 
-PARTS = {"paced": paced, "open": open_source, "full": full, "sixteen": sixteen, "order": order, "together": together}
+def crowd(program, folder):
+    """The lines commit nothing, so nothing but the lock keeps a stream waiting: who sleeps over its turn there never ends."""
+    count, each, rounds = 16, 400, 3
+    with Service(program, folder, [f"h{k}.example" for k in range(count)]) as service:
+        for turn in range(rounds):
+            for k, stream in enumerate(service.streams):
+                stream.send(*(retrieve(f"who@h{k}.example/1", turn * each + at, "nothing") for at in range(each)))
+            service.pump(lambda: all(stream.count >= (turn + 1) * each for stream in service.streams), 120, what="a reply")
+        ends_well(service)
+        for stream in service.streams:
+            ids = [json.loads(line)["a"]["id"] for line in stream.lines()]
+            same(f"the replies on {stream.host}", ids, [str(k) for k in range(rounds * each)])
+
+
+PARTS = {"paced": paced, "open": open_source, "full": full, "sixteen": sixteen, "order": order, "together": together, "crowd": crowd}
 
 
 def main():
