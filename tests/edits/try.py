@@ -2,10 +2,10 @@
 """Tries must-fail edits on the functions alone that they change, over the libraries that `rt ci` built: the prover has to refuse each.
 
     try.py              those of TRIED, one or two of each crate whose proof is too dear for `rt ci` to begin its edits with
-    try.py NAME/EDIT..  these, of tests/edits or of the crates' must-fail
+    try.py NAME/EDIT..  these, of tests/edits or of the crates' must-fail; NAME/EDIT=PATH where several functions have the name
 
-It asks the toolchain's own `rt` to read, apply and check an edit. The check is of the function that each change stands in (FN=PATH names
-another), so it says of the callers of that function nothing; what is refused is that function's own contract.
+It asks the toolchain's own `rt` to read, apply and check an edit. The check is of the function that each change stands in, so it says of the
+callers of that function nothing; what is refused is that function's own contract.
 """
 
 import importlib.machinery
@@ -25,17 +25,16 @@ TRIED = [
     "ps_change/all_items_stay",
     "ps_change/retract_purges",
     "ps_entity/oldest_items",
-    "ps_entity/subscribers_read",
+    "ps_entity/subscribers_read=ps_entity::items::check",
     "ps_fanout/leaf_is_not_asked",
     "ps_fanout/nearest_is_passed_over",
     "ps_nodes/configuration_stays",
     "ps_nodes/made_where_it_stands",
-    "ps_outside/asked_as_another_kind",
+    "ps_outside/asked_as_another_kind=ps_outside::mem_world::MemWorldWorld::open_sink",
     "ps_outside/fault_not_counted",
     "ps_owner/anyone_at_accounts",
     "ps_owner/approved_unasked",
-    "ps_request/other_address_forbidden",
-    "ps_request/reply_from_the_sender",
+    "ps_request/other_address_forbidden=ps_request::entity::subscribe",
     "ps_row_trees/link_names_its_child",
     "ps_row_trees/moment_is_dropped",
     "ps_rows/a_changed_row_is_lost",
@@ -68,8 +67,6 @@ def file_of(name):
 
 def functions_of(folder, edit):
     """Returns the functions that an edit changes."""
-    if os.environ.get("FN"):
-        return [os.environ["FN"]]
     found, text = [], ""
     with open(edit, encoding="utf-8") as lines:
         for line in lines:
@@ -84,6 +81,7 @@ def functions_of(folder, edit):
 
 def refusal(rt, crates, name):
     """Returns whether the prover refuses an edit, and what there is to say of it."""
+    name, _, function = name.partition("=")
     crate, edit = file_of(name)
     if crate not in crates or not edit:
         return False, "no such edit"
@@ -94,7 +92,7 @@ def refusal(rt, crates, name):
     texts, why = rt.read_edit(edit, crate.folder)
     if why:
         return False, why
-    functions = functions_of(crate.folder, edit)
+    functions = [function] if function else functions_of(crate.folder, edit)
     ran = rt.checked(crate, texts, ["--jobs", "1", *(word for it in functions for word in ("--only", it))], None)
     lines = ran.stdout.split("\n")
     open_ones = [it for it in lines if re.match(r"fn \S+: (not proved|no proof)", it)]
