@@ -1,8 +1,8 @@
 #!/usr/bin/env python3
 """The toolchain's `rt`, with the sum of each crate's text taken once in a run: `once.py check ps_serve`, `once.py test NAME`, `once.py lib NAME`.
 
-`rt` takes the sum of a crate anew for each crate above it, and again for each above that, so a check of a crate that stands high begins after minutes:
-of ps_serve after eight, and so after half of one. No source may change while it runs. It is no gate: `rt ci` judges.
+`rt` takes the sum of a crate anew for each way that leads down to it through crates.txt, so a check of a crate that stands high begins late.
+No source may change while it runs. It is no gate: `rt ci` judges.
 """
 
 import importlib.machinery
