@@ -12,8 +12,8 @@ import sys
 import corpus
 
 CALLS = [
-    ("answering lines in the hall", r"ps_shared::arrive::.*lay$"),
-    ("making and printing the replies, also those of a full store", r"ps_state::replies::replies_at"),
+    ("answering lines in the hall", r"ps_hall::arrive::.*lay$"),
+    ("making and printing the replies, also those of a full store", r"ps_hall_state::replies::replies_at"),
     ("preparing the change on the second copy of the state", r"ps_core::service::Service::prepare(_known)?$"),
     ("spelling the entry", r"ps_record::batch::Batch::push$"),
     ("reading lines and entries as trees", r"ps_wire::read::read_tree"),

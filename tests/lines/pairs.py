@@ -1,6 +1,6 @@
-"""Makes the rows of lines at two services that the tests of `ps_outsider_tests` go through, or checks that they are those of the cases.
+"""Makes the rows of lines at two services that the tests of `ps_secrecy_step_tests` go through, or checks that they are those of the cases.
 
-    python3 tests/lines/pairs.py            writes crates/ps_outsider_tests/src/rows/NAME.rt for each pairs/NAME.txt
+    python3 tests/lines/pairs.py            writes crates/ps_secrecy_step_tests/src/rows/NAME.rt for each pairs/NAME.txt
     python3 tests/lines/pairs.py --check    compares them, and ends with 1 where they differ
 
 A table has two halves for each step, of which the first is the left service's and the other the right one's. Each half has the lines of a
@@ -16,7 +16,7 @@ import hosts
 import make
 
 HERE = pathlib.Path(__file__).resolve().parent
-ROWS = HERE.parent.parent / "crates" / "ps_outsider_tests" / "src" / "rows"
+ROWS = HERE.parent.parent / "crates" / "ps_secrecy_step_tests" / "src" / "rows"
 SIDES = ("left", "right")
 
 

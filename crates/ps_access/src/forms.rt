@@ -11,7 +11,7 @@ use crate::addresses::is_account_address;
 use ps_base::Memory;
 use ps_config::{ConfigRefusal, default_config, read_config};
 use ps_forms::{FormRefusal, form_type, read_form};
-use ps_spaces::NODE_CONFIG;
+use ps_namespaces::NODE_CONFIG;
 use ps_types::{Condition, Elem, Form, FormKind, Jid, NodeConfig, NodeKind, PlanRefusal};
 use std::alloc::Global;
 

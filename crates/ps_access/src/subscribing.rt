@@ -12,7 +12,7 @@ use crate::setting::options_of;
 use crate::tables::Tables;
 use crate::verdicts::verdict_subscribe;
 use ps_config::read_options;
-use ps_spaces::SUBSCRIBE_OPTIONS;
+use ps_namespaces::SUBSCRIBE_OPTIONS;
 use ps_types::{
     Condition, Elem, Form, Jid, NodeKey, PlanRefusal, Request, SubOptions, SubState, Verdict,
 };

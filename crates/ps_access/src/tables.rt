@@ -7,7 +7,7 @@ ghost use Rattle.ps_access.specs.Tables.{book_of};
 use ps_affil::Affils;
 use ps_base::Memory;
 use ps_coll::Links;
-use ps_counts::Counts;
+use ps_item_ids::Counts;
 use ps_items::Items;
 use ps_nodes::Nodes;
 use ps_presence::{Cache, Presence};

@@ -8,7 +8,7 @@ ghost use Rattle.ps_types.specs.Shape.{children_of};
 
 use ps_base::Memory;
 use ps_forms::{FormRefusal, attr, next_child, read_form};
-use ps_spaces::{DATA_FORMS, DISCO_INFO};
+use ps_namespaces::{DATA_FORMS, DISCO_INFO};
 use ps_types::{Elem, Forms, Identities, Identity, Info, Text, Texts};
 use std::alloc::Global;
 

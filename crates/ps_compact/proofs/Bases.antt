@@ -11,12 +11,12 @@ use Rattle.ps_types.specs.declared.entry.Entry.{Entry}
 use Rattle.ps_types.specs.declared.entry.Notice.{Notice}
 use Rattle.ps_types.specs.declared.jid.Jid.{Jid}
 use Rattle.ps_types.specs.declared.rows.TallyRow.{TallyRow}
-use Rattle.ps_bases.specs.Laws.{ServesOn}
-use Rattle.ps_bases.proofs.NoticeLines.{OwnIs, stored-is, unhanded-are}
-use Rattle.ps_bases.proofs.Rereading.{stored-gives}
-use Rattle.ps_bases.proofs.ServesOn.{base-serves-on}
-use Rattle.ps_bases.proofs.Sorting.{each-sorted, told-apart}
-use Rattle.ps_bases.proofs.TallyRows.{lawful-bares}
+use Rattle.ps_compact_laws.specs.Laws.{ServesOn}
+use Rattle.ps_compact_laws.proofs.NoticeLines.{OwnIs, stored-is, unhanded-are}
+use Rattle.ps_compact_laws.proofs.Rereading.{stored-gives}
+use Rattle.ps_compact_laws.proofs.ServesOn.{base-serves-on}
+use Rattle.ps_compact_laws.proofs.Sorting.{each-sorted, told-apart}
+use Rattle.ps_compact_laws.proofs.TallyRows.{lawful-bares}
 use Rattle.ps_model.specs.Base.{base, book_rows, counter_rows, told_addresses, unhanded}
 use Rattle.ps_types.specs.Address.{IsAddress}
 use Rattle.ps_model.specs.BaseAfter.{is_notice_line}
@@ -26,9 +26,9 @@ use Rattle.ps_model.specs.Replay.{lawful, replay}
 use Rattle.ps_model.specs.TheCore.{the_core}
 use Rattle.ps_outbox.specs.Boxes.{queue}
 use Rattle.ps_record.specs.Formed.{AreFormed}
-use Rattle.ps_row_entries.specs.Written.{written}
-use Rattle.ps_state.specs.Stand.{QueuesStand}
-use Rattle.ps_state.proofs.Stepping.{count-is}
+use Rattle.ps_compact_export.specs.Written.{written}
+use Rattle.ps_hall_state.specs.Stand.{QueuesStand}
+use Rattle.ps_hall_state.proofs.Stepping.{count-is}
 use Rattle.ps_compact.specs.Few.{AreHanded, AreMade}
 use Rattle.ps_compact.specs.Rows.{AreListed, AreReady, AreReadyAt, notice_row, notices_of, rows_left, whos_of}
 use Rattle.ps_compact.proofs.Depth.{base-formed}

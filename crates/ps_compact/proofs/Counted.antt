@@ -8,10 +8,10 @@ use Rattle.ps_types.specs.declared.entry.Entry.{Entry}
 use Rattle.ps_types.specs.declared.jid.Jid.{Jid}
 use Rattle.ps_types.specs.declared.rows.CountRow.{CountRow}
 use Rattle.ps_types.specs.declared.rows.TallyRow.{TallyRow}
-use Rattle.ps_books.proofs.Keys.{each-both}
+use Rattle.ps_book_laws.proofs.Keys.{each-both}
 use Rattle.ps_model.specs.BaseRows.{BaseRow}
 use Rattle.ps_model.specs.Tallies.{handed_in, is_tally_of}
-use Rattle.ps_row_entries.specs.Written.{written}
+use Rattle.ps_compact_export.specs.Written.{written}
 use Rattle.ps_rows.specs.Standing.{standing}
 use Rattle.ps_compact.specs.Few.{AreHanded, AreMade}
 use Rattle.ps_compact.specs.Rows.{counter_at, counters_of, who_at, whos_of}

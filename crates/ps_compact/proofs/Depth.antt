@@ -16,7 +16,7 @@ use Rattle.ps_types.specs.declared.jid.Jid.{Jid}
 use Rattle.ps_types.specs.declared.rows.ItemRow.{ItemRow}
 use Rattle.ps_types.specs.declared.rows.NodeRow.{NodeRow}
 use Rattle.ps_types.specs.declared.rows.TallyRow.{TallyRow}
-use Rattle.ps_books.proofs.Keys.{each-both}
+use Rattle.ps_book_laws.proofs.Keys.{each-both}
 use Rattle.ps_model.specs.Base.{base, book_rows, counter_by, counter_rows, notice_rows, rows_of, told_addresses, unhanded, unlinked}
 use Rattle.ps_model.specs.Tallies.{handed_to}
 use Rattle.ps_types.specs.declared.entry.Entry.TheVariants.{Base}

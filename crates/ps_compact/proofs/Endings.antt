@@ -5,15 +5,15 @@ use Rattle.ps_base.specs.Causes.{Rose}
 use Rattle.ps_disk.specs.Disk.{LeavesOnly}
 use Rattle.ps_disk.proofs.Moments.{weaker}
 use Rattle.ps_types.specs.declared.entry.Entry.{Entry}
-use Rattle.ps_bases.specs.Laws.{ServesOn}
+use Rattle.ps_compact_laws.specs.Laws.{ServesOn}
 use Rattle.ps_journal.specs.Left.{LeavesList}
 use Rattle.ps_model.specs.At.{IsDamagedAt, IsStore}
 use Rattle.ps_model.specs.Base.{base}
 use Rattle.ps_model.specs.Entries.{AreEntries}
 use Rattle.ps_model.proofs.OneList.{one_list}
-use Rattle.ps_opening.specs.Reads.{ReadNot}
-use Rattle.ps_opening.specs.declared.opened.ReadWhy.{ReadWhy}
-use Rattle.ps_opening.specs.declared.opened.ReadWhy.TheVariants as read
+use Rattle.ps_hall_open.specs.Reads.{ReadNot}
+use Rattle.ps_hall_open.specs.declared.opened.ReadWhy.{ReadWhy}
+use Rattle.ps_hall_open.specs.declared.opened.ReadWhy.TheVariants as read
 use Rattle.ps_compact.specs.declared.compacting.CompactOutcome.TheVariants as compact
 use Rattle.ps_compact.specs.declared.writing.WriteWhy.{WriteWhy}
 use Rattle.ps_compact.specs.declared.writing.WriteWhy.TheVariants.{Full, Memory, Occupied, Store}

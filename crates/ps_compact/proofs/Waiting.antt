@@ -11,10 +11,10 @@ use Rattle.ps_types.specs.Same.{same_bare}
 use Rattle.ps_types.specs.declared.entry.Entry.{Entry}
 use Rattle.ps_types.specs.declared.entry.Notice.{Notice}
 use Rattle.ps_types.specs.declared.jid.Jid.{Jid}
-use Rattle.ps_books.specs.Keys.{AreApart}
+use Rattle.ps_book_laws.specs.Keys.{AreApart}
 use Rattle.ps_outbox.specs.Boxes.{is_to, queue, shown}
 use Rattle.ps_outbox.proofs.Fifo.{front_goes, others_stay}
-use Rattle.ps_row_entries.specs.Written.{written}
+use Rattle.ps_compact_export.specs.Written.{written}
 use Rattle.ps_rows.proofs.Sought.{bare-back}
 use Rattle.ps_compact.specs.Rows.{AreReady, AreReadyAt, IsReady, notice_entries, notice_row, notices_of}
 

@@ -2,7 +2,7 @@
 use Rattle.std.specs.Prelude.{◌≡◌, ℕ, ◌⊎◌, ◌+◌, ◌<◌, ◌≤◌, ◌^◌, List, [], length}
 use Rattle.ps_disk.specs.Disk.{MayLeave}
 use Rattle.ps_types.specs.declared.entry.Entry.{Entry}
-use Rattle.ps_bases.specs.Laws.{ServesOn}
+use Rattle.ps_compact_laws.specs.Laws.{ServesOn}
 use Rattle.ps_journal.specs.Left.{LeavesList}
 use Rattle.ps_model.specs.At.{IsStore}
 use Rattle.ps_model.specs.Base.{base}

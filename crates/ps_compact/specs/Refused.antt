@@ -4,8 +4,8 @@ use Rattle.ps_journal.specs.declared.journal.AppendRefusal.{AppendRefusal}
 use Rattle.ps_journal.specs.declared.journal.AppendRefusal.TheVariants as append
 use Rattle.ps_journal.specs.declared.opening.JournalWhy.{JournalWhy}
 use Rattle.ps_journal.specs.declared.opening.JournalWhy.TheVariants as why
-use Rattle.ps_opening.specs.declared.opened.ReadWhy.{ReadWhy}
-use Rattle.ps_opening.specs.declared.opened.ReadWhy.TheVariants as read
+use Rattle.ps_hall_open.specs.declared.opened.ReadWhy.{ReadWhy}
+use Rattle.ps_hall_open.specs.declared.opened.ReadWhy.TheVariants as read
 use Rattle.ps_compact.specs.declared.compacting.CompactOutcome.{CompactOutcome}
 use Rattle.ps_compact.specs.declared.compacting.CompactOutcome.TheVariants as compact
 use Rattle.ps_compact.specs.declared.writing.WriteWhy.{WriteWhy}

@@ -1,7 +1,7 @@
 // A store is compacted.
 ghost use Rattle.std.specs.Prelude.{◌≡◌, ◌⊎◌, ◌<◌, ◌≤◌, ◌^◌, [], IsErrOf, OnOk};
 ghost use Rattle.ps_base.specs.Causes.{Rose};
-ghost use Rattle.ps_bases.specs.Laws.{ServesOn};
+ghost use Rattle.ps_compact_laws.specs.Laws.{ServesOn};
 ghost use Rattle.ps_compact.specs.Compacted.{IfDamaged, IsCompacted, IsFull, IsOccupied, LeavesBase, LeftEmptyOrBase, bytes_with};
 ghost use Rattle.ps_compact.specs.Refused.{ended_by, unread_by};
 ghost use Rattle.ps_compact.specs.Stores.{IsWrittenNew, LeftEmptyOrWhole};
@@ -11,12 +11,12 @@ ghost use Rattle.ps_journal.specs.Opened.{IsShortIfUnbegun};
 ghost use Rattle.ps_model.specs.At.{IsDamagedAt};
 ghost use Rattle.ps_model.specs.Base.{base};
 ghost use Rattle.ps_model.specs.Store.{spelled};
-ghost use Rattle.ps_opening.specs.Reads.{IsKept, entries_of};
+ghost use Rattle.ps_hall_open.specs.Reads.{IsKept, entries_of};
 
 use crate::listing::base_batch;
 use crate::writing::{WriteWhy, Written, find_empty, write_store};
 use ps_disk::Disk;
-use ps_opening::{Kept, ReadWhy, StoreRead, read_store};
+use ps_hall_open::{Kept, ReadWhy, StoreRead, read_store};
 use ps_record::BatchRefusal;
 use std::alloc::Global;
 use std::random::RandomSource;

@@ -3,12 +3,12 @@ ghost use Rattle.std.specs.Prelude.{◌≡◌, ◌<◌, ◌^◌, ◌++◌, IfOk,
 ghost use Rattle.ps_compact.specs.Few.{AreHanded, AreMade};
 ghost use Rattle.ps_compact.specs.Rows.{counter_at, counters_of, who_at, whos_of};
 ghost use Rattle.ps_model.specs.Tallies.{handed_to};
-ghost use Rattle.ps_row_entries.specs.Written.{written};
+ghost use Rattle.ps_compact_export.specs.Written.{written};
 
 use ps_base::Memory;
-use ps_counts::Counts;
-use ps_row_entries::counter_entry;
-use ps_tallies::Tallies;
+use ps_compact_export::counter_entry;
+use ps_item_ids::Counts;
+use ps_notice_numbers::Tallies;
 use ps_types::{CountRow, Entry, Jid};
 use std::alloc::Global;
 

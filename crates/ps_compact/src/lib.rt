@@ -4,7 +4,7 @@
 //! address, and the notices that aren't handed, in the order of the model's `Base.base`. The old store is read and synced, and nothing is written to it. All entries of the
 //! new one go into one frame, so a crash leaves none of them or all.
 //!
-//! `specs/Compacted.antt` says what comes of it: the list of the old store and that of the new one, of which the law of ps_bases says that it serves on as
+//! `specs/Compacted.antt` says what comes of it: the list of the old store and that of the new one, of which the law of ps_compact_laws says that it serves on as
 //! the other would (`ServesOn`), and each answer with its cause. Numbers of 2^62 and more can't stand in a row, so a store with such a count of ids or of handed notices, which
 //! takes as many requests to come by, is answered as one for which there is no memory.
 #![tactic(auto)]

@@ -1,21 +1,21 @@
 // The entries that a compacted store has.
 ghost use Rattle.std.specs.Prelude.{◌≡◌, ◌<◌, ◌^◌, IfOk, IsErrOf, OnOk, length, map};
-ghost use Rattle.ps_bases.specs.Laws.{ServesOn};
+ghost use Rattle.ps_compact_laws.specs.Laws.{ServesOn};
 ghost use Rattle.ps_compact.specs.Few.{AreHanded};
 ghost use Rattle.ps_compact.specs.Rows.{AreListed, rows_left};
 ghost use Rattle.ps_model.specs.Base.{base};
 ghost use Rattle.ps_model.specs.Entries.{body};
-ghost use Rattle.ps_opening.specs.Reads.{IsKept, entries_of};
-ghost use Rattle.ps_row_entries.specs.Written.{written};
+ghost use Rattle.ps_hall_open.specs.Reads.{IsKept, entries_of};
+ghost use Rattle.ps_compact_export.specs.Written.{written};
 
 use crate::counters::{add_counters, addresses, are_made_few};
 use crate::queues::move_queues;
 use ps_base::Memory;
 use ps_fanout::in_order;
-use ps_opening::Kept;
+use ps_hall_open::Kept;
+use ps_hall_state::Service;
 use ps_outbox::Outboxes;
 use ps_record::{Batch, BatchRefusal};
-use ps_state::Service;
 use ps_types::Entry;
 use std::alloc::Global;
 

@@ -3,13 +3,13 @@ ghost use Rattle.std.specs.Prelude.{◌≡◌, ◌++◌, false, IfOk, IfSome, On
 ghost use Rattle.ps_base.specs.Rows.{without_first};
 ghost use Rattle.ps_types.specs.Same.{same_bare};
 ghost use Rattle.ps_types.specs.declared.jid.Jid.{Jid};
-ghost use Rattle.ps_books.specs.Keys.{AreApart};
+ghost use Rattle.ps_book_laws.specs.Keys.{AreApart};
 ghost use Rattle.ps_compact.specs.Rows.{AreReady, AreReadyAt, IsReady, notice_entries, notices_of};
 ghost use Rattle.ps_outbox.specs.Boxes.{is_to, queue};
 
 use ps_base::Memory;
+use ps_compact_export::notice_entry;
 use ps_outbox::Outboxes;
-use ps_row_entries::notice_entry;
 use ps_types::{Entry, Jid, Notice, Text, TextRefusal};
 use std::alloc::Global;
 

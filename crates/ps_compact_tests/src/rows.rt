@@ -1,6 +1,6 @@
 // Rows as entries, by their attributes.
 use ps_access::Tables;
-use ps_row_entries::{book_entries, counter_entry, notice_entry};
+use ps_compact_export::{book_entries, counter_entry, notice_entry};
 use ps_types::{Affil, AffilRow, Child, Elem, Entry, Jid, NodeKey, Text};
 use std::alloc::Global;
 use std::process::Abort;

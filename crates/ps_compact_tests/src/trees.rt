@@ -1,5 +1,5 @@
 // The ten rows as trees, written by hand, and trees that are none.
-use ps_row_trees::{Row, accepted_rows_are_held, read_row, row_tree};
+use ps_compact_codec::{Row, accepted_rows_are_held, read_row, row_tree};
 use ps_types::{Affil, RosterState};
 use ps_wire::{print_tree, read_tree};
 use std::alloc::Global;

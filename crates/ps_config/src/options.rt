@@ -9,7 +9,7 @@ use crate::print::{only, type_field};
 use crate::values::{deep_in, items_in};
 use ps_base::Memory;
 use ps_forms::get;
-use ps_spaces::SUBSCRIBE_OPTIONS;
+use ps_namespaces::SUBSCRIBE_OPTIONS;
 use ps_types::{Field, Fields, Form, FormKind, SubOptions, Text};
 use std::alloc::Global;
 use thiserror::Error;

@@ -6,7 +6,7 @@ ghost use Rattle.ps_config.specs.Rows.{row_of, all_rows};
 
 use crate::row::{Cell, Row, cell_of, rows, var_of};
 use ps_base::Memory;
-use ps_spaces::NODE_CONFIG;
+use ps_namespaces::NODE_CONFIG;
 use ps_types::{Field, Fields, Form, FormKind, NodeConfig, Text, Texts};
 use std::alloc::Global;
 

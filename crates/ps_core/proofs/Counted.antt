@@ -36,8 +36,8 @@ use Rattle.ps_model.specs.ChangePublish.{count_row, counted, published, publishe
 use Rattle.ps_model.specs.Changes.{changed, changed_by}
 use Rattle.ps_model.specs.ItemIds.{next_made}
 use Rattle.ps_model.specs.Words.{RosterAsk, set, remove}
-use Rattle.ps_row_trees.specs.Held.{has_held_numbers}
-use Rattle.ps_row_taking.specs.States.{has_own_key}
+use Rattle.ps_compact_codec.specs.Held.{has_held_numbers}
+use Rattle.ps_compact_import.specs.States.{has_own_key}
 use Rattle.ps_core.specs.Counted.{AllBelow, AreCounted}
 use Rattle.ps_core.specs.Rows.{fits_row, is_bounded}
 use Rattle.ps_core.specs.States.{Part, fits_book, part_after}

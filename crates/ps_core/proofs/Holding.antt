@@ -20,14 +20,14 @@ use Rattle.ps_model.specs.Changes.{changed}
 use Rattle.ps_model.specs.Replay.{request_accepted}
 use Rattle.ps_model.specs.Taken.{Taken, silent, refused, denied, asked}
 use Rattle.ps_model.specs.Taking.{request_in, tree_taken}
-use Rattle.ps_books.specs.Addressed.{HasEarlyItems, IsTimely, NamesAddresses}
-use Rattle.ps_books.proofs.Addressed.{base-named}
-use Rattle.ps_books.proofs.AddressedKinds.{addresses-changed, asked-named}
-use Rattle.ps_books.proofs.AddressedTaken.{taken-addresses}
-use Rattle.ps_books.proofs.EarlyKinds.{ItemIs, asked-early, early-changed}
-use Rattle.ps_books.proofs.Keys.{each-push}
-use Rattle.ps_row_trees.specs.Held.{has_held_numbers}
-use Rattle.ps_row_taking.specs.States.{has_own_key}
+use Rattle.ps_book_laws.specs.Addressed.{HasEarlyItems, IsTimely, NamesAddresses}
+use Rattle.ps_book_laws.proofs.Addressed.{base-named}
+use Rattle.ps_book_laws.proofs.AddressedKinds.{addresses-changed, asked-named}
+use Rattle.ps_book_laws.proofs.AddressedTaken.{taken-addresses}
+use Rattle.ps_book_laws.proofs.EarlyKinds.{ItemIs, asked-early, early-changed}
+use Rattle.ps_book_laws.proofs.Keys.{each-push}
+use Rattle.ps_compact_codec.specs.Held.{has_held_numbers}
+use Rattle.ps_compact_import.specs.States.{has_own_key}
 use Rattle.ps_core.specs.Counted.{AreFewMade, Holds}
 use Rattle.ps_core.specs.Rows.{fits_row, is_bounded}
 use Rattle.ps_core.specs.States.{Part, fits_book, part_after}

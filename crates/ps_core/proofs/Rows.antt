@@ -14,10 +14,10 @@ use Rattle.ps_model.specs.BaseRows.{BaseRow, node, affiliation, subscription, it
 use Rattle.ps_model.specs.Book.{Book, State}
 use Rattle.ps_model.specs.Replay.{row_accepted}
 use Rattle.ps_model.specs.Tallies.{made_for}
-use Rattle.ps_row_trees.specs.Held.{has_held_numbers, held_row_of, if_held}
-use Rattle.ps_row_trees.proofs.Accepted.{accepted-is-held, held-is-accepted}
-use Rattle.ps_row_taking.specs.States.{has_own_key, state_at}
-use Rattle.ps_row_taking.proofs.Places.{by-rows, own-key}
+use Rattle.ps_compact_codec.specs.Held.{has_held_numbers, held_row_of, if_held}
+use Rattle.ps_compact_codec.proofs.Accepted.{accepted-is-held, held-is-accepted}
+use Rattle.ps_compact_import.specs.States.{has_own_key, state_at}
+use Rattle.ps_compact_import.proofs.Places.{by-rows, own-key}
 use Rattle.ps_core.specs.Rows.{fits_row, is_bounded, is_held_row}
 use Rattle.ps_core.specs.States.{Part, part_after}
 use Rattle.ps_core.proofs.Both.{and_left, and_right}

@@ -4,7 +4,7 @@ use Rattle.std.specs.Prelude.{◌^◌}
 use Rattle.ps_base.specs.Rows.{Table}
 use Rattle.ps_types.specs.declared.rows.TallyRow.{TallyRow}
 use Rattle.ps_model.specs.After.{after}
-use Rattle.ps_books.specs.Addressed.{IsTimely}
+use Rattle.ps_book_laws.specs.Addressed.{IsTimely}
 use Rattle.ps_core.specs.Counted.{AreFewMade, Holds}
 use Rattle.ps_core.specs.Numbers.{numbers_after}
 use Rattle.ps_core.specs.Stages.{AreNumbers, Follows, IsBack, IsKept, IsStage}

@@ -22,8 +22,8 @@ use Rattle.ps_model.proofs.NumberLaws.{handed-has-one}
 use Rattle.ps_notices.specs.Due.{AreFew, tallied_by}
 use Rattle.ps_notices.proofs.Counting.{tallied-by}
 use Rattle.ps_core.specs.Counted.{AreFewMade}
-use Rattle.ps_row_trees.specs.Held.{has_held_numbers}
-use Rattle.ps_row_taking.specs.States.{FitMore, has_own_key}
+use Rattle.ps_compact_codec.specs.Held.{has_held_numbers}
+use Rattle.ps_compact_import.specs.States.{FitMore, has_own_key}
 use Rattle.ps_core.specs.Numbers.{Fit, IsCountOf, is_counter, numbers_after}
 use Rattle.ps_core.specs.Rows.{fits_row, is_bounded}
 use Rattle.ps_core.specs.States.{Part, fits_book, state_with}

@@ -5,7 +5,7 @@ use Rattle.ps_types.specs.declared.jid.Jid.{Jid}
 use Rattle.ps_types.specs.declared.rows.CountRow.{CountRow}
 use Rattle.ps_types.specs.declared.rows.TallyRow.{TallyRow}
 use Rattle.ps_model.specs.Tallies.{made_for}
-use Rattle.ps_books.specs.Addressed.{HasEarlyItems, NamesAddresses}
+use Rattle.ps_book_laws.specs.Addressed.{HasEarlyItems, NamesAddresses}
 use Rattle.ps_core.specs.States.{Part}
 
 abbrev pub AllBelow : ℕ → List CountRow → Type 0

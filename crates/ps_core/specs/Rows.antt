@@ -6,8 +6,8 @@ use Rattle.ps_model.specs.BaseAfter.{is_early, is_number}
 use Rattle.ps_model.specs.BaseRead.{row_of}
 use Rattle.ps_model.specs.BaseRows.{BaseRow, item, made, counter}
 use Rattle.ps_model.specs.Book.{Book}
-use Rattle.ps_row_trees.specs.Held.{has_held_numbers}
-use Rattle.ps_row_taking.specs.States.{has_own_key}
+use Rattle.ps_compact_codec.specs.Held.{has_held_numbers}
+use Rattle.ps_compact_import.specs.States.{has_own_key}
 
 -- its moment is one that a stamp can tell, and its number is below 2^62
 abbrev pub is_bounded : BaseRow → Bool

@@ -5,7 +5,7 @@ use Rattle.ps_types.specs.declared.entry.Entry.{Entry}
 use Rattle.ps_types.specs.declared.rows.TallyRow.{TallyRow}
 use Rattle.ps_model.specs.After.{tallies_after}
 use Rattle.ps_model.specs.Book.{State}
-use Rattle.ps_books.specs.Addressed.{IsTimely}
+use Rattle.ps_book_laws.specs.Addressed.{IsTimely}
 use Rattle.ps_core.specs.Counted.{AreFewMade, Holds}
 use Rattle.ps_core.specs.Numbers.{Fit, numbers_after, rows_set}
 use Rattle.ps_core.specs.Requests.{IsRequestOf}

@@ -6,16 +6,16 @@ ghost use Rattle.ps_model.specs.Replay.{accepted, request_accepted, row_accepted
 ghost use Rattle.ps_model.specs.Taking.{request_in, tree_taken};
 ghost use Rattle.ps_access.specs.Tables.{book_of};
 ghost use Rattle.ps_core.specs.States.{state_of};
-ghost use Rattle.ps_row_taking.specs.States.{FitMore};
+ghost use Rattle.ps_compact_import.specs.States.{FitMore};
 
 use crate::half::Half;
 use crate::plans::plan;
 use ps_access::Tables;
 use ps_base::Memory;
+use ps_compact_codec::{Row, read_row};
+use ps_compact_import::accepts_row;
+use ps_notice_numbers::Tallies;
 use ps_request::{TakenTree, take_tree};
-use ps_row_taking::accepts_row;
-use ps_row_trees::{Row, read_row};
-use ps_tallies::Tallies;
 use ps_types::{Elem, Entry, PlanRefusal, Request, Text};
 use std::alloc::Global;
 

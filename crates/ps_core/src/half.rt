@@ -15,12 +15,12 @@ use crate::lines::LastLines;
 use crate::wanting::follow_request;
 use ps_access::Tables;
 use ps_base::Memory;
-use ps_change::change;
+use ps_compact_codec::read_row;
+use ps_compact_import::put_in_tables;
+use ps_effects::change;
 use ps_filter::Wants;
 use ps_presence::Presence;
 use ps_request::{TakenTree, take_tree};
-use ps_row_taking::put_in_tables;
-use ps_row_trees::read_row;
 use ps_types::{Elem, Entry, LineRow, Request, Text};
 use std::alloc::Global;
 

@@ -17,6 +17,7 @@ mod half;
 mod lines;
 mod numbers;
 mod plans;
+mod rows;
 mod service;
 mod taking;
 mod telling;

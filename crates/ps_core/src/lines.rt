@@ -2,8 +2,8 @@
 ghost use Rattle.std.specs.Prelude.{◌≡◌, ◌+◌, ◌≤◌, ◌<◌, [], IfOk, OnOk, find, position, option_copied};
 ghost use Rattle.ps_model.specs.Tallies.{is_line_of, is_next_line, lines_with};
 
+use crate::rows::Rows;
 use ps_base::Memory;
-use ps_table::Rows;
 use ps_types::{LineRow, Text};
 use std::alloc::Global;
 use std::marker::Model;

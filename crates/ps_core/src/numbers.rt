@@ -3,12 +3,12 @@ ghost use Rattle.std.specs.Prelude.{◌≡◌, ◌≤◌, true, IfOk, OnOk, Some
 ghost use Rattle.ps_model.specs.BaseRead.{row_of};
 ghost use Rattle.ps_core.specs.Numbers.{Fit, IsCountOf, IsCountOfRow, numbers_after, rows_set};
 ghost use Rattle.ps_core.specs.Rows.{is_held, is_held_row};
-ghost use Rattle.ps_row_trees.specs.Said.{row_said};
+ghost use Rattle.ps_compact_codec.specs.Said.{row_said};
 ghost use Rattle.ps_core.specs.declared.numbers.Numbers.TheVariants.{Made};
 
 use ps_base::Memory;
-use ps_row_trees::{Row, read_row};
-use ps_tallies::Tallies;
+use ps_compact_codec::{Row, read_row};
+use ps_notice_numbers::Tallies;
 use ps_types::{Elem, Entry, Jid, Notice};
 use std::alloc::Global;
 

@@ -1,4 +1,4 @@
-//! Tests of `ps_change` and `ps_core`: lines over a service in memory, on one host and on several, and the rows that it begins with.
+//! Tests of `ps_effects` and `ps_core`: lines over a service in memory, on one host and on several, and the rows that it begins with.
 //!
 //! They stand in a crate of their own, since a crate with tests is proved twice. Nothing stands on this crate, and it has no public function.
 #![tactic(auto)]

@@ -1,6 +1,6 @@
 // Lines over a service in memory.
 ghost use Rattle.std.specs.Prelude.{◌≡◌, true};
-ghost use Rattle.ps_books.specs.Addressed.{IsTimely};
+ghost use Rattle.ps_book_laws.specs.Addressed.{IsTimely};
 
 use ps_core::{Answer, Service};
 use ps_types::{Arrival, Bytes, Entry, Notice, Text};

@@ -1,7 +1,7 @@
 // An entry that is prepared in the place of another, one that is prepared once more after memory was refused, and one that is handed over.
 ghost use Rattle.std.specs.Prelude.{◌≡◌, ◌<◌, ◌^◌, true, IfOk, OnOk, Some};
 ghost use Rattle.ps_model.specs.Replay.{accepted};
-ghost use Rattle.ps_books.specs.Addressed.{IsTimely};
+ghost use Rattle.ps_book_laws.specs.Addressed.{IsTimely};
 ghost use Rattle.ps_core.specs.Requests.{IsRequestOf};
 
 use crate::lines::{answered, arrived, boot, entry_at, is_timely, says};

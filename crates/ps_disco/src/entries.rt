@@ -5,7 +5,7 @@ ghost use Rattle.ps_disco.specs.Entries.{Hold, entry_at, named_at, published_at}
 
 use ps_base::Memory;
 use ps_names::{element, put_pair};
-use ps_spaces::DISCO_ITEMS;
+use ps_namespaces::DISCO_ITEMS;
 use ps_types::{Attrs, Child, Elem, ItemRow, Kids, NodeKey, Text};
 use std::alloc::Global;
 

@@ -6,7 +6,7 @@ ghost use Rattle.ps_disco.specs.Features.{entity_trees, is_offered, node_trees, 
 
 use ps_base::Memory;
 use ps_names::{element, put_pair};
-use ps_spaces::{AUTO_CREATE, DISCO_INFO, FILTERED_NOTIFICATIONS, PUBSUB};
+use ps_namespaces::{AUTO_CREATE, DISCO_INFO, FILTERED_NOTIFICATIONS, PUBSUB};
 use ps_types::{Attrs, Child, Elem, Kids, NodeKind};
 use std::alloc::Global;
 

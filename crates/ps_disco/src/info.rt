@@ -13,7 +13,7 @@ use crate::features::{entity_kids, node_kids};
 use ps_access::{Tables, is_account_address, key_of, must_stand};
 use ps_base::Memory;
 use ps_names::{element, put_pair};
-use ps_spaces::DISCO_INFO;
+use ps_namespaces::DISCO_INFO;
 use ps_types::{Attrs, Elem, Kids, NodeKey, Plan, PlanRefusal, Request, Text};
 use std::alloc::Global;
 

@@ -15,7 +15,7 @@ use crate::held::held_entries;
 use crate::info::query;
 use ps_access::{Tables, allow, is_account_address, key_of, must_stand, verdict_read};
 use ps_base::Memory;
-use ps_spaces::DISCO_ITEMS;
+use ps_namespaces::DISCO_ITEMS;
 use ps_types::{Elem, Jid, Kids, NodeKey, NodeKind, Plan, PlanRefusal, Request, Text, Verdict};
 use std::alloc::Global;
 

@@ -7,7 +7,7 @@ ghost use Rattle.ps_drafts.specs.Parts as parts;
 
 use ps_base::Memory;
 use ps_names::{element, only, put};
-use ps_spaces::{CLIENT, HEADERS};
+use ps_namespaces::{CLIENT, HEADERS};
 use ps_types::{Attrs, Child, Elem, Kids, NoticeKind, Text};
 use std::alloc::Global;
 

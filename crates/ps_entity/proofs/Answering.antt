@@ -19,8 +19,8 @@ use Rattle.ps_model.specs.ChangeRouter.{answer_by, answer_change, with_features}
 use Rattle.ps_model.specs.SameRows.{same_resources, same_vers}
 use Rattle.ps_model.proofs.Differs.{all-same, same-change, found-kept}
 use Rattle.ps_base.specs.Rows.{change_row}
-use Rattle.ps_told.specs.declared.answers.Answered.{Answered}
-use Rattle.ps_told.specs.Answers.{answer_taken}
+use Rattle.ps_request_parts.specs.declared.answers.Answered.{Answered}
+use Rattle.ps_request_parts.specs.Answers.{answer_taken}
 use Rattle.ps_entity.specs.Answers.{knows_other, tells_anew}
 use Rattle.ps_entity.proofs.Contacts.{texts_itself}
 use Rattle.ps_entity.proofs.Resources.{same_resource-itself, same_features}

@@ -8,7 +8,7 @@ use Rattle.ps_types.specs.declared.rows.VerRow.{VerRow}
 use Rattle.ps_types.specs.Vers.{ver_at}
 use Rattle.ps_model.specs.Book.{Book}
 use Rattle.ps_model.specs.SameRows.{same_resources, same_vers}
-use Rattle.ps_told.specs.declared.answers.Answered.{Answered}
+use Rattle.ps_request_parts.specs.declared.answers.Answered.{Answered}
 
 -- features that the resource doesn't have so far, or a string that isn't verified so far
 abbrev pub tells_anew : Option Answered → Caps → ResourceRow → List VerRow → Bool

@@ -5,7 +5,7 @@ ghost use Rattle.ps_types.specs.Tree.{tree, branch, none};
 
 use ps_base::Memory;
 use ps_names::{element, only};
-use ps_spaces::PUBSUB;
+use ps_namespaces::PUBSUB;
 use ps_types::{Attrs, Elem};
 use std::alloc::Global;
 

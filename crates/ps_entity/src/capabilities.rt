@@ -15,7 +15,7 @@ ghost use Rattle.ps_entity.specs.Answers.{knows_other};
 use ps_access::Tables;
 use ps_base::Memory;
 use ps_presence::Cache;
-use ps_told::{Answered, usable_answer};
+use ps_request_parts::{Answered, usable_answer};
 use ps_types::{Caps, Elem, Jid, Plan, PlanRefusal, Request, ResourceRow, Text, Texts};
 use std::alloc::Global;
 

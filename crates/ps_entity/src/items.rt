@@ -20,7 +20,7 @@ use ps_access::{Tables, about, allow, key_of, must_be_leaf, must_stand, pass_if,
 use ps_base::Memory;
 use ps_items::Items;
 use ps_names::{element, only, put_pair};
-use ps_spaces::PUBSUB;
+use ps_namespaces::PUBSUB;
 use ps_types::{
     Attrs, Child, Condition, Elem, ItemRow, Kids, NodeKey, Plan, PlanRefusal, Request, Text, Texts,
 };

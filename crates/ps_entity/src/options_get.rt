@@ -16,7 +16,7 @@ use ps_base::Memory;
 use ps_config::options_form;
 use ps_forms::form_tree;
 use ps_names::{element, only, put_pair};
-use ps_spaces::PUBSUB;
+use ps_namespaces::PUBSUB;
 use ps_types::{Attrs, Condition, Elem, Jid, NodeKey, Plan, PlanRefusal, Request, Text};
 use std::alloc::Global;
 

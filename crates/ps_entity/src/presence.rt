@@ -6,7 +6,7 @@ ghost use Rattle.ps_access.specs.Tables.{book_of};
 ghost use Rattle.ps_entity.specs.Resources.{is_resource};
 
 use ps_access::Tables;
-use ps_told::features_known;
+use ps_request_parts::features_known;
 use ps_types::{Caps, Jid, Plan, Request, ResourceRow, Text};
 
 fn is_resource(row: &ResourceRow, caps: &Option<Caps>, features: &[Text]) -> bool

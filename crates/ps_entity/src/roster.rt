@@ -13,11 +13,11 @@ ghost use Rattle.ps_model.specs.Stanza.{host_jid};
 ghost use Rattle.ps_model.specs.Steps.{first_denial};
 ghost use Rattle.ps_access.specs.Plans.{Agrees, Passes};
 ghost use Rattle.ps_access.specs.Tables.{book_of};
-ghost use Rattle.ps_told.specs.Told.{told_in};
+ghost use Rattle.ps_request_parts.specs.Told.{told_in};
 ghost use Rattle.ps_entity.specs.Contacts.{is_contact};
 
 use ps_access::{Tables, is_account_of, pass_if};
-use ps_told::{Told, told_by};
+use ps_request_parts::{Told, told_by};
 use ps_types::{
     AskContact, Condition, Jid, Plan, PlanRefusal, Request, RosterRow, RosterState, Texts,
 };

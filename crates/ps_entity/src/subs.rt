@@ -14,7 +14,7 @@ use crate::mine::{check_mine, is_asked};
 use ps_access::{Tables, about, sub_text};
 use ps_base::Memory;
 use ps_names::{element, put_pair};
-use ps_spaces::PUBSUB;
+use ps_namespaces::PUBSUB;
 use ps_types::{Attrs, Child, Elem, Jid, Kids, Plan, PlanRefusal, Request, SubRow, SubState, Text};
 use std::alloc::Global;
 

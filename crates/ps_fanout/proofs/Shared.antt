@@ -17,7 +17,7 @@ use Rattle.ps_coll.proofs.links.Links.TheSendSync as links
 use Rattle.ps_roster.proofs.roster.Roster.TheSendSync as roster
 use Rattle.ps_presence.proofs.presence.Presence.TheSendSync as presence
 use Rattle.ps_presence.proofs.cache.Cache.TheSendSync as cache
-use Rattle.ps_counts.proofs.counts.Counts.TheSendSync as counts
+use Rattle.ps_item_ids.proofs.counts.Counts.TheSendSync as counts
 
 pub elem : IsSync Elem.the_row
 elem = search (tree.crosses, std.crosses, text.the_sync, sendable) depth 60 fits 20000

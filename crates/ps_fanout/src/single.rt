@@ -11,7 +11,7 @@ use ps_base::Memory;
 use ps_drafts::Draft;
 use ps_forms::form_tree;
 use ps_names::{element, only, put};
-use ps_spaces::{CLIENT, DISCO_INFO, PUBSUB, SUBSCRIBE_AUTHORIZATION};
+use ps_namespaces::{CLIENT, DISCO_INFO, PUBSUB, SUBSCRIBE_AUTHORIZATION};
 use ps_types::{
     Attrs, Caps, Elem, Field, Fields, Form, FormKind, Jid, Kids, NodeKey, NoticeKind, SubState,
     Text, Texts,

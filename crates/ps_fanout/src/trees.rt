@@ -9,7 +9,7 @@ ghost use Rattle.ps_fanout.specs.Trees as trees;
 use crate::moments::stamp;
 use ps_base::Memory;
 use ps_names::{element, only, put};
-use ps_spaces::{DELAY, PUBSUB_EVENT};
+use ps_namespaces::{DELAY, PUBSUB_EVENT};
 use ps_types::{Attrs, Child, Elem, ItemRow, Jid, Kids, NodeConfig, NodeKey, NoticeKind, Text};
 use std::alloc::Global;
 

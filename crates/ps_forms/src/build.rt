@@ -6,7 +6,7 @@ ghost use Rattle.ps_types.specs.Shape.{attr_pair, worded};
 ghost use Rattle.ps_types.specs.Tree.{tree};
 
 use ps_base::Memory;
-use ps_spaces::DATA_FORMS;
+use ps_namespaces::DATA_FORMS;
 use ps_types::{Attrs, Child, Elem, Kids, Text};
 use std::alloc::Global;
 

@@ -6,7 +6,7 @@ ghost use Rattle.ps_forms.specs.Vars.{HaveVars};
 
 use crate::kids::{attr, has_name, next_child, texts_of};
 use ps_base::Memory;
-use ps_spaces::DATA_FORMS;
+use ps_namespaces::DATA_FORMS;
 use ps_types::{Elem, Field, Fields, Form, FormKind, Text};
 use std::alloc::Global;
 use thiserror::Error;

@@ -8,7 +8,7 @@ ghost use Rattle.ps_gen.specs.Dealt as dealt;
 use crate::kind::Kind;
 use ps_base::Memory;
 use ps_names::{element, only, put_pair};
-use ps_spaces::{CLIENT, PUBSUB, PUBSUB_OWNER};
+use ps_namespaces::{CLIENT, PUBSUB, PUBSUB_OWNER};
 use ps_types::{Attrs, Child, Elem, Kids, Text};
 use std::alloc::Global;
 

@@ -5,7 +5,7 @@
 //! to the Book), `commits` (whether it makes an entry), `reply_to` and `entry_of` (what a line comes to), `after` and `replay` (what entries leave),
 //! `notices` (who is told), and `world` (the machine of steps).
 //!
-//! Each function here has an empty body: its contract is a law. Worked cases are computed on the definitions in `ps_cases`.
+//! Each function here has an empty body: its contract is a law. Worked cases are computed on the definitions in `ps_model_cases`.
 #![tactic(auto)]
 
 mod access_laws;

@@ -14,7 +14,7 @@ ghost use Rattle.ps_names.specs.Heads.{stanza_head, kind_of};
 use crate::build::{element, only, put, put_pair};
 use crate::conditions::words_of;
 use ps_base::Memory;
-use ps_spaces::{CLIENT, LINE, PUBSUB_ERRORS, STANZA_ERRORS};
+use ps_namespaces::{CLIENT, LINE, PUBSUB_ERRORS, STANZA_ERRORS};
 use ps_types::{Attrs, Child, Condition, Elem, Jid, Kids, LineRefusal, Text};
 use std::alloc::Global;
 

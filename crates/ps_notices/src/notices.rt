@@ -13,7 +13,7 @@ use crate::told::all_told;
 use ps_access::Tables;
 use ps_base::Memory;
 use ps_filter::Wants;
-use ps_tallies::Tallies;
+use ps_notice_numbers::Tallies;
 use ps_types::{Event, Notice};
 use std::alloc::Global;
 use std::thread::Threads;

@@ -6,7 +6,7 @@ ghost use Rattle.ps_notices.specs.Due.{AreFew};
 
 use ps_base::Memory;
 use ps_drafts::Draft;
-use ps_tallies::Tallies;
+use ps_notice_numbers::Tallies;
 use ps_types::{Jid, Notice};
 use std::alloc::Global;
 

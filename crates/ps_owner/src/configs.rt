@@ -18,7 +18,7 @@ use ps_base::Memory;
 use ps_config::config_form;
 use ps_forms::form_tree;
 use ps_names::only;
-use ps_spaces::PUBSUB_OWNER;
+use ps_namespaces::PUBSUB_OWNER;
 use ps_types::{Elem, Kids, NodeConfig, NodeKey, Plan, PlanRefusal, Request, Text};
 use std::alloc::Global;
 

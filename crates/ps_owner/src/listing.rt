@@ -16,7 +16,7 @@ use ps_access::{
 };
 use ps_base::Memory;
 use ps_names::{element, put_pair};
-use ps_spaces::PUBSUB_OWNER;
+use ps_namespaces::PUBSUB_OWNER;
 use ps_types::{
     Affil, AffilRow, Attrs, Child, Elem, Jid, Kids, NodeKey, Plan, PlanRefusal, Request, SubRow,
     Text,

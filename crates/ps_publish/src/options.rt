@@ -6,7 +6,7 @@ ghost use Rattle.ps_model.specs.SameRows.{same_config};
 ghost use Rattle.ps_access.specs.Plans.{Passes};
 
 use ps_access::{is_collection, is_unmoved, pass_if};
-use ps_told::tree_options;
+use ps_request_parts::tree_options;
 use ps_types::{Condition, Elem, NodeConfig, PlanRefusal};
 use std::alloc::Global;
 

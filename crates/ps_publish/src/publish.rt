@@ -18,7 +18,7 @@ use ps_access::{
     must_have_room, pass_if, verdict_publish,
 };
 use ps_config::default_config;
-use ps_told::options_config;
+use ps_request_parts::options_config;
 use ps_types::{AskItem, Condition, Elem, NodeConfig, PlanRefusal, Request, Text};
 use std::alloc::Global;
 

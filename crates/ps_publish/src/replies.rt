@@ -9,7 +9,7 @@ ghost use Rattle.ps_access.specs.Tables.{book_of};
 use ps_access::{Tables, about, item_id, key_of};
 use ps_base::Memory;
 use ps_names::{element, only, put_pair};
-use ps_spaces::PUBSUB;
+use ps_namespaces::PUBSUB;
 use ps_types::{AskItem, Attrs, Elem, Jid, Kids, NodeKey, Request, Text};
 use std::alloc::Global;
 

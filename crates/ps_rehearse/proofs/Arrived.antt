@@ -11,11 +11,11 @@ use Rattle.ps_types.specs.declared.entry.Arrival.{Arrival}
 use Rattle.ps_types.specs.declared.entry.Arrival.TheVariants.{Line, TooLong}
 use Rattle.ps_types.proofs.Lines.{lines_of_written}
 use Rattle.ps_model.proofs.OneLine.{print-line}
-use Rattle.ps_outside.specs.Clock.{noted}
+use Rattle.ps_io.specs.Clock.{noted}
 use Rattle.ps_workers.specs.Reading.{AreLinesOf, CameOf, HaveMoments, IsEnd, Lined, WasAsked, all_noted, brings_all, told_moment}
 use Rattle.ps_workers.specs.ReadEnd.{ReadEnd}
 use Rattle.ps_workers.specs.ReadEnd.TheVariants.{Ended}
-use Rattle.ps_dealt.specs.Dealing.{IsShort}
+use Rattle.ps_rehearse_lines.specs.Dealing.{IsShort}
 use Rattle.ps_rehearse.specs.Rehearsed.{arrival_of}
 use Rattle.ps_rehearse.specs.Still.{zeros}
 use Rattle.ps_rehearse.proofs.Clocks.{zeros-length}

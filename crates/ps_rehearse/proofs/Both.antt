@@ -10,20 +10,20 @@ use Rattle.ps_types.specs.declared.entry.Entry.TheVariants.{Boot}
 use Rattle.ps_disk.specs.declared.device.Disk.{Ghosts}
 use Rattle.ps_model.specs.TheCore.{the_core}
 use Rattle.ps_model.specs.World.{World}
-use Rattle.ps_deeds.specs.Lines.{Came, HasLines}
-use Rattle.ps_deeds.specs.Over.{IsComplete}
-use Rattle.ps_deeds.specs.Words.{Word, bytes_of, text_of}
+use Rattle.ps_trace.specs.Lines.{Came, HasLines}
+use Rattle.ps_trace.specs.Over.{IsComplete}
+use Rattle.ps_trace.specs.Words.{Word, bytes_of, text_of}
 use Rattle.ps_workers.specs.Origin.{Origin}
 use Rattle.ps_workers.specs.EndCause.TheVariants.{Finished, WriteFault, Store as WriterStore}
 use Rattle.ps_workers.specs.Speaking.{Written}
 use Rattle.ps_workers.specs.ReadEnd.TheVariants.{Ended as ReadAll, Store as ReaderStore}
 use Rattle.ps_workers.specs.Limits.{Limits}
 use Rattle.ps_workers.specs.State.{State}
-use Rattle.ps_store.specs.declared.store.Store.{Store}
+use Rattle.ps_hall_store.specs.declared.store.Store.{Store}
 use Rattle.ps_workers.specs.Headline.{IsAllSaid, NoneBroke, Serves, ServesStream, Worked, base_of}
-use Rattle.ps_dealt.specs.Counted.{how_many, is_error, is_notice, is_result}
-use Rattle.ps_dealt.specs.Dealing.{IsShort, dealt, lines_of}
-use Rattle.ps_dealt.proofs.Places.{dealt-length}
+use Rattle.ps_rehearse_lines.specs.Counted.{how_many, is_error, is_notice, is_result}
+use Rattle.ps_rehearse_lines.specs.Dealing.{IsShort, dealt, lines_of}
+use Rattle.ps_rehearse_lines.proofs.Places.{dealt-length}
 use Rattle.ps_rehearse.specs.Entries.{AreMade, HasMade, changes_in, first_host, handed_in, second_host, the_hosts, the_service}
 use Rattle.ps_rehearse.specs.Rehearsed.{HasServed, Rehearsed, Stream, errors_in, notices_in, results_in, the_base}
 use Rattle.ps_rehearse.specs.Running.{the_limits}

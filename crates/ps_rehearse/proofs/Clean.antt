@@ -5,8 +5,8 @@ use Rattle.std.specs.List.{AllByRecursion}
 use Rattle.std.proofs.lemmas.List.Elements.{All-nil, All-cons}
 use Rattle.ps_types.specs.Lines.{NoNewline, joined, whole_lines}
 use Rattle.ps_types.proofs.Lines.{written_one}
-use Rattle.ps_deeds.specs.Words.{Word, bytes_of, text_of}
-use Rattle.ps_said.specs.Laws.{IsOneLine}
+use Rattle.ps_trace.specs.Words.{Word, bytes_of, text_of}
+use Rattle.ps_sink_laws.specs.Laws.{IsOneLine}
 
 bytes-joined : (ws : List Word) → bytes_of ws ≡ joined (map text_of ws)
 bytes-joined [] = refl

@@ -2,7 +2,7 @@
 use Rattle.std.proofs.Common.{◌≡◌, ℕ, zero, suc, ◌+◌, ◌-◌, ◌^◌, ◌≤◌, Bool, true, false, List, [], ◌∷◌, ◌++◌, length, refl, ap, arith, length-append}
 use Rattle.std.specs.Prelude.{min, nat_lt, Option, Some, if◌then◌else◌}
 use Rattle.std.proofs.lemmas.Bool.Decides.{nat_tests}
-use Rattle.ps_outside.specs.Clock.{noted}
+use Rattle.ps_io.specs.Clock.{noted}
 use Rattle.ps_rehearse.specs.Still.{zeros}
 
 pub zeros-length : (n : ℕ) → length (zeros n) ≡ n

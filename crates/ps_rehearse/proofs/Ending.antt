@@ -5,9 +5,9 @@ use Rattle.ps_types.specs.Tree.{Tree}
 use Rattle.ps_types.specs.declared.entry.Entry.{Entry}
 use Rattle.ps_disk.specs.declared.device.Disk.{Ghosts}
 use Rattle.ps_model.specs.Store.{spelled}
-use Rattle.ps_outside.specs.Held.{Held, HeldClock}
-use Rattle.ps_ports.specs.declared.port.Port.{Port}
-use Rattle.ps_store.specs.Stand.{broken_in, disk_in}
+use Rattle.ps_io.specs.Held.{Held, HeldClock}
+use Rattle.ps_endpoints.specs.declared.port.Port.{Port}
+use Rattle.ps_hall_store.specs.Stand.{broken_in, disk_in}
 use Rattle.ps_wire.specs.Reading.{IsFresh, source_of}
 use Rattle.ps_wire.specs.declared.lines.Lines.{Lines}
 use Rattle.ps_wire.specs.declared.memory.MemSink.{MemSink}
@@ -17,9 +17,9 @@ use Rattle.ps_workers.specs.Headline.{Serves, Worked}
 use Rattle.ps_workers.specs.Teams.{worked_of, worked_one}
 use Rattle.ps_workers.specs.Working.{clocks, sinks}
 use Rattle.ps_workers.specs.declared.serving.Ended.{Ended}
-use Rattle.ps_dealt.specs.Dealing.{AreDealt, dealt, lines_of}
-use Rattle.ps_dealt.specs.declared.counting.Counts.{Counts}
-use Rattle.ps_dealt.specs.declared.dealing.Dealt.{Dealt}
+use Rattle.ps_rehearse_lines.specs.Dealing.{AreDealt, dealt, lines_of}
+use Rattle.ps_rehearse_lines.specs.declared.counting.Counts.{Counts}
+use Rattle.ps_rehearse_lines.specs.declared.dealing.Dealt.{Dealt}
 use Rattle.ps_rehearse.specs.Entries.{HasMade, the_hosts, the_service}
 use Rattle.ps_rehearse.specs.Rehearsed.{Rehearsed}
 use Rattle.ps_rehearse.specs.Running.{RanEmpty}

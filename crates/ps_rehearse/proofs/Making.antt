@@ -11,7 +11,7 @@ use Rattle.ps_journal.specs.Opened.{IsOpened}
 use Rattle.ps_journal.specs.Places.{entries_in}
 use Rattle.ps_journal.specs.declared.judging.Placed.{Placed}
 use Rattle.ps_journal.proofs.Opens.{found_spells}
-use Rattle.ps_dealt.specs.Counted.{one_if}
+use Rattle.ps_rehearse_lines.specs.Counted.{one_if}
 use Rattle.ps_rehearse.specs.Entries.{AreMade, HasMade, changes_in, handed_in, is_change, is_handed, is_made}
 use Rattle.ps_rehearse.specs.declared.entries.Made.{Made}
 

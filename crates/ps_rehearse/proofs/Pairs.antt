@@ -3,7 +3,7 @@ use Rattle.std.proofs.Common.{◌≡◌, ℕ, ◌+◌, ◌<◌, ◌≤◌, suc, 
 use Rattle.ps_types.specs.Lines.{whole_lines}
 use Rattle.ps_types.specs.Tree.{Tree}
 use Rattle.std.specs.Prelude.{Bool}
-use Rattle.ps_dealt.specs.Counted.{how_many}
+use Rattle.ps_rehearse_lines.specs.Counted.{how_many}
 
 pub are-two : {X : Type 0} (xs : List X) (a b : X) → 2 ≤ length xs → length xs < 3 → a ≡ get_or xs 0 a → b ≡ get_or xs 1 b → xs ≡ a ∷ b ∷ []
 are-two [] a b least most first second = absurd (omega (arith, least))

@@ -33,9 +33,9 @@ use Rattle.ps_model.specs.Taken.{Taken, silent, refused, denied, asked}
 use Rattle.ps_model.specs.Taking.{ask_taken, head_of, is_white, result_taken, sender_taken, shape_taken, taken, target_taken}
 use Rattle.ps_model.specs.TheCore.{the_core}
 use Rattle.ps_model.proofs.LineLaws.{reads-line}
-use Rattle.ps_deeds.specs.Lines.{Came}
+use Rattle.ps_trace.specs.Lines.{Came}
 use Rattle.ps_workers.specs.Told.{AreFull, PassesLimit}
-use Rattle.ps_dealt.specs.Dealing.{IsShort}
+use Rattle.ps_rehearse_lines.specs.Dealing.{IsShort}
 use Rattle.ps_rehearse.specs.Rehearsed.{arrival_of}
 
 -- ---- what is asked is asked by the line's tree

@@ -4,7 +4,7 @@ use Rattle.std.specs.List.{AllByRecursion}
 use Rattle.std.specs.Str.{bytes_eq}
 use Rattle.ps_types.specs.declared.entry.Entry.{Entry}
 use Rattle.ps_types.specs.declared.entry.Entry.TheVariants.{Boot, Change, Handed, Gone, Base}
-use Rattle.ps_dealt.specs.Counted.{one_if}
+use Rattle.ps_rehearse_lines.specs.Counted.{one_if}
 use Rattle.ps_rehearse.specs.declared.entries.Made.{Made}
 
 abbrev pub the_service : List ℕ

@@ -10,12 +10,12 @@ use Rattle.ps_types.specs.declared.entry.Entry.TheVariants.{Boot}
 use Rattle.ps_model.specs.CoreLaws.{IsLawful}
 use Rattle.ps_model.specs.TheCore.{the_core}
 use Rattle.ps_model.specs.World.{World}
-use Rattle.ps_deeds.specs.Lines.{Came, HasLines}
-use Rattle.ps_deeds.specs.Over.{IsComplete}
-use Rattle.ps_deeds.specs.Words.{Word, text_of}
+use Rattle.ps_trace.specs.Lines.{Came, HasLines}
+use Rattle.ps_trace.specs.Over.{IsComplete}
+use Rattle.ps_trace.specs.Words.{Word, text_of}
 use Rattle.ps_workers.specs.Told.{AreOurs}
-use Rattle.ps_dealt.specs.Counted.{how_many, is_error, is_notice, is_result}
-use Rattle.ps_dealt.specs.Dealing.{dealt}
+use Rattle.ps_rehearse_lines.specs.Counted.{how_many, is_error, is_notice, is_result}
+use Rattle.ps_rehearse_lines.specs.Dealing.{dealt}
 use Rattle.ps_rehearse.specs.Entries.{AreMade, changes_in, first_host, handed_in, second_host, the_service}
 use Rattle.ps_rehearse.specs.declared.numbers.Numbers.{Numbers}
 

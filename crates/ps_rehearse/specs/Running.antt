@@ -1,11 +1,11 @@
 -- What a run over an empty store leaves.
 use Rattle.std.specs.Prelude.{◌≡◌, ℕ, List, [], length}
 use Rattle.ps_disk.specs.declared.device.Disk.{Ghosts as DiskGhosts}
-use Rattle.ps_ports.specs.declared.port.Port.{Port}
+use Rattle.ps_endpoints.specs.declared.port.Port.{Port}
 use Rattle.ps_workers.specs.Origin.{Origin}
 use Rattle.ps_workers.specs.Limits.{Limits}
-use Rattle.ps_store.specs.Stand.{OpenedAt, disk_in, length_in}
-use Rattle.ps_store.specs.declared.store.Store.{Store}
+use Rattle.ps_hall_store.specs.Stand.{OpenedAt, disk_in, length_in}
+use Rattle.ps_hall_store.specs.declared.store.Store.{Store}
 use Rattle.ps_workers.specs.Headline.{Serves, Worked}
 use Rattle.ps_workers.specs.declared.serving.Ended.{Ended}
 use Rattle.ps_rehearse.specs.declared.running.Ran.{Ran}

@@ -2,7 +2,7 @@
 use Rattle.std.specs.Prelude.{◌≡◌, ℕ, ◌+◌, ◌∷◌, [], Bool, List}
 use Rattle.ps_types.specs.Lines.{whole_lines}
 use Rattle.ps_types.specs.Tree.{Tree}
-use Rattle.ps_ports.specs.declared.port.Port.{Port}
+use Rattle.ps_endpoints.specs.declared.port.Port.{Port}
 use Rattle.ps_workers.specs.EndCause.TheVariants.{Finished}
 use Rattle.ps_workers.specs.ReadEnd.TheVariants.{Ended as ReadAll}
 use Rattle.ps_wire.specs.Reading.{IsFresh, source_of}
@@ -11,8 +11,8 @@ use Rattle.ps_wire.specs.declared.memory.MemSink.{MemSink}
 use Rattle.ps_wire.specs.declared.memory.MemSource.{MemSource}
 use Rattle.ps_wire.specs.declared.streams.Source.{Ghosts as SourceGhosts}
 use Rattle.ps_workers.specs.declared.serving.Ended.{Ended}
-use Rattle.ps_dealt.specs.Counted.{how_many, is_error, is_notice, is_result}
-use Rattle.ps_dealt.specs.declared.counting.Counts.{Counts}
+use Rattle.ps_rehearse_lines.specs.Counted.{how_many, is_error, is_notice, is_result}
+use Rattle.ps_rehearse_lines.specs.declared.counting.Counts.{Counts}
 use Rattle.ps_rehearse.specs.declared.clock.StillClock.{StillClock}
 
 -- ---- before

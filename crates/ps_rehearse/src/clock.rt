@@ -1,11 +1,11 @@
 // A clock that stands still.
 ghost use Rattle.std.specs.Prelude.{◌≡◌, IfOk, IsOk, Some};
 ghost use Rattle.ps_base.specs.Causes.{HasCause};
-ghost use Rattle.ps_outside.specs.Clock.{Tells};
+ghost use Rattle.ps_io.specs.Clock.{Tells};
 ghost use Rattle.ps_rehearse.specs.Still.{zeros};
 
 use ps_base::Failed;
-use ps_outside::Clock;
+use ps_io::Clock;
 
 /// A clock that always answers 0 and never fails, and that tells how often it was asked.
 #[derive(Debug, Drop)]

@@ -3,7 +3,7 @@ ghost use Rattle.std.specs.Prelude.{◌≡◌, ◌≤◌, List, IfOk};
 ghost use Rattle.ps_journal.specs.Places.{entries_in};
 ghost use Rattle.ps_model.specs.Store.{spelled};
 ghost use Rattle.ps_types.specs.declared.entry.Entry.{Entry};
-ghost use Rattle.ps_dealt.specs.Counted.{one_if as one_if_by};
+ghost use Rattle.ps_rehearse_lines.specs.Counted.{one_if as one_if_by};
 ghost use Rattle.ps_rehearse.specs.Entries.{AreMade, HasMade, changes_in, handed_in};
 ghost use Rattle.ps_rehearse.specs.Entries.{is_change as is_change_by, is_handed as is_handed_by};
 ghost use Rattle.ps_rehearse.specs.Entries.{is_made as is_made_by, is_ours as is_ours_by};

@@ -1,7 +1,7 @@
 //! A rehearsal: stanzas that a seed gives are served on two streams in memory, by the workers of a real run, and counted.
 //!
-//! [`rehearse`] deals the stanzas of `ps_gen` to `a.example` and `b.example` (`ps_dealt`), serves both streams over an empty store in memory (`ps_opening`,
-//! `ps_shared`, `ps_workers`), and answers the [`Numbers`] of what came of it. Nothing outside is touched.
+//! [`rehearse`] deals the stanzas of `ps_gen` to `a.example` and `b.example` (`ps_rehearse_lines`), serves both streams over an empty store in memory (`ps_hall_open`,
+//! `ps_hall`, `ps_workers`), and answers the [`Numbers`] of what came of it. Nothing outside is touched.
 //!
 //! It promises (`specs/Rehearsed.antt`, `Rehearsed`) that there was such a run to its end: one lawful list of entries, which begins with a Boot and goes on with
 //! what the two hosts made (`AreMade`), in which each stanza was answered at its place, and none found the store full; on each stream all was said that is owed

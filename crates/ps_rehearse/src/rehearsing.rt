@@ -1,6 +1,6 @@
 // A rehearsal, and its numbers.
 ghost use Rattle.std.specs.Prelude.{◌≡◌, ◌+◌, ◌≤◌, ◌^◌, None, true, false, IfOk};
-ghost use Rattle.ps_store.specs.Stand.{broken_in};
+ghost use Rattle.ps_hall_store.specs.Stand.{broken_in};
 ghost use Rattle.ps_rehearse.specs.Rehearsed.{Rehearsed};
 ghost use Rattle.ps_rehearse.specs.Streams.{AreDone, IsDone};
 
@@ -9,9 +9,9 @@ use crate::numbers::Numbers;
 use crate::running::{Ran, serve_empty};
 use crate::streams::{hosts, ports};
 use ps_base::Memory;
-use ps_dealt::{Counts, count_lines, deal};
 use ps_disk::{Disk, MemDisk};
-use ps_store::Store;
+use ps_hall_store::Store;
+use ps_rehearse_lines::{Counts, count_lines, deal};
 use ps_types::Text;
 use ps_wire::MemSink;
 use ps_workers::{EndCause, Ended, ReadEnd, State};

@@ -1,9 +1,9 @@
 // Streams over an empty store.
 ghost use Rattle.std.specs.Prelude.{◌≡◌, ◌≢◌, ◌≤◌, [], IfOk, length};
 ghost use Rattle.std.specs.List.{All};
-ghost use Rattle.ps_deeds.specs.Own.{AllDiffer};
+ghost use Rattle.ps_trace.specs.Own.{AllDiffer};
 ghost use Rattle.ps_model.specs.Entries.{IsHostName};
-ghost use Rattle.ps_opening.specs.Fresh.{AreHosts};
+ghost use Rattle.ps_hall_open.specs.Fresh.{AreHosts};
 ghost use Rattle.ps_workers.specs.Start.{MayStart};
 ghost use Rattle.ps_wire.specs.Reading.{IsFresh};
 ghost use Rattle.ps_workers.specs.Teams.{worked_of};
@@ -12,11 +12,11 @@ ghost use Rattle.ps_rehearse.specs.Running.{HasRun, IsEmpty, RanEmpty};
 
 use ps_base::Memory;
 use ps_disk::Disk;
+use ps_endpoints::Port;
+use ps_hall_open::{OpenRefusal, Opened, open};
+use ps_hall_store::Store;
+use ps_io::Clock;
 use ps_journal::Placed;
-use ps_opening::{OpenRefusal, Opened, open};
-use ps_outside::Clock;
-use ps_ports::Port;
-use ps_store::Store;
 use ps_types::Text;
 use ps_wire::{Lines, Sink, Source};
 use ps_workers::{Ended, Hall, Limits, NoHall, Opening, Room, State, serve};

@@ -6,8 +6,8 @@ ghost use Rattle.ps_rehearse.specs.Streams.{ArePorts, IsPort};
 
 use crate::clock::StillClock;
 use ps_base::Memory;
-use ps_dealt::Dealt;
-use ps_ports::Port;
+use ps_endpoints::Port;
+use ps_rehearse_lines::Dealt;
 use ps_types::Text;
 use ps_wire::{Lines, LinesRefusal, MemSink, MemSource};
 use std::alloc::Global;

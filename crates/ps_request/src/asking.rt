@@ -24,7 +24,7 @@ use crate::publish::{create, publish, retract};
 use crate::router::{answer, presence, roster_set};
 use crate::stanza::{is_asking, is_iq, is_message};
 use ps_forms::has_name;
-use ps_spaces::{
+use ps_namespaces::{
     DATA_FORMS, DISCO_INFO, DISCO_ITEMS, PUBSUB, PUBSUB_OWNER, ROSTER, SUBSCRIBE_AUTHORIZATION,
 };
 use ps_types::{Ask, Child, Condition, Elem, Form, FormKind, Jid, PlanRefusal, Text};

@@ -5,7 +5,7 @@ ghost use Rattle.ps_model.specs.Asking.{message_form, value_in};
 ghost use Rattle.ps_model.specs.Taking.{is_cancelled};
 
 use ps_forms::{FormRefusal, attr, form_type, get, has_name, read_form};
-use ps_spaces::DATA_FORMS;
+use ps_namespaces::DATA_FORMS;
 use ps_types::{Elem, Form, FormKind, Memory, Text};
 use std::alloc::Global;
 

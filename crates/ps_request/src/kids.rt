@@ -8,7 +8,7 @@ ghost use Rattle.ps_request.specs.Answer.{AreRows};
 
 use crate::parts::{form_of_part, id_of, jid_at};
 use ps_forms::{attr, next_child};
-use ps_spaces::{PUBSUB, PUBSUB_OWNER};
+use ps_namespaces::{PUBSUB, PUBSUB_OWNER};
 use ps_types::{
     AskItem, AskItems, AskRow, AskRows, Child, Condition, Elem, Listed, Memory, PlanRefusal, Text,
     Texts,

@@ -9,7 +9,7 @@ ghost use Rattle.ps_model.specs.Steps.{is_short, named_step, node_step};
 ghost use Rattle.ps_request.specs.Answer.{Gives, Names};
 
 use ps_forms::{attr, has_attr, has_name};
-use ps_spaces::DATA_FORMS;
+use ps_namespaces::DATA_FORMS;
 use ps_types::{Condition, Elem, Jid, JidRefusal, Memory, PlanRefusal, Text};
 use std::alloc::{AllocError, Global};
 

@@ -10,7 +10,7 @@ ghost use Rattle.ps_request.specs.Only.{only};
 use crate::parts::{is_of_type, jid_at};
 use crate::stanza::is_host;
 use ps_forms::{attr, next_child, texts_of};
-use ps_spaces::{CAPS, DISCO_INFO, ROSTER};
+use ps_namespaces::{CAPS, DISCO_INFO, ROSTER};
 use ps_types::{Ask, AskContact, Caps, Condition, Elem, Jid, PlanRefusal, Text};
 use std::alloc::{AllocError, Global};
 

@@ -5,7 +5,7 @@ ghost use Rattle.ps_types.specs.Shape.{holding};
 ghost use Rattle.ps_request.specs.Written as written;
 
 use crate::build::{element, one, only, put_pair, two, words};
-use ps_spaces::{CAPS, PUBSUB, PUBSUB_OWNER, ROSTER};
+use ps_namespaces::{CAPS, PUBSUB, PUBSUB_OWNER, ROSTER};
 use ps_types::{AskContact, AskItem, AskRow, Attrs, Caps, Child, Elem, Kids, Memory, Text};
 use std::alloc::Global;
 

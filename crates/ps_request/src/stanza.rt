@@ -7,7 +7,7 @@ ghost use Rattle.ps_model.specs.Access.{is_account};
 use crate::kids::has_one_tree;
 use crate::parts::{address_in, is_of_type};
 use ps_forms::{attr, has_name};
-use ps_spaces::CLIENT;
+use ps_namespaces::CLIENT;
 use ps_types::{Elem, Jid, Memory, Text};
 use std::alloc::{AllocError, Global};
 

@@ -12,7 +12,9 @@ use crate::written::{
     roster, subs_set, subscribe, unsubscribe,
 };
 use ps_forms::form_tree;
-use ps_spaces::{CLIENT, DISCO_INFO, DISCO_ITEMS, PUBSUB, PUBSUB_OWNER, SUBSCRIBE_AUTHORIZATION};
+use ps_namespaces::{
+    CLIENT, DISCO_INFO, DISCO_ITEMS, PUBSUB, PUBSUB_OWNER, SUBSCRIBE_AUTHORIZATION,
+};
 use ps_types::{
     Ask, Attrs, Elem, Field, Fields, Form, FormKind, Jid, Kids, Listed, Memory, Request, Text,
     Texts,

@@ -10,7 +10,7 @@ ghost use Rattle.ps_request.specs.Written as written;
 
 use crate::build::{element, one, only, put_pair, two};
 use crate::rows::{contact_tree, id_kids, item_kids, row_kids};
-use ps_spaces::{PUBSUB, PUBSUB_OWNER, ROSTER};
+use ps_namespaces::{PUBSUB, PUBSUB_OWNER, ROSTER};
 use ps_types::{AskContact, AskItem, AskRow, Attrs, Child, Elem, Jid, Kids, Memory, Text};
 use std::alloc::Global;
 

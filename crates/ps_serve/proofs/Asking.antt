@@ -2,10 +2,10 @@
 use Rattle.std.proofs.Common.{◌≡◌, suc, List, [], ◌∷◌, ◌++◌, ◌∙◌, sym, ap, append_assoc}
 use Rattle.std.specs.Prelude.{take}
 use Rattle.std.proofs.lemmas.List.{append-nil}
-use Rattle.ps_outside.specs.World.{AskedAt}
-use Rattle.ps_outside.specs.declared.world.Opening.{Opening}
-use Rattle.ps_outside.specs.declared.world.WorldRefusal.{WorldRefusal}
-use Rattle.ps_outside.specs.declared.world.WorldRefusal.TheVariants.{Failed, Memory}
+use Rattle.ps_io.specs.World.{AskedAt}
+use Rattle.ps_io.specs.declared.world.Opening.{Opening}
+use Rattle.ps_io.specs.declared.world.WorldRefusal.{WorldRefusal}
+use Rattle.ps_io.specs.declared.world.WorldRefusal.TheVariants.{Failed, Memory}
 use Rattle.ps_serve.specs.Runs.{AsksInOrder}
 
 -- nothing yet

@@ -8,8 +8,8 @@ use Rattle.ps_workers.specs.Origin.{Origin}
 use Rattle.ps_workers.specs.EndCause.TheVariants.{Finished}
 use Rattle.ps_workers.specs.Limits.{Limits}
 use Rattle.ps_workers.specs.State.{State}
-use Rattle.ps_store.specs.Stand.{broken_in}
-use Rattle.ps_store.specs.declared.store.Store.{Store}
+use Rattle.ps_hall_store.specs.Stand.{broken_in}
+use Rattle.ps_hall_store.specs.declared.store.Store.{Store}
 use Rattle.ps_workers.specs.ReadEnd.TheVariants.{Closed}
 use Rattle.ps_workers.specs.Headline.{HasReasons, NoneBroke, Serves, Worked}
 use Rattle.ps_serve.specs.Ends.{IsServing, worst_of}

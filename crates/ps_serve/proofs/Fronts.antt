@@ -4,8 +4,8 @@ use Rattle.std.specs.Prelude.{Err, Ok, OnOk, Result, codes}
 use Rattle.std.specs.Io.KnownBytes.{Appends}
 use Rattle.std.proofs.KnownBytes.{Appends-trans}
 use Rattle.ps_base.specs.Causes.{Rose}
-use Rattle.ps_outside.specs.World.{Reports, ReportsFront}
-use Rattle.ps_outside.specs.declared.world.World.{Ghosts}
+use Rattle.ps_io.specs.World.{Reports, ReportsFront}
+use Rattle.ps_io.specs.declared.world.World.{Ghosts}
 use Rattle.ps_rehearse.specs.declared.numbers.Numbers.{Numbers}
 use Rattle.ps_serve.specs.Numbers.{OnlyTells, number_line, numbers_report}
 

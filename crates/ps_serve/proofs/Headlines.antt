@@ -10,16 +10,16 @@ use Rattle.ps_journal.specs.Opened.{HasLength, IsShortIfUnbegun}
 use Rattle.ps_model.specs.Entries.{body}
 use Rattle.ps_model.specs.Store.{Begun, gate_at, spelled}
 use Rattle.ps_model.specs.World.{World, durable, ends}
-use Rattle.ps_opening.specs.Left.{Fronts, IsOpenLeft, OpenLeaves}
-use Rattle.ps_opening.specs.Opens.{IsOpen, OpenNot}
-use Rattle.ps_opening.specs.declared.opened.OpenWhy.{OpenWhy}
-use Rattle.ps_opening.specs.declared.opened.OpenWhy.TheVariants as why
-use Rattle.ps_ports.specs.declared.port.Port.{Port}
+use Rattle.ps_hall_open.specs.Left.{Fronts, IsOpenLeft, OpenLeaves}
+use Rattle.ps_hall_open.specs.Opens.{IsOpen, OpenNot}
+use Rattle.ps_hall_open.specs.declared.opened.OpenWhy.{OpenWhy}
+use Rattle.ps_hall_open.specs.declared.opened.OpenWhy.TheVariants as why
+use Rattle.ps_endpoints.specs.declared.port.Port.{Port}
 use Rattle.ps_workers.specs.Origin.{Origin}
 use Rattle.ps_workers.specs.State.{State}
-use Rattle.ps_store.specs.Left.{IsFront}
-use Rattle.ps_store.specs.Stand.{broken_in, disk_in}
-use Rattle.ps_store.specs.declared.store.Store.{Store}
+use Rattle.ps_hall_store.specs.Left.{IsFront}
+use Rattle.ps_hall_store.specs.Stand.{broken_in, disk_in}
+use Rattle.ps_hall_store.specs.declared.store.Store.{Store}
 use Rattle.ps_world.proofs.Lists.{take-front, take-whole}
 use Rattle.ps_workers.specs.Headline.{Worked, base_of}
 use Rattle.ps_workers.specs.declared.serving.Ended.{Ended}

@@ -2,8 +2,8 @@
 use Rattle.std.proofs.Common.{◌≡◌, ◌≢◌, ◌⊎◌, inl, inr, ℕ, Bool, true, false, List, refl, sym, ◌∙◌, subst}
 use Rattle.std.specs.Str.{bytes_eq}
 use Rattle.std.proofs.lemmas.Slice.Eq.{bytes_eq-Decides}
-use Rattle.ps_outside.specs.Held.{HeldStore}
-use Rattle.ps_words.specs.declared.command.Stream.{Stream}
+use Rattle.ps_io.specs.Held.{HeldStore}
+use Rattle.ps_args.specs.declared.command.Stream.{Stream}
 use Rattle.ps_workers.specs.Headline.{Worked}
 use Rattle.ps_serve.specs.Headline.{Headline, Idle}
 use Rattle.ps_serve.specs.Outside.{IsWorkedIn, Outside, SameStreams}

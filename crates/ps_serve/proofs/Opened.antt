@@ -5,15 +5,15 @@ use Rattle.ps_types.specs.declared.entry.Entry.TheVariants.{Boot}
 use Rattle.ps_disk.specs.declared.device.Disk.{Ghosts as DiskGhosts}
 use Rattle.ps_journal.specs.Opened.{IsShortIfUnbegun}
 use Rattle.ps_model.specs.Store.{spelled}
-use Rattle.ps_opening.specs.Left.{Fronts, OpenLeaves}
-use Rattle.ps_opening.specs.Opens.{IsOpen}
-use Rattle.ps_ports.specs.declared.port.Port.{Port}
+use Rattle.ps_hall_open.specs.Left.{Fronts, OpenLeaves}
+use Rattle.ps_hall_open.specs.Opens.{IsOpen}
+use Rattle.ps_endpoints.specs.declared.port.Port.{Port}
 use Rattle.ps_workers.specs.Origin.{Origin}
 use Rattle.ps_workers.specs.Start.{MayStart}
 use Rattle.ps_workers.specs.Limits.{Limits}
 use Rattle.ps_workers.specs.State.{State}
-use Rattle.ps_store.specs.Stand.{disk_in}
-use Rattle.ps_store.specs.declared.store.Store.{Store}
+use Rattle.ps_hall_store.specs.Stand.{disk_in}
+use Rattle.ps_hall_store.specs.declared.store.Store.{Store}
 use Rattle.ps_workers.specs.Headline.{Worked}
 use Rattle.ps_workers.specs.declared.serving.Ended.{Ended}
 use Rattle.ps_serve.specs.Comes.{Comes, ComesIdle, ComesServed, Lived, Lives, NotLived}

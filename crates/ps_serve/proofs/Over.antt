@@ -3,16 +3,16 @@ use Rattle.std.proofs.Common.{◌≡◌, ℕ, zero, suc, ◌<◌, List, [], ◌�
 use Rattle.std.specs.Prelude.{get_or}
 use Rattle.std.proofs.lemmas.List.{length-map}
 use Rattle.ps_disk.specs.declared.device.Disk.{Ghosts as DiskGhosts}
-use Rattle.ps_outside.specs.declared.clock.Clock.{Ghosts as ClockGhosts}
-use Rattle.ps_outside.specs.declared.world.World.{Ghosts}
-use Rattle.ps_ports.specs.Ports.{AtEach, IsPortHeld, IsPortOpened, LeavesOthers}
-use Rattle.ps_ports.specs.declared.port.Port.{Port}
+use Rattle.ps_io.specs.declared.clock.Clock.{Ghosts as ClockGhosts}
+use Rattle.ps_io.specs.declared.world.World.{Ghosts}
+use Rattle.ps_endpoints.specs.Ports.{AtEach, IsPortHeld, IsPortOpened, LeavesOthers}
+use Rattle.ps_endpoints.specs.declared.port.Port.{Port}
 use Rattle.ps_wire.specs.Reading.{IsFresh}
 use Rattle.ps_wire.specs.declared.lines.Lines.{Lines}
 use Rattle.ps_wire.specs.declared.streams.Sink.{Ghosts as SinkGhosts}
 use Rattle.ps_wire.specs.declared.streams.Source.{Ghosts as SourceGhosts}
-use Rattle.ps_words.specs.declared.command.Stream.{Stream}
-use Rattle.ps_words.specs.Words.{hosts_of}
+use Rattle.ps_args.specs.declared.command.Stream.{Stream}
+use Rattle.ps_args.specs.Words.{hosts_of}
 use Rattle.ps_workers.specs.Headline.{Worked}
 use Rattle.ps_workers.specs.Teams.{worked_of}
 use Rattle.ps_workers.specs.declared.serving.Ended.{Ended}

@@ -3,9 +3,9 @@ use Rattle.std.proofs.Common.{◌≡◌, ◌≢◌, ◌≤◌, inl, inr, ℕ, Li
 use Rattle.std.specs.Prelude.{IfSome}
 use Rattle.ps_disk.specs.declared.device.Disk.{Ghosts as DiskGhosts}
 use Rattle.ps_compact.specs.declared.compacting.CompactOutcome.{CompactOutcome}
-use Rattle.ps_outside.specs.Held.{HeldStore, IsHeldStore, Same, SameBut, SameLeft, SameLefts, SameLeftsBut}
-use Rattle.ps_outside.specs.declared.world.World.{Ghosts}
-use Rattle.ps_ports.proofs.Back.{returned}
+use Rattle.ps_io.specs.Held.{HeldStore, IsHeldStore, Same, SameBut, SameLeft, SameLefts, SameLeftsBut}
+use Rattle.ps_io.specs.declared.world.World.{Ghosts}
+use Rattle.ps_endpoints.proofs.Back.{returned}
 use Rattle.ps_serve.specs.Compacting.{ComesOf, Compacts, CompactsOver, LeavesOtherStores, Pair, status_by}
 use Rattle.ps_serve.specs.Outside.{Outside, SameStreams, held_as, outside}
 use Rattle.ps_serve.specs.Runs.{reported_from}

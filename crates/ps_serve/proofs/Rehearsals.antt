@@ -3,9 +3,9 @@ use Rattle.std.proofs.Common.{◌≡◌, ℕ, ◌≤◌, List, [], Option, Some,
 use Rattle.std.specs.Prelude.{IfSome}
 use Rattle.std.specs.Io.KnownBytes.{Appends}
 use Rattle.ps_base.specs.Causes.{Rose}
-use Rattle.ps_outside.specs.World.{ReportsFront}
-use Rattle.ps_words.specs.declared.command.Command.{Command}
-use Rattle.ps_words.specs.declared.command.Command.TheVariants.{Serve, Rehearse, Compact}
+use Rattle.ps_io.specs.World.{ReportsFront}
+use Rattle.ps_args.specs.declared.command.Command.{Command}
+use Rattle.ps_args.specs.declared.command.Command.TheVariants.{Serve, Rehearse, Compact}
 use Rattle.ps_rehearse.specs.declared.numbers.Numbers.{Numbers}
 use Rattle.ps_serve.specs.Came.{IsCame, IsTold}
 use Rattle.ps_serve.specs.Compacting.{compacted_by}

@@ -2,11 +2,11 @@
 use Rattle.std.proofs.Common.{◌≡◌, inl, inr, ℕ, List, Option, Some, None, refl, sym, ◌∙◌, ap, subst}
 use Rattle.std.specs.Prelude.{IfSome}
 use Rattle.ps_disk.specs.declared.device.Disk.{Ghosts as DiskGhosts}
-use Rattle.ps_outside.specs.Held.{IsHeldStore, Same, SameBut, SameLeft, SameLefts, SameLeftsBut}
-use Rattle.ps_outside.specs.declared.world.World.{Ghosts}
-use Rattle.ps_ports.proofs.Back.{returned}
-use Rattle.ps_words.specs.declared.command.Command.{Command}
-use Rattle.ps_words.specs.declared.command.Command.TheVariants.{Serve, Rehearse, Compact}
+use Rattle.ps_io.specs.Held.{IsHeldStore, Same, SameBut, SameLeft, SameLefts, SameLeftsBut}
+use Rattle.ps_io.specs.declared.world.World.{Ghosts}
+use Rattle.ps_endpoints.proofs.Back.{returned}
+use Rattle.ps_args.specs.declared.command.Command.{Command}
+use Rattle.ps_args.specs.declared.command.Command.TheVariants.{Serve, Rehearse, Compact}
 use Rattle.ps_serve.specs.Outside.{Outside, SameStreams, held_as, outside}
 use Rattle.ps_serve.specs.Runs.{Leaves, LeavesAll, RanOver, Runs, Served}
 use Rattle.ps_serve.specs.declared.status.Status.{Status}

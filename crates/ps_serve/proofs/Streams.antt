@@ -2,20 +2,20 @@
 use Rattle.std.proofs.Common.{◌≡◌, ◌≢◌, ◌⊎◌, inl, inr, ℕ, zero, suc, ◌≤◌, List, [], ◌∷◌, Some, length, refl, sym, ◌∙◌, ap, subst, arith}
 use Rattle.std.specs.Prelude.{slice_get}
 use Rattle.ps_model.specs.Entries.{IsHostName}
-use Rattle.ps_opening.specs.Fresh.{AreHosts}
-use Rattle.ps_outside.specs.declared.clock.Clock.{Ghosts as ClockGhosts}
-use Rattle.ps_outside.specs.declared.world.Kind.{Kind}
-use Rattle.ps_outside.specs.declared.world.Kind.TheVariants.{Source, Sink, Clock}
-use Rattle.ps_outside.specs.declared.world.World.{Ghosts}
-use Rattle.ps_ports.specs.Ports.{AreApart, AtEach, Differs, IsOther, IsPortHeld, IsPortOpened, IsWithin, LeavesOthers, OpensNothing, SameOthers}
-use Rattle.ps_ports.specs.declared.port.Port.{Port}
-use Rattle.ps_ports.proofs.Back.{clock-same, held-same}
+use Rattle.ps_hall_open.specs.Fresh.{AreHosts}
+use Rattle.ps_io.specs.declared.clock.Clock.{Ghosts as ClockGhosts}
+use Rattle.ps_io.specs.declared.world.Kind.{Kind}
+use Rattle.ps_io.specs.declared.world.Kind.TheVariants.{Source, Sink, Clock}
+use Rattle.ps_io.specs.declared.world.World.{Ghosts}
+use Rattle.ps_endpoints.specs.Ports.{AreApart, AtEach, Differs, IsOther, IsPortHeld, IsPortOpened, IsWithin, LeavesOthers, OpensNothing, SameOthers}
+use Rattle.ps_endpoints.specs.declared.port.Port.{Port}
+use Rattle.ps_endpoints.proofs.Back.{clock-same, held-same}
 use Rattle.ps_wire.specs.declared.lines.Lines.{Lines}
 use Rattle.ps_wire.specs.declared.streams.Sink.{Ghosts as SinkGhosts}
 use Rattle.ps_wire.specs.declared.streams.Source.{Ghosts as SourceGhosts}
-use Rattle.ps_words.specs.Well.{AreApart as AreApartBy, IsWellServed}
-use Rattle.ps_words.specs.Words.{hosts_of}
-use Rattle.ps_words.specs.declared.command.Stream.{Stream}
+use Rattle.ps_args.specs.Well.{AreApart as AreApartBy, IsWellServed}
+use Rattle.ps_args.specs.Words.{hosts_of}
+use Rattle.ps_args.specs.declared.command.Stream.{Stream}
 use Rattle.ps_serve.specs.Outside.{SameStreams, outside}
 use Rattle.ps_serve.proofs.Moved.{is-or-not}
 

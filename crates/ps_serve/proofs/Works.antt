@@ -2,15 +2,15 @@
 use Rattle.std.proofs.Common.{◌≡◌, ℕ, zero, suc, List, [], ◌∷◌, Option, Some, length, map, refl, ap, subst, arith}
 use Rattle.std.specs.Prelude.{slice_get}
 use Rattle.ps_disk.specs.declared.device.Disk.{Ghosts as DiskGhosts}
-use Rattle.ps_outside.specs.Held.{Held, HeldClock, HeldStore, IsHeld, IsHeldClock, IsHeldStore}
-use Rattle.ps_outside.specs.declared.clock.Clock.{Ghosts as ClockGhosts}
-use Rattle.ps_outside.specs.declared.world.World.{Ghosts}
-use Rattle.ps_ports.specs.Ports.{AtEach, IsPortHeld, IsPortOpened}
-use Rattle.ps_ports.specs.declared.port.Port.{Port}
+use Rattle.ps_io.specs.Held.{Held, HeldClock, HeldStore, IsHeld, IsHeldClock, IsHeldStore}
+use Rattle.ps_io.specs.declared.clock.Clock.{Ghosts as ClockGhosts}
+use Rattle.ps_io.specs.declared.world.World.{Ghosts}
+use Rattle.ps_endpoints.specs.Ports.{AtEach, IsPortHeld, IsPortOpened}
+use Rattle.ps_endpoints.specs.declared.port.Port.{Port}
 use Rattle.ps_wire.specs.declared.lines.Lines.{Lines}
 use Rattle.ps_wire.specs.declared.streams.Sink.{Ghosts as SinkGhosts}
 use Rattle.ps_wire.specs.declared.streams.Source.{Ghosts as SourceGhosts}
-use Rattle.ps_words.specs.declared.command.Stream.{Stream}
+use Rattle.ps_args.specs.declared.command.Stream.{Stream}
 use Rattle.ps_workers.specs.Headline.{Worked}
 use Rattle.ps_workers.specs.Teams.{worked_of, worked_one}
 use Rattle.ps_workers.specs.Working.{clocks, sinks}

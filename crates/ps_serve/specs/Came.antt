@@ -1,7 +1,7 @@
 -- What came of a command, and what is told of it.
 use Rattle.std.specs.Prelude.{◌≡◌, ◌⊎◌, ℕ, List, Option, None, Some}
-use Rattle.ps_words.specs.declared.command.Command.{Command}
-use Rattle.ps_words.specs.declared.command.Command.TheVariants.{Serve, Rehearse, Compact}
+use Rattle.ps_args.specs.declared.command.Command.{Command}
+use Rattle.ps_args.specs.declared.command.Command.TheVariants.{Serve, Rehearse, Compact}
 use Rattle.ps_rehearse.specs.Rehearsed.{Rehearsed}
 use Rattle.ps_rehearse.specs.declared.numbers.Numbers.{Numbers}
 use Rattle.ps_serve.specs.Numbers.{TellsNumbers}

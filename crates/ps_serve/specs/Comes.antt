@@ -2,13 +2,13 @@
 use Rattle.std.specs.Prelude.{◌≡◌, ◌⊎◌, ℕ, ◌+◌, List, None, true, is_some, length, map}
 use Rattle.ps_disk.specs.declared.device.Disk.{Ghosts as DiskGhosts}
 use Rattle.ps_model.specs.Store.{Begun, gate_at}
-use Rattle.ps_ports.specs.declared.port.Port.{Port}
+use Rattle.ps_endpoints.specs.declared.port.Port.{Port}
 use Rattle.ps_workers.specs.Origin.{Origin}
 use Rattle.ps_workers.specs.State.{State}
-use Rattle.ps_store.specs.Stand.{broken_in, disk_in, length_in}
-use Rattle.ps_store.specs.declared.store.Store.{Store}
-use Rattle.ps_opening.specs.declared.opened.OpenWhy.{OpenWhy}
-use Rattle.ps_opening.specs.declared.opened.OpenWhy.TheVariants as why
+use Rattle.ps_hall_store.specs.Stand.{broken_in, disk_in, length_in}
+use Rattle.ps_hall_store.specs.declared.store.Store.{Store}
+use Rattle.ps_hall_open.specs.declared.opened.OpenWhy.{OpenWhy}
+use Rattle.ps_hall_open.specs.declared.opened.OpenWhy.TheVariants as why
 use Rattle.ps_workers.specs.Headline.{Serves, Worked}
 use Rattle.ps_workers.specs.declared.serving.Ended.{Ended}
 use Rattle.ps_serve.specs.Ends.{worst_in}

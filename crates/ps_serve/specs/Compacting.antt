@@ -8,9 +8,9 @@ use Rattle.ps_disk.specs.Disk.{MayLeave}
 use Rattle.ps_disk.specs.declared.device.Disk.{Ghosts}
 use Rattle.ps_journal.specs.Opened.{IsShortIfUnbegun}
 use Rattle.ps_model.specs.At.{IsDamagedAt}
-use Rattle.ps_outside.specs.Held.{HeldStore, SameLeft}
-use Rattle.ps_words.specs.declared.command.Command.{Command}
-use Rattle.ps_words.specs.declared.command.Command.TheVariants.{Serve, Rehearse, Compact}
+use Rattle.ps_io.specs.Held.{HeldStore, SameLeft}
+use Rattle.ps_args.specs.declared.command.Command.{Command}
+use Rattle.ps_args.specs.declared.command.Command.TheVariants.{Serve, Rehearse, Compact}
 use Rattle.ps_serve.specs.Outside.{Outside, SameStreams, Untouched, held_as}
 use Rattle.ps_serve.specs.declared.status.Status.{Status}
 use Rattle.ps_serve.specs.declared.status.Status.TheVariants.{Done, StoreDamaged, StoreFault, StoreFull, Occupied, Memory}

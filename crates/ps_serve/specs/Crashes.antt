@@ -5,8 +5,8 @@ use Rattle.ps_disk.specs.Disk.{MayLeave}
 use Rattle.ps_journal.specs.Left.{IsFrontOfLeft, LeavesList}
 use Rattle.ps_journal.specs.Opened.{HasLength}
 use Rattle.ps_model.specs.Store.{is_unbegun, spelled}
-use Rattle.ps_outside.specs.Held.{HeldStore}
-use Rattle.ps_store.specs.Left.{IsFront}
+use Rattle.ps_io.specs.Held.{HeldStore}
+use Rattle.ps_hall_store.specs.Left.{IsFront}
 
 -- the store is not an unbegun one that has more than nine bytes
 abbrev pub IsTidy : List ℕ → Type 0

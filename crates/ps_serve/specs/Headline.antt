@@ -12,13 +12,13 @@ use Rattle.ps_model.specs.Entries.{AreEntries}
 use Rattle.ps_model.specs.Store.{spelled}
 use Rattle.ps_model.specs.TheCore.{the_core}
 use Rattle.ps_model.specs.World.{World, durable}
-use Rattle.ps_opening.specs.Opens.{PassesBy}
-use Rattle.ps_outside.specs.Held.{HeldStore}
-use Rattle.ps_deeds.specs.Own.{IsServed}
+use Rattle.ps_hall_open.specs.Opens.{PassesBy}
+use Rattle.ps_io.specs.Held.{HeldStore}
+use Rattle.ps_trace.specs.Own.{IsServed}
 use Rattle.ps_workers.specs.Origin.{Origin}
 use Rattle.ps_workers.specs.EndCause.TheVariants.{Finished}
 use Rattle.ps_workers.specs.Limits.{Limits}
-use Rattle.ps_store.specs.Left.{IsFront}
+use Rattle.ps_hall_store.specs.Left.{IsFront}
 use Rattle.ps_workers.specs.ReadEnd.TheVariants.{Closed}
 use Rattle.ps_workers.specs.Headline.{IsAllSaid, ServesStream, Worked, base_of}
 use Rattle.ps_serve.specs.Crashes.{FrontsSince, HasWhole, IsTidy, LeftSince}

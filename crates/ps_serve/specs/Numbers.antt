@@ -2,9 +2,9 @@
 use Rattle.std.specs.Prelude.{◌≡◌, ◌⊎◌, ℕ, List, [], ◌∷◌, ◌++◌, Option, None, Some, codes, decimal}
 use Rattle.std.specs.Io.KnownBytes.{Appends}
 use Rattle.ps_base.specs.Causes.{Rose}
-use Rattle.ps_outside.specs.Held.{Same, SameLefts}
-use Rattle.ps_outside.specs.World.{ReportsFront}
-use Rattle.ps_outside.specs.declared.world.World.{Ghosts}
+use Rattle.ps_io.specs.Held.{Same, SameLefts}
+use Rattle.ps_io.specs.World.{ReportsFront}
+use Rattle.ps_io.specs.declared.world.World.{Ghosts}
 use Rattle.ps_rehearse.specs.declared.numbers.Numbers.{Numbers}
 use Rattle.ps_serve.specs.declared.status.Status.{Status}
 use Rattle.ps_serve.specs.declared.status.Status.TheVariants.{Done, Usage, OpenFault, StoreDamaged, StoreFault, StoreFull, Occupied, StreamFault, StreamLong, Memory}

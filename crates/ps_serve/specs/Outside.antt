@@ -1,9 +1,9 @@
 -- What a world tells of its objects.
 use Rattle.std.specs.Prelude.{◌≡◌, ◌⊎◌, ℕ, List}
 use Rattle.ps_disk.specs.declared.device.Disk.{Ghosts as DiskGhosts}
-use Rattle.ps_outside.specs.declared.world.World.{Ghosts}
-use Rattle.ps_outside.specs.Held.{Held, HeldClock, HeldStore, Same, SameLefts}
-use Rattle.ps_words.specs.declared.command.Stream.{Stream}
+use Rattle.ps_io.specs.declared.world.World.{Ghosts}
+use Rattle.ps_io.specs.Held.{Held, HeldClock, HeldStore, Same, SameLefts}
+use Rattle.ps_args.specs.declared.command.Stream.{Stream}
 use Rattle.ps_workers.specs.Headline.{Worked}
 use Rattle.ps_serve.specs.declared.status.Status.{Status}
 use Rattle.ps_serve.specs.declared.status.Status.TheVariants.{OpenFault, Memory}

@@ -4,7 +4,7 @@ use Rattle.ps_types.specs.declared.entry.Entry.{Entry}
 use Rattle.ps_types.specs.declared.entry.Entry.TheVariants.{Gone, Handed}
 use Rattle.ps_types.specs.declared.jid.Jid.{Jid}
 use Rattle.ps_model.specs.Entries.{spelling}
-use Rattle.ps_deeds.specs.Own.{IsServed}
+use Rattle.ps_trace.specs.Own.{IsServed}
 
 -- at most this many bytes are written for all entries
 abbrev pub max_whole : ℕ

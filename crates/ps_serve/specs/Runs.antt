@@ -3,15 +3,15 @@ use Rattle.std.specs.Prelude.{◌≡◌, ◌⊎◌, ℕ, List, [], ◌∷◌, �
 use Rattle.std.specs.Io.KnownBytes.{Appends}
 use Rattle.ps_base.specs.Causes.{Rose}
 use Rattle.ps_disk.specs.declared.device.Disk.{Ghosts as DiskGhosts}
-use Rattle.ps_outside.specs.Held.{HeldStore, Same, SameBut, SameLefts, SameLeftsBut}
-use Rattle.ps_outside.specs.World.{ReportsFront}
-use Rattle.ps_outside.specs.declared.world.Kind.TheVariants.{Source, Sink, Clock, Store}
-use Rattle.ps_outside.specs.declared.world.Opening.{Opening}
-use Rattle.ps_ports.specs.Ports.{SameOthers, port_openings}
-use Rattle.ps_words.specs.declared.command.Command.{Command}
-use Rattle.ps_words.specs.declared.command.Command.TheVariants.{Serve, Rehearse, Compact}
-use Rattle.ps_words.specs.declared.command.Stream.{Stream}
-use Rattle.ps_words.specs.Words.{hosts_of}
+use Rattle.ps_io.specs.Held.{HeldStore, Same, SameBut, SameLefts, SameLeftsBut}
+use Rattle.ps_io.specs.World.{ReportsFront}
+use Rattle.ps_io.specs.declared.world.Kind.TheVariants.{Source, Sink, Clock, Store}
+use Rattle.ps_io.specs.declared.world.Opening.{Opening}
+use Rattle.ps_endpoints.specs.Ports.{SameOthers, port_openings}
+use Rattle.ps_args.specs.declared.command.Command.{Command}
+use Rattle.ps_args.specs.declared.command.Command.TheVariants.{Serve, Rehearse, Compact}
+use Rattle.ps_args.specs.declared.command.Stream.{Stream}
+use Rattle.ps_args.specs.Words.{hosts_of}
 use Rattle.ps_workers.specs.Headline.{Worked}
 use Rattle.ps_serve.specs.Headline.{Headline, Idle}
 use Rattle.ps_serve.specs.Compacting.{LeavesOtherStores, Pair}

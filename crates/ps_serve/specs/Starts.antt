@@ -1,8 +1,8 @@
 -- A disk before it is opened.
 use Rattle.std.specs.Prelude.{ℕ, List}
 use Rattle.ps_disk.specs.declared.device.Disk.{Ghosts}
-use Rattle.ps_store.specs.Stand.{OpenedAt, disk_in, length_in}
-use Rattle.ps_store.specs.declared.store.Store.{Store}
+use Rattle.ps_hall_store.specs.Stand.{OpenedAt, disk_in, length_in}
+use Rattle.ps_hall_store.specs.declared.store.Store.{Store}
 
 -- its moment, what a read of it gives, what stood there at its last sync, and the ranges written since
 pub record Start : Type 0 where

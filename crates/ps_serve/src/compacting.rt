@@ -1,10 +1,10 @@
 // Two stores of a world, compacted the one to the other.
 ghost use Rattle.std.specs.Prelude.{◌≡◌, ◌≢◌, ◌≤◌, ◌∷◌, [], List, ℕ, Some};
-ghost use Rattle.ps_outside.specs.Held.{SameBut, SameLeftsBut};
-ghost use Rattle.ps_outside.specs.declared.world.Kind.{Kind};
-ghost use Rattle.ps_ports.specs.Ports.{FailedToOpen};
-ghost use Rattle.ps_words.specs.Well.{IsWellCompacted};
-ghost use Rattle.ps_words.specs.declared.command.Command.{Command};
+ghost use Rattle.ps_io.specs.Held.{SameBut, SameLeftsBut};
+ghost use Rattle.ps_io.specs.declared.world.Kind.{Kind};
+ghost use Rattle.ps_endpoints.specs.Ports.{FailedToOpen};
+ghost use Rattle.ps_args.specs.Well.{IsWellCompacted};
+ghost use Rattle.ps_args.specs.declared.command.Command.{Command};
 ghost use Rattle.ps_serve.specs.Compacting.{Compacts, CompactsOver, LeavesOtherStores, status_by};
 ghost use Rattle.ps_serve.specs.Outside.{SameStreams, outside};
 ghost use Rattle.ps_serve.specs.Runs.{AsksInOrder, openings_of, reported_from};
@@ -12,7 +12,7 @@ ghost use Rattle.ps_serve.specs.Runs.{AsksInOrder, openings_of, reported_from};
 use crate::status::Status;
 use crate::whole::refused;
 use ps_compact::{CompactOutcome, Compacted, compact};
-use ps_outside::World;
+use ps_io::World;
 use ps_types::Text;
 use std::alloc::Global;
 use std::random::RandomSource;

@@ -1,11 +1,11 @@
 // The status of a run over its streams.
 ghost use Rattle.std.specs.Prelude.{◌≡◌, true, is_some, None};
-ghost use Rattle.ps_store.specs.Stand.{broken_in};
+ghost use Rattle.ps_hall_store.specs.Stand.{broken_in};
 ghost use Rattle.ps_serve.specs.Ends.{closed_status, rank as rank_of, stream_status, worst, worst_in, write_status};
 
 use crate::status::Status;
 use ps_disk::Disk;
-use ps_store::Store;
+use ps_hall_store::Store;
 use ps_workers::{EndCause, Ended, ReadEnd};
 
 fn rank(status: Status) -> u8

@@ -27,6 +27,6 @@ mod storing;
 mod telling;
 mod whole;
 
-pub use ps_words::{Command, Stream, WordsRefusal, read_words};
+pub use ps_args::{Command, Stream, WordsRefusal, read_words};
 pub use status::{Report, Status};
 pub use whole::run;

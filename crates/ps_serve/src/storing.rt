@@ -1,9 +1,9 @@
 // Streams over the store on a disk.
 ghost use Rattle.std.specs.Prelude.{◌≡◌, ◌≢◌, ◌≤◌, [], List, ℕ, length, map};
 ghost use Rattle.std.specs.Vec.{vec_capacity};
-ghost use Rattle.ps_deeds.specs.Own.{AllDiffer};
+ghost use Rattle.ps_trace.specs.Own.{AllDiffer};
 ghost use Rattle.ps_model.specs.Entries.{IsHostName};
-ghost use Rattle.ps_opening.specs.Fresh.{AreHosts};
+ghost use Rattle.ps_hall_open.specs.Fresh.{AreHosts};
 ghost use Rattle.ps_workers.specs.Start.{MayStart};
 ghost use Rattle.ps_workers.specs.Teams.{worked_of};
 ghost use Rattle.ps_workers.specs.Working.{clocks, sinks};
@@ -15,11 +15,11 @@ ghost use Rattle.ps_serve.specs.Starts.{Start, start_of};
 use crate::ends::status_of;
 use crate::status::Status;
 use ps_disk::Disk;
+use ps_endpoints::Port;
+use ps_hall_open::{OpenRefusal, OpenWhy, Opened, open};
+use ps_hall_store::Store;
+use ps_io::Clock;
 use ps_journal::Placed;
-use ps_opening::{OpenRefusal, OpenWhy, Opened, open};
-use ps_outside::Clock;
-use ps_ports::Port;
-use ps_store::Store;
 use ps_types::Text;
 use ps_wire::{Lines, Sink, Source};
 use ps_workers::{Ended, Hall, Limits, NoHall, Opening, Room, State, serve};

@@ -1,7 +1,7 @@
 -- Worlds whose objects all lie there.
 use Rattle.std.specs.Prelude.{◌≢◌, ℕ, List, Some, None}
-use Rattle.ps_outside.specs.MemWorld.{source_at, sink_at, disk_at, clock_at}
-use Rattle.ps_outside.specs.declared.mem_world.MemWorld.{MemWorld}
+use Rattle.ps_io.specs.MemWorld.{source_at, sink_at, disk_at, clock_at}
+use Rattle.ps_io.specs.declared.mem_world.MemWorld.{MemWorld}
 
 -- no object of the world is open
 pub record NoneOpen (w : MemWorld) : Type 0 where

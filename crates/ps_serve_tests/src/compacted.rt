@@ -5,7 +5,7 @@ use crate::worlds::{
     world_over,
 };
 use ps_disk::MemDisk;
-use ps_outside::MemWorld;
+use ps_io::MemWorld;
 use ps_types::Text;
 use std::alloc::Global;
 use std::process::Abort;

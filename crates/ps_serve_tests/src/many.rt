@@ -4,7 +4,7 @@ ghost use Rattle.ps_serve_tests.specs.Fresh.{NoneOpen};
 
 use crate::worlds::{FIRST, Side, code_of, put_side, report, world_over, written};
 use ps_disk::MemDisk;
-use ps_outside::MemWorld;
+use ps_io::MemWorld;
 use std::alloc::Global;
 use std::test::Fail;
 

@@ -5,7 +5,7 @@ use crate::worlds::{
     written,
 };
 use ps_disk::{MemDisk, Torn};
-use ps_outside::MemWorld;
+use ps_io::MemWorld;
 use std::alloc::Global;
 use std::process::Abort;
 use std::random::RandomSource;

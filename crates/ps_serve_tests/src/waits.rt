@@ -1,12 +1,12 @@
 // Two streams of which one reads only once the other's reply is written: a run that serves one after the other can't end them both.
 ghost use Rattle.std.specs.Prelude.{◌≡◌, ◌∷◌, ◌++◌, [], None, OnOk, OnErr, IsErrOf};
-ghost use Rattle.ps_outside.specs.World.{Asks};
+ghost use Rattle.ps_io.specs.World.{Asks};
 
 use crate::lines::{CREATE, CREATE_OTHER, MADE, MADE_OTHER};
 use crate::worlds::{SERVE, texts_of};
 use ps_base::{Failed, Memory};
 use ps_disk::{Disk, MemDisk};
-use ps_outside::{ConstClock, Kind, Opening, World, WorldRefusal};
+use ps_io::{ConstClock, Kind, Opening, World, WorldRefusal};
 use ps_serve::run;
 use ps_types::Text;
 use ps_wire::{Sink, Source};

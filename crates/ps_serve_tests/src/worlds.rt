@@ -3,8 +3,8 @@ ghost use Rattle.std.specs.Prelude.{IfOk, OnOk};
 ghost use Rattle.ps_serve_tests.specs.Fresh.{NoneOpen};
 
 use ps_disk::MemDisk;
+use ps_io::MemWorld;
 use ps_journal::{Journal, JournalRefusal, Placed};
-use ps_outside::MemWorld;
 use ps_serve::run;
 use ps_types::{Entry, Text};
 use ps_wire::{MemSink, MemSource};

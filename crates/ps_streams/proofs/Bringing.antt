@@ -6,21 +6,21 @@ use Rattle.ps_model.specs.World.{World}
 use Rattle.ps_model.specs.declared.steps.Step.{Step}
 use Rattle.ps_model.proofs.TheLaws.{the-laws}
 use Rattle.ps_world.proofs.Lists.{assoc, nil-right}
-use Rattle.ps_deeds.specs.declared.deed.Deed.{Deed}
-use Rattle.ps_deeds.specs.Did.{IsKept}
-use Rattle.ps_deeds.specs.Own.{AreOwned, HasNoEnd, arrivals_in, own_steps}
-use Rattle.ps_deeds.proofs.Doing.{did-own}
-use Rattle.ps_deeds.proofs.Keeping.{covered-kept, did-kept, flush-keeps, no-end-append}
-use Rattle.ps_deeds.proofs.Owning.{arrivals-append}
-use Rattle.ps_deeds.proofs.Passing.{passed-by, passed-own}
-use Rattle.ps_state.specs.declared.answers.ArriveRefusal.{ArriveRefusal}
-use Rattle.ps_state.specs.declared.answers.HandedRefusal.{HandedRefusal}
-use Rattle.ps_state.specs.declared.answers.HandedRefusal.TheVariants.{Store as NotStored}
-use Rattle.ps_state.specs.declared.answers.Receipt.{Receipt}
-use Rattle.ps_shared.specs.Calls.{GoneThen, HasGone, IsGone, LayDoes}
-use Rattle.ps_flush.specs.Doing.{Does, Passes}
-use Rattle.ps_flush.specs.Flush.{Flushes, FlushesAll, NotFlushed, TellsFault}
-use Rattle.ps_flush.specs.Origin.{Origin}
+use Rattle.ps_trace.specs.declared.deed.Deed.{Deed}
+use Rattle.ps_trace.specs.Did.{IsKept}
+use Rattle.ps_trace.specs.Own.{AreOwned, HasNoEnd, arrivals_in, own_steps}
+use Rattle.ps_trace.proofs.Doing.{did-own}
+use Rattle.ps_trace.proofs.Keeping.{covered-kept, did-kept, flush-keeps, no-end-append}
+use Rattle.ps_trace.proofs.Owning.{arrivals-append}
+use Rattle.ps_trace.proofs.Passing.{passed-by, passed-own}
+use Rattle.ps_hall_state.specs.declared.answers.ArriveRefusal.{ArriveRefusal}
+use Rattle.ps_hall_state.specs.declared.answers.HandedRefusal.{HandedRefusal}
+use Rattle.ps_hall_state.specs.declared.answers.HandedRefusal.TheVariants.{Store as NotStored}
+use Rattle.ps_hall_state.specs.declared.answers.Receipt.{Receipt}
+use Rattle.ps_hall.specs.Calls.{GoneThen, HasGone, IsGone, LayDoes}
+use Rattle.ps_hall_flush.specs.Doing.{Does, Passes}
+use Rattle.ps_hall_flush.specs.Flush.{Flushes, FlushesAll, NotFlushed, TellsFault}
+use Rattle.ps_hall_flush.specs.Origin.{Origin}
 use Rattle.ps_streams.specs.Reading.{Brought}
 use Rattle.ps_streams.proofs.Looping.{the_err}
 

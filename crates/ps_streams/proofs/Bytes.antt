@@ -3,8 +3,8 @@ use Rattle.std.proofs.Common.{◌≡◌, ℕ, List, [], ◌∷◌, ◌++◌, Opt
 use Rattle.std.specs.Io.KnownBytes.{Appends}
 use Rattle.ps_wire.specs.Writing.{AppendsFront}
 use Rattle.ps_world.proofs.Lists.{assoc, nil-right}
-use Rattle.ps_deeds.specs.Words.{Word, bytes_of, text_of}
-use Rattle.ps_deeds.proofs.Wording.{bytes-append}
+use Rattle.ps_trace.specs.Words.{Word, bytes_of, text_of}
+use Rattle.ps_trace.proofs.Wording.{bytes-append}
 use Rattle.ps_streams.specs.Speaking.{Written}
 
 pub written-none : (b : Option (List ℕ)) → Written b b [] []

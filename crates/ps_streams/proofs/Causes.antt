@@ -12,20 +12,20 @@ use Rattle.ps_model.specs.declared.steps.Role.TheVariants.{Writer}
 use Rattle.ps_model.specs.declared.steps.Step.{Step}
 use Rattle.ps_model.specs.declared.steps.Step.TheVariants.{Ended}
 use Rattle.ps_model.proofs.TheLaws.{the-laws}
-use Rattle.ps_deeds.specs.declared.deed.Deed.{Deed}
-use Rattle.ps_deeds.specs.Own.{AllDiffer, IsWriterOf}
-use Rattle.ps_deeds.proofs.Doing.{did-between, did-world, world-append}
-use Rattle.ps_deeds.proofs.Flying.{still-run}
-use Rattle.ps_deeds.proofs.Passing.{did-follows, passed-follows}
-use Rattle.ps_state.specs.declared.answers.ArriveRefusal.{ArriveRefusal}
-use Rattle.ps_state.specs.declared.answers.ArriveRefusal.TheVariants.{Store as NoStore}
-use Rattle.ps_state.specs.declared.answers.HandedRefusal.{HandedRefusal}
-use Rattle.ps_state.specs.declared.answers.HandedRefusal.TheVariants.{Store}
-use Rattle.ps_shared.specs.Calls.{HasGone, HasHand, HasHanded, IsGone, LayDoes}
-use Rattle.ps_flush.specs.Doing.{Adds, Does, Passes}
-use Rattle.ps_flush.specs.Flush.{Flushes, TellsFault}
-use Rattle.ps_flush.specs.Homes.{world_at}
-use Rattle.ps_flush.specs.Origin.{Origin}
+use Rattle.ps_trace.specs.declared.deed.Deed.{Deed}
+use Rattle.ps_trace.specs.Own.{AllDiffer, IsWriterOf}
+use Rattle.ps_trace.proofs.Doing.{did-between, did-world, world-append}
+use Rattle.ps_trace.proofs.Flying.{still-run}
+use Rattle.ps_trace.proofs.Passing.{did-follows, passed-follows}
+use Rattle.ps_hall_state.specs.declared.answers.ArriveRefusal.{ArriveRefusal}
+use Rattle.ps_hall_state.specs.declared.answers.ArriveRefusal.TheVariants.{Store as NoStore}
+use Rattle.ps_hall_state.specs.declared.answers.HandedRefusal.{HandedRefusal}
+use Rattle.ps_hall_state.specs.declared.answers.HandedRefusal.TheVariants.{Store}
+use Rattle.ps_hall.specs.Calls.{HasGone, HasHand, HasHanded, IsGone, LayDoes}
+use Rattle.ps_hall_flush.specs.Doing.{Adds, Does, Passes}
+use Rattle.ps_hall_flush.specs.Flush.{Flushes, TellsFault}
+use Rattle.ps_hall_flush.specs.Homes.{world_at}
+use Rattle.ps_hall_flush.specs.Origin.{Origin}
 use Rattle.ps_streams.specs.Speaking.{HasLanded}
 use Rattle.ps_streams.proofs.Looping.{the_err}
 

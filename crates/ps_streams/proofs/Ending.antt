@@ -7,19 +7,19 @@ use Rattle.ps_model.specs.declared.steps.Role.TheVariants.{Writer}
 use Rattle.ps_model.specs.declared.steps.Step.{Step}
 use Rattle.ps_model.specs.declared.steps.Step.TheVariants.{Ended}
 use Rattle.ps_model.proofs.TheLaws.{the-laws}
-use Rattle.ps_deeds.specs.declared.deed.Deed.{Deed}
-use Rattle.ps_deeds.specs.Own.{own_steps}
-use Rattle.ps_deeds.proofs.Doing.{did-own}
-use Rattle.ps_deeds.proofs.Passing.{passed-own}
-use Rattle.ps_state.specs.declared.answers.HandedRefusal.{HandedRefusal}
-use Rattle.ps_state.specs.declared.answers.HandedRefusal.TheVariants.{Full, Memory, Store}
-use Rattle.ps_shared.specs.Calls.{HasHanded, NextDoes, RecordDoes, RecordedThen}
-use Rattle.ps_shared.specs.declared.answers.Next.{Next}
-use Rattle.ps_shared.specs.declared.answers.Next.TheVariants.{Notice, NotYet, Over, Reply}
-use Rattle.ps_flush.specs.Doing.{Adds, Does, Passes}
-use Rattle.ps_flush.specs.Flush.{Flushes, FlushesAll, NotFlushed, TellsFault}
-use Rattle.ps_flush.specs.Homes.{world_at}
-use Rattle.ps_flush.specs.Origin.{Origin}
+use Rattle.ps_trace.specs.declared.deed.Deed.{Deed}
+use Rattle.ps_trace.specs.Own.{own_steps}
+use Rattle.ps_trace.proofs.Doing.{did-own}
+use Rattle.ps_trace.proofs.Passing.{passed-own}
+use Rattle.ps_hall_state.specs.declared.answers.HandedRefusal.{HandedRefusal}
+use Rattle.ps_hall_state.specs.declared.answers.HandedRefusal.TheVariants.{Full, Memory, Store}
+use Rattle.ps_hall.specs.Calls.{HasHanded, NextDoes, RecordDoes, RecordedThen}
+use Rattle.ps_hall.specs.declared.answers.Next.{Next}
+use Rattle.ps_hall.specs.declared.answers.Next.TheVariants.{Notice, NotYet, Over, Reply}
+use Rattle.ps_hall_flush.specs.Doing.{Adds, Does, Passes}
+use Rattle.ps_hall_flush.specs.Flush.{Flushes, FlushesAll, NotFlushed, TellsFault}
+use Rattle.ps_hall_flush.specs.Homes.{world_at}
+use Rattle.ps_hall_flush.specs.Origin.{Origin}
 use Rattle.ps_streams.specs.Speaking.{EndsOnce, GoesOn, HasNoWriterEnd}
 use Rattle.ps_streams.proofs.Looping.{the_err}
 

@@ -8,18 +8,18 @@ use Rattle.ps_model.specs.declared.steps.Step.{Step}
 use Rattle.ps_model.specs.declared.steps.Step.TheVariants.{Ended, Gone}
 use Rattle.ps_model.proofs.TheLaws.{the-laws}
 use Rattle.ps_world.proofs.Lists.{assoc, nil-right}
-use Rattle.ps_deeds.specs.declared.deed.Deed.{Deed}
-use Rattle.ps_deeds.specs.Own.{HasNoEnd, deeds, own_steps}
-use Rattle.ps_deeds.proofs.Doing.{did-own}
-use Rattle.ps_deeds.proofs.Owning.{own-append, own-none}
-use Rattle.ps_deeds.proofs.Passing.{passed-own}
-use Rattle.ps_state.specs.declared.answers.ArriveRefusal.{ArriveRefusal}
-use Rattle.ps_state.specs.declared.answers.ArriveRefusal.TheVariants.{Closed}
-use Rattle.ps_state.specs.declared.answers.HandedRefusal.{HandedRefusal}
-use Rattle.ps_shared.specs.Calls.{HasGone, IsGone, LayDoes}
-use Rattle.ps_flush.specs.Doing.{Does, Passes}
-use Rattle.ps_flush.specs.Flush.{Flushes, FlushesAll, NotFlushed, TellsFault}
-use Rattle.ps_flush.specs.Origin.{Origin}
+use Rattle.ps_trace.specs.declared.deed.Deed.{Deed}
+use Rattle.ps_trace.specs.Own.{HasNoEnd, deeds, own_steps}
+use Rattle.ps_trace.proofs.Doing.{did-own}
+use Rattle.ps_trace.proofs.Owning.{own-append, own-none}
+use Rattle.ps_trace.proofs.Passing.{passed-own}
+use Rattle.ps_hall_state.specs.declared.answers.ArriveRefusal.{ArriveRefusal}
+use Rattle.ps_hall_state.specs.declared.answers.ArriveRefusal.TheVariants.{Closed}
+use Rattle.ps_hall_state.specs.declared.answers.HandedRefusal.{HandedRefusal}
+use Rattle.ps_hall.specs.Calls.{HasGone, IsGone, LayDoes}
+use Rattle.ps_hall_flush.specs.Doing.{Does, Passes}
+use Rattle.ps_hall_flush.specs.Flush.{Flushes, FlushesAll, NotFlushed, TellsFault}
+use Rattle.ps_hall_flush.specs.Origin.{Origin}
 use Rattle.ps_streams.specs.Reading.{Brought, FoundClosed, SaidGone}
 
 -- what was seen grows

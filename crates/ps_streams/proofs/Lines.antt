@@ -6,7 +6,7 @@ use Rattle.ps_types.specs.Lines.{first_line, lines_of}
 use Rattle.ps_types.specs.declared.entry.Arrival.{Arrival}
 use Rattle.ps_types.specs.declared.entry.Arrival.TheVariants.{Line, TooLong}
 use Rattle.ps_types.proofs.Lines.{lines_of_first}
-use Rattle.ps_outside.specs.Clock.{Tells, noted}
+use Rattle.ps_io.specs.Clock.{Tells, noted}
 use Rattle.ps_wire.specs.Reading.{Gave, IsNext}
 use Rattle.ps_wire.specs.declared.lines.NextLine.TheVariants as next
 use Rattle.ps_wire.proofs.Gaining.{gave_more}

@@ -4,15 +4,15 @@ use Rattle.ps_model.specs.TheCore.{the_core}
 use Rattle.ps_model.specs.declared.steps.Role.TheVariants.{Writer}
 use Rattle.ps_model.specs.declared.steps.Step.TheVariants.{Ended}
 use Rattle.ps_world.proofs.Lists.{assoc, nil-right}
-use Rattle.ps_deeds.specs.declared.deed.Deed.{Deed}
-use Rattle.ps_deeds.specs.Over.{IsOver}
-use Rattle.ps_deeds.specs.Own.{AreOwned, deeds}
-use Rattle.ps_deeds.specs.Words.{Word, notes_in}
-use Rattle.ps_deeds.proofs.Owning.{own-none}
-use Rattle.ps_deeds.proofs.Wording.{notes-in-append}
-use Rattle.ps_flush.specs.Doing.{Adds}
-use Rattle.ps_flush.specs.Homes.{world_at}
-use Rattle.ps_flush.specs.Origin.{Origin}
+use Rattle.ps_trace.specs.declared.deed.Deed.{Deed}
+use Rattle.ps_trace.specs.Over.{IsOver}
+use Rattle.ps_trace.specs.Own.{AreOwned, deeds}
+use Rattle.ps_trace.specs.Words.{Word, notes_in}
+use Rattle.ps_trace.proofs.Owning.{own-none}
+use Rattle.ps_trace.proofs.Wording.{notes-in-append}
+use Rattle.ps_hall_flush.specs.Doing.{Adds}
+use Rattle.ps_hall_flush.specs.Homes.{world_at}
+use Rattle.ps_hall_flush.specs.Origin.{Origin}
 use Rattle.ps_streams.specs.Speaking.{DoneOnce, GoesOn, Speaks, Spoke, SpokeWhole, said_in}
 use Rattle.ps_streams.proofs.Bytes.{written-more, written-none}
 use Rattle.ps_streams.proofs.Moving.{Moved, moved-one}

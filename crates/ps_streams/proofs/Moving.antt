@@ -7,18 +7,18 @@ use Rattle.ps_model.specs.declared.steps.Step.TheVariants.{Broken, Flush, Record
 use Rattle.ps_model.specs.TheCore.{the_core}
 use Rattle.ps_model.proofs.TheLaws.{the-laws}
 use Rattle.ps_world.proofs.Lists.{assoc, nil-right}
-use Rattle.ps_deeds.specs.declared.deed.Deed.{Deed}
-use Rattle.ps_deeds.specs.Own.{AreOwned, own_steps}
-use Rattle.ps_deeds.specs.Words.{Word, records_in, says}
-use Rattle.ps_deeds.proofs.Doing.{did-records, did-words}
-use Rattle.ps_deeds.proofs.Passing.{passed-by, passed-own, passed-words}
-use Rattle.ps_state.specs.declared.answers.HandedRefusal.{HandedRefusal}
-use Rattle.ps_state.specs.declared.answers.HandedRefusal.TheVariants.{Full, Memory, Store}
-use Rattle.ps_shared.specs.Calls.{HasHanded, RecordDoes, RecordedThen}
-use Rattle.ps_flush.specs.Doing.{Does, Passes}
-use Rattle.ps_flush.specs.Flush.{Flushes, FlushesAll, NotFlushed, TellsFault}
-use Rattle.ps_flush.specs.Homes.{world_at}
-use Rattle.ps_flush.specs.Origin.{Origin}
+use Rattle.ps_trace.specs.declared.deed.Deed.{Deed}
+use Rattle.ps_trace.specs.Own.{AreOwned, own_steps}
+use Rattle.ps_trace.specs.Words.{Word, records_in, says}
+use Rattle.ps_trace.proofs.Doing.{did-records, did-words}
+use Rattle.ps_trace.proofs.Passing.{passed-by, passed-own, passed-words}
+use Rattle.ps_hall_state.specs.declared.answers.HandedRefusal.{HandedRefusal}
+use Rattle.ps_hall_state.specs.declared.answers.HandedRefusal.TheVariants.{Full, Memory, Store}
+use Rattle.ps_hall.specs.Calls.{HasHanded, RecordDoes, RecordedThen}
+use Rattle.ps_hall_flush.specs.Doing.{Does, Passes}
+use Rattle.ps_hall_flush.specs.Flush.{Flushes, FlushesAll, NotFlushed, TellsFault}
+use Rattle.ps_hall_flush.specs.Homes.{world_at}
+use Rattle.ps_hall_flush.specs.Origin.{Origin}
 use Rattle.ps_streams.specs.Speaking.{said_in}
 
 -- the pass said these words, and made at most so many Records of each address

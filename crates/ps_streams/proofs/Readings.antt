@@ -4,16 +4,16 @@ use Rattle.ps_types.specs.declared.entry.Arrival.{Arrival}
 use Rattle.ps_model.specs.TheCore.{the_core}
 use Rattle.ps_model.proofs.TheLaws.{the-laws}
 use Rattle.ps_world.proofs.Lists.{assoc, nil-right}
-use Rattle.ps_deeds.specs.declared.deed.Deed.{Deed}
-use Rattle.ps_deeds.specs.Did.{IsKept}
-use Rattle.ps_deeds.specs.Own.{AreOwned, arrivals_in, own_steps}
-use Rattle.ps_deeds.proofs.Doing.{did-own}
-use Rattle.ps_deeds.proofs.Keeping.{done-kept}
-use Rattle.ps_deeds.proofs.Owning.{arrivals-append}
-use Rattle.ps_state.specs.declared.answers.HandedRefusal.{HandedRefusal}
-use Rattle.ps_state.specs.declared.answers.HandedRefusal.TheVariants.{Store as NotStored}
-use Rattle.ps_shared.specs.Calls.{HasGone}
-use Rattle.ps_flush.specs.Origin.{Origin}
+use Rattle.ps_trace.specs.declared.deed.Deed.{Deed}
+use Rattle.ps_trace.specs.Did.{IsKept}
+use Rattle.ps_trace.specs.Own.{AreOwned, arrivals_in, own_steps}
+use Rattle.ps_trace.proofs.Doing.{did-own}
+use Rattle.ps_trace.proofs.Keeping.{done-kept}
+use Rattle.ps_trace.proofs.Owning.{arrivals-append}
+use Rattle.ps_hall_state.specs.declared.answers.HandedRefusal.{HandedRefusal}
+use Rattle.ps_hall_state.specs.declared.answers.HandedRefusal.TheVariants.{Store as NotStored}
+use Rattle.ps_hall.specs.Calls.{HasGone}
+use Rattle.ps_hall_flush.specs.Origin.{Origin}
 use Rattle.ps_wire.specs.Reading.{IsWithoutLine}
 use Rattle.ps_streams.specs.declared.read.ReadEnd.{ReadEnd}
 use Rattle.ps_streams.specs.declared.read.ReadEnd.TheVariants.{Ended, Long, ReadFault, Store}

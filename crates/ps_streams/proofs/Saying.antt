@@ -17,23 +17,23 @@ use Rattle.ps_model.specs.declared.steps.Step.{Step}
 use Rattle.ps_model.specs.declared.steps.Step.TheVariants.{Emit, Take}
 use Rattle.ps_model.proofs.TheLaws.{the-laws}
 use Rattle.ps_world.proofs.Lists.{nil-right}
-use Rattle.ps_deeds.specs.declared.deed.Deed.{Deed}
-use Rattle.ps_deeds.specs.Did.{NoneInHand}
-use Rattle.ps_deeds.specs.Over.{IsOver}
-use Rattle.ps_deeds.specs.Own.{AllDiffer, IsWriterOf}
-use Rattle.ps_deeds.specs.Words as words
-use Rattle.ps_deeds.specs.Words.{Word, notes_in, records_in, said_by, says}
-use Rattle.ps_deeds.proofs.Doing.{did-free, did-world, same-either}
-use Rattle.ps_state.specs.Next.{IsFirstNotice, IsFirstReply, NoNotice, NoReply, some_reads}
-use Rattle.ps_state.specs.declared.answers.HandedRefusal.{HandedRefusal}
-use Rattle.ps_shared.specs.Calls.{HasHand, HasHanded, NextDoes, Tells}
-use Rattle.ps_flush.specs.Doing.{Does}
-use Rattle.ps_flush.specs.Homes.{world_at}
-use Rattle.ps_flush.specs.Origin.{Origin}
-use Rattle.ps_shared.specs.Passes.{OurTwin}
-use Rattle.ps_shared.specs.declared.answers.Next.{Next}
-use Rattle.ps_shared.specs.declared.answers.Next.TheVariants.{Notice, Over, Reply}
-use Rattle.ps_shared.specs.declared.hall.Pass.{Pass}
+use Rattle.ps_trace.specs.declared.deed.Deed.{Deed}
+use Rattle.ps_trace.specs.Did.{NoneInHand}
+use Rattle.ps_trace.specs.Over.{IsOver}
+use Rattle.ps_trace.specs.Own.{AllDiffer, IsWriterOf}
+use Rattle.ps_trace.specs.Words as words
+use Rattle.ps_trace.specs.Words.{Word, notes_in, records_in, said_by, says}
+use Rattle.ps_trace.proofs.Doing.{did-free, did-world, same-either}
+use Rattle.ps_hall_state.specs.Next.{IsFirstNotice, IsFirstReply, NoNotice, NoReply, some_reads}
+use Rattle.ps_hall_state.specs.declared.answers.HandedRefusal.{HandedRefusal}
+use Rattle.ps_hall.specs.Calls.{HasHand, HasHanded, NextDoes, Tells}
+use Rattle.ps_hall_flush.specs.Doing.{Does}
+use Rattle.ps_hall_flush.specs.Homes.{world_at}
+use Rattle.ps_hall_flush.specs.Origin.{Origin}
+use Rattle.ps_hall.specs.Passes.{OurTwin}
+use Rattle.ps_hall.specs.declared.answers.Next.{Next}
+use Rattle.ps_hall.specs.declared.answers.Next.TheVariants.{Notice, Over, Reply}
+use Rattle.ps_hall.specs.declared.hall.Pass.{Pass}
 use Rattle.ps_streams.specs.Speaking.{IsFew, MaySpeak, Speaks, Spoke, Written}
 use Rattle.ps_streams.proofs.Bytes.{written-none, written-part, written-whole}
 use Rattle.ps_streams.proofs.Moving.{Moved, moved-did, moved-handed, moved-more, moved-quiet, none, once}

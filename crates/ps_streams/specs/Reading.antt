@@ -3,20 +3,20 @@ use Rattle.std.specs.Prelude.{◌≡◌, ◌≢◌, ◌⊎◌, ℕ, ◌<◌, ◌
 use Rattle.ps_types.specs.Lines.{lines_of}
 use Rattle.ps_types.specs.declared.entry.Arrival.{Arrival}
 use Rattle.ps_types.specs.declared.entry.Arrival.TheVariants.{Line, TooLong}
-use Rattle.ps_outside.specs.Clock.{noted}
+use Rattle.ps_io.specs.Clock.{noted}
 use Rattle.ps_wire.specs.Reading.{IsWithoutLine}
 use Rattle.ps_model.specs.TheCore.{the_core}
 use Rattle.ps_model.specs.declared.steps.Step.{Step}
 use Rattle.ps_model.specs.declared.steps.Step.TheVariants.{Gone}
 use Rattle.ps_twin.specs.declared.twin.TwinSeat.{TwinSeat}
 use Rattle.ps_twin.specs.Seats.{number_of, seen_of}
-use Rattle.ps_deeds.specs.declared.deed.Deed.{Deed}
-use Rattle.ps_deeds.specs.Did.{IsKept}
-use Rattle.ps_deeds.specs.Over.{ReaderDone}
-use Rattle.ps_deeds.specs.Own.{AreOwned, HasNoEnd, arrivals_in, own_steps}
-use Rattle.ps_state.specs.Shape.{IsArrival}
-use Rattle.ps_flush.specs.Homes.{world_at}
-use Rattle.ps_flush.specs.Origin.{Origin}
+use Rattle.ps_trace.specs.declared.deed.Deed.{Deed}
+use Rattle.ps_trace.specs.Did.{IsKept}
+use Rattle.ps_trace.specs.Over.{ReaderDone}
+use Rattle.ps_trace.specs.Own.{AreOwned, HasNoEnd, arrivals_in, own_steps}
+use Rattle.ps_hall_state.specs.Shape.{IsArrival}
+use Rattle.ps_hall_flush.specs.Homes.{world_at}
+use Rattle.ps_hall_flush.specs.Origin.{Origin}
 use Rattle.ps_streams.specs.declared.read.ReadEnd.{ReadEnd}
 use Rattle.ps_streams.specs.declared.read.ReadEnd.TheVariants.{Closed, Ended, Full, Long, Memory, ReadFault, Store}
 

@@ -12,15 +12,15 @@ use Rattle.ps_model.specs.declared.steps.Step.TheVariants.{Arrive, Flush, Take, 
 use Rattle.ps_disk.specs.declared.device.Disk.{Ghosts}
 use Rattle.ps_twin.specs.declared.twin.TwinSeat.{TwinSeat}
 use Rattle.ps_twin.specs.Seats.{number_of, seen_of}
-use Rattle.ps_deeds.specs.declared.deed.Deed.{Deed}
-use Rattle.ps_deeds.specs.Over.{IsOver, WriterDone}
-use Rattle.ps_deeds.specs.Own.{AreOwned, own_steps, words_by}
-use Rattle.ps_deeds.specs.Words.{Word, bytes_of, notes_in, records_in}
-use Rattle.ps_shared.specs.Calls.{FoundOver, HandAt, IsWriter}
-use Rattle.ps_flush.specs.Homes.{world_at}
-use Rattle.ps_flush.specs.Origin.{Origin}
-use Rattle.ps_shared.specs.Passes.{OurTwin}
-use Rattle.ps_shared.specs.declared.hall.Pass.{Pass}
+use Rattle.ps_trace.specs.declared.deed.Deed.{Deed}
+use Rattle.ps_trace.specs.Over.{IsOver, WriterDone}
+use Rattle.ps_trace.specs.Own.{AreOwned, own_steps, words_by}
+use Rattle.ps_trace.specs.Words.{Word, bytes_of, notes_in, records_in}
+use Rattle.ps_hall.specs.Calls.{FoundOver, HandAt, IsWriter}
+use Rattle.ps_hall_flush.specs.Homes.{world_at}
+use Rattle.ps_hall_flush.specs.Origin.{Origin}
+use Rattle.ps_hall.specs.Passes.{OurTwin}
+use Rattle.ps_hall.specs.declared.hall.Pass.{Pass}
 
 -- ---- words
 

@@ -1,6 +1,6 @@
 // How a writer waits that finds nothing, and a reader whose line finds no room for its reply.
 use ps_disk::Disk;
-use ps_shared::{Hall, Opening, Pass};
+use ps_hall::{Hall, Opening, Pass};
 use std::sync::Wait;
 use std::thread::yield_now;
 use std::time::Duration;

@@ -1,4 +1,4 @@
-//! The workers of a stream, each in a thread of its own over the shared hall (`ps_shared`).
+//! The workers of a stream, each in a thread of its own over the shared hall (`ps_hall`).
 //!
 //! [`read_stream`] takes the lines of its source one after the other, asks a clock for the moment of each, and has the hall answer it. It makes durable what
 //! it laid before it waits, for its source or for room for a reply, and behind the last line: so lines that come together share a frame. In the end, for whatever

@@ -1,14 +1,14 @@
 // The writer of a stream.
 ghost use Rattle.std.specs.Prelude.{◌≡◌, ◌≢◌, ◌≤◌, true, IfOk, IsErrOf, IsFalse, OnOk};
 ghost use Rattle.ps_base.specs.Causes.{Rose};
-ghost use Rattle.ps_deeds.specs.Own.{AllDiffer};
-ghost use Rattle.ps_shared.specs.Calls.{IsWriter};
+ghost use Rattle.ps_trace.specs.Own.{AllDiffer};
+ghost use Rattle.ps_hall.specs.Calls.{IsWriter};
 ghost use Rattle.ps_streams.specs.Speaking.{FindsBroken, FindsLanded, FindsOver, FoundNoRoom, IsSamePass, IsWriterDone, MaySpeak, SeatEndsOnce, SeatGoesOn, SeatSpeaks};
 
 use crate::idle::{FOR_LINES, await_news};
 use ps_disk::Disk;
-use ps_shared::{EndCause, Hall, Next, Opening, Pass};
-use ps_state::HandedRefusal;
+use ps_hall::{EndCause, Hall, Next, Opening, Pass};
+use ps_hall_state::HandedRefusal;
 use ps_wire::{Sink, write_line};
 use std::sync::Wait;
 use std::thread::Threads;

@@ -20,11 +20,11 @@ use Rattle.ps_world.specs.Sound.{Sound}
 use Rattle.ps_world.proofs.Grows.{notices-front}
 use Rattle.ps_world.proofs.Kept.{chosen, world_kept}
 use Rattle.ps_world.proofs.Lists.{assoc, ends-le, ends-mono, get-append, get-drop, length-front, nil-right, take-drop, take-whole}
-use Rattle.ps_deeds.specs.Lines.{Came, came_if, came}
-use Rattle.ps_deeds.specs.Over.{HandsNone}
-use Rattle.ps_deeds.specs.Words.{replies_in, words}
-use Rattle.ps_deeds.proofs.Settling.{source, source-of}
-use Rattle.ps_deeds.proofs.Wording.{begun-words, run-words}
+use Rattle.ps_trace.specs.Lines.{Came, came_if, came}
+use Rattle.ps_trace.specs.Over.{HandsNone}
+use Rattle.ps_trace.specs.Words.{replies_in, words}
+use Rattle.ps_trace.proofs.Settling.{source, source-of}
+use Rattle.ps_trace.proofs.Wording.{begun-words, run-words}
 use Rattle.ps_workers.specs.Told.{IsAcknowledged, if_replied, made_by, replied, rests_on}
 
 -- ---- lists

@@ -13,11 +13,11 @@ use Rattle.ps_model.specs.World.{World}
 use Rattle.ps_world.specs.Calm.{AreCalm}
 use Rattle.ps_world.proofs.Following.{follows_then, one_follows, run_follows}
 use Rattle.ps_world.proofs.Lists.{nil-right, take-front, take-whole}
-use Rattle.ps_deeds.specs.declared.deed.Deed.{Deed}
-use Rattle.ps_deeds.specs.Lines.{Came, HasLines, came, came_if}
-use Rattle.ps_deeds.specs.Own.{steps_in}
-use Rattle.ps_deeds.proofs.Lining.{step-lines}
-use Rattle.ps_flush.specs.Homes.{HadNoRoom, NoRoom}
+use Rattle.ps_trace.specs.declared.deed.Deed.{Deed}
+use Rattle.ps_trace.specs.Lines.{Came, HasLines, came, came_if}
+use Rattle.ps_trace.specs.Own.{steps_in}
+use Rattle.ps_trace.proofs.Lining.{step-lines}
+use Rattle.ps_hall_flush.specs.Homes.{HadNoRoom, NoRoom}
 use Rattle.ps_workers.specs.Told.{AreFull, PassesLimit}
 
 module _ (limit upto : ℕ) (h : List ℕ) where

@@ -13,12 +13,12 @@ use Rattle.ps_model.specs.Machine.{answered, counted, emits, flushes, happens, r
 use Rattle.ps_model.specs.TheCore.{the_core}
 use Rattle.ps_model.specs.World.{Flight, HostPart, Nothing, Recorded, Said, Unrecorded, World, at_address, at_host, durable, with_entry}
 use Rattle.ps_world.proofs.Kept.{chosen}
-use Rattle.ps_deeds.specs.Own.{AllDiffer, AreOwned, HasNoEnd, IsWriterOf, MayMake, own_steps, steps_in}
-use Rattle.ps_deeds.specs.declared.deed.Deed.{Deed}
-use Rattle.ps_deeds.proofs.Ending.{cut, ended-same, no-end-split}
-use Rattle.ps_deeds.proofs.Owning.{own-append, owned-front, same-writer}
-use Rattle.ps_flush.specs.Homes.{world_at}
-use Rattle.ps_flush.specs.Origin.{Origin}
+use Rattle.ps_trace.specs.Own.{AllDiffer, AreOwned, HasNoEnd, IsWriterOf, MayMake, own_steps, steps_in}
+use Rattle.ps_trace.specs.declared.deed.Deed.{Deed}
+use Rattle.ps_trace.proofs.Ending.{cut, ended-same, no-end-split}
+use Rattle.ps_trace.proofs.Owning.{own-append, owned-front, same-writer}
+use Rattle.ps_hall_flush.specs.Homes.{world_at}
+use Rattle.ps_hall_flush.specs.Origin.{Origin}
 use Rattle.ps_streams.specs.Speaking.{HasNoWriterEnd, IsNoWriterEnd}
 
 -- ---- whether a writer has ended

@@ -14,10 +14,10 @@ use Rattle.ps_model.specs.World.{World}
 use Rattle.ps_model.proofs.TheLaws.{the-laws}
 use Rattle.ps_world.proofs.Grows.{notice-within, notices-front}
 use Rattle.ps_world.proofs.Lists.{get-append, get-drop, take-both, take-drop}
-use Rattle.ps_deeds.specs.Lines.{AreLines, Came, onto, replies_of, size}
-use Rattle.ps_deeds.specs.Over.{IsFront}
-use Rattle.ps_deeds.specs.Words.{Note, Reply, Word, notes_in, replies_in}
-use Rattle.ps_said.specs.Laws.{IsGiven, IsReplyIn}
+use Rattle.ps_trace.specs.Lines.{AreLines, Came, onto, replies_of, size}
+use Rattle.ps_trace.specs.Over.{IsFront}
+use Rattle.ps_trace.specs.Words.{Note, Reply, Word, notes_in, replies_in}
+use Rattle.ps_sink_laws.specs.Laws.{IsGiven, IsReplyIn}
 use Rattle.ps_workers.specs.Told.{AreOurs, IsAcknowledged, if_replied, replied, rests_on}
 use Rattle.ps_workers.proofs.Acknowledging.{take-get}
 

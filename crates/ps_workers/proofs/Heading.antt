@@ -16,21 +16,21 @@ use Rattle.ps_world.specs.Sound.{Sound}
 use Rattle.ps_world.proofs.Kept.{world_kept}
 use Rattle.ps_world.proofs.Lists.{assoc, ends-le, nil-right}
 use Rattle.ps_turn.specs.History.{Later}
-use Rattle.ps_deeds.specs.Lines.{Came, came}
-use Rattle.ps_deeds.specs.Over.{AllRead, IsComplete, IsFront}
-use Rattle.ps_deeds.specs.Own.{AllDiffer, AreOwned, NoneOf, arrivals_in, deeds, own_steps, steps_in, words_by}
-use Rattle.ps_deeds.specs.Words.{Word, notes_in, records_in, words}
-use Rattle.ps_deeds.specs.declared.deed.Deed.{Deed}
-use Rattle.ps_deeds.proofs.Completing.{is-complete, is-front}
-use Rattle.ps_deeds.proofs.Handing.{hands-none}
-use Rattle.ps_deeds.proofs.Lining.{begun-lines, run-lines}
-use Rattle.ps_deeds.proofs.Owning.{calm, own-append, own-arrivals, own-none, own-records, own-words, words-by-append, words-by-none}
-use Rattle.ps_deeds.proofs.Wording.{recorded-few}
-use Rattle.ps_flush.specs.Homes.{HadNoRoom, maker_of, world_at}
-use Rattle.ps_flush.specs.Origin.{Origin}
-use Rattle.ps_shared.specs.declared.answers.EndCause.{EndCause}
-use Rattle.ps_shared.specs.declared.answers.EndCause.TheVariants.{Finished, WriteFault}
-use Rattle.ps_flush.proofs.Logs.{none_of}
+use Rattle.ps_trace.specs.Lines.{Came, came}
+use Rattle.ps_trace.specs.Over.{AllRead, IsComplete, IsFront}
+use Rattle.ps_trace.specs.Own.{AllDiffer, AreOwned, NoneOf, arrivals_in, deeds, own_steps, steps_in, words_by}
+use Rattle.ps_trace.specs.Words.{Word, notes_in, records_in, words}
+use Rattle.ps_trace.specs.declared.deed.Deed.{Deed}
+use Rattle.ps_trace.proofs.Completing.{is-complete, is-front}
+use Rattle.ps_trace.proofs.Handing.{hands-none}
+use Rattle.ps_trace.proofs.Lining.{begun-lines, run-lines}
+use Rattle.ps_trace.proofs.Owning.{calm, own-append, own-arrivals, own-none, own-records, own-words, words-by-append, words-by-none}
+use Rattle.ps_trace.proofs.Wording.{recorded-few}
+use Rattle.ps_hall_flush.specs.Homes.{HadNoRoom, maker_of, world_at}
+use Rattle.ps_hall_flush.specs.Origin.{Origin}
+use Rattle.ps_hall.specs.declared.answers.EndCause.{EndCause}
+use Rattle.ps_hall.specs.declared.answers.EndCause.TheVariants.{Finished, WriteFault}
+use Rattle.ps_hall_flush.proofs.Logs.{none_of}
 use Rattle.ps_streams.specs.Reading.{Lined}
 use Rattle.ps_workers.specs.Headline.{IsAllSaid, ServesStream, Worked, base_of}
 use Rattle.ps_workers.specs.Told.{AreOurs, IsAcknowledged}

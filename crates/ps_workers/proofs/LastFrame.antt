@@ -11,21 +11,21 @@ use Rattle.ps_model.specs.TheCore.{the_core}
 use Rattle.ps_model.specs.World.{World}
 use Rattle.ps_world.proofs.Lists.{ends-mono}
 use Rattle.ps_twin.specs.declared.twin.TwinSeat.{TwinSeat}
-use Rattle.ps_deeds.specs.declared.deed.Deed.{Deed}
-use Rattle.ps_state.specs.Stand.{Stands, entries_of}
-use Rattle.ps_state.specs.declared.state.State.{State}
-use Rattle.ps_store.specs.Frames.{IsTorn, Loaded, Tears, Writes}
-use Rattle.ps_store.specs.Stand.{IsKept, IsWhole, OpenedAt, StoreStands, broken_in, disk_in, firm_of, length_in, mark_of}
-use Rattle.ps_store.specs.declared.store.Frame.{Frame}
-use Rattle.ps_store.specs.declared.store.Store.{Store}
-use Rattle.ps_shared.specs.Closed.{HasClosed}
-use Rattle.ps_flush.specs.Flush.{IsFrameOf}
-use Rattle.ps_flush.specs.Homes.{bytes_in, world_at}
-use Rattle.ps_flush.specs.Origin.{Origin}
-use Rattle.ps_flush.proofs.Framing.{loaded_ok}
-use Rattle.ps_flush.proofs.Homing.{bytes_given}
-use Rattle.ps_flush.proofs.Logs.{prefix_follows, room_more}
-use Rattle.ps_flush.proofs.Marking.{quiet_mark, whole_mark}
+use Rattle.ps_trace.specs.declared.deed.Deed.{Deed}
+use Rattle.ps_hall_state.specs.Stand.{Stands, entries_of}
+use Rattle.ps_hall_state.specs.declared.state.State.{State}
+use Rattle.ps_hall_store.specs.Frames.{IsTorn, Loaded, Tears, Writes}
+use Rattle.ps_hall_store.specs.Stand.{IsKept, IsWhole, OpenedAt, StoreStands, broken_in, disk_in, firm_of, length_in, mark_of}
+use Rattle.ps_hall_store.specs.declared.store.Frame.{Frame}
+use Rattle.ps_hall_store.specs.declared.store.Store.{Store}
+use Rattle.ps_hall.specs.Closed.{HasClosed}
+use Rattle.ps_hall_flush.specs.Flush.{IsFrameOf}
+use Rattle.ps_hall_flush.specs.Homes.{bytes_in, world_at}
+use Rattle.ps_hall_flush.specs.Origin.{Origin}
+use Rattle.ps_hall_flush.proofs.Framing.{loaded_ok}
+use Rattle.ps_hall_flush.proofs.Homing.{bytes_given}
+use Rattle.ps_hall_flush.proofs.Logs.{prefix_follows, room_more}
+use Rattle.ps_hall_flush.proofs.Marking.{quiet_mark, whole_mark}
 use Rattle.ps_workers.specs.Closing.{HasEnded}
 
 -- fewer steps are counted on

@@ -13,9 +13,9 @@ use Rattle.ps_world.specs.Calm.{AreCalm}
 use Rattle.ps_world.proofs.Following.{calm_front, calm_rest, run_follows}
 use Rattle.ps_world.proofs.Lists.{assoc}
 use Rattle.ps_world.proofs.Read.{run-append}
-use Rattle.ps_deeds.specs.declared.deed.Deed.{Deed}
-use Rattle.ps_deeds.specs.Own.{own_steps, steps_in}
-use Rattle.ps_deeds.proofs.Owning.{steps-append}
+use Rattle.ps_trace.specs.declared.deed.Deed.{Deed}
+use Rattle.ps_trace.specs.Own.{own_steps, steps_in}
+use Rattle.ps_trace.proofs.Owning.{steps-append}
 use Rattle.ps_workers.specs.Told.{HasGoneBehind}
 
 -- a deed that makes the step

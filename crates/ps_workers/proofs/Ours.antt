@@ -9,7 +9,7 @@ use Rattle.ps_model.specs.Machine.{happens}
 use Rattle.ps_model.specs.World.{Flight, Nothing, Recorded, Said, Unrecorded, World, durable}
 use Rattle.ps_model.specs.declared.steps.Step.{Step}
 use Rattle.ps_model.specs.declared.steps.Step.TheVariants.{Arrive, Flush, Take, Emit, Record, Gone, Ended, Broken, Crash}
-use Rattle.ps_deeds.specs.Words.{Note, Reply, Word, noted_word, said_by, taken_word, word_if, words}
+use Rattle.ps_trace.specs.Words.{Note, Reply, Word, noted_word, said_by, taken_word, word_if, words}
 use Rattle.ps_workers.specs.Told.{AreOurs}
 
 ours-append : (h : List ℕ) (xs ys : List Word) → AreOurs h xs → AreOurs h ys → AreOurs h (xs ++ ys)

@@ -3,8 +3,8 @@ use Rattle.std.proofs.Common.{◌≡◌, ◌<◌, List, [], ◌∷◌, ◌++◌,
 use Rattle.ps_disk.specs.declared.device.Disk.{Ghosts}
 use Rattle.ps_workers.specs.Teams.{ArePaired, IsReading, IsWriting, ended_by, ended_in, passes_in}
 use Rattle.ps_workers.specs.declared.serving.Ended.{Ended}
-use Rattle.ps_shared.specs.declared.hall.HostPasses.{HostPasses}
-use Rattle.ps_shared.specs.declared.hall.Pass.{Pass}
+use Rattle.ps_hall.specs.declared.hall.HostPasses.{HostPasses}
+use Rattle.ps_hall.specs.declared.hall.Pass.{Pass}
 use Rattle.ps_workers.specs.declared.work.Work.{Work}
 use Rattle.ps_workers.specs.declared.work.Work.TheVariants.{Reader, Writer}
 use Rattle.ps_workers.specs.declared.work.Worker.{Worker}

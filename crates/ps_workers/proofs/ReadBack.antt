@@ -21,14 +21,14 @@ use Rattle.ps_model.specs.World.{World}
 use Rattle.ps_model.proofs.TheLaws.{the-laws}
 use Rattle.ps_world.proofs.Grows.{lawful-take}
 use Rattle.ps_world.proofs.Lists.{assoc, take-both}
-use Rattle.ps_deeds.specs.Lines.{AreLines, Came}
-use Rattle.ps_deeds.specs.Over.{IsComplete, IsFront}
-use Rattle.ps_deeds.specs.Words.{Note, Reply, Word, bytes_of, notes_in, replies_in, text_of}
-use Rattle.ps_deeds.proofs.Wording.{bytes-append, notes-in-append, replies-in-append}
+use Rattle.ps_trace.specs.Lines.{AreLines, Came}
+use Rattle.ps_trace.specs.Over.{IsComplete, IsFront}
+use Rattle.ps_trace.specs.Words.{Note, Reply, Word, bytes_of, notes_in, replies_in, text_of}
+use Rattle.ps_trace.proofs.Wording.{bytes-append, notes-in-append, replies-in-append}
 use Rattle.ps_streams.specs.Speaking.{IsFew, Written}
-use Rattle.ps_said.specs.Laws.{IsGiven, IsOneLine, IsToldApart, lines_to}
-use Rattle.ps_said.proofs.OneLine.{given-lines}
-use Rattle.ps_said.proofs.Telling.{given-apart}
+use Rattle.ps_sink_laws.specs.Laws.{IsGiven, IsOneLine, IsToldApart, lines_to}
+use Rattle.ps_sink_laws.proofs.OneLine.{given-lines}
+use Rattle.ps_sink_laws.proofs.Telling.{given-apart}
 use Rattle.ps_workers.specs.Sinks.{AreHanded, OfGained, ReadsBack, ReadsWhole}
 use Rattle.ps_workers.specs.Told.{AreOurs, IsAcknowledged}
 use Rattle.ps_workers.proofs.Given.{written-given}

@@ -10,16 +10,16 @@ use Rattle.ps_model.specs.declared.steps.Role.TheVariants.{Writer}
 use Rattle.ps_model.specs.declared.steps.Step.TheVariants.{Ended}
 use Rattle.ps_world.proofs.Lists.{assoc}
 use Rattle.ps_twin.specs.declared.twin.TwinSeat.{TwinSeat}
-use Rattle.ps_deeds.specs.Own.{AllDiffer, deeds}
-use Rattle.ps_deeds.specs.declared.deed.Deed.{Deed}
-use Rattle.ps_flush.specs.Homes.{world_at}
-use Rattle.ps_flush.specs.Origin.{Origin}
-use Rattle.ps_flush.proofs.Logs.{prefix_follows, within_room}
-use Rattle.ps_shared.specs.Calls.{FoundOver}
-use Rattle.ps_shared.specs.declared.answers.EndCause.TheVariants.{Finished}
-use Rattle.ps_state.specs.declared.state.State.{State}
-use Rattle.ps_store.specs.Stand.{broken_in}
-use Rattle.ps_store.specs.declared.store.Store.{Store}
+use Rattle.ps_trace.specs.Own.{AllDiffer, deeds}
+use Rattle.ps_trace.specs.declared.deed.Deed.{Deed}
+use Rattle.ps_hall_flush.specs.Homes.{world_at}
+use Rattle.ps_hall_flush.specs.Origin.{Origin}
+use Rattle.ps_hall_flush.proofs.Logs.{prefix_follows, within_room}
+use Rattle.ps_hall.specs.Calls.{FoundOver}
+use Rattle.ps_hall.specs.declared.answers.EndCause.TheVariants.{Finished}
+use Rattle.ps_hall_state.specs.declared.state.State.{State}
+use Rattle.ps_hall_store.specs.Stand.{broken_in}
+use Rattle.ps_hall_store.specs.declared.store.Store.{Store}
 use Rattle.ps_streams.specs.declared.read.ReadEnd.TheVariants.{Closed}
 use Rattle.ps_workers.specs.Closing.{HasEnded}
 use Rattle.ps_workers.specs.Headline.{HasReasons, Worked}

@@ -21,9 +21,9 @@ use Rattle.ps_coll.proofs.links.Links.TheSendSync as links
 use Rattle.ps_roster.proofs.roster.Roster.TheSendSync as roster
 use Rattle.ps_presence.proofs.presence.Presence.TheSendSync as presence
 use Rattle.ps_presence.proofs.cache.Cache.TheSendSync as cache
-use Rattle.ps_counts.proofs.counts.Counts.TheSendSync as counts
+use Rattle.ps_item_ids.proofs.counts.Counts.TheSendSync as counts
 use Rattle.ps_filter.proofs.wants.Wants.TheSendSync as wants
-use Rattle.ps_tallies.proofs.tallies.Tallies.TheSendSync as tallies
+use Rattle.ps_notice_numbers.proofs.tallies.Tallies.TheSendSync as tallies
 use Rattle.ps_outbox.proofs.boxes.Outboxes.TheSendSync as outboxes
 use Rattle.ps_items.specs.contracts.items.Items as Items
 use Rattle.ps_access.specs.contracts.tables.Tables as Tables
@@ -36,21 +36,21 @@ use Rattle.ps_core.specs.contracts.service.Service as Service
 use Rattle.ps_core.specs.contracts.service.Service.TheInside as Inside
 use Rattle.ps_core.specs.contracts.service.Stage as Stage
 use Rattle.ps_record.specs.contracts.batch.Batch as Batch
-use Rattle.ps_state.proofs.state.HostRow.TheSendSync as row
-use Rattle.ps_state.specs.contracts.state.State as State
+use Rattle.ps_hall_state.proofs.state.HostRow.TheSendSync as row
+use Rattle.ps_hall_state.specs.contracts.state.State as State
 use Rattle.ps_disk.specs.declared.device.Disk as Disk
 use Rattle.ps_twin.proofs.twin.Twin.TheSendSync as twin
 use Rattle.ps_twin.proofs.twin.TwinSeat.TheSendSync as seat
-use Rattle.ps_shared.proofs.bell.Bells.TheSendSync as bells
-use Rattle.ps_flush.proofs.home.Archive.TheSendSync as archive
-use Rattle.ps_shared.specs.contracts.hall.Hall as Hall
-use Rattle.ps_shared.specs.contracts.hall.Pass as Pass
-use Rattle.ps_shared.specs.contracts.hall.Room as Room
+use Rattle.ps_hall.proofs.bell.Bells.TheSendSync as bells
+use Rattle.ps_hall_flush.proofs.home.Archive.TheSendSync as archive
+use Rattle.ps_hall.specs.contracts.hall.Hall as Hall
+use Rattle.ps_hall.specs.contracts.hall.Pass as Pass
+use Rattle.ps_hall.specs.contracts.hall.Room as Room
 use Rattle.ps_twin.specs.contracts.twin.TwinSeat as TwinSeat
-use Rattle.ps_flush.specs.contracts.home.Archive as Archive
-use Rattle.ps_deeds.specs.contracts.deed.Deed as Deed
-use Rattle.ps_flush.specs.contracts.home.Home as Home
-use Rattle.ps_flush.specs.declared.home.Opening as Opening
+use Rattle.ps_hall_flush.specs.contracts.home.Archive as Archive
+use Rattle.ps_trace.specs.contracts.deed.Deed as Deed
+use Rattle.ps_hall_flush.specs.contracts.home.Home as Home
+use Rattle.ps_hall_flush.specs.declared.home.Opening as Opening
 
 entry : IsSend Entry.the_row
 entry = search (elem_send, text.the_send, std.crosses, sendable) depth 60 fits 20000

@@ -6,9 +6,9 @@ use Rattle.ps_disk.specs.declared.device.Disk.{Ghosts}
 use Rattle.ps_model.specs.Entries.{AreEntries, AreEntriesIn, IsEntry}
 use Rattle.ps_model.specs.Store.{AreParts, is_second, joined, spelled}
 use Rattle.ps_model.specs.World.{World, durable, ends}
-use Rattle.ps_books.proofs.Keys.{each-both}
+use Rattle.ps_book_laws.proofs.Keys.{each-both}
 use Rattle.ps_world.proofs.Lists.{take-both}
-use Rattle.ps_store.specs.Stand.{IsKept, OpenedAt}
+use Rattle.ps_hall_store.specs.Stand.{IsKept, OpenedAt}
 
 in-frame : (second : Bool) (es : List Entry) → AreEntriesIn second es → AreEntries es
 in-frame second [] are = tt

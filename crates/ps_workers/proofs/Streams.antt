@@ -8,8 +8,8 @@ use Rattle.ps_disk.specs.declared.device.Disk.{Ghosts}
 use Rattle.ps_wire.specs.Reading.{IsFresh as IsUnread}
 use Rattle.ps_wire.specs.declared.lines.Lines.{Lines}
 use Rattle.ps_wire.specs.declared.streams.Source.{Ghosts as SourceGhosts}
-use Rattle.ps_outside.specs.Held.{Held, HeldClock}
-use Rattle.ps_ports.specs.declared.port.Port.{Port}
+use Rattle.ps_io.specs.Held.{Held, HeldClock}
+use Rattle.ps_endpoints.specs.declared.port.Port.{Port}
 use Rattle.ps_model.specs.Entries.{AreEntries}
 use Rattle.ps_model.specs.Machine.{start}
 use Rattle.ps_model.specs.TheCore.{the_core}
@@ -18,18 +18,18 @@ use Rattle.ps_model.proofs.TheLaws.{the-laws}
 use Rattle.ps_world.proofs.Following.{run_follows}
 use Rattle.ps_twin.specs.Seats.{number_of, seen_of}
 use Rattle.ps_turn.specs.History.{Later}
-use Rattle.ps_deeds.specs.Over.{AllRead, HasRead}
-use Rattle.ps_deeds.specs.Own.{AllDiffer, steps_in}
-use Rattle.ps_deeds.proofs.Owning.{calm}
-use Rattle.ps_deeds.proofs.Unserved.{none-handed}
-use Rattle.ps_flush.specs.Homes.{maker_of, world_at}
-use Rattle.ps_flush.specs.Origin.{Origin}
-use Rattle.ps_shared.specs.Passes.{AreFresh, ArePasses, OurTwin, seats_in}
-use Rattle.ps_shared.specs.declared.hall.HostPasses.{HostPasses}
-use Rattle.ps_shared.specs.declared.hall.Pass.{Pass}
-use Rattle.ps_state.specs.declared.state.State.{State}
-use Rattle.ps_store.specs.Stand.{disk_in}
-use Rattle.ps_store.specs.declared.store.Store.{Store}
+use Rattle.ps_trace.specs.Over.{AllRead, HasRead}
+use Rattle.ps_trace.specs.Own.{AllDiffer, steps_in}
+use Rattle.ps_trace.proofs.Owning.{calm}
+use Rattle.ps_trace.proofs.Unserved.{none-handed}
+use Rattle.ps_hall_flush.specs.Homes.{maker_of, world_at}
+use Rattle.ps_hall_flush.specs.Origin.{Origin}
+use Rattle.ps_hall.specs.Passes.{AreFresh, ArePasses, OurTwin, seats_in}
+use Rattle.ps_hall.specs.declared.hall.HostPasses.{HostPasses}
+use Rattle.ps_hall.specs.declared.hall.Pass.{Pass}
+use Rattle.ps_hall_state.specs.declared.state.State.{State}
+use Rattle.ps_hall_store.specs.Stand.{disk_in}
+use Rattle.ps_hall_store.specs.declared.store.Store.{Store}
 use Rattle.ps_workers.specs.Closing.{HasEnded}
 use Rattle.ps_workers.specs.Headline.{HasReasons, NoneBroke, Serves, Worked}
 use Rattle.ps_workers.specs.Teams.{ArePaired, ended_in, passes_in, team, worked_of}

@@ -6,16 +6,16 @@ use Rattle.ps_disk.specs.declared.device.Disk.{Ghosts}
 use Rattle.ps_wire.specs.Reading.{IsFresh as IsUnread}
 use Rattle.ps_wire.specs.declared.lines.Lines.{Lines}
 use Rattle.ps_wire.specs.declared.streams.Source.{Ghosts as SourceGhosts}
-use Rattle.ps_outside.specs.Held.{Held, HeldClock}
-use Rattle.ps_ports.specs.declared.port.Port.{Port}
+use Rattle.ps_io.specs.Held.{Held, HeldClock}
+use Rattle.ps_endpoints.specs.declared.port.Port.{Port}
 use Rattle.ps_twin.specs.Seats.{number_of, seen_of}
-use Rattle.ps_shared.specs.Calls.{IsReader, IsWriter}
-use Rattle.ps_flush.specs.Origin.{Origin}
-use Rattle.ps_shared.specs.Passes.{AreFresh, AreOf, ArePasses, IsFresh, OurTwin, seats_in}
-use Rattle.ps_shared.specs.declared.answers.EndCause.{EndCause}
-use Rattle.ps_shared.specs.declared.answers.EndCause.TheVariants.{Finished}
-use Rattle.ps_shared.specs.declared.hall.HostPasses.{HostPasses}
-use Rattle.ps_shared.specs.declared.hall.Pass.{Pass}
+use Rattle.ps_hall.specs.Calls.{IsReader, IsWriter}
+use Rattle.ps_hall_flush.specs.Origin.{Origin}
+use Rattle.ps_hall.specs.Passes.{AreFresh, AreOf, ArePasses, IsFresh, OurTwin, seats_in}
+use Rattle.ps_hall.specs.declared.answers.EndCause.{EndCause}
+use Rattle.ps_hall.specs.declared.answers.EndCause.TheVariants.{Finished}
+use Rattle.ps_hall.specs.declared.hall.HostPasses.{HostPasses}
+use Rattle.ps_hall.specs.declared.hall.Pass.{Pass}
 use Rattle.ps_streams.specs.declared.read.ReadEnd.{ReadEnd}
 use Rattle.ps_streams.specs.declared.read.ReadEnd.TheVariants.{Ended as ReadAll}
 use Rattle.ps_workers.specs.Headline.{Worked}

@@ -8,15 +8,15 @@ use Rattle.ps_model.specs.TheCore.{the_core}
 use Rattle.ps_turn.specs.History.{Later}
 use Rattle.ps_twin.specs.Seats.{number_of, seen_of}
 use Rattle.ps_twin.specs.declared.twin.TwinSeat.{TwinSeat}
-use Rattle.ps_deeds.specs.Own.{AreOwned}
-use Rattle.ps_deeds.specs.declared.deed.Deed.{Deed}
-use Rattle.ps_state.specs.Rows.{names}
-use Rattle.ps_state.specs.Stand.{Stands}
-use Rattle.ps_state.specs.declared.state.State.{State}
-use Rattle.ps_store.specs.Stand.{IsKept, IsWhole, broken_in, disk_in, length_in}
-use Rattle.ps_store.specs.declared.store.Store.{Store}
-use Rattle.ps_flush.specs.Homes.{HadNoRoom, maker_of, world_at}
-use Rattle.ps_flush.specs.Origin.{Origin}
+use Rattle.ps_trace.specs.Own.{AreOwned}
+use Rattle.ps_trace.specs.declared.deed.Deed.{Deed}
+use Rattle.ps_hall_state.specs.Rows.{names}
+use Rattle.ps_hall_state.specs.Stand.{Stands}
+use Rattle.ps_hall_state.specs.declared.state.State.{State}
+use Rattle.ps_hall_store.specs.Stand.{IsKept, IsWhole, broken_in, disk_in, length_in}
+use Rattle.ps_hall_store.specs.declared.store.Store.{Store}
+use Rattle.ps_hall_flush.specs.Homes.{HadNoRoom, maker_of, world_at}
+use Rattle.ps_hall_flush.specs.Origin.{Origin}
 
 -- The state stands for the deeds of all passes; where nothing failed the store has all their entries, and a fault that the state tells of is the store's; and what
 -- each pass has seen is a beginning of the deeds, behind which nothing is of its own making.

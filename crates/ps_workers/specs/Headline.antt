@@ -11,20 +11,20 @@ use Rattle.ps_model.specs.Core.{handed}
 use Rattle.ps_model.specs.Entries.{AreEntries, spelling}
 use Rattle.ps_model.specs.TheCore.{the_core}
 use Rattle.ps_model.specs.World.{World, durable}
-use Rattle.ps_outside.specs.Held.{Held, HeldClock}
-use Rattle.ps_deeds.specs.Lines.{Came, HasLines}
-use Rattle.ps_deeds.specs.Over.{IsComplete, IsFront}
-use Rattle.ps_deeds.specs.Own.{IsServed}
-use Rattle.ps_deeds.specs.Words.{Word, notes_in}
-use Rattle.ps_said.specs.Laws.{IsOneLine}
-use Rattle.ps_flush.specs.Origin.{Origin}
-use Rattle.ps_shared.specs.declared.answers.EndCause.{EndCause}
-use Rattle.ps_shared.specs.declared.answers.EndCause.TheVariants.{WriteFault, Finished, Store as WriterStore, Full as WriterFull}
-use Rattle.ps_state.specs.Rows.{names}
-use Rattle.ps_state.specs.Stand.{Stands}
-use Rattle.ps_state.specs.declared.state.State.{State}
-use Rattle.ps_store.specs.Stand.{IsKept, IsWhole, broken_in, disk_in, length_in}
-use Rattle.ps_store.specs.declared.store.Store.{Store}
+use Rattle.ps_io.specs.Held.{Held, HeldClock}
+use Rattle.ps_trace.specs.Lines.{Came, HasLines}
+use Rattle.ps_trace.specs.Over.{IsComplete, IsFront}
+use Rattle.ps_trace.specs.Own.{IsServed}
+use Rattle.ps_trace.specs.Words.{Word, notes_in}
+use Rattle.ps_sink_laws.specs.Laws.{IsOneLine}
+use Rattle.ps_hall_flush.specs.Origin.{Origin}
+use Rattle.ps_hall.specs.declared.answers.EndCause.{EndCause}
+use Rattle.ps_hall.specs.declared.answers.EndCause.TheVariants.{WriteFault, Finished, Store as WriterStore, Full as WriterFull}
+use Rattle.ps_hall_state.specs.Rows.{names}
+use Rattle.ps_hall_state.specs.Stand.{Stands}
+use Rattle.ps_hall_state.specs.declared.state.State.{State}
+use Rattle.ps_hall_store.specs.Stand.{IsKept, IsWhole, broken_in, disk_in, length_in}
+use Rattle.ps_hall_store.specs.declared.store.Store.{Store}
 use Rattle.ps_streams.specs.Reading.{Lined, says_gone}
 use Rattle.ps_streams.specs.Speaking.{IsFew, Written}
 use Rattle.ps_streams.specs.declared.read.ReadEnd.{ReadEnd}

@@ -4,11 +4,11 @@ pub mod Headline
 pub mod Working
 pub mod Teams
 pub mod Closing
-pub use Rattle.ps_flush.specs.Origin
-pub use Rattle.ps_shared.specs.Start
-pub use Rattle.ps_shared.specs.declared.answers.EndCause
-pub use Rattle.ps_state.specs.declared.answers.Limits
-pub use Rattle.ps_state.specs.declared.state.State
+pub use Rattle.ps_hall_flush.specs.Origin
+pub use Rattle.ps_hall.specs.Start
+pub use Rattle.ps_hall.specs.declared.answers.EndCause
+pub use Rattle.ps_hall_state.specs.declared.answers.Limits
+pub use Rattle.ps_hall_state.specs.declared.state.State
 pub use Rattle.ps_streams.specs.Reading
 pub use Rattle.ps_streams.specs.Speaking
 pub use Rattle.ps_streams.specs.declared.read.ReadEnd

@@ -6,7 +6,7 @@ use Rattle.ps_types.specs.declared.jid.Jid.{Jid}
 use Rattle.ps_model.specs.Core.{handed}
 use Rattle.ps_model.specs.Streams as sink
 use Rattle.ps_model.specs.TheCore.{the_core}
-use Rattle.ps_deeds.specs.Lines.{Came, replies_of}
+use Rattle.ps_trace.specs.Lines.{Came, replies_of}
 
 -- where the sink tells its bytes, this holds of those that were written to it
 abbrev pub OfGained : Option (List ℕ) → Option (List ℕ) → (List ℕ → Type 0) → Type 0

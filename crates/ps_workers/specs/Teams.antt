@@ -3,11 +3,11 @@ use Rattle.std.specs.Prelude.{◌≡◌, ℕ, ◌+◌, ◌≤◌, ◌∷◌, [],
 use Rattle.ps_disk.specs.declared.device.Disk.{Ghosts}
 use Rattle.ps_wire.specs.declared.lines.Lines.{Lines}
 use Rattle.ps_wire.specs.declared.streams.Source.{Ghosts as SourceGhosts}
-use Rattle.ps_outside.specs.Held.{Held, HeldClock}
-use Rattle.ps_ports.specs.declared.port.Port.{Port}
-use Rattle.ps_shared.specs.declared.answers.EndCause.TheVariants.{Finished}
-use Rattle.ps_shared.specs.declared.hall.HostPasses.{HostPasses}
-use Rattle.ps_shared.specs.declared.hall.Pass.{Pass}
+use Rattle.ps_io.specs.Held.{Held, HeldClock}
+use Rattle.ps_endpoints.specs.declared.port.Port.{Port}
+use Rattle.ps_hall.specs.declared.answers.EndCause.TheVariants.{Finished}
+use Rattle.ps_hall.specs.declared.hall.HostPasses.{HostPasses}
+use Rattle.ps_hall.specs.declared.hall.Pass.{Pass}
 use Rattle.ps_streams.specs.declared.read.ReadEnd.TheVariants.{Ended as ReadAll}
 use Rattle.ps_workers.specs.Headline.{Worked}
 use Rattle.ps_workers.specs.Working.{sources}

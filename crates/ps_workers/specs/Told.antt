@@ -6,8 +6,8 @@ use Rattle.ps_types.specs.declared.entry.Entry.TheVariants.{Gone}
 use Rattle.ps_types.specs.declared.entry.Notice.{Notice}
 use Rattle.ps_model.specs.Entries.{spelling}
 use Rattle.ps_model.specs.TheCore.{the_core}
-use Rattle.ps_deeds.specs.Lines.{Came}
-use Rattle.ps_deeds.specs.Words.{Note, Reply, Word, notes_in, replies_in}
+use Rattle.ps_trace.specs.Lines.{Came}
+use Rattle.ps_trace.specs.Words.{Note, Reply, Word, notes_in, replies_in}
 
 -- the entry that the line would have made passes the limit behind so many bytes
 pub record PassesLimit (limit bytes : ℕ) (E : List Entry) (h : List ℕ) (k : ℕ) (c : Came) : Type 0 where

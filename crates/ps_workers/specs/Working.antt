@@ -5,17 +5,17 @@ use Rattle.ps_disk.specs.declared.device.Disk.{Ghosts}
 use Rattle.ps_wire.specs.Reading.{IsFresh, source_of}
 use Rattle.ps_wire.specs.declared.lines.Lines.{Lines}
 use Rattle.ps_wire.specs.declared.streams.Source.{Ghosts as SourceGhosts}
-use Rattle.ps_outside.specs.Held.{Held, HeldClock}
+use Rattle.ps_io.specs.Held.{Held, HeldClock}
 use Rattle.ps_types.specs.declared.entry.Entry.TheVariants.{Gone}
 use Rattle.ps_twin.specs.Seats.{number_of, seen_of}
-use Rattle.ps_deeds.specs.declared.deed.Deed.{Deed}
-use Rattle.ps_shared.specs.Calls.{FoundOver, IsReader, IsWriter}
-use Rattle.ps_flush.specs.Homes.{world_at}
-use Rattle.ps_flush.specs.Origin.{Origin}
-use Rattle.ps_shared.specs.Passes.{OurTwin}
-use Rattle.ps_shared.specs.declared.answers.EndCause.{EndCause}
-use Rattle.ps_shared.specs.declared.answers.EndCause.TheVariants.{WriteFault, Finished, Store as WriterStore, Full as WriterFull}
-use Rattle.ps_shared.specs.declared.hall.Pass.{Pass}
+use Rattle.ps_trace.specs.declared.deed.Deed.{Deed}
+use Rattle.ps_hall.specs.Calls.{FoundOver, IsReader, IsWriter}
+use Rattle.ps_hall_flush.specs.Homes.{world_at}
+use Rattle.ps_hall_flush.specs.Origin.{Origin}
+use Rattle.ps_hall.specs.Passes.{OurTwin}
+use Rattle.ps_hall.specs.declared.answers.EndCause.{EndCause}
+use Rattle.ps_hall.specs.declared.answers.EndCause.TheVariants.{WriteFault, Finished, Store as WriterStore, Full as WriterFull}
+use Rattle.ps_hall.specs.declared.hall.Pass.{Pass}
 use Rattle.ps_streams.specs.Reading.{FoundClosed, SaidGone, StreamRead, says_gone}
 use Rattle.ps_streams.specs.Speaking.{DoneOnce, HadNoRoom, IsSamePass, MaySpeak, Speaks}
 use Rattle.ps_streams.specs.declared.read.ReadEnd.{ReadEnd}

@@ -1,12 +1,12 @@
 // The end of a hall, with the last frame.
-ghost use Rattle.ps_shared.specs.Passes.{ArePasses, seats_in};
+ghost use Rattle.ps_hall.specs.Passes.{ArePasses, seats_in};
 ghost use Rattle.ps_workers.specs.Closing.{HasEnded};
 
 use ps_disk::Disk;
-use ps_flush::frame_of;
-use ps_shared::{Hall, HostPasses, Opening};
-use ps_state::State;
-use ps_store::Store;
+use ps_hall::{Hall, HostPasses, Opening};
+use ps_hall_flush::frame_of;
+use ps_hall_state::State;
+use ps_hall_store::Store;
 
 /// Ends the hall, and writes the entries that still wait unless the disk has failed. Where it fails now, the store tells.
 pub(crate) fn close<B: Opening, D: Disk>(

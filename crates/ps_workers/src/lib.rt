@@ -1,6 +1,6 @@
 //! The workers of all streams of a hall, beside one another, and what is told of the end.
 //!
-//! [`serve`] has a reader and a writer for each host of a hall (`ps_shared`), each in a thread of its own: the reader takes the lines of the host's source and
+//! [`serve`] has a reader and a writer for each host of a hall (`ps_hall`), each in a thread of its own: the reader takes the lines of the host's source and
 //! has the hall answer them, the writer writes what the host is told to its sink (`ps_streams`). Once all have ended it closes the hall, writes the entries
 //! that still wait unless the disk has failed, and gives back the state, the store and each stream with the causes of its two ends. It takes no memory: what
 //! it needs stands in a [`Room`].
@@ -30,7 +30,7 @@ mod closing;
 mod serving;
 mod work;
 
-pub use ps_shared::{EndCause, Hall, NoHall, Opening};
-pub use ps_state::{Limits, State};
+pub use ps_hall::{EndCause, Hall, NoHall, Opening};
+pub use ps_hall_state::{Limits, State};
 pub use ps_streams::ReadEnd;
 pub use serving::{Ended, Room, serve};

@@ -1,8 +1,8 @@
 // The workers of all hosts, from their passes and their streams to the end.
 ghost use Rattle.std.specs.Prelude.{◌≡◌, ◌≤◌, ◌+◌, ◌<◌, ◌^◌, ◌∷◌, [], ℕ, IfOk, length, slice_get, vec_capacity, vec_len};
 ghost use Rattle.std.specs.List.{All};
-ghost use Rattle.ps_deeds.specs.Own.{AllDiffer};
-ghost use Rattle.ps_shared.specs.Passes.{AreFresh};
+ghost use Rattle.ps_trace.specs.Own.{AllDiffer};
+ghost use Rattle.ps_hall.specs.Passes.{AreFresh};
 ghost use Rattle.ps_wire.specs.Reading.{IsFresh};
 ghost use Rattle.ps_workers.specs.Headline.{Serves};
 ghost use Rattle.ps_workers.specs.Teams.{ArePaired, IsReading, IsRoomFor, IsWriting, ended_by, ended_in, passes_in, team, worked_of};
@@ -12,11 +12,11 @@ use crate::closing::close;
 use crate::work::{Work, Worker, work_all};
 use ps_base::Memory;
 use ps_disk::Disk;
-use ps_outside::Clock;
-use ps_ports::Port;
-use ps_shared::{EndCause, Hall, HostPasses, Opening, Pass};
-use ps_state::State;
-use ps_store::Store;
+use ps_endpoints::Port;
+use ps_hall::{EndCause, Hall, HostPasses, Opening, Pass};
+use ps_hall_state::State;
+use ps_hall_store::Store;
+use ps_io::Clock;
 use ps_streams::ReadEnd;
 use ps_wire::{Lines, Sink, Source};
 use std::alloc::Global;

@@ -1,12 +1,12 @@
 // One worker, and all workers beside one another.
 ghost use Rattle.std.specs.Prelude.{◌<◌, ℕ, length, slice_index_or};
 ghost use Rattle.std.specs.List.{All};
-ghost use Rattle.ps_deeds.specs.Own.{AllDiffer};
+ghost use Rattle.ps_trace.specs.Own.{AllDiffer};
 ghost use Rattle.ps_workers.specs.Working.{DidWork, IsReady, clocks, sinks};
 
 use ps_disk::Disk;
-use ps_outside::Clock;
-use ps_shared::{EndCause, Hall, Opening, Pass};
+use ps_hall::{EndCause, Hall, Opening, Pass};
+use ps_io::Clock;
 use ps_streams::{ReadEnd, read_stream, write_stream};
 use ps_wire::{Lines, Sink, Source};
 use std::alloc::Global;

@@ -4,7 +4,7 @@
 #![tactic(auto)]
 
 use ps_base::Memory;
-use ps_outside::{RealWorld, World};
+use ps_io::{RealWorld, World};
 use ps_serve::{Status, run};
 use ps_types::Text;
 use std::env;

@@ -2,7 +2,7 @@ use Rattle.std.proofs.Common.{◌≡◌, inl, inr, ℕ, refl, sym, subst, ◌∙
 use Rattle.std.specs.Prelude.{IfErr, IfOk}
 use Rattle.ps_disk.proofs.Moments.{started}
 use Rattle.ps_model.specs.At.{IsDamagedAt, IsStore}
-use Rattle.ps_opening.specs.Reads.{IsKept, ReadNot, entries_of}
+use Rattle.ps_hall_open.specs.Reads.{IsKept, ReadNot, entries_of}
 use Rattle.ps_compact.specs.Compacted.{IfDamaged, LeftEmptyOrBase}
 use Rattle.ps_compact.proofs.Endings.{ended-done, ended-full, ended-occupied, ended-sound, ended-store, is-compacted, leaves-base, left-base, unread-damaged, unread-done, unread-full, unread-occupied, unread-same, unread-store}
 use Rattle.ps_compact.proofs.compacting.compact.Goals as goal

@@ -3,7 +3,7 @@ use Rattle.std.specs.Prelude.{OnOk}
 use Rattle.ps_journal.specs.Opened.{IsShortIfUnbegun}
 use Rattle.ps_model.specs.Base.{base}
 use Rattle.ps_model.specs.Store.{spelled}
-use Rattle.ps_opening.specs.Reads.{entries_of}
+use Rattle.ps_hall_open.specs.Reads.{entries_of}
 use Rattle.ps_compact.specs.Stores.{IsWrittenNew}
 use Rattle.ps_compact.proofs.Stores.{only-looked, quiet-left, then-written}
 use Rattle.ps_compact.proofs.compacting.write_kept.Goals as goal

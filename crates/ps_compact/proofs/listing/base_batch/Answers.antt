@@ -1,14 +1,14 @@
 use Rattle.std.proofs.Common.{◌≡◌, ◌<◌, ◌^◌, List, length, refl, sym, subst, ◌∙◌}
 use Rattle.std.specs.Prelude.{IfOk, map}
 use Rattle.ps_types.specs.declared.entry.Entry.{Entry}
-use Rattle.ps_bases.specs.Laws.{ServesOn}
+use Rattle.ps_compact_laws.specs.Laws.{ServesOn}
 use Rattle.ps_model.specs.Base.{base}
 use Rattle.ps_model.specs.Book.{Book}
 use Rattle.ps_model.specs.Entries.{body}
-use Rattle.ps_opening.specs.Reads.{IsKept, entries_of}
-use Rattle.ps_opening.specs.declared.opened.Kept.{Kept}
+use Rattle.ps_hall_open.specs.Reads.{IsKept, entries_of}
+use Rattle.ps_hall_open.specs.declared.opened.Kept.{Kept}
 use Rattle.ps_record.specs.Formed.{AreFormed}
-use Rattle.ps_row_entries.specs.Written.{written}
+use Rattle.ps_compact_export.specs.Written.{written}
 use Rattle.ps_compact.specs.Few.{AreHanded, AreMade}
 use Rattle.ps_compact.specs.Rows.{rows_left}
 use Rattle.ps_compact.proofs.Bases.{left-formed, left-is-base, listed, serves}

@@ -1,8 +1,8 @@
 use Rattle.std.proofs.Common.{◌≡◌, Bool, Option, Some, None, subst}
 use Rattle.std.specs.Prelude.{IfOk, option_map}
-use Rattle.ps_row_trees.specs.Held.{held_row_of}
-use Rattle.ps_row_trees.specs.Said.{row_said}
-use Rattle.ps_row_trees.specs.declared.row.Row.{Row}
+use Rattle.ps_compact_codec.specs.Held.{held_row_of}
+use Rattle.ps_compact_codec.specs.Said.{row_said}
+use Rattle.ps_compact_codec.specs.declared.row.Row.{Row}
 use Rattle.ps_core.specs.States.{state_of}
 use Rattle.ps_core.proofs.Rows.{none-accepted, read-accepted}
 use Rattle.ps_core.proofs.accepting.is_accepted_row.Goals as goal

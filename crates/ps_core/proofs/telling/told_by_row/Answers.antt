@@ -2,9 +2,9 @@ use Rattle.std.proofs.Common.{◌≡◌, Option, Some, subst}
 use Rattle.std.specs.Prelude.{IfOk, option_map}
 use Rattle.ps_model.specs.BaseRows.{BaseRow}
 use Rattle.ps_model.specs.Numbered.{row_notices}
-use Rattle.ps_row_trees.specs.Held.{held_row_of}
-use Rattle.ps_row_trees.specs.Said.{row_said}
-use Rattle.ps_row_trees.specs.declared.row.Row.{Row}
+use Rattle.ps_compact_codec.specs.Held.{held_row_of}
+use Rattle.ps_compact_codec.specs.Said.{row_said}
+use Rattle.ps_compact_codec.specs.declared.row.Row.{Row}
 use Rattle.ps_core.proofs.Rows.{read-is}
 use Rattle.ps_core.proofs.telling.told_by_row.Goals as goal
 

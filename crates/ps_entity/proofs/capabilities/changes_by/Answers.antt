@@ -4,9 +4,9 @@ use Rattle.ps_types.specs.CapString.{info_of}
 use Rattle.ps_model.specs.Book.{Book}
 use Rattle.ps_model.specs.ChangeRouter.{is_usable}
 use Rattle.ps_access.specs.Tables.{book_of}
-use Rattle.ps_told.specs.declared.answers.Answered.{Answered}
-use Rattle.ps_told.specs.Answers.{answer_taken}
-use Rattle.ps_told.proofs.Taken.{taken-by}
+use Rattle.ps_request_parts.specs.declared.answers.Answered.{Answered}
+use Rattle.ps_request_parts.specs.Answers.{answer_taken}
+use Rattle.ps_request_parts.proofs.Taken.{taken-by}
 use Rattle.ps_entity.specs.Answers.{knows_other}
 use Rattle.ps_entity.proofs.Answering.{taken-anew}
 use Rattle.ps_entity.proofs.capabilities.changes_by.Goals as goal

@@ -1,5 +1,5 @@
 use Rattle.std.proofs.Common.{◌≡◌, ◌+◌, true, length, arith, refl, ap, ◌∙◌}
-use Rattle.ps_dealt.specs.Counted.{one_if}
+use Rattle.ps_rehearse_lines.specs.Counted.{one_if}
 use Rattle.ps_rehearse.specs.Entries.{is_made}
 use Rattle.ps_rehearse.proofs.Making.{so-few, so-more}
 use Rattle.ps_rehearse.proofs.entries.count_made.Goals as goal

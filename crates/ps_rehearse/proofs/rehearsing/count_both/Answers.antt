@@ -1,5 +1,5 @@
 use Rattle.std.proofs.Common.{◌≡◌, true}
-use Rattle.ps_dealt.specs.Counted.{is_error, is_notice, is_result}
+use Rattle.ps_rehearse_lines.specs.Counted.{is_error, is_notice, is_result}
 use Rattle.ps_rehearse.specs.Streams.{IsDone}
 use Rattle.ps_rehearse.proofs.Pairs.{are-two, both-counted}
 use Rattle.ps_rehearse.proofs.rehearsing.count_both.Goals as goal

@@ -1,6 +1,6 @@
 use Rattle.std.proofs.Common.{◌≡◌, ◌≢◌, List, ℕ, [], length, refl, sym, ap, subst, ◌∙◌, arith}
 use Rattle.ps_model.specs.Entries.{IsHostName}
-use Rattle.ps_opening.specs.Fresh.{AreHosts}
+use Rattle.ps_hall_open.specs.Fresh.{AreHosts}
 use Rattle.ps_rehearse.specs.Entries.{the_hosts, the_service}
 use Rattle.ps_disk.specs.contracts.memory.MemDiskDisk.TheImpl.{ghosts}
 use Rattle.ps_model.specs.Store.{spelled}

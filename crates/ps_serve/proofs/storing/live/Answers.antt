@@ -1,5 +1,5 @@
 use Rattle.std.proofs.Common.{inl, inr, refl, ap, ◌∙◌}
-use Rattle.ps_store.specs.Stand.{disk_in}
+use Rattle.ps_hall_store.specs.Stand.{disk_in}
 use Rattle.ps_serve.specs.Ends.{worst_in}
 use Rattle.ps_serve.proofs.storing.live.Goals as goal
 

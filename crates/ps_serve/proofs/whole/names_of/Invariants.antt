@@ -1,5 +1,5 @@
 use Rattle.std.proofs.Common.{◌≡◌, take}
-use Rattle.ps_words.specs.Words.{hosts_of}
+use Rattle.ps_args.specs.Words.{hosts_of}
 use Rattle.ps_serve.proofs.whole.names_of.Given as goal
 
 abbrev pub invariant-loop-stream : goal.invariant-loop-stream

@@ -1,5 +1,5 @@
 use Rattle.std.proofs.Common.{◌≡◌, ◌≤◌, ℕ, subst, sym}
-use Rattle.ps_words.specs.Words.{command_of}
+use Rattle.ps_args.specs.Words.{command_of}
 use Rattle.ps_serve.specs.Compacting.{Compacts, compacted_by}
 use Rattle.ps_serve.specs.Outside.{outside}
 use Rattle.ps_serve.specs.Runs.{Runs, openings_of, reported_from, served_by}

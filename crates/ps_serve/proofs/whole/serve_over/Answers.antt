@@ -1,6 +1,6 @@
 use denote.Param.Send.{given_send, given_sync, param_send, param_sync}
 use Rattle.std.proofs.Common.{◌≢◌, ℕ, List, [], length, refl, sym, ◌∙◌, ap, subst, arith}
-use Rattle.ps_opening.specs.Fresh.{AreHosts}
+use Rattle.ps_hall_open.specs.Fresh.{AreHosts}
 use Rattle.ps_workers.specs.Teams.{worked_of}
 use Rattle.ps_serve.proofs.Over.{as-many, not-open, opened-fresh, ran-over}
 use Rattle.ps_serve.proofs.Streams.{are-apart, are-hosts, host-count, leaves-then, some-host}

@@ -1,7 +1,7 @@
 use Rattle.std.proofs.Common.{ℕ, ◌+◌, sym, ap, ◌∙◌, subst}
 use Rattle.ps_model.specs.TheCore.{the_core}
 use Rattle.ps_twin.specs.Seats.{number_of, seen_of}
-use Rattle.ps_deeds.specs.Did.{IsKept}
+use Rattle.ps_trace.specs.Did.{IsKept}
 use Rattle.ps_wire.specs.Reading.{rest_of, source_of}
 use Rattle.ps_streams.proofs.Bringing.{flushes-keep}
 use Rattle.ps_streams.proofs.Causes.{flushes-broken}

@@ -1,6 +1,6 @@
 use Rattle.std.proofs.Common.{◌≡◌, ◌≤◌, None}
 use Rattle.ps_wire.specs.Reading.{Gave, given_of, rest_of, source_of, stopped_of}
-use Rattle.ps_shared.specs.Calls.{IsReader}
+use Rattle.ps_hall.specs.Calls.{IsReader}
 use Rattle.ps_streams.specs.Reading.{SeatSoRead}
 use Rattle.ps_streams.specs.Speaking.{IsSamePass}
 use Rattle.ps_streams.proofs.read.read_lines.Given as goal

@@ -1,12 +1,12 @@
 use Rattle.std.proofs.Common.{ℕ, ◌+◌, List, inl, inr, sym, ap, ◌∙◌, subst, refl}
 use Rattle.ps_types.specs.declared.entry.Entry.TheVariants.{Gone}
 use Rattle.ps_model.specs.TheCore.{the_core}
-use Rattle.ps_deeds.specs.Did.{IsKept}
+use Rattle.ps_trace.specs.Did.{IsKept}
 use Rattle.ps_twin.specs.Seats.{number_of, seen_of}
 use Rattle.ps_wire.specs.Reading.{rest_of, source_of}
 use Rattle.ps_streams.proofs.Bringing.{gone-as}
-use Rattle.ps_state.specs.declared.answers.HandedRefusal.{HandedRefusal}
-use Rattle.ps_shared.specs.Calls.{FoundOver}
+use Rattle.ps_hall_state.specs.declared.answers.HandedRefusal.{HandedRefusal}
+use Rattle.ps_hall.specs.Calls.{FoundOver}
 use Rattle.ps_streams.specs.Reading.{brings_all, says_gone}
 use Rattle.ps_streams.proofs.Causes.{stream-broken}
 use Rattle.ps_streams.proofs.Fronts.{closed-on, gone-grows, said-gone}

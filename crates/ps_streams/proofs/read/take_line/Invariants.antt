@@ -1,5 +1,5 @@
 use Rattle.std.proofs.Common.{[]}
-use Rattle.ps_shared.specs.Calls.{IsReader}
+use Rattle.ps_hall.specs.Calls.{IsReader}
 use Rattle.ps_streams.specs.Reading.{SeatBrings}
 use Rattle.ps_streams.specs.Speaking.{IsSamePass}
 use Rattle.ps_streams.proofs.read.take_line.Given as goal

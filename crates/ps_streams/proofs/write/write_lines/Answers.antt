@@ -1,8 +1,8 @@
 use Rattle.std.proofs.Common.{ℕ, ◌+◌, List, Bool, Ok, Err, refl, sym, ap, ◌∙◌, subst, arith}
 use Rattle.std.specs.Result.{IsErrOf}
 use Rattle.ps_twin.specs.Seats.{number_of, seen_of}
-use Rattle.ps_shared.specs.declared.answers.EndCause.{EndCause}
-use Rattle.ps_shared.specs.declared.answers.EndCause.TheVariants.{WriteFault}
+use Rattle.ps_hall.specs.declared.answers.EndCause.{EndCause}
+use Rattle.ps_hall.specs.declared.answers.EndCause.TheVariants.{WriteFault}
 use Rattle.ps_streams.specs.Speaking.{FindsLanded, FindsOver, FoundNoRoom}
 use Rattle.ps_streams.proofs.Ending.{ends-after, ends-as, goes-as}
 use Rattle.ps_streams.proofs.Looping.{begun-whole, err-same, speaks-on, the_err, whole-on}

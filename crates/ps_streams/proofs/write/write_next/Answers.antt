@@ -4,11 +4,11 @@ use Rattle.ps_base.specs.declared.Memory.{Memory}
 use Rattle.ps_twin.specs.Seats.{number_of, seen_of}
 use Rattle.ps_wire.specs.Writing.{AppendsFront}
 use Rattle.ps_types.specs.declared.jid.Jid.{Jid}
-use Rattle.ps_state.specs.declared.answers.HandedRefusal.{HandedRefusal}
-use Rattle.ps_shared.specs.Calls.{HasHand}
-use Rattle.ps_flush.specs.Homes.{world_at}
-use Rattle.ps_shared.specs.declared.answers.Next.TheVariants.{NotYet, Notice, Over, Reply}
-use Rattle.ps_shared.specs.declared.answers.EndCause.{EndCause}
+use Rattle.ps_hall_state.specs.declared.answers.HandedRefusal.{HandedRefusal}
+use Rattle.ps_hall.specs.Calls.{HasHand}
+use Rattle.ps_hall_flush.specs.Homes.{world_at}
+use Rattle.ps_hall.specs.declared.answers.Next.TheVariants.{NotYet, Notice, Over, Reply}
+use Rattle.ps_hall.specs.declared.answers.EndCause.{EndCause}
 use Rattle.ps_streams.specs.Speaking.{HasLanded}
 use Rattle.ps_streams.proofs.Causes.{hand-landed, handed-store}
 use Rattle.ps_streams.proofs.Ending.{ends-after, goes-handed, goes-next, handed-ends}

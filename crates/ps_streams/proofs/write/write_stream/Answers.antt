@@ -1,5 +1,5 @@
 use Rattle.std.proofs.Common.{ℕ, List, ◌+◌, sym, ap, ◌∙◌, subst}
-use Rattle.ps_deeds.specs.Own.{IsWriterOf}
+use Rattle.ps_trace.specs.Own.{IsWriterOf}
 use Rattle.ps_twin.specs.Seats.{number_of, seen_of}
 use Rattle.ps_streams.proofs.Causes.{broken-on, landed-on}
 use Rattle.ps_streams.proofs.Ending.{ends-added, ends-after, ends-as}

@@ -1,4 +1,4 @@
-use Rattle.ps_shared.specs.Passes.{seats_in}
+use Rattle.ps_hall.specs.Passes.{seats_in}
 use Rattle.ps_workers.proofs.LastFrame.{ended_broken, ended_last, may_write}
 use Rattle.ps_workers.proofs.closing.close.Goals as goal
 

@@ -1,8 +1,8 @@
 use Rattle.std.proofs.Common.{◌≡◌, ◌+◌, Option, Some, refl, subst}
 use Rattle.std.specs.Prelude.{option_map}
-use Rattle.ps_row_trees.specs.Held.{held_row_of}
-use Rattle.ps_row_trees.specs.Said.{row_said}
-use Rattle.ps_row_trees.specs.declared.row.Row.{Row}
+use Rattle.ps_compact_codec.specs.Held.{held_row_of}
+use Rattle.ps_compact_codec.specs.Said.{row_said}
+use Rattle.ps_compact_codec.specs.declared.row.Row.{Row}
 use Rattle.ps_core.specs.States.{part_of}
 use Rattle.ps_core.specs.declared.half.Half.{Half}
 use Rattle.ps_core.proofs.Rows.{based-key, based-part}

@@ -1,5 +1,0 @@
-use Rattle.ps_apart.proofs.Whole.{same-numbers}
-use Rattle.ps_apart.proofs.laws.each_rehearsal_has_the_numbers.Goals as goal
-
-pub returns : goal.returns
-returns c = λ seed count short w cs ds ws vs is. same-numbers seed count short w cs ds ws vs is

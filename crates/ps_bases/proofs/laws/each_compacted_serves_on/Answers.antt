@@ -1,6 +1,0 @@
-use Rattle.ps_bases.proofs.Rereading.{stored-gives}
-use Rattle.ps_bases.proofs.ServesOn.{base-serves-on}
-use Rattle.ps_bases.proofs.laws.each_compacted_serves_on.Goals as goal
-
-pub returns : goal.returns
-returns c = λ E is own made few. base-serves-on E is (stored-gives E is own made few)

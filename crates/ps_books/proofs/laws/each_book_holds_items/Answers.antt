@@ -1,5 +1,0 @@
-use Rattle.ps_books.proofs.Kept.{lawful-kept}
-use Rattle.ps_books.proofs.laws.each_book_holds_items.Goals as goal
-
-pub returns : goal.returns
-returns c = λ E ok. lawful-kept E ok

@@ -1,5 +1,0 @@
-use Rattle.ps_books.proofs.Addressed.{lawful-addresses}
-use Rattle.ps_books.proofs.laws.each_book_names_addresses.Goals as goal
-
-pub returns : goal.returns
-returns c = λ E ok. lawful-addresses E ok

@@ -1,5 +1,0 @@
-use Rattle.ps_books.proofs.Addressed.{lawful-early}
-use Rattle.ps_books.proofs.laws.each_item_is_early.Goals as goal
-
-pub returns : goal.returns
-returns c = λ E ok own. lawful-early E ok own

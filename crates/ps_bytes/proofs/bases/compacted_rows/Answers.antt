@@ -1,5 +1,0 @@
-use Rattle.ps_bytes.proofs.BasesHold.{rows-lawful, rows-stand, whole-lawful}
-use Rattle.ps_bytes.proofs.bases.compacted_rows.Goals as goal
-
-pub returns : goal.returns
-returns c = record { rows = rows-stand; lawful = whole-lawful; accepted = rows-lawful }

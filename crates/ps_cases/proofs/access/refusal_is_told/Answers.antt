@@ -1,5 +1,0 @@
-use Rattle.ps_cases.proofs.AccessHold.{refused-holds}
-use Rattle.ps_cases.proofs.access.refusal_is_told.Goals as goal
-
-pub returns : goal.returns
-returns c = refused-holds

@@ -1,5 +1,0 @@
-use Rattle.ps_cases.proofs.AccessHold.{subscribers-holds}
-use Rattle.ps_cases.proofs.access.subscribers_publish.Goals as goal
-
-pub returns : goal.returns
-returns c = subscribers-holds

@@ -1,5 +1,0 @@
-use Rattle.ps_cases.proofs.AccessHold.{whitelist-holds}
-use Rattle.ps_cases.proofs.access.whitelist_in_order.Goals as goal
-
-pub returns : goal.returns
-returns c = whitelist-holds

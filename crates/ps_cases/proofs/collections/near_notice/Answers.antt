@@ -1,5 +1,0 @@
-use Rattle.ps_cases.proofs.CollectionsHold.{near-holds}
-use Rattle.ps_cases.proofs.collections.near_notice.Goals as goal
-
-pub returns : goal.returns
-returns c = near-holds

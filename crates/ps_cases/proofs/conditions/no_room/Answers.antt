@@ -1,5 +1,0 @@
-use Rattle.ps_cases.proofs.FullHold.{requests-holds, others-holds}
-use Rattle.ps_cases.proofs.conditions.no_room.Goals as goal
-
-pub returns : goal.returns
-returns c = record { requests = requests-holds; others = others-holds }

@@ -1,5 +1,0 @@
-use Rattle.ps_cases.proofs.ConditionsHold.{unsupported-requests-holds}
-use Rattle.ps_cases.proofs.conditions.unsupported_by_collections.Goals as goal
-
-pub returns : goal.returns
-returns c = unsupported-requests-holds

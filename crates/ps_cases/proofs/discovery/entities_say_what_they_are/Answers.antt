@@ -1,5 +1,0 @@
-use Rattle.ps_cases.proofs.DiscoveryHold.{entities-holds}
-use Rattle.ps_cases.proofs.discovery.entities_say_what_they_are.Goals as goal
-
-pub returns : goal.returns
-returns c = entities-holds

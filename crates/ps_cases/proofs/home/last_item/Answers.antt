@@ -1,5 +1,0 @@
-use Rattle.ps_cases.proofs.HomeHold.{last-holds}
-use Rattle.ps_cases.proofs.home.last_item.Goals as goal
-
-pub returns : goal.returns
-returns c = last-holds

@@ -1,5 +1,0 @@
-use Rattle.ps_cases.proofs.HomeHold.{groups-holds}
-use Rattle.ps_cases.proofs.home.roster_groups.Goals as goal
-
-pub returns : goal.returns
-returns c = groups-holds

@@ -1,5 +1,0 @@
-use Rattle.ps_cases.proofs.HomeHold.{wanting-holds}
-use Rattle.ps_cases.proofs.home.wanted_items.Goals as goal
-
-pub returns : goal.returns
-returns c = wanting-holds

@@ -1,5 +1,0 @@
-use Rattle.ps_cases.proofs.LinesHold.{first-lines}
-use Rattle.ps_cases.proofs.lines.first_lines.Goals as goal
-
-pub returns : goal.returns
-returns c = first-lines

@@ -1,5 +1,0 @@
-use Rattle.ps_cases.proofs.NoticesHold.{each-kind-holds}
-use Rattle.ps_cases.proofs.notices.each_kind_is_told.Goals as goal
-
-pub returns : goal.returns
-returns c = each-kind-holds

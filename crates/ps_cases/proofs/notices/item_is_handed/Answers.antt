@@ -1,5 +1,0 @@
-use Rattle.ps_cases.proofs.NoticesHold.{published-item-holds}
-use Rattle.ps_cases.proofs.notices.item_is_handed.Goals as goal
-
-pub returns : goal.returns
-returns c = published-item-holds

@@ -1,5 +1,0 @@
-use Rattle.ps_cases.proofs.NoticesHold.{retracted-holds}
-use Rattle.ps_cases.proofs.notices.retraction_on_request.Goals as goal
-
-pub returns : goal.returns
-returns c = retracted-holds

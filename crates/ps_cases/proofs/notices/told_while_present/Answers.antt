@@ -1,5 +1,0 @@
-use Rattle.ps_cases.proofs.NoticesHold.{while-present-holds}
-use Rattle.ps_cases.proofs.notices.told_while_present.Goals as goal
-
-pub returns : goal.returns
-returns c = while-present-holds

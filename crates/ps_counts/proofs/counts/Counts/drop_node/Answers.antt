@@ -1,5 +1,0 @@
-use Rattle.ps_counts.proofs.Keys.{at_node}
-use Rattle.ps_counts.proofs.counts.Counts.drop_node.Goals as goal
-
-pub take_away-requires : goal.take_away-requires
-take_away-requires c = record { asks = at_node c.args.node.now }

@@ -1,5 +1,0 @@
-use Rattle.ps_counts.proofs.Keys.{count_of}
-use Rattle.ps_counts.proofs.counts.Counts.row_of.Goals as goal
-
-pub find-requires : goal.find-requires
-find-requires c = record { asks = count_of c.args.node.now c.args.who.now }

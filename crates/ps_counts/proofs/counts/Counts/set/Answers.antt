@@ -1,6 +1,0 @@
-use Rattle.std.proofs.Common.{◌<◌, sym, subst}
-use Rattle.ps_counts.proofs.Keys.{count_of, alike, kin}
-use Rattle.ps_counts.proofs.counts.Counts.set.Goals as goal
-
-pub put-requires : goal.put-requires
-put-requires c = record { asks = count_of c.args.row.node c.args.row.who; alike = λ seed index old h. alike seed c.args.row old index h; kin = λ old h. kin c.args.row old h; room = subst (λ t. 0 < t.spare) (sym c.self.view_is) c.requires.room }

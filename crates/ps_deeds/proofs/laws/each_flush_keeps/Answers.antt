@@ -1,5 +1,0 @@
-use Rattle.ps_deeds.proofs.Keeping.{flush-keeps}
-use Rattle.ps_deeds.proofs.laws.each_flush_keeps.Goals as goal
-
-pub returns : goal.returns
-returns c = record { kept = λ core laws boot list hosts k found new did. flush-keeps core laws boot list hosts k found new did }

@@ -1,5 +1,0 @@
-use Rattle.ps_deeds.proofs.Handing.{hands-none}
-use Rattle.ps_deeds.proofs.laws.handed_hands_none.Goals as goal
-
-pub returns : goal.returns
-returns c = record { none = hands-none }

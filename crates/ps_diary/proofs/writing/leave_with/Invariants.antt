@@ -1,4 +1,0 @@
-use Rattle.ps_diary.proofs.writing.leave_with.Given as goal
-
-abbrev pub ghost-leave : goal.ghost-leave
-ghost-leave g a = g.added

@@ -1,5 +1,0 @@
-use Rattle.ps_diary.specs.Writing.{IsReady}
-use Rattle.ps_diary.proofs.writing.write_times.Given as goal
-
-abbrev pub invariant-loop-at : goal.invariant-loop-at
-invariant-loop-at g l = IsReady l.twin l.by l.seat

@@ -1,6 +1,0 @@
-use Rattle.ps_model.proofs.LineLaws.{reads-line}
-use Rattle.ps_exact.proofs.Trees.{line-exact}
-use Rattle.ps_exact.proofs.laws.each_line_is_exact.Goals as goal
-
-pub returns : goal.returns
-returns c = λ text t. (line-exact text t, reads-line text t)

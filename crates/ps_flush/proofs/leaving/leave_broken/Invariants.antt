@@ -1,4 +1,0 @@
-use Rattle.ps_flush.proofs.leaving.leave_broken.Given as goal
-
-abbrev pub ghost-leave : goal.ghost-leave
-ghost-leave g a = g.added

@@ -1,0 +1,55 @@
+use Rattle.std.proofs.Common.{◌≡◌, List, ℕ, arith, refl, subst, [], ◌∷◌}
+use Rattle.ps_model.specs.declared.steps.Role.TheVariants.{Reader}
+use Rattle.ps_model.specs.declared.steps.Step.TheVariants.{Ended}
+use Rattle.ps_trace.specs.Own.{deeds}
+use Rattle.ps_twin.specs.Seats.{seen_of, number_of}
+use Rattle.ps_hall_state.specs.Steps.{Goes}
+use Rattle.ps_hall_flush.specs.Homes.{bytes_in, world_at}
+use Rattle.ps_hall_flush.proofs.Homing.{did_by, home_few, home_here, home_row, notes}
+use Rattle.ps_hall.proofs.Passing.{reader_on, reads_at}
+use Rattle.ps_hall.proofs.hall.Hall.end_reader.Goals as goal
+
+pub reader_ended-requires-clause-here : goal.reader_ended-requires-clause-here
+reader_ended-requires-clause-here g c = home_here g.B.Opening.origin c.enter-home.result.state (seen_of c.enter-home.new.seat) c.args.pass.now.at c.args.pass.now.host c.enter-home.ensures.value c.requires.reader.pass.here
+
+pub reader_ended-requires-clause-few : goal.reader_ended-requires-clause-few
+reader_ended-requires-clause-few g c = home_few g.B.Opening.origin c.enter-home.result.state (seen_of c.enter-home.new.seat) c.enter-home.ensures.value c.enter-home.ensures.few
+
+pub leave_ended-requires : goal.leave_ended-requires
+leave_ended-requires g c κs within =
+    let o = g.B.Opening.origin in
+    let e = c.enter-home.ensures in
+    let x = c.reader_ended.ensures in
+    let s = c.enter-home.new.seat in
+    let v = c.enter-home.result.state in
+    let now = c.reader_ended.new.self in
+    let host = c.args.pass.now.host in
+    let row = home_row o v (seen_of s) c.args.pass.now.at host e.value c.requires.reader.pass.here in
+    let goes = subst (λ (h : List ℕ). Goes v now (Ended h Reader ∷ [])) row.2 (x.goes row.0 row.1) in (
+      within.0,
+      (
+        within.1,
+        (
+          e.twin,
+          notes o c.args.self.now.twin s v now (Ended host Reader ∷ []) e.twin e.held e.value e.firm e.mark x.kept (tt, tt)
+              (reads_at o c.args.self.now.twin c.args.pass.now.at host c.args.pass.now.seat (number_of s) e.number c.requires.reader, tt)
+              (λ le. ((omega arith, tt), tt)) (omega arith) (goes o.boot e.value.named (world_at o (seen_of s)) e.value.stands),
+        ),
+      ),
+    )
+
+pub returns-clause-ended : goal.returns-clause-ended
+returns-clause-ended g c =
+    let o = g.B.Opening.origin in
+    let e = c.enter-home.ensures in
+    let s = c.enter-home.new.seat in
+    let host = c.args.pass.now.host in
+    did_by o c.args.pass.now.seat s c.leave_ended.new.seat c.enter-home.result.state c.reader_ended.new.self (Ended host Reader ∷ []) (λ w steps. steps ≡ Ended host Reader ∷ []) e.number e.later e.value
+    (reads_at o c.args.self.now.twin c.args.pass.now.at host c.args.pass.now.seat (number_of s) e.number c.requires.reader, tt) c.leave_ended.ensures.seen refl
+
+pub returns-clause-reader : goal.returns-clause-reader
+returns-clause-reader g c =
+    let now = c.reader_ended.new.self in
+    let s = c.enter-home.new.seat in
+    reader_on g.B.Opening.origin c.args.self.now.twin c.args.pass.now.at c.args.pass.now.host c.args.pass.now.seat s c.leave_ended.new.seat now
+    (deeds (number_of s) (bytes_in now) (Ended c.args.pass.now.host Reader ∷ [])) c.requires.reader c.enter-home.ensures.number c.enter-home.ensures.hand c.leave_ended.ensures (returns-clause-ended g c).owned

@@ -1,0 +1,199 @@
+-- What the calls of the hall say.
+use Rattle.std.specs.Prelude.{◌≡◌, ◌≢◌, ◌⊎◌, ℕ, ◌+◌, ◌<◌, ◌≤◌, Bool, true, false, List, [], ◌∷◌, ◌++◌, length, Option, Some, None, Result, Ok, Err, slice_get}
+use Rattle.ps_types.specs.declared.entry.Arrival.{Arrival}
+use Rattle.ps_types.specs.declared.entry.Entry.{Entry}
+use Rattle.ps_types.specs.declared.entry.Entry.TheVariants.{Handed, Gone as GoneEntry}
+use Rattle.ps_types.specs.declared.jid.Jid.{Jid}
+use Rattle.ps_model.specs.Entries.{spelling}
+use Rattle.ps_model.specs.World.{World}
+use Rattle.ps_model.specs.declared.steps.Role.TheVariants.{Reader}
+use Rattle.ps_model.specs.declared.steps.Step.{Step}
+use Rattle.ps_model.specs.declared.steps.Step.TheVariants.{Arrive, Take, Emit, Record, Gone, Ended}
+use Rattle.ps_twin.specs.declared.twin.TwinSeat.{TwinSeat}
+use Rattle.ps_twin.specs.declared.twin.Twin.{Twin}
+use Rattle.ps_twin.specs.Seats.{seen_of, number_of}
+use Rattle.ps_trace.specs.Did.{HasInHand, NoneInHand}
+use Rattle.ps_trace.specs.Own.{AreOwned}
+use Rattle.ps_trace.specs.declared.deed.Deed.{Deed}
+use Rattle.ps_hall_state.specs.Arrive.{IsOpen, entry_in, lacks_room, outcome_of, reply_in, untaken}
+use Rattle.ps_hall_state.specs.Next.{IsFirstNotice, IsFirstReply, NoNotice, NoReply, some_reads}
+use Rattle.ps_hall_state.specs.Stand.{Stands, bytes_with}
+use Rattle.ps_hall_state.specs.declared.answers.ArriveRefusal.{ArriveRefusal}
+use Rattle.ps_hall_state.specs.declared.answers.ArriveRefusal.TheVariants.{Closed, Store as NoStore, Again, Memory as NoMemory}
+use Rattle.ps_hall_state.specs.declared.answers.HandedRefusal.{HandedRefusal}
+use Rattle.ps_hall_state.specs.declared.answers.HandedRefusal.TheVariants.{Store, Full, Memory}
+use Rattle.ps_hall_state.specs.declared.answers.Receipt.{Receipt}
+use Rattle.ps_hall_state.specs.declared.state.State.{State}
+use Rattle.ps_hall_flush.specs.Doing.{Adds, Does}
+use Rattle.ps_hall_flush.specs.Flush.{Flushes, NotFlushed}
+use Rattle.ps_hall_flush.specs.Homes.{world_at}
+use Rattle.ps_hall_flush.specs.Origin.{Origin}
+use Rattle.ps_hall_flush.specs.Seat.{MayCall}
+use Rattle.ps_hall.specs.Steps.{is_full, refused_steps}
+use Rattle.ps_hall.specs.declared.answers.Next.{Next}
+use Rattle.ps_hall.specs.declared.answers.Next.TheVariants.{Reply, Notice, NotYet, Over}
+
+-- ---- passes
+
+module _ {V J : Type 0} where
+  -- the pass of a caller of the host at this place
+  pub record IsPass (o : Origin) (t : Twin V J Deed) (at : ℕ) (host : List ℕ) (s : TwinSeat V J Deed) : Type 0 where
+    pub call : MayCall t s
+    pub here : slice_get o.hosts at ≡ Some host
+    pub owned : AreOwned o.hosts (seen_of s)
+
+  -- of its reader, or of its writer
+  pub record IsReader (o : Origin) (t : Twin V J Deed) (at : ℕ) (host : List ℕ) (s : TwinSeat V J Deed) : Type 0 where
+    pub pass : IsPass o t at host s
+    pub number : number_of s ≡ at + at
+
+  pub record IsWriter (o : Origin) (t : Twin V J Deed) (at : ℕ) (host : List ℕ) (s : TwinSeat V J Deed) : Type 0 where
+    pub pass : IsPass o t at host s
+    pub number : number_of s ≡ at + at + 1
+
+-- what a writer has in hand, by the world of what it has seen
+abbrev pub HasHand : Option Jid → List ℕ → World → Type 0
+HasHand None host w = NoneInHand host w
+HasHand (Some a) host w = HasInHand host a w
+
+-- ---- lines
+
+-- a state of this world, in which the entry would pass the limit just where the line found no room
+pub record IsMeasured (o : Origin) (w : World) (host : List ℕ) (arrival : Arrival) (full : Bool) : Type 0 where
+  pub kept : State
+  pub stands : Stands kept w
+  pub full_is : full ≡ lacks_room o.limits.changes kept.length kept.batch (entry_in w host arrival)
+
+pub record IsReceipt (o : Origin) (w : World) (host : List ℕ) (arrival : Arrival) (r : Receipt) : Type 0 where
+  pub is_open : IsOpen w host
+  pub place : r.place ≡ length w.entries
+  pub outcome : r.outcome ≡ outcome_of (is_full r.outcome) (reply_in w host arrival false) (entry_in w host arrival)
+  pub room : IsMeasured o w host arrival (is_full r.outcome)
+
+-- why a line was not taken
+abbrev pub IsCause : World → List ℕ → ArriveRefusal → Type 0
+IsCause w host Closed = (w.hosts host).writer_ended ≡ true
+IsCause w host NoStore = ((w.hosts host).writer_ended ≡ false) × (w.broken ≡ true)
+IsCause w host Again = ((w.hosts host).writer_ended ≡ false) × (w.broken ≡ false) × (64 ≤ untaken w host)
+IsCause w host NoMemory = IsOpen w host
+
+abbrev pub LayDoes : Origin → List ℕ → Arrival → Result Receipt ArriveRefusal → World → List Step → Type 0
+LayDoes o host arrival (Ok r) w steps = IsReceipt o w host arrival r × (steps ≡ Arrive host arrival (is_full r.outcome) ∷ [])
+LayDoes o host arrival (Err e) w steps = IsCause w host e × (steps ≡ [])
+
+-- the line was laid, and then what came of the flush
+pub record LaidThen (o : Origin) (k : ℕ) (host : List ℕ) (old new : List Deed) (arrival : Arrival) (r : Receipt) (Then : List Deed → List Deed → Type 0) : Type 0 where
+  pub mid : List Deed
+  pub laid : Does o k old mid (LayDoes o host arrival (Ok r))
+  pub after : Then mid new
+
+abbrev pub Arrived : Origin → ℕ → List ℕ → List Deed → List Deed → Arrival → Result Receipt ArriveRefusal → Type 0
+Arrived o k host old new arrival (Ok r) = LaidThen o k host old new arrival r (Flushes o k)
+Arrived o k host old new arrival (Err e) = Does o k old new (LayDoes o host arrival (Err e)) ⊎ ((e ≡ NoStore) × (r : Receipt) × LaidThen o k host old new arrival r (NotFlushed o k))
+
+-- ---- replies and notices
+
+-- the first notice to the address, which is then in hand
+abbrev pub Tells : List ℕ → List ℕ → Option Jid → World → List Step → Type 0
+Tells host text None w steps = ⊥
+Tells host text (Some a) w steps = (a.host ≡ host) × NoReply w host × IsFirstNotice w a text × (steps ≡ Emit a ∷ [])
+
+abbrev pub NextDoes : {E : Type 0} → Origin → List ℕ → Result Next E → Option Jid → World → List Step → Type 0
+NextDoes o host (Ok (Reply text)) hand w steps = IsFirstReply w host text × (hand ≡ None) × (steps ≡ Take host ∷ [])
+NextDoes o host (Ok (Notice text)) hand w steps = Tells host text hand w steps
+NextDoes o host (Ok NotYet) hand w steps = NoReply w host × NoNotice w host × (some_reads w o.hosts ≡ true) × (hand ≡ None) × (steps ≡ [])
+NextDoes o host (Ok Over) hand w steps = NoReply w host × NoNotice w host × (some_reads w o.hosts ≡ false) × (hand ≡ None) × (steps ≡ [])
+NextDoes o host (Err e) hand w steps = (hand ≡ None) × (steps ≡ [])
+
+-- ---- entries that no line makes
+
+-- a state of this world, in which the entry would pass the limit
+pub record IsTooLong (o : Origin) (w : World) (e : Entry) : Type 0 where
+  pub kept : State
+  pub stands : Stands kept w
+  pub long : o.limits.whole < kept.length + bytes_with kept.batch e
+
+-- why it was not recorded
+abbrev pub IsNoRecord : Origin → World → Entry → HandedRefusal → Type 0
+IsNoRecord o w e Store = w.broken ≡ true
+IsNoRecord o w e Full = (w.broken ≡ false) × IsTooLong o w e
+IsNoRecord o w e Memory = w.broken ≡ false
+
+-- behind the bytes that some deed among these tells of, the entry passes the limit
+pub record FoundOver (o : Origin) (e : Entry) (seen : List Deed) : Type 0 where
+  pub front : List Deed
+  pub deed : Deed
+  pub rest : List Deed
+  pub is : seen ≡ front ++ deed ∷ rest
+  pub over : o.limits.whole < deed.bytes + length (spelling e)
+
+-- the notice in hand is recorded, or the writer ends where there is no room
+abbrev pub RecordDoes : {T : Type 0} → Origin → List ℕ → Jid → Result T HandedRefusal → World → List Step → Type 0
+RecordDoes o host a (Ok t) w steps = HasInHand host a w × (w.broken ≡ false) × (steps ≡ Record a ∷ [])
+RecordDoes o host a (Err e) w steps = IsNoRecord o w (Handed a) e × (steps ≡ refused_steps host e)
+
+pub record RecordedThen (o : Origin) (k : ℕ) (host : List ℕ) (a : Jid) (old new : List Deed) (Then : List Deed → List Deed → Type 0) : Type 0 where
+  pub mid : List Deed
+  pub recorded : Does o k old mid (RecordDoes o host a (Ok (tt {0})))
+  pub after : Then mid new
+
+abbrev pub HasHanded : {T : Type 0} → Origin → ℕ → List ℕ → Jid → List Deed → List Deed → Result T HandedRefusal → Type 0
+HasHanded o k host a old new (Ok t) = RecordedThen o k host a old new (Flushes o k)
+HasHanded o k host a old new (Err e) = Does o k old new (RecordDoes {T = Unit {0}} o host a (Err e)) ⊎ ((e ≡ Store) × RecordedThen o k host a old new (NotFlushed o k))
+
+-- the reader is gone
+abbrev pub GoneDoes : {T : Type 0} → Origin → List ℕ → Result T HandedRefusal → World → List Step → Type 0
+GoneDoes o host (Ok t) w steps = (w.broken ≡ false) × (steps ≡ Gone host ∷ [])
+GoneDoes o host (Err e) w steps = IsNoRecord o w (GoneEntry host) e × (steps ≡ [])
+
+pub record GoneThen (o : Origin) (k : ℕ) (host : List ℕ) (old new : List Deed) (Then : List Deed → List Deed → Type 0) : Type 0 where
+  pub mid : List Deed
+  pub gone : Does o k old mid (GoneDoes o host (Ok (tt {0})))
+  pub after : Then mid new
+
+-- up to what ends the reader
+abbrev pub IsGone : {T : Type 0} → Origin → ℕ → List ℕ → List Deed → List Deed → Result T HandedRefusal → Type 0
+IsGone o k host old new (Ok t) = GoneThen o k host old new (Flushes o k)
+IsGone o k host old new (Err e) = Does o k old new (GoneDoes {T = Unit {0}} o host (Err e)) ⊎ ((e ≡ Store) × GoneThen o k host old new (NotFlushed o k))
+
+-- and with it
+pub record HasGone {T : Type 0} (o : Origin) (k : ℕ) (host : List ℕ) (old new : List Deed) (result : Result T HandedRefusal) : Type 0 where
+  pub before : List Deed
+  pub gone : IsGone o k host old before result
+  pub ended : Adds o k before new (Ended host Reader)
+
+-- in one holding the Gone is laid, or the reader ends
+abbrev pub LayGoneDoes : {T : Type 0} → Origin → List ℕ → Result T HandedRefusal → World → List Step → Type 0
+LayGoneDoes o host (Ok t) w steps = GoneDoes o host (Ok (tt {0})) w steps
+LayGoneDoes o host (Err e) w steps = IsNoRecord o w (GoneEntry host) e × (steps ≡ Ended host Reader ∷ [])
+
+-- what came of the flush, and then the reader has ended
+pub record EndsThen (o : Origin) (k : ℕ) (host : List ℕ) (old new : List Deed) (Then : List Deed → List Deed → Type 0) : Type 0 where
+  pub before : List Deed
+  pub after : Then old before
+  pub ended : Adds o k before new (Ended host Reader)
+
+-- ---- by the pass of a seat
+
+module _ {V J : Type 0} where
+  abbrev pub HandAt : Origin → Option Jid → List ℕ → TwinSeat V J Deed → Type 0
+  HandAt o hand host s = HasHand hand host (world_at o (seen_of s))
+
+  -- what was in hand is so still, but after a fault of the disk
+  abbrev pub KeepsHand : Origin → Option Jid → List ℕ → TwinSeat V J Deed → HandedRefusal → Type 0
+  KeepsHand o hand host s e = e ≢ Store → HandAt o hand host s
+
+  abbrev pub SeatArrived : Origin → List ℕ → TwinSeat V J Deed → TwinSeat V J Deed → Arrival → Result Receipt ArriveRefusal → Type 0
+  SeatArrived o host old new arrival result = Arrived o (number_of old) host (seen_of old) (seen_of new) arrival result
+
+  abbrev pub SeatHanded : {T : Type 0} → Origin → List ℕ → Jid → TwinSeat V J Deed → TwinSeat V J Deed → Result T HandedRefusal → Type 0
+  SeatHanded o host a old new result = HasHanded o (number_of old) host a (seen_of old) (seen_of new) result
+
+  abbrev pub SeatFlushesAndEnds : Origin → List ℕ → TwinSeat V J Deed → TwinSeat V J Deed → Type 0
+  SeatFlushesAndEnds o host old new = EndsThen o (number_of old) host (seen_of old) (seen_of new) (Flushes o (number_of old))
+
+  abbrev pub SeatFailsAndEnds : Origin → List ℕ → TwinSeat V J Deed → TwinSeat V J Deed → Type 0
+  SeatFailsAndEnds o host old new = EndsThen o (number_of old) host (seen_of old) (seen_of new) (NotFlushed o (number_of old))
+
+  abbrev pub SeatGone : {T : Type 0} → Origin → List ℕ → TwinSeat V J Deed → TwinSeat V J Deed → Result T HandedRefusal → Type 0
+  SeatGone o host old new result = HasGone o (number_of old) host (seen_of old) (seen_of new) result

@@ -1,0 +1,79 @@
+-- When the two values stand for a list of deeds.
+use Rattle.std.specs.Prelude.{◌≡◌, ◌≢◌, ℕ, ◌+◌, ◌<◌, ◌≤◌, Bool, true, false, List, [], ◌∷◌, length, Some, is_some}
+use Rattle.ps_types.specs.declared.entry.Entry.{Entry}
+use Rattle.ps_disk.specs.declared.device.Disk.{Ghosts}
+use Rattle.ps_model.specs.CoreLaws.{IsLawful}
+use Rattle.ps_model.specs.Entries.{body, spelling}
+use Rattle.ps_model.specs.Machine.{happens, start}
+use Rattle.ps_model.specs.TheCore.{the_core}
+use Rattle.ps_model.specs.World.{World}
+use Rattle.ps_model.specs.declared.steps.Step.{Step}
+use Rattle.ps_model.specs.declared.steps.Step.TheVariants.{Arrive}
+use Rattle.ps_trace.specs.Did.{world_of}
+use Rattle.ps_trace.specs.Own.{AreOwned}
+use Rattle.ps_trace.specs.declared.deed.Deed.{Deed}
+use Rattle.ps_hall_state.specs.Arrive.{entry_in}
+use Rattle.ps_hall_state.specs.Rows.{names}
+use Rattle.ps_hall_state.specs.Stand.{Stands, entries_of}
+use Rattle.ps_hall_state.specs.declared.state.State.{State}
+use Rattle.ps_hall_store.specs.Stand.{StoreStands, broken_in, mark_of}
+use Rattle.ps_hall_store.specs.declared.store.Store.{Store}
+use Rattle.ps_hall_flush.specs.Origin.{Origin}
+
+abbrev pub maker_of : Deed → ℕ
+maker_of d = d.by
+
+-- the world of a list of deeds
+abbrev pub world_at : Origin → List Deed → World
+world_at o log = world_of the_core o.boot o.list o.hosts log
+
+-- ---- room
+
+-- how long the store is with a frame of the entries that wait, even where none does
+abbrev pub bytes_in : State → ℕ
+bytes_in v = v.length + (5 + length (body (entries_of v.batch)))
+
+-- where a line found no room, the entry that it would have made passes the limit behind so many bytes
+abbrev pub NoRoom : ℕ → ℕ → World → Step → Type 0
+NoRoom limit bytes w (Arrive host arrival true) = (e : Entry) × (entry_in w host arrival ≡ Some e) × (limit < bytes + length (spelling e))
+NoRoom limit bytes w _ = Unit {0}
+
+-- each line that found no room found a store of so many bytes as its deed tells, and none tells of more than these
+abbrev pub HadNoRoom : ℕ → ℕ → List ℕ → World → List Deed → Type 0
+HadNoRoom limit upto boot w [] = Unit {0}
+HadNoRoom limit upto boot w (d ∷ log) = ((d.bytes ≤ upto) × NoRoom limit d.bytes w d.step) × HadNoRoom limit upto boot (happens the_core boot w d.step) log
+
+-- ---- the values
+
+-- the list at the opening is lawful, each deed is of the pass that may make it, and the state keeps what the world of the deeds holds
+pub record HomeStands (o : Origin) (v : State) (log : List Deed) : Type 0 where
+  pub lawful : IsLawful the_core o.list
+  pub named : o.boot ≢ []
+  pub hosts : names v.rows.items ≡ o.hosts
+  pub limits : v.limits ≡ o.limits
+  pub owned : AreOwned o.hosts log
+  pub full : HadNoRoom o.limits.changes (bytes_in v) o.boot (start the_core o.boot o.list) log
+  pub stands : Stands v (world_at o log)
+
+abbrev pub ArchiveStands : {D : Type 0} {g : Ghosts D} → Origin → Store D g → List Deed → Type 0
+ArchiveStands o y log = StoreStands o.at y (world_at o log)
+
+-- ---- marks
+
+-- the number of entries of all frames that were begun; once a fault is told, the greatest number there is, which no store reaches
+abbrev pub numbered : Bool → ℕ → ℕ
+numbered false count = count
+numbered true count = 18446744073709551615
+
+-- the numbers of entries and of bytes of all frames that were begun, and whether a fault is told
+abbrev pub marked : Bool → ℕ × ℕ → ℕ × ℕ
+marked broken numbers = (numbered broken numbers.0, numbers.1)
+
+abbrev pub numbers_of : State → ℕ × ℕ
+numbers_of v = (v.count, v.length)
+
+abbrev pub state_mark : State → ℕ × ℕ
+state_mark v = marked v.broken (numbers_of v)
+
+abbrev pub store_mark : {D : Type 0} {g : Ghosts D} → Store D g → ℕ × ℕ
+store_mark y = marked (is_some (broken_in y)) (mark_of y)

@@ -1,0 +1,56 @@
+-- What comes of a list of entries that was read from a store.
+use Rattle.std.specs.Prelude.{◌≡◌, ℕ, Bool, true, false, List, [], ◌++◌, take, Some, slice_get}
+use Rattle.ps_base.specs.Rows.{without_first}
+use Rattle.ps_model.specs.Book.{empty_state}
+use Rattle.ps_model.specs.After.{after, notices_at}
+use Rattle.ps_model.specs.Replay.{accepted, lawful, replay}
+use Rattle.ps_types.specs.declared.entry.Entry.{Entry}
+use Rattle.ps_types.specs.declared.entry.Entry.TheVariants.{Boot, Change, Handed, Gone, Base}
+use Rattle.ps_types.specs.declared.entry.Notice.{Notice}
+use Rattle.ps_journal.specs.Places.{entries_in}
+use Rattle.ps_journal.specs.declared.judging.Placed.{Placed}
+use Rattle.ps_outbox.specs.Boxes.{is_to}
+use Rattle.ps_hall_state.specs.Stand.{QueuesStand}
+use Rattle.ps_hall_open.specs.declared.opened.Rebuilt.{Rebuilt}
+use Rattle.ps_hall_open.specs.declared.replaying.Replayed.{Replayed}
+use Rattle.ps_hall_open.specs.declared.replaying.Replayed.TheVariants.{All, Bad, Memory}
+
+-- before the first entry
+pub record IsFresh (r : Rebuilt) : Type 0 where
+  pub state : r.service.state ≡ empty_state
+  pub queues : r.queues.waiting ≡ []
+
+-- the notices without the one that the entry says was handed
+abbrev pub unhanded : Entry → List Notice → List Notice
+unhanded (Boot service) waiting = waiting
+unhanded (Change host line moment t) waiting = waiting
+unhanded (Handed to) waiting = without_first (is_to to) waiting
+unhanded (Gone host) waiting = waiting
+unhanded (Base row) waiting = waiting
+
+-- the entry was taken, and its notices wait, where it is accepted
+abbrev pub IsTaken : Rebuilt → Rebuilt → Entry → Bool → Type 0
+IsTaken old new e true =
+    (accepted old.service.state e ≡ true) × (new.service.state ≡ after old.service.state e)
+    × (new.queues.waiting ≡ unhanded e (old.queues.waiting ++ notices_at old.service.state e))
+IsTaken old new e false = accepted old.service.state e ≡ false
+
+-- these entries are accepted one after the other, and this is the State that they leave, with the notices that are not handed
+pub record IsReplayed (entries : List Entry) (r : Rebuilt) : Type 0 where
+  pub each : lawful entries
+  pub state : r.service.state ≡ replay entries
+  pub queues : QueuesStand r.queues.waiting entries
+
+-- the entry at this offset is the first that isn't accepted
+pub record StopsAt (placed : List Placed) (at : ℕ) : Type 0 where
+  pub number : ℕ
+  pub one : Placed
+  pub here : slice_get placed number ≡ Some one
+  pub stands : one.at ≡ at
+  pub each : lawful (entries_in (take number placed))
+  pub not : accepted (replay (entries_in (take number placed))) one.entry ≡ false
+
+abbrev pub IsReplayedAs : List Placed → Rebuilt → Replayed → Type 0
+IsReplayedAs placed r All = IsReplayed (entries_in placed) r
+IsReplayedAs placed r (Bad at) = StopsAt placed at
+IsReplayedAs placed r Memory = Unit {0}

@@ -1,0 +1,26 @@
+//! The opening of a store: the bytes on a disk become the two values that the callers of the hall share.
+//!
+//! [`open`] reads the list of entries, judges each at its place and takes them one after the other, appends a Boot, and answers a [`ps_hall_state::State`]
+//! and a [`ps_hall_store::Store`] that stand for the world of the machine which begins with that list and the Boot (`specs/Opens.antt`, `IsOpen`). Replaying
+//! fills the queues too: an entry's notices go to the ends of the queues of their addresses, and an entry that tells of a notice that was handed takes the
+//! first of its address away. So each queue has what is not handed, in order. Nothing is flushed and no step was made.
+//!
+//! Where it answers an [`OpenRefusal`], the disk comes back with the cause: the offset of the damage, a fault of the disk, a Boot for which there is no
+//! room, or no memory. A crash at any moment of the call leaves what it might have left before, the entries, or those and the Boot. The store that was
+//! opened keeps this in what it stands for, of all moments since the call began (`at_from`).
+//!
+//! [`read_store`] reads and replays likewise, and writes nothing: no header, no Boot. It answers what the entries leave, the service and the queues, and
+//! the entries (`specs/Reads.antt`, `IsKept`).
+#![tactic(auto)]
+
+mod beginning;
+mod opened;
+mod opening;
+mod reading;
+mod readying;
+mod replaying;
+mod restoring;
+
+pub use opened::{Kept, OpenRefusal, OpenWhy, Opened, ReadWhy, Rebuilt, StoreRead};
+pub use opening::open;
+pub use reading::read_store;

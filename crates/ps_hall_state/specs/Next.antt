@@ -1,0 +1,106 @@
+-- What `next` answers.
+use Rattle.std.specs.Prelude.{◌≡◌, ◌≢◌, ◌⊎◌, ℕ, ◌<◌, ◌≤◌, Bool, true, false, not, List, [], ◌∷◌, Option, Some, slice_get, find}
+use Rattle.std.specs.List.{list_any}
+use Rattle.ps_types.specs.declared.entry.Notice.{Notice}
+use Rattle.ps_types.specs.declared.jid.Jid.{Jid}
+use Rattle.ps_model.specs.Core.{handed}
+use Rattle.ps_model.specs.TheCore.{the_core}
+use Rattle.ps_model.specs.World.{Said, Nothing, World, durable}
+use Rattle.ps_model.specs.declared.steps.Step.TheVariants.{Take, Emit}
+use Rattle.ps_hall_state.specs.declared.answers.Next.{Next}
+use Rattle.ps_hall_state.specs.declared.answers.Next.TheVariants.{Reply, Notice as Tells, NotYet, Over}
+use Rattle.ps_outbox.specs.Boxes.{NoneReady, is_to}
+use Rattle.ps_hall_state.specs.declared.state.Hand.{Hand}
+use Rattle.ps_hall_state.specs.declared.state.Waiting.{Waiting}
+use Rattle.ps_hall_state.specs.declared.state.HostRow.{HostRow}
+use Rattle.ps_hall_state.specs.declared.state.State.{State}
+use Rattle.ps_hall_state.specs.Rows.{names}
+use Rattle.ps_hall_state.specs.Stand.{InEach, Stands, StandsAfter, flight_of, hand_flight}
+
+-- the text is the first reply of the host that is not taken, and it is released
+pub record IsFirstReply (w : World) (host text : List ℕ) : Type 0 where
+  pub said : Said
+  pub at : slice_get (w.hosts host).said (w.hosts host).taken ≡ Some said
+  pub released : said.step ≤ w.flushed
+  pub text_is : said.reply ≡ text
+
+-- no reply of the host is released that is not taken
+abbrev pub NoReply : World → List ℕ → Type 0
+NoReply w host = (s : Said) → slice_get (w.hosts host).said (w.hosts host).taken ≡ Some s → w.flushed < s.step
+
+-- some reader of these hosts runs
+abbrev pub some_reads : World → List (List ℕ) → Bool
+some_reads w hosts = list_any (λ h. not (w.hosts h).reader_ended) hosts
+
+-- some reader of the state's hosts does
+abbrev pub has_reader : State → World → Bool
+has_reader v w = some_reads w (names v.rows.items)
+
+-- it is the first notice of the address that is not handed
+abbrev pub IsFirst : World → Jid → Notice → Type 0
+IsFirst w a n = slice_get (the_core.notices w.entries a) (handed w.entries a) ≡ Some n
+
+-- the text is the line of that notice, and its entry is durable
+pub record IsFirstNotice (w : World) (a : Jid) (text : List ℕ) : Type 0 where
+  pub notice : Notice
+  pub at : IsFirst w a notice
+  pub low : notice.place < durable w
+  pub line_is : notice.line ≡ text
+
+-- no address of the host has a durable notice that is not handed
+abbrev pub NoNotice : World → List ℕ → Type 0
+NoNotice w host = (a : Jid) (n : Notice) → a.host ≡ host → IsFirst w a n → durable w ≤ n.place
+
+-- a notice of an address of the host is in flight
+abbrev pub HasOneInFlight : World → List ℕ → Type 0
+HasOneInFlight w host = (a : Jid) × (a.host ≡ host) × ((w.addresses a).flight ≢ Nothing)
+
+abbrev pub NextIn : State → State → List ℕ → Next → List ℕ → World → Type 0
+NextIn old new host (Reply text) service w = IsFirstReply w host text × StandsAfter new service w (Take host)
+NextIn old new host (Tells a text) service w =
+    (a.host ≡ host) × NoReply w host × IsFirstNotice w a text × StandsAfter new service w (Emit a)
+NextIn old new host NotYet service w =
+    NoReply w host × (HasOneInFlight w host ⊎ (NoNotice w host × (has_reader old w ≡ true))) × Stands new w
+NextIn old new host Over service w =
+    NoReply w host × NoNotice w host × (has_reader old w ≡ false) × Stands new w
+
+abbrev pub IsNext : State → State → List ℕ → Next → Type 0
+IsNext old new host next = InEach old (NextIn old new host next)
+
+-- ---- by the row
+
+-- the first reply of the row is released
+pub record HasReply (row : HostRow) (flushed : ℕ) : Type 0 where
+  pub reply : Waiting
+  pub rest : List Waiting
+  pub waits : row.waiting.items ≡ reply ∷ rest
+  pub low : reply.step ≤ flushed
+
+-- it is not, or there is none
+abbrev pub HasNone : List Waiting → ℕ → Type 0
+HasNone [] flushed = Unit {0}
+HasNone (reply ∷ rest) flushed = flushed < reply.step
+
+-- the hand of the row holds nothing that is in flight
+abbrev pub IsHandFree : Option Hand → ℕ → Type 0
+IsHandFree hand flushed = (a : Jid) → flight_of hand flushed a ≡ Nothing
+
+-- or it does
+abbrev pub IsHandFull : Option Hand → ℕ → Type 0
+IsHandFull hand flushed = (h : Hand) × (hand ≡ Some h) × (hand_flight flushed h.recorded ≢ Nothing)
+
+-- the first notice of the queue of a bare address of the host, with its entry durable
+pub record IsShown (waiting : List Notice) (host : List ℕ) (durable : ℕ) (to : Jid) (line : List ℕ) : Type 0 where
+  pub notice : Notice
+  pub bare : to.resource ≡ []
+  pub here : to.host ≡ host
+  pub first : find (is_to to) waiting ≡ Some notice
+  pub low : notice.place < durable
+  pub line_is : notice.line ≡ line
+
+abbrev pub Shows : State → HostRow → Jid → List ℕ → Type 0
+Shows v row to line = IsShown v.queues.waiting row.host v.durable to line
+
+-- there is none
+abbrev pub ShowsNone : State → HostRow → Type 0
+ShowsNone v row = NoneReady row.host v.durable v.queues.waiting

@@ -1,0 +1,144 @@
+// What a writer is to do next.
+ghost use Rattle.std.specs.Prelude.{◌≡◌, ◌<◌, ◌^◌, IfOk, IfSome, IfNone, OnErr, length};
+ghost use Rattle.ps_model.specs.declared.steps.Step.{Step};
+ghost use Rattle.ps_outbox.specs.Boxes.{NoneReady};
+ghost use Rattle.ps_hall_state.specs.Next.{HasNone, HasReply, IsHandFree, IsNext, IsShown, Shows, ShowsNone};
+ghost use Rattle.ps_hall_state.specs.Steps.{GoesBy, KeepsNumbers};
+ghost use Rattle.ps_hall_state.specs.Rows.{AtRow, HasFirst};
+
+use crate::answers::Next;
+use crate::rows::{hold_at, is_free_at, may_take_at, some_reads, take_at};
+use crate::state::State;
+use ps_base::{Bytes, Memory};
+use ps_outbox::Outboxes;
+use ps_types::{Jid, Text};
+
+// A notice that is to be handed: its bare address, twice, and its line.
+#[derive(Drop)]
+pub(crate) struct Telling {
+    to: Jid,
+    held: Jid,
+    line: Bytes,
+}
+
+// The first notice of an address of the host, where its entry is durable, if any address has one.
+fn telling_for(queues: &Outboxes, host: &Text, durable: u64) -> Result<Option<Telling>, Memory>
+    ensures some { IfOk result (λ o. IfSome o (λ t. IsShown queues.now.waiting host.now durable t.to t.line)) }
+    ensures held { IfOk result (λ o. IfSome o (λ t. t.held ≡ t.to)) }
+    ensures none { IfOk result (λ o. IfNone o (NoneReady host.now durable queues.now.waiting)) }
+{
+    match queues.ready(host, durable) {
+        None => Ok(None),
+        Some(to) => match queues.peek(to, durable) {
+            None => unreachable!(),
+            Some(notice) => Ok(Some(Telling {
+                to: to.clone()?,
+                held: to.clone()?,
+                line: notice.line.clone()?,
+            })),
+        },
+    }
+}
+
+impl State {
+    // The same for the host of the row at a place.
+    fn telling_at(&self, at: usize) -> Result<Option<Telling>, Memory>
+        requires here { at < length self.now.rows.items }
+        ensures some { AtRow self.now at (λ row. IfOk result (λ o. IfSome o (λ t. Shows self.now row t.to t.line))) }
+        ensures held { IfOk result (λ o. IfSome o (λ t. t.held ≡ t.to)) }
+        ensures none { AtRow self.now at (λ row. IfOk result (λ o. IfNone o (ShowsNone self.now row))) }
+    {
+        let row = &self.rows[at];
+        telling_for(&self.queues, &row.host, self.durable)
+    }
+
+    // The first reply of a host is taken.
+    fn take_reply(&mut self, at: usize) -> Bytes
+        requires here { at < length self.old.rows.items }
+        requires few { self.old.steps < 2 ^ 63 }
+        requires has { AtRow self.old at (λ row. HasReply row self.old.flushed) }
+        ensures kept { KeepsNumbers self.old self.new }
+        ensures first { AtRow self.old at (λ row. HasFirst row result) }
+        ensures goes { AtRow self.old at (λ row. GoesBy self.old self.new (Step.Take row.host)) }
+    {
+        let reply = take_at(&mut self.rows, at);
+        self.steps += 1;
+        reply
+    }
+
+    // The first notice of an address is taken in hand.
+    fn tell(&mut self, at: usize, to: Jid, _line: &Bytes)
+        requires here { at < length self.old.rows.items }
+        requires few { self.old.steps < 2 ^ 63 }
+        requires free { AtRow self.old at (λ row. IsHandFree row.in_hand self.old.flushed) }
+        requires shown { AtRow self.old at (λ row. Shows self.old row to _line.now) }
+        ensures kept { KeepsNumbers self.old self.new }
+        ensures goes { AtRow self.old at (λ row. GoesBy self.old self.new (Step.Emit to)) }
+    {
+        hold_at(&mut self.rows, at, to, None);
+        self.steps += 1;
+    }
+
+    // What is told where no reply is released.
+    fn next_of(&mut self, at: usize, told: Option<Telling>) -> Next
+        requires here { at < length self.old.rows.items }
+        requires few { self.old.steps < 2 ^ 63 }
+        requires free { AtRow self.old at (λ row. IsHandFree row.in_hand self.old.flushed) }
+        requires waits { AtRow self.old at (λ row. HasNone row.waiting.items self.old.flushed) }
+        requires shown { AtRow self.old at (λ row. IfSome told (λ t. Shows self.old row t.to t.line)) }
+        requires held { IfSome told (λ t. t.held ≡ t.to) }
+        requires none { AtRow self.old at (λ row. IfNone told (ShowsNone self.old row)) }
+        ensures is { AtRow self.old at (λ row. IsNext self.old self.new row.host result) }
+        ensures kept { KeepsNumbers self.old self.new }
+    {
+        match told {
+            Some(telling) => {
+                let Telling { to, held, line } = telling;
+                self.tell(at, held, &line);
+                Next::Notice(to, line)
+            }
+            None => {
+                if some_reads(&self.rows) {
+                    Next::NotYet
+                } else {
+                    Next::Over
+                }
+            }
+        }
+    }
+
+    // What there is where no reply is released.
+    fn next_notice(&mut self, at: usize) -> Result<Next, Memory>
+        requires here { at < length self.old.rows.items }
+        requires few { self.old.steps < 2 ^ 63 }
+        requires free { AtRow self.old at (λ row. IsHandFree row.in_hand self.old.flushed) }
+        requires waits { AtRow self.old at (λ row. HasNone row.waiting.items self.old.flushed) }
+        ensures ok { AtRow self.old at (λ row. IfOk result (IsNext self.old self.new row.host)) }
+        ensures err { OnErr result (self.new ≡ self.old) }
+        ensures kept { KeepsNumbers self.old self.new }
+    {
+        match self.telling_at(at) {
+            Err(Memory) => Err(Memory),
+            Ok(told) => Ok(self.next_of(at, told)),
+        }
+    }
+
+    /// The next line for the writer of the host at a place: its first reply that is released and not taken, or else, where its hand is free, the
+    /// first notice of an address, which is then in hand. Where there is none the state is as before.
+    pub fn next(&mut self, at: usize) -> Result<Next, Memory>
+        requires here { at < length self.old.rows.items }
+        requires few { self.old.steps < 2 ^ 63 }
+        ensures ok { AtRow self.old at (λ row. IfOk result (IsNext self.old self.new row.host)) }
+        ensures err { OnErr result (self.new ≡ self.old) }
+        ensures kept { KeepsNumbers self.old self.new }
+    {
+        if may_take_at(&self.rows, at, self.flushed) {
+            return Ok(Next::Reply(self.take_reply(at)));
+        }
+        if is_free_at(&self.rows, at, self.flushed) {
+            self.next_notice(at)
+        } else {
+            Ok(Next::NotYet)
+        }
+    }
+}

@@ -1,5 +1,0 @@
-use Rattle.ps_lumps.proofs.Keys.{in_group, kin_in_group}
-use Rattle.ps_lumps.proofs.calls.keep.Goals as goal
-
-pub keep-requires : goal.keep-requires
-keep-requires c = record { asks = in_group c.args.group; kin = kin_in_group c.args.group }

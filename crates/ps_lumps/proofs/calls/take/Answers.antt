@@ -1,5 +1,0 @@
-use Rattle.ps_lumps.proofs.Keys.{of}
-use Rattle.ps_lumps.proofs.calls.take.Goals as goal
-
-pub take_away-requires : goal.take_away-requires
-take_away-requires c = record { asks = of c.args.row.now }

@@ -1,6 +1,0 @@
-use Rattle.std.proofs.Common.{take}
-use Rattle.ps_opening.specs.Fresh.{AreFreshRows}
-use Rattle.ps_opening.proofs.readying.rows_of.Given as goal
-
-abbrev pub invariant-hosts : goal.invariant-hosts
-invariant-hosts l = AreFreshRows (take l.host-index l.hosts) l.rows.items

@@ -1,5 +1,0 @@
-use Rattle.ps_outsider.proofs.DeedLaws.{deed-secret}
-use Rattle.ps_outsider.proofs.laws.each_deed_is_secret.Goals as goal
-
-pub returns : goal.returns
-returns c = λ a x y rules rules2. deed-secret a x y rules rules2

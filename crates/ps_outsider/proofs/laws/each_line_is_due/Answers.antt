@@ -1,5 +1,0 @@
-use Rattle.ps_outsider.proofs.DueLaws.{line-due}
-use Rattle.ps_outsider.proofs.laws.each_line_is_due.Goals as goal
-
-pub returns : goal.returns
-returns c = λ s host line one booted next early e at. line-due s host line one booted next early e at

@@ -1,6 +1,0 @@
-use Rattle.ps_outside.specs.declared.world.Kind.TheVariants.{Store}
-use Rattle.ps_ports.proofs.Each.{no-store}
-use Rattle.ps_ports.proofs.ports.give_back_ports.Goals as goal
-
-pub returns-clause-stay : goal.returns-clause-stay
-returns-clause-stay g c = λ n. c.give_back_each.ensures.others.stay Store n (no-store n c.args.streams.now)

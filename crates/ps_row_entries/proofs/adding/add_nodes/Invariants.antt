@@ -1,7 +1,0 @@
-use Rattle.std.proofs.Common.{◌≡◌, ◌++◌, take}
-use Rattle.ps_model.specs.Base.{unlinked}
-use Rattle.ps_row_entries.specs.Written.{all_written}
-use Rattle.ps_row_entries.proofs.adding.add_nodes.Given as goal
-
-abbrev pub invariant-loop-at : goal.invariant-loop-at
-invariant-loop-at l = l.entries.items ≡ l.fn.entries.items ++ all_written unlinked (take l.at l.nodes.rows)

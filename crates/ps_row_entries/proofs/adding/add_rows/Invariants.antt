@@ -1,7 +1,0 @@
-use Rattle.std.proofs.Common.{◌≡◌, ◌++◌, take}
-use Rattle.ps_rows.specs.Standing.{standing}
-use Rattle.ps_row_entries.specs.Written.{all_written}
-use Rattle.ps_row_entries.proofs.adding.add_rows.Given as goal
-
-abbrev pub invariant-loop-place : goal.invariant-loop-place
-invariant-loop-place g l = l.entries.items ≡ l.fn.entries.items ++ all_written g.R.Rowed.kind (standing (take l.place-index l.fn.places))

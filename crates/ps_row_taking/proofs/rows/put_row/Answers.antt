@@ -1,6 +1,0 @@
-use Rattle.ps_row_taking.proofs.Said.{told-said}
-use Rattle.ps_row_taking.proofs.rows.put_row.Goals as goal
-
-pub returns-in-Notice-clause-tallies : goal.returns-in-Notice-clause-tallies
-returns-in-Notice-clause-tallies c =
-    told-said c.args.tallies.now.rows c.args.row c.in-Notice.to _ c.put_notice.result c.put_notice.new.tallies.rows c.in-Notice.is c.put_notice.ensures.tallies

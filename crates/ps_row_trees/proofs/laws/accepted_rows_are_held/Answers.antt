@@ -1,8 +1,0 @@
-use Rattle.ps_row_trees.proofs.Accepted.{accepted-is-held, held-is-accepted}
-use Rattle.ps_row_trees.proofs.laws.accepted_rows_are_held.Goals as goal
-
-pub returns : goal.returns
-returns c = record {
-  held = λ t s h. accepted-is-held t s h;
-  accepted = λ t s. held-is-accepted t s;
-}

@@ -1,8 +1,0 @@
-use Rattle.ps_deeds.specs.Own.{deeds}
-use Rattle.ps_twin.specs.Seats.{number_of}
-use Rattle.ps_flush.specs.Homes.{bytes_in}
-use Rattle.ps_shared.specs.Steps.{lay_steps}
-use Rattle.ps_shared.proofs.hall.Hall.lay.Given as goal
-
-abbrev pub ghost-leave_laid : goal.ghost-leave_laid
-ghost-leave_laid g a = deeds (number_of a.seat.now) (bytes_in a.home.state) (lay_steps a.host.now a.arrival.now a.outcome.now)

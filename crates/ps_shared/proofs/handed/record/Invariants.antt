@@ -1,8 +1,0 @@
-use Rattle.ps_deeds.specs.Own.{deeds}
-use Rattle.ps_twin.specs.Seats.{number_of}
-use Rattle.ps_flush.specs.Homes.{bytes_in}
-use Rattle.ps_shared.specs.Steps.{record_steps}
-use Rattle.ps_shared.proofs.handed.record.Given as goal
-
-abbrev pub ghost-leave_recorded : goal.ghost-leave_recorded
-ghost-leave_recorded g a = deeds (number_of a.seat.now) (bytes_in a.home.state) (record_steps a.host.now a.to.now a.outcome.now)

@@ -1,4 +1,0 @@
-use Rattle.ps_shared.proofs.leaving.leave_gone.Given as goal
-
-abbrev pub ghost-leave : goal.ghost-leave
-ghost-leave g a = g.added

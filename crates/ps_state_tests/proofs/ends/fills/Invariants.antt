@@ -1,5 +1,0 @@
-use Rattle.ps_state.specs.Stand.{IsStanding}
-use Rattle.ps_state_tests.proofs.ends.fills.Given as goal
-
-abbrev pub invariant-lines : goal.invariant-lines
-invariant-lines g l = IsStanding l.state

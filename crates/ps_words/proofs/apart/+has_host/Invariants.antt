@@ -1,5 +1,0 @@
-use Rattle.std.proofs.Common.{length}
-use Rattle.ps_words.proofs.apart.+has_host.Given as goal
-
-abbrev pub decreases-has_host : goal.decreases-has_host
-decreases-has_host l = length l.streams.now

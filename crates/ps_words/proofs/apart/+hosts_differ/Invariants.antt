@@ -1,5 +1,0 @@
-use Rattle.std.proofs.Common.{length}
-use Rattle.ps_words.proofs.apart.+hosts_differ.Given as goal
-
-abbrev pub decreases-hosts_differ : goal.decreases-hosts_differ
-decreases-hosts_differ l = length l.streams.now
