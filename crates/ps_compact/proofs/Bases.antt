@@ -15,7 +15,8 @@ use Rattle.ps_compact_laws.specs.Laws.{ServesOn}
 use Rattle.ps_compact_laws.proofs.NoticeLines.{OwnIs, stored-is, unhanded-are}
 use Rattle.ps_compact_laws.proofs.Rereading.{stored-gives}
 use Rattle.ps_compact_laws.proofs.ServesOn.{base-serves-on}
-use Rattle.ps_compact_laws.proofs.Sorting.{each-sorted, told-apart}
+use Rattle.ps_model.proofs.Ordered.{each-sorted}
+use Rattle.ps_compact_laws.proofs.Sorting.{told-apart}
 use Rattle.ps_compact_laws.proofs.TallyRows.{lawful-bares}
 use Rattle.ps_model.specs.Base.{base, book_rows, counter_rows, told_addresses, unhanded}
 use Rattle.ps_types.specs.Address.{IsAddress}

@@ -44,7 +44,7 @@ use Rattle.ps_compact_laws.proofs.Drafts.{Drafts, IsDraft, given-draft}
 use Rattle.ps_compact_laws.proofs.Fitting.{is-tree, tree-fits}
 use Rattle.ps_compact_laws.proofs.Printable.{IsEventText, IsPrintable, ItemIs}
 use Rattle.ps_compact_laws.proofs.PrintableRead.{ReadIs, row-read}
-use Rattle.ps_compact_laws.proofs.Sorting.{each-sorted}
+use Rattle.ps_model.proofs.Ordered.{each-sorted}
 use Rattle.ps_compact_laws.proofs.Stored.{all-asked, empty-printable, for-is, printable-after, texts-after, timely}
 use Rattle.ps_compact_laws.proofs.Texts.{jid-utf8}
 

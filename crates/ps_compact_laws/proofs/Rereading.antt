@@ -46,7 +46,7 @@ use Rattle.ps_compact_laws.proofs.Drafts.{found-key}
 use Rattle.ps_compact_laws.proofs.Facts.{AreLines, IsStored, ReadBack}
 use Rattle.ps_compact_laws.proofs.NoticeLines.{OwnIs, stored-is, unhanded-are}
 use Rattle.ps_compact_laws.proofs.Printable.{ContactIs, CountIs, IsPrintable, ItemIs, LinkIs, NodeIs, PayloadIs}
-use Rattle.ps_compact_laws.proofs.Sorting.{each-sorted}
+use Rattle.ps_model.proofs.Ordered.{each-sorted}
 
 -- ---- nodes that stand
 

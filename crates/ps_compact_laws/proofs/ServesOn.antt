@@ -34,7 +34,8 @@ use Rattle.ps_compact_laws.proofs.Rooms.{items-keep, items-room}
 use Rattle.ps_book_laws.proofs.Formed.{rows-formed}
 use Rattle.ps_book_laws.proofs.Kept.{lawful-kept}
 use Rattle.ps_book_laws.proofs.Reached.{lawful-sound}
-use Rattle.ps_compact_laws.proofs.Sorting.{each-sorted, not-found, sound-numbers, told-apart, unsorted}
+use Rattle.ps_model.proofs.Ordered.{each-sorted, unsorted}
+use Rattle.ps_compact_laws.proofs.Sorting.{not-found, sound-numbers, told-apart}
 use Rattle.ps_compact_laws.proofs.TallyRows.{lawful-bares}
 
 counts-both : (nodes : List NodeRow) (rows : List CountRow) → Each (IsCountRow nodes) rows → Each (λ (r : CountRow). nat_lt r.made (2 ^ 62) ≡ true) rows → Each (IsNumbered nodes) rows

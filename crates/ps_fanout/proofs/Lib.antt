@@ -1,4 +1,3 @@
-pub mod Ordered
 pub mod Pieces
 pub mod Shared
 pub mod Placed

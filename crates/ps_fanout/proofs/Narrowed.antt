@@ -8,7 +8,7 @@ use Rattle.ps_types.specs.Tree.{Tree}
 use Rattle.ps_types.specs.declared.jid.Jid.{Jid}
 use Rattle.ps_model.specs.Sorted.{sorted}
 use Rattle.ps_fanout.specs.Told.{given_to}
-use Rattle.ps_fanout.proofs.Ordered.{Ascend, In, ascend-sorted, in-sorted, one-order, text_cmp}
+use Rattle.ps_model.proofs.Ordered.{Ascend, In, ascend-sorted, in-sorted, one-order, text_cmp}
 
 module _ (p : Jid → Bool) where
   each-filter : (P : Jid → Type 0) (xs : List Jid) → Each P xs → Each P (filter p xs)

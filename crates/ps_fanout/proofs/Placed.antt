@@ -10,7 +10,7 @@ use Rattle.std.specs.declared.cmp.Ordering.TheVariants.{Less, Equal, Greater}
 use Rattle.ps_types.specs.Address.{IsAddress, jid_text}
 use Rattle.ps_types.specs.declared.jid.Jid.{Jid}
 use Rattle.ps_model.specs.Sorted.{put_sorted, sorted}
-use Rattle.ps_fanout.proofs.Ordered.{jid-one, text_cmp}
+use Rattle.ps_model.proofs.Ordered.{jid-one, text_cmp}
 
 -- each address stands at its text
 abbrev pub AtTexts : List (List ℕ × Jid) → Type 0

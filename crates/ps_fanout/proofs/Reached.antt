@@ -22,7 +22,7 @@ use Rattle.ps_fanout.specs.Hearing.{heard, heard_by, heard_tree, hears, is_deliv
 use Rattle.ps_fanout.specs.declared.news.News.{News}
 use Rattle.ps_filter.specs.Wants.{AreWants, is_want_for, is_wanted as has_want, who_want}
 use Rattle.ps_filter.specs.declared.want.Want.{Want}
-use Rattle.ps_fanout.proofs.Ordered.{In, each-in, each-sorted, in-sorted}
+use Rattle.ps_model.proofs.Ordered.{In, each-in, each-sorted, in-sorted}
 
 -- ---- lists
 

@@ -29,7 +29,7 @@ use Rattle.ps_fanout.specs.Told.{given_to, is_of_node, to_one, told}
 use Rattle.ps_fanout.specs.Trees.{approval, last_for, sub_tree}
 use Rattle.ps_fanout.specs.declared.news.News.{News}
 use Rattle.ps_fanout.proofs.Narrowed.{given-alike, none-given, same-given}
-use Rattle.ps_fanout.proofs.Ordered.{In, in-any}
+use Rattle.ps_model.proofs.Ordered.{In, in-any}
 use Rattle.ps_fanout.proofs.Reached.{each-append, each-candidate, each-wanting, hears-in, interest-in}
 
 some-tree : (o : Option Tree) → is_some o ≡ true → (t : Tree) × (o ≡ Some t)

@@ -34,7 +34,7 @@ use Rattle.ps_model.proofs.TheLaws.{places-of}
 use Rattle.ps_book_laws.specs.Addressed.{NamesAddresses}
 use Rattle.ps_book_laws.proofs.Addressed.{addresses-after, empty-addresses, events-named}
 use Rattle.ps_book_laws.proofs.AddressedKinds.{bare-is}
-use Rattle.ps_fanout.proofs.Ordered.{each-sorted}
+use Rattle.ps_model.proofs.Ordered.{each-sorted}
 use Rattle.ps_hall_state.proofs.RowAddresses.{notice-address}
 use Rattle.ps_world.specs.Sound.{Sound}
 

@@ -23,3 +23,5 @@ pub mod OneLine
 pub mod StreamLaws
 pub mod ReaderLaws
 pub mod SomeDamage
+pub mod Ordered
+pub mod ReadAlike

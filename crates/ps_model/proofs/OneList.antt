@@ -21,27 +21,27 @@ use Rattle.ps_model.specs.Entries.{short, long, spelling, of_host, IsHostName, I
 
 -- ---- fields
 
-record IsWide (w : Width) (limit : ℕ) : Type 0 where
+pub record IsWide (w : Width) (limit : ℕ) : Type 0 where
   len : (n : ℕ) → length (to_be_bytes w n) ≡ byte_len w
   again : (n : ℕ) → n < limit → from_be_bytes w (to_be_bytes w n) ≡ n
 
-wide16 : IsWide w16 (2 ^ 16)
+pub wide16 : IsWide w16 (2 ^ 16)
 wide16 = record { len = λ n. refl; again = λ n lt. from_be_bytes-to_be_bytes_2 n lt }
 
-wide32 : IsWide w32 (2 ^ 32)
+pub wide32 : IsWide w32 (2 ^ 32)
 wide32 = record { len = λ n. refl; again = λ n lt. from_be_bytes-to_be_bytes_4 n lt }
 
-wide64 : IsWide w64 (2 ^ 64)
+pub wide64 : IsWide w64 (2 ^ 64)
 wide64 = record { len = λ n. refl; again = λ n lt. from_be_bytes-to_be_bytes_8 n lt }
 
 -- two fronts of one length, with what follows them
-front_one : (t u x y : List ℕ) → length t ≡ length u → t ++ x ≡ u ++ y → (t ≡ u) × (x ≡ y)
+pub front_one : (t u x y : List ℕ) → length t ≡ length u → t ++ x ≡ u ++ y → (t ≡ u) × (x ≡ y)
 front_one t u x y len same = (
   sym (take_at t x (length t) refl) ∙ ap (take (length t)) same ∙ take_at u y (length t) (sym len),
   sym (drop_at t x (length t) refl) ∙ ap (drop (length t)) same ∙ drop_at u y (length t) (sym len),
 )
 
-number_one : (w : Width) (limit : ℕ) (wide : IsWide w limit) (n m : ℕ) (x y : List ℕ) → n < limit → m < limit → to_be_bytes w n ++ x ≡ to_be_bytes w m ++ y → (n ≡ m) × (x ≡ y)
+pub number_one : (w : Width) (limit : ℕ) (wide : IsWide w limit) (n m : ℕ) (x y : List ℕ) → n < limit → m < limit → to_be_bytes w n ++ x ≡ to_be_bytes w m ++ y → (n ≡ m) × (x ≡ y)
 number_one w limit wide n m x y fits fits' same =
     let p = front_one (to_be_bytes w n) (to_be_bytes w m) x y (wide.len n ∙ sym (wide.len m)) same in
     (sym (wide.again n fits) ∙ ap (from_be_bytes w) p.0 ∙ wide.again m fits', p.1)

@@ -10,7 +10,7 @@ use Rattle.ps_types.specs.Address.{jid_text}
 use Rattle.ps_types.specs.Tree.{Tree}
 use Rattle.ps_types.specs.declared.jid.Jid.{Jid}
 use Rattle.ps_fanout.specs.Told.{given_to}
-use Rattle.ps_fanout.proofs.Ordered.{Ascend, text_cmp}
+use Rattle.ps_model.proofs.Ordered.{Ascend, text_cmp}
 use Rattle.ps_notices.specs.Due.{arranged, put_due}
 
 -- those before are put among those that stand

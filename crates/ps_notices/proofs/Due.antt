@@ -20,7 +20,7 @@ use Rattle.ps_fanout.specs.Told.{given_to, told}
 use Rattle.ps_fanout.proofs.Due.{one-due}
 use Rattle.ps_fanout.proofs.More as step
 use Rattle.ps_fanout.proofs.Narrowed.{same-given}
-use Rattle.ps_fanout.proofs.Ordered.{In, ascend-sorted, in-any}
+use Rattle.ps_model.proofs.Ordered.{In, ascend-sorted, in-any}
 use Rattle.ps_fanout.proofs.Reached.{each-append, in-left, in-right}
 use Rattle.ps_notices.specs.Due.{arranged, is_delete, told_each}
 use Rattle.ps_notices.proofs.Around.{all_of, arranged-append, given-onto, onto}

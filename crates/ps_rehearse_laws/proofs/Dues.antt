@@ -31,7 +31,7 @@ use Rattle.ps_rehearse_laws.proofs.Checks.{read-same}
 use Rattle.ps_rehearse_laws.proofs.Deal.{IsGuest, is_mine, key}
 use Rattle.ps_rehearse_laws.proofs.Fit.{Fits, IsPlain, SubFits, found-plain, part-fits}
 use Rattle.ps_rehearse_laws.proofs.Looks.{node-same, sub-same}
-use Rattle.ps_rehearse_laws.proofs.Ordered.{In, each-sorted, in-any, narrowed}
+use Rattle.ps_model.proofs.Ordered.{In, each-sorted, in-any, narrowed}
 use Rattle.ps_rehearse_laws.proofs.Part.{part, timeless}
 
 -- ---- pairs of an address and what it is given

@@ -6,7 +6,6 @@ pub mod Deal
 pub mod Checks
 pub mod Commits
 pub mod Changes
-pub mod Ordered
 pub mod Dues
 pub mod Given
 pub mod Taking

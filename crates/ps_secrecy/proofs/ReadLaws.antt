@@ -1,30 +1,22 @@
--- The verdict in both worlds, and for all addresses of a bare address.
-use Rattle.std.proofs.Common.{◌≡◌, Bool, true, false, List, Option, Some, None, refl, sym, ap, ◌∙◌}
-use Rattle.std.specs.Prelude.{◌&&◌, find}
-use Rattle.std.specs.List.{list_any}
+-- The verdict in both worlds, and of whom it shuts out.
+use Rattle.std.proofs.Common.{◌≡◌, true, false, List, Option, Some, None, refl, sym, ap, ◌∙◌}
 use Rattle.ps_types.specs.declared.config.Access.{Access}
 use Rattle.ps_types.specs.declared.config.Access.TheVariants.{Everyone, Presence, Roster, Authorize, Whitelist}
 use Rattle.ps_types.specs.declared.denial.Condition.{Condition}
 use Rattle.ps_types.specs.declared.denial.Verdict.TheVariants.{Denied}
 use Rattle.ps_types.specs.declared.jid.Jid.{Jid}
 use Rattle.ps_types.specs.declared.node.NodeKey.{NodeKey}
-use Rattle.ps_types.specs.declared.rows.AffilRow.{AffilRow}
 use Rattle.ps_types.specs.declared.rows.CountRow.{CountRow}
 use Rattle.ps_types.specs.declared.rows.ItemRow.{ItemRow}
 use Rattle.ps_types.specs.declared.rows.NodeRow.{NodeRow}
-use Rattle.ps_types.specs.declared.rows.RosterRow.{RosterRow}
-use Rattle.ps_types.specs.declared.rows.SubRow.{SubRow}
-use Rattle.ps_types.specs.Affils.{affil_at, affil_in}
 use Rattle.ps_types.specs.Nodes.{node_at}
-use Rattle.ps_types.specs.Rosters.{contact_at}
 use Rattle.ps_types.specs.Same.{same_bare, same_node}
-use Rattle.ps_types.specs.Subs.{is_subscribed}
 use Rattle.ps_types.proofs.Same.{same_node-Decides}
-use Rattle.ps_model.specs.Access.{read, read_at, read_by, read_by_model, publish, publish_at, subscribe, subscribe_at, subscribe_by_model, affiliation, affil_or, is_own_account, is_account, account_of, subscribed}
+use Rattle.ps_model.specs.Access.{read, read_at, read_by, read_by_model, publish, publish_at, subscribe, subscribe_at, subscribe_by_model, affiliation}
 use Rattle.ps_model.specs.Book.{Book}
 use Rattle.ps_model.specs.Due.{may_read, is_granted}
 use Rattle.ps_model.specs.TwoWorlds.{IsShutOut, is_in}
-use Rattle.ps_model.proofs.TallyLaws.{same_bare-like, same_bare-turned}
+use Rattle.ps_model.proofs.ReadAlike.{read-like}
 use Rattle.ps_secrecy.proofs.Twin.{twin}
 
 -- ---- the other world's Book
@@ -67,44 +59,6 @@ module _ (book : Book) (items : List ItemRow) (counts : List CountRow) where
 
   pub publish-twin : (node : NodeKey) (who : Jid) → publish (twin book items counts) node who ≡ publish book node who
   publish-twin node who = publish_at-twin (node_at node book.nodes) node who
-
--- ---- all addresses of a bare address
-
-module _ (who a : Jid) (same : same_bare who a ≡ true) where
-  alike : (x : Jid) → same_bare who x ≡ same_bare a x
-  alike x = same_bare-like who a x same
-
-  alike-behind : (x : Jid) → same_bare x who ≡ same_bare x a
-  alike-behind x = same_bare-turned x who ∙ alike x ∙ same_bare-turned a x
-
-  own-account-like : (service : Jid) → is_own_account service who ≡ is_own_account service a
-  own-account-like service = ap (λ b. is_account service && b) (alike-behind service)
-
-  affil_at-like : (node : NodeKey) (rows : List AffilRow) → affil_at node who rows ≡ affil_at node a rows
-  affil_at-like node rows = ap (λ (test : AffilRow → Bool). affil_in (find test rows)) (λ i row. same_node node row.node && alike row.who i)
-
-  pub affiliation-like : (book : Book) (node : NodeKey) → affiliation book node who ≡ affiliation book node a
-  affiliation-like book node = ap (λ b. affil_or b (affil_at node who book.affils)) (own-account-like node.service) ∙ ap (λ f. affil_or (is_own_account node.service a) f) (affil_at-like node book.affils)
-
-  subscribed-like : (book : Book) (node : NodeKey) → subscribed book node who ≡ subscribed book node a
-  subscribed-like book node = ap (λ (test : SubRow → Bool). list_any test book.subs) (λ i row. (same_node node row.node && alike row.who i) && is_subscribed row.state)
-
-  contact-like : (account : Jid) (rows : List RosterRow) → contact_at account who rows ≡ contact_at account a rows
-  contact-like account rows = ap (λ (test : RosterRow → Bool). find test rows) (λ i row. same_bare account row.account && alike row.contact i)
-
-  model-like : (book : Book) (access : Access) (row : NodeRow) → read_by_model access book row who ≡ read_by_model access book row a
-  model-like book Everyone row = refl
-  model-like book Presence row = rw (contact-like (account_of row) book.rosters) refl
-  model-like book Roster row = rw (contact-like (account_of row) book.rosters) refl
-  model-like book Authorize row = rw (subscribed-like book row.key) refl
-  model-like book Whitelist row = refl
-
-  read_at-like : (book : Book) (found : Option NodeRow) (node : NodeKey) → read_at found book node who ≡ read_at found book node a
-  read_at-like book None node = refl
-  read_at-like book (Some row) node = ap (λ f. read_by f (read_by_model row.config.access_model book row who)) (affiliation-like book node) ∙ ap (λ v. read_by (affiliation book node a) v) (model-like book row.config.access_model row)
-
-  pub read-like : (book : Book) (node : NodeKey) → read book node who ≡ read book node a
-  read-like book node = read_at-like book (node_at node book.nodes) node
 
 -- ---- who is shut out
 

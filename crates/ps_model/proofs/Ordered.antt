@@ -1,4 +1,5 @@
--- Addresses in the order of their octets: of two lists that have those who pass a test in common, the same pass the test in order.
+-- Addresses in the order of their octets: what is put there is there, none is missing, and they rise; two ordered lists of the same
+-- addresses are one, and of two lists that have those who pass a test in common, the same pass the test in order.
 use Rattle.std.proofs.Common.{◌≡◌, ◌⊎◌, inl, inr, Bool, true, false, cond, List, [], ◌∷◌, ℕ, refl, sym, ap, ap₂, subst, ◌∙◌}
 use Rattle.std.specs.Prelude.{◌||◌, filter}
 use Rattle.std.specs.Ordering.{nat_cmp, match_ordering, ordering_reverse}
@@ -56,6 +57,14 @@ module _ (P : Jid → Type 0) where
   each-sorted [] ps = tt
   each-sorted (x ∷ xs) ps = each-put x (sorted xs) ps.0 (each-sorted xs ps.1)
 
+  -- and back, where equal texts are one address
+  back-at : (who x : Jid) (xs more : List Jid) (o : Ordering) → (o ≡ Equal → P x → P who) → (Each P more → P who × Each P xs) → Each P (match_ordering o (who ∷ x ∷ xs) (x ∷ xs) (x ∷ more)) → P who × Each P (x ∷ xs)
+  back-at who x xs more Less same rest ps = (ps.0, ps.1)
+  back-at who x xs more Equal same rest ps = (same refl ps.0, ps)
+  back-at who x xs more Greater same rest ps = let r = rest ps.1 in (r.0, (ps.0, r.1))
+
+-- equal texts are one address
+
 -- ---- none is missing
 
 -- equal texts are one address
@@ -63,6 +72,16 @@ pub jid-one : (j k : Jid) → IsAddress j → IsAddress k → text_cmp j k ≡ E
 jid-one j k is is' equal =
     let same = exact_bytes (jid_text j) (jid_text k) equal in
     spells-one (jid_text k) j k (subst (λ (t : List ℕ). Spells t j) same (text-spells j is)) (text-spells k is')
+
+module _ (P : Jid → Type 0) where
+  back : (who : Jid) (xs : List Jid) → IsAddress who → Each IsAddress xs → Each P (put_sorted who xs) → P who × Each P xs
+  back who [] is are ps = (ps.0, tt)
+  back who (x ∷ xs) is are ps = back-at P who x xs (put_sorted who xs) (text_cmp who x) (λ e p. subst P (sym (jid-one who x is are.0 e)) p) (back who xs is are.1) ps
+
+  -- none is missing
+  pub unsorted : (xs : List Jid) → Each IsAddress xs → Each P (sorted xs) → Each P xs
+  unsorted [] are ps = tt
+  unsorted (x ∷ xs) are ps = let h = back x (sorted xs) are.0 (each-sorted IsAddress xs are.1) ps in (h.0, unsorted xs are.1 h.1)
 
 put-itself : (who : Jid) (xs : List Jid) → IsAddress who → Each IsAddress xs → In who (put_sorted who xs)
 put-itself who [] is are = inl refl
@@ -107,7 +126,7 @@ pub ascend-sorted : (xs : List Jid) → Ascend (sorted xs)
 ascend-sorted [] = tt
 ascend-sorted (x ∷ xs) = ascend-put x (sorted xs) (ascend-sorted xs)
 
-never : (t : List ℕ) → slice_cmp nat_cmp t t ≡ Less → ⊥
+pub never : (t : List ℕ) → slice_cmp nat_cmp t t ≡ Less → ⊥
 never t e = let turned : slice_cmp nat_cmp t t ≡ Greater = nat_list_cmp_total.antisymm t t ∙ ap ordering_reverse e in cc (e, turned)
 
 not-both : (s t : List ℕ) → slice_cmp nat_cmp s t ≡ Less → slice_cmp nat_cmp t s ≡ Less → ⊥
