@@ -3,7 +3,9 @@ ghost use Rattle.std.specs.Prelude.{◌∷◌, []};
 ghost use Rattle.ps_io.specs.MemWorld.{IsNewWorld};
 
 use ps_disk::{Disk, MemDisk};
-use ps_io::{Clock, ConstClock, MemClock, MemWorld, RealClock, RealWorld, World, WorldRefusal};
+use ps_io::{
+    Clock, ConstClock, MemClock, MemWorld, Missing, RealClock, RealWorld, World, WorldRefusal,
+};
 use ps_types::Text;
 use ps_wire::{MemSink, MemSource, Sink, Source};
 use std::alloc::Global;
@@ -53,7 +55,7 @@ fn gives_stores(rt: &impl Abort, alloc: Global, world: &mut MemWorld) -> Result<
 {
     let store = Text::of(alloc, "s")?;
     world.put_disk(&store, MemDisk::new(alloc, b"abcd", &[])?)?;
-    let mut disk = world.open_disk(&store)?;
+    let mut disk = world.open_disk(&store, Missing::Make)?;
     assert_eq!(rt; disk.len().ok(), Some(4));
     world.give_back_disk(&store, disk);
     assert!(rt; world.disk(&store).is_some());
@@ -131,7 +133,7 @@ fn writes_and_reads(
     assert_eq!(rt; source.read(&mut room).ok(), Some(4));
     assert_eq!(rt; room, *b"kept\0\0\0\0");
     world.give_back(name, source);
-    let mut disk = world.open_disk(name)?;
+    let mut disk = world.open_disk(name, Missing::Make)?;
     assert_eq!(rt; disk.len().ok(), Some(4));
     world.give_back_disk(name, disk);
     Ok(())

@@ -5,7 +5,8 @@
 //! report answers `Failed` only where the world's own count of faults rose in that call (`specs/World.antt`).
 //!
 //! [`MemWorld`] stands in memory and fails at the calls that it is given. [`RealWorld`] stands over the files, the clock and the standard
-//! output of the system; it tells counts and openings, and nothing of content. It holds a store alone while that is open, and says on the
+//! output of the system; it tells counts and openings, and nothing of content. It holds a store alone while that is open, makes a missing
+//! one only where the caller asks for it ([`Missing`]), and says on the
 //! standard error which object failed, in the system's words ([`Named`]). A [`Clock`] gives the moment of a line.
 #![tactic(auto)]
 
@@ -22,4 +23,4 @@ pub use mem_clock::MemClock;
 pub use mem_world::MemWorld;
 pub use named::{HoldAlone, Named};
 pub use real::RealWorld;
-pub use world::{Kind, Opening, World, WorldRefusal};
+pub use world::{Kind, Missing, Opening, World, WorldRefusal};

@@ -3,7 +3,7 @@ ghost use Rattle.std.specs.Prelude.{◌≡◌, ◌≢◌, ◌⊎◌, ◌≤◌, 
 ghost use Rattle.ps_base.specs.Causes.{HasCause, next_count};
 
 use crate::shelf::Shelf;
-use crate::{Kind, MemClock, Opening, World, WorldRefusal};
+use crate::{Kind, MemClock, Missing, Opening, World, WorldRefusal};
 use ps_base::{Failed, Memory};
 use ps_disk::MemDisk;
 use ps_types::Text;
@@ -304,7 +304,8 @@ impl World for MemWorld {
         }
     }
 
-    fn open_disk(&mut self, name: &Text) -> Result<MemDisk, WorldRefusal>
+    // A store that wasn't put isn't made: its opening fails, whatever is asked.
+    fn open_disk(&mut self, name: &Text, _: Missing) -> Result<MemDisk, WorldRefusal>
         ensures object { IfOk result (λ d. IsHeldStore (stores_of self.old name.now) d.faults (state_of d).seen
             (state_of d).synced (state_of d).written (length d.kept) (syncs_in d.kept)) }
         ensures left { IfOk result (λ d. SameLeft (lefts_of self.old name.now) (LeftSince d)) }

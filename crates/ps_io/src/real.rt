@@ -6,7 +6,7 @@ ghost use Rattle.ps_io.specs.Real.{count_at, held_count, held_clock, held_store,
 
 use crate::named::{HoldAlone, Named, tell};
 use crate::shelf::Shelf;
-use crate::{Kind, Opening, RealClock, World, WorldRefusal};
+use crate::{Kind, Missing, Opening, RealClock, World, WorldRefusal};
 use ps_base::{Failed, Memory};
 use ps_disk::{Disk, FileDisk};
 use ps_types::Text;
@@ -85,15 +85,15 @@ fn note(alloc: Global, asked: &mut Vec<Opening>, kind: Kind, name: &Text) -> Res
     Ok(())
 }
 
-// Opens a store for reading and writing, and holds it alone; it is made where it is missing, and keeps its bytes.
-fn open_store<R: Files>(rt: &R, name: &str) -> io::Result<R::File>
+// Opens a store for reading and writing, and holds it alone. It keeps its bytes, and is made where it is missing and that is asked.
+fn open_store<R: Files>(rt: &R, name: &str, missing: Missing) -> io::Result<R::File>
 where
     R::File: HoldAlone,
 {
     let file = OpenOptions::new()
         .read(true)
         .write(true)
-        .create(true)
+        .create(matches!(missing, Missing::Make))
         .open(rt, name)?;
     file.hold_alone()?;
     Ok(file)
@@ -186,7 +186,11 @@ where
         Err(WorldRefusal::Failed)
     }
 
-    fn open_disk(&mut self, name: &Text) -> Result<FileDisk<Named<R::File, R>>, WorldRefusal> {
+    fn open_disk(
+        &mut self,
+        name: &Text,
+        missing: Missing,
+    ) -> Result<FileDisk<Named<R::File, R>>, WorldRefusal> {
         if make_place(self.alloc, &mut self.disks, name).is_err() {
             return Err(WorldRefusal::Memory);
         }
@@ -198,7 +202,7 @@ where
         }
         let before = self.faults;
         self.opening = (before, before);
-        match open_store(&self.rt, name.as_str()) {
+        match open_store(&self.rt, name.as_str(), missing) {
             Ok(file) => {
                 if let Some(faults) = self.disks.take(name) {
                     let file = Named::new(self.rt, Kind::Store, its, file);

@@ -37,6 +37,15 @@ pub enum WorldRefusal {
     Memory,
 }
 
+/// What becomes of a store that isn't there when it is opened.
+#[derive(Clone, Copy, Debug, PartialEq, Eq)]
+pub enum Missing {
+    /// It is made, empty, where the world makes stores.
+    Make,
+    /// The opening fails, and nothing is made.
+    Refuse,
+}
+
 /// The outside, which opens objects by name and takes reports.
 pub trait World {
     type Reading: Source + Send + Drop;
@@ -113,8 +122,8 @@ pub trait World {
             (last_opening self.new) }
         ensures cause { OpeningHasCause (faults self.old) (faults self.new) result };
 
-    /// Opens a store.
-    fn open_disk(&mut self, name: &Text) -> Result<Self::Store, WorldRefusal>
+    /// Opens a store. One that isn't there is made, or the opening fails, as it is asked. No clause tells a store that was just made from an empty one.
+    fn open_disk(&mut self, name: &Text, missing: Missing) -> Result<Self::Store, WorldRefusal>
         ensures object { IfOk result
             (λ d. IsHeldStore (stores self.old name.now) (Self.Store.faults d) (Self.Store.seen d) (Self.Store.synced d)
             (Self.Store.written d) (Self.Store.moment d) (Self.Store.syncs d)) }

@@ -12,7 +12,7 @@ ghost use Rattle.ps_serve.specs.Runs.{AsksInOrder, openings_of, reported_from};
 use crate::status::Status;
 use crate::whole::refused;
 use ps_compact::{CompactOutcome, Compacted, compact};
-use ps_io::World;
+use ps_io::{Missing, World};
 use ps_types::Text;
 use std::alloc::Global;
 use std::random::RandomSource;
@@ -54,7 +54,7 @@ fn compact_into<R: RandomSource + Threads + Sync, W: World>(
     ensures later { W.faults world.old ≤ W.faults world.new }
     ensures since { (W.last_opening world.new).1 ≤ W.faults world.new }
 {
-    match world.open_disk(new) {
+    match world.open_disk(new, Missing::Make) {
         Err(why) => (refused(why), disk),
         Ok(other) => {
             let Compacted {
@@ -88,7 +88,7 @@ pub(crate) fn compact_stores<R: RandomSource + Threads + Sync, W: World>(
     ensures reported { W.reported world.new ≡ W.reported world.old }
     ensures since { reported_from result (W.faults world.old) (W.last_opening world.new) ≤ W.faults world.new }
 {
-    let disk = match world.open_disk(store) {
+    let disk = match world.open_disk(store, Missing::Refuse) {
         Ok(disk) => disk,
         Err(why) => return refused(why),
     };

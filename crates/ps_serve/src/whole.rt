@@ -20,7 +20,7 @@ use crate::telling::tell_numbers;
 use ps_args::{Command, Stream, WordsRefusal, read_words};
 use ps_base::Memory;
 use ps_endpoints::{give_back_ports, open_ports};
-use ps_io::{World, WorldRefusal};
+use ps_io::{Missing, World, WorldRefusal};
 use ps_rehearse::{Numbers, rehearse};
 use ps_types::Text;
 use std::alloc::Global;
@@ -122,7 +122,7 @@ fn serve<R: RandomSource + Wait + Threads + Sync, W: World>(
     ensures reported { W.reported world.new ≡ W.reported world.old }
     ensures since { reported_from result (W.faults world.old) (W.last_opening world.new) ≤ W.faults world.new }
 {
-    let disk = match world.open_disk(store) {
+    let disk = match world.open_disk(store, Missing::Make) {
         Ok(disk) => disk,
         Err(why) => return refused(why),
     };

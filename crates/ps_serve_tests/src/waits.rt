@@ -6,7 +6,7 @@ use crate::lines::{CREATE, CREATE_OTHER, MADE, MADE_OTHER};
 use crate::worlds::{SERVE, texts_of};
 use ps_base::{Failed, Memory};
 use ps_disk::{Disk, MemDisk};
-use ps_io::{ConstClock, Kind, Opening, World, WorldRefusal};
+use ps_io::{ConstClock, Kind, Missing, Opening, World, WorldRefusal};
 use ps_serve::run;
 use ps_types::Text;
 use ps_wire::{Sink, Source};
@@ -229,7 +229,7 @@ impl<'a> World for Pair<'a> {
         self.opened(sink, Kind::Sink, name)
     }
 
-    fn open_disk(&mut self, name: &Text) -> Result<Mute, WorldRefusal> {
+    fn open_disk(&mut self, name: &Text, _: Missing) -> Result<Mute, WorldRefusal> {
         let disk = self.disks.pop();
         self.opened(disk, Kind::Store, name)
     }
