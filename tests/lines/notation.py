@@ -1,7 +1,7 @@
 """Trees in a short notation, and the JSON lines that they are printed as.
 
 `name:NS{attribute=value ..}(child child)` stands for an element; `:NS` is left out where it is the parent's. A namespace is written
-out or is a letter of NAMESPACES. A text child, and a value with spaces, stands in double quotes. `<x*513>` anywhere stands for 513
+out or is a letter of NAMESPACES. A text child, and a value with spaces, stands in double quotes, or in single ones where it has double ones. `<x*513>` anywhere stands for 513
 times `x`. `@name{key=value ..}` is a submitted data form (XEP-0004) whose FORM_TYPE is the pubsub namespace, `#` and the name;
 each key is a field `pubsub#key`, with several values between `|`, and `[]` for none. `@name:kind{..}` is one of another type.
 `%name{..}` is the form that the service prints for a configuration, or to ask for an approval: all its fields, the defaults but for
@@ -83,7 +83,8 @@ class Reader:
         self.take(r"\s*")
 
     def quoted(self):
-        return self.take(r'"[^"]*"')[1:-1]
+        """A text between double quotes, or between single ones where it has double ones itself."""
+        return self.take(r'"[^"]*"|\'[^\']*\'')[1:-1]
 
     def attributes(self):
         values = {}
@@ -94,13 +95,13 @@ class Reader:
             name = self.take(r"[^\s={}]+=")
             if name is None:
                 raise ValueError("no attribute: " + self.text[self.at :])
-            is_quoted = self.text[self.at : self.at + 1] == '"'
+            is_quoted = self.text[self.at : self.at + 1] in ('"', "'")
             values[name[:-1]] = self.quoted() if is_quoted else self.take(r"[^\s}]*")
         return values
 
     def element(self):
         mark = self.take(r"[@%]")
-        name = self.take(r'[^\s{}():"]+')
+        name = self.take(r'[^\s{}():"\']+')
         colon = self.take(r':[^\s{}()"]+')
         after = None if colon is None else colon[1:]
         attributes = self.attributes()
@@ -120,7 +121,7 @@ class Reader:
         found = []
         self.spaces()
         while self.at < len(self.text) and self.text[self.at] != ")":
-            found.append(self.quoted() if self.text[self.at] == '"' else self.element())
+            found.append(self.quoted() if self.text[self.at] in "\"'" else self.element())
             self.spaces()
         return found
 

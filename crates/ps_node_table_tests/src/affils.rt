@@ -1,80 +1,115 @@
 // Affiliations, by bare address.
+use crate::asked::{Ask, read};
 use crate::words::{jid, node};
 use ps_affil::Affils;
-use ps_types::{Affil, AffilRow};
+use ps_types::{Affil, AffilRow, Jid, NodeKey};
 use std::alloc::Global;
+use std::mem;
 use std::process::Abort;
 use std::test::Fail;
 
-fn row(alloc: Global, name: &str, who: &str, affil: Affil) -> Result<AffilRow, Fail> {
-    let node = node(alloc, name)?;
-    let who = jid(alloc, who)?;
-    Ok(AffilRow { node, who, affil })
+// ann@a.example owns w, where bob is a member, cid publishes only and dot is an outcast. What is copied is asked after `swap`.
+const ROWS: &str = "\
+set w ann@a.example owner = 1
+set w bob@b.example publisher = 2
+set w cid@a.example publish-only = 3
+set w dot@a.example outcast = 4
+set w bob@b.example member = 4
+is w bob@b.example/1 member = 1
+is w dot@a.example outcast = 1
+is w alf@a.example none = 1
+set w ann@a.example none = 3
+is w ann@a.example none = 1
+set w ann@a.example owner = 4
+add news bob@b.example owner = 5
+of-node w = 4
+of-address w bob@b.example/1 = 2
+row-of w bob@b.example/1 = 1
+row-of news ann@a.example = 0
+place w ann@a.example 4 = 1
+place w ann@a.example 5 = 0
+copy = 5
+drop w = 1
+swap = 5
+of-node w = 4";
+
+fn affil_of(word: &str) -> Affil {
+    match word {
+        "owner" => Affil::Owner,
+        "publisher" => Affil::Publisher,
+        "publish-only" => Affil::PublishOnly,
+        "member" => Affil::Member,
+        "outcast" => Affil::Outcast,
+        _ => Affil::Nothing,
+    }
 }
 
-fn set(
+fn changes(affils: &mut Affils, ask: &Ask<'_>, node: NodeKey, who: Jid) -> Result<u64, Fail> {
+    let affil = affil_of(ask.word);
+    affils.reserve(1)?;
+    let row = AffilRow { node, who, affil };
+    if ask.call == "set" {
+        affils.set(row);
+    } else {
+        affils.add(row);
+    }
+    Ok(affils.len())
+}
+
+fn tells(
     alloc: Global,
     affils: &mut Affils,
-    name: &str,
-    who: &str,
-    affil: Affil,
-) -> Result<(), Fail> {
-    affils.reserve(1)?;
-    let row = row(alloc, name, who, affil)?;
-    affils.set(row);
-    Ok(())
+    ask: &Ask<'_>,
+    node: &NodeKey,
+    who: &Jid,
+) -> Result<u64, Fail> {
+    match ask.call {
+        "is" => Ok((affils.get(node, who) == affil_of(ask.word)) as u64),
+        "of-node" => Ok(affils.of_node(alloc, node)?.len() as u64),
+        "of-address" => Ok(affils.of_address(alloc, who)?.len() as u64),
+        "row-of" => Ok(affils.row_of(node, who).is_some() as u64),
+        "place" => Ok(affils.row(ask.word.parse()?).is_some() as u64),
+        "drop" => {
+            affils.drop_node(node);
+            Ok(affils.len())
+        }
+        _ => Err(Fail::new("no such call")),
+    }
 }
 
-fn is(rt: &impl Abort, alloc: Global, affils: &Affils, who: &str, want: Affil) -> Result<(), Fail> {
-    let node = node(alloc, "w")?;
-    let who = jid(alloc, who)?;
-    assert!(rt; affils.get(&node, &who) == want);
-    Ok(())
+fn answer(
+    alloc: Global,
+    affils: &mut Affils,
+    copy: &mut Affils,
+    ask: &Ask<'_>,
+) -> Result<u64, Fail> {
+    match ask.call {
+        "copy" => {
+            *copy = affils.copy()?;
+            Ok(copy.len())
+        }
+        "swap" => {
+            mem::swap(affils, copy);
+            Ok(affils.len())
+        }
+        "set" | "add" => changes(affils, ask, node(alloc, ask.node)?, jid(alloc, ask.who)?),
+        _ => tells(
+            alloc,
+            affils,
+            ask,
+            &node(alloc, ask.node)?,
+            &jid(alloc, ask.who)?,
+        ),
+    }
 }
 
-// ann@a.example owns w, where bob is a member, cid publishes only and dot is an outcast.
-fn whitelist(alloc: Global) -> Result<Affils, Fail> {
+pub fn goes(rt: &impl Abort, alloc: Global) -> Result<(), Fail> {
     let mut affils = Affils::new(alloc)?;
-    set(alloc, &mut affils, "w", "ann@a.example", Affil::Owner)?;
-    set(alloc, &mut affils, "w", "bob@b.example", Affil::Publisher)?;
-    set(alloc, &mut affils, "w", "cid@a.example", Affil::PublishOnly)?;
-    set(alloc, &mut affils, "w", "dot@a.example", Affil::Outcast)?;
-    set(alloc, &mut affils, "w", "bob@b.example", Affil::Member)?;
-    Ok(affils)
-}
-
-#[test]
-fn affiliations_are_set_by_bare_address(rt: HostRuntime) -> Result<(), Fail> {
-    let alloc = rt.alloc();
-    let mut affils = whitelist(alloc)?;
-    is(&rt, alloc, &affils, "bob@b.example/1", Affil::Member)?;
-    is(&rt, alloc, &affils, "dot@a.example", Affil::Outcast)?;
-    is(&rt, alloc, &affils, "alf@a.example", Affil::Nothing)?;
-    assert_eq!(rt; affils.len(), 4);
-    set(alloc, &mut affils, "w", "ann@a.example", Affil::Nothing)?;
-    is(&rt, alloc, &affils, "ann@a.example", Affil::Nothing)?;
-    assert_eq!(rt; affils.len(), 3);
-    Ok(())
-}
-
-#[test]
-fn rows_are_listed_copied_and_dropped(rt: HostRuntime) -> Result<(), Fail> {
-    let alloc = rt.alloc();
-    let mut affils = whitelist(alloc)?;
-    affils.reserve(1)?;
-    let other = row(alloc, "news", "bob@b.example", Affil::Owner)?;
-    affils.add(other);
-    let w = node(alloc, "w")?;
-    let bob = jid(alloc, "bob@b.example/1")?;
-    let of_node = affils.of_node(alloc, &w)?;
-    assert_eq!(rt; of_node.len(), 4);
-    let of_bob = affils.of_address(alloc, &bob)?;
-    assert_eq!(rt; of_bob.len(), 2);
-    assert!(rt; affils.row_of(&w, &bob).is_some());
-    assert!(rt; affils.row(4).is_some());
-    let copy = affils.copy()?;
-    affils.drop_node(&w);
-    assert_eq!(rt; affils.len(), 1);
-    assert_eq!(rt; copy.len(), 5);
+    let mut copy = Affils::new(alloc)?;
+    for line in ROWS.lines() {
+        let ask = read(line)?;
+        let got = answer(alloc, &mut affils, &mut copy, &ask)?;
+        assert_eq!(rt; got, ask.want, "{line}");
+    }
     Ok(())
 }

@@ -1,28 +1,33 @@
 // Chains of places.
 use ps_chains::Chains;
+use std::alloc::Global;
 use std::process::Abort;
 use std::test::Fail;
 
-#[test]
-fn places_of_a_digest_are_linked(rt: HostRuntime) -> Result<(), Fail> {
-    let mut chains = Chains::new(rt.alloc());
+/// Places of a digest are linked.
+pub fn goes(rt: &impl Abort, alloc: Global) -> Result<(), Fail> {
+    let mut chains = Chains::new(alloc);
     chains.reserve(4)?;
-    chains.push(7);
-    chains.push(0);
-    chains.push(7);
-    chains.push(7);
-    assert!(rt; chains.first(7) == Some(0));
-    assert!(rt; chains.next(0) == Some(2));
-    assert!(rt; chains.last(7) == Some(3));
-    assert!(rt; chains.prior(3) == Some(2));
-    assert_eq!(rt; chains.count(7), 3);
+    for digest in [7, 0, 7, 7] {
+        chains.push(digest);
+    }
+    let whole = (
+        chains.first(7),
+        chains.next(0),
+        chains.last(7),
+        chains.prior(3),
+        chains.count(7),
+    );
+    assert!(rt; whole == (Some(0), Some(2), Some(3), Some(2), 3));
     chains.remove(2);
-    assert!(rt; chains.next(0) == Some(3));
-    assert!(rt; chains.prior(3) == Some(0));
-    assert!(rt; chains.first(0) == Some(1));
-    assert_eq!(rt; chains.count(7), 2);
+    let left = (
+        chains.next(0),
+        chains.prior(3),
+        chains.first(0),
+        chains.count(7),
+    );
+    assert!(rt; left == (Some(3), Some(0), Some(1), 2));
     chains.clear();
-    assert!(rt; chains.first(7).is_none());
-    assert_eq!(rt; chains.len(), 0);
+    assert!(rt; chains.first(7).is_none() && chains.len() == 0);
     Ok(())
 }

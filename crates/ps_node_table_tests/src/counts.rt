@@ -1,38 +1,80 @@
 // How many ids were made.
+use crate::asked::{Ask, read};
 use crate::words::{jid, node};
 use ps_item_ids::Counts;
-use ps_types::CountRow;
+use ps_types::{CountRow, Jid, NodeKey};
 use std::alloc::Global;
+use std::mem;
 use std::process::Abort;
 use std::test::Fail;
 
-fn row(alloc: Global, name: &str, made: u64) -> Result<CountRow, Fail> {
-    let node = node(alloc, name)?;
-    let who = jid(alloc, "ann@a.example")?;
-    Ok(CountRow { node, who, made })
+// They are counted by bare address. What is copied is asked after `swap`.
+const ROWS: &str = "\
+get news ann@a.example/1 = 0
+set news ann@a.example 1 = 1
+set news ann@a.example 2 = 1
+add other ann@a.example 7 = 2
+get news ann@a.example/1 = 2
+row-of news ann@a.example/1 = 1
+copy = 2
+drop news = 1
+get news ann@a.example/1 = 0
+swap = 2
+place news ann@a.example 1 = 1
+get news ann@a.example/1 = 2";
+
+fn changes(counts: &mut Counts, ask: &Ask<'_>, node: NodeKey, who: Jid) -> Result<u64, Fail> {
+    let made = ask.word.parse()?;
+    counts.reserve(1)?;
+    let row = CountRow { node, who, made };
+    if ask.call == "set" {
+        counts.set(row);
+    } else {
+        counts.add(row);
+    }
+    Ok(counts.len())
 }
 
-#[test]
-fn ids_are_counted_by_bare_address(rt: HostRuntime) -> Result<(), Fail> {
-    let alloc = rt.alloc();
-    let mut counts = Counts::new(alloc)?;
-    let news = node(alloc, "news")?;
-    let ann = jid(alloc, "ann@a.example/1")?;
-    assert_eq!(rt; counts.get(&news, &ann), 0);
-    for made in [1, 2] {
-        counts.reserve(1)?;
-        let row = row(alloc, "news", made)?;
-        counts.set(row);
+fn tells(counts: &mut Counts, ask: &Ask<'_>, node: &NodeKey, who: &Jid) -> Result<u64, Fail> {
+    match ask.call {
+        "get" => Ok(counts.get(node, who)),
+        "row-of" => Ok(counts.row_of(node, who).is_some() as u64),
+        "place" => Ok(counts.row(ask.word.parse()?).is_some() as u64),
+        "drop" => {
+            counts.drop_node(node);
+            Ok(counts.len())
+        }
+        _ => Err(Fail::new("no such call")),
     }
-    counts.reserve(1)?;
-    let other = row(alloc, "other", 7)?;
-    counts.add(other);
-    assert_eq!(rt; counts.get(&news, &ann), 2);
-    assert!(rt; counts.row_of(&news, &ann).is_some());
-    assert_eq!(rt; counts.len(), 2);
-    let copy = counts.copy()?;
-    counts.drop_node(&news);
-    assert_eq!(rt; counts.get(&news, &ann), 0);
-    assert!(rt; copy.row(1).is_some());
+}
+
+fn answer(
+    alloc: Global,
+    counts: &mut Counts,
+    copy: &mut Counts,
+    ask: &Ask<'_>,
+) -> Result<u64, Fail> {
+    match ask.call {
+        "copy" => {
+            *copy = counts.copy()?;
+            Ok(copy.len())
+        }
+        "swap" => {
+            mem::swap(counts, copy);
+            Ok(counts.len())
+        }
+        "set" | "add" => changes(counts, ask, node(alloc, ask.node)?, jid(alloc, ask.who)?),
+        _ => tells(counts, ask, &node(alloc, ask.node)?, &jid(alloc, ask.who)?),
+    }
+}
+
+pub fn goes(rt: &impl Abort, alloc: Global) -> Result<(), Fail> {
+    let mut counts = Counts::new(alloc)?;
+    let mut copy = Counts::new(alloc)?;
+    for line in ROWS.lines() {
+        let ask = read(line)?;
+        let got = answer(alloc, &mut counts, &mut copy, &ask)?;
+        assert_eq!(rt; got, ask.want, "{line}");
+    }
     Ok(())
 }

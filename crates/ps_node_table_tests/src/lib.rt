@@ -1,10 +1,13 @@
-//! Tests of the tables of nodes, of what stands on a node, and of the chains that index them: each call once, and what stays.
+//! Tests of the tables of nodes, of what stands on a node, and of the chains that index them: each call once, and what stays. Each table
+//! goes through lines, which say what it is asked and what it answers.
 //!
 //! They stand in a crate of their own, since a crate with tests is proved twice. Nothing stands on this crate, and it has no public function.
 #![tactic(auto)]
 
 #[cfg(test)]
 mod affils;
+#[cfg(test)]
+mod asked;
 #[cfg(test)]
 mod chains;
 #[cfg(test)]
@@ -17,5 +20,7 @@ mod links;
 mod nodes;
 #[cfg(test)]
 mod subs;
+#[cfg(test)]
+mod tests;
 #[cfg(test)]
 mod words;
