@@ -165,10 +165,11 @@ def spelled(text):
 
 def repeated(text):
     """A line of a table, as often as it says."""
-    numbers = re.match(r"for (\d+)\.\.(\d+) ", text)
+    numbers = re.match(r"for (\d+)\.\.(\d+)(?: by (\d+))? ", text)
     words = re.match(r"for ((?:\S+ )+?)(?=taken |told )", text)
     if numbers:
-        return [text[numbers.end() :].replace("$", str(it)) for it in range(int(numbers[1]), int(numbers[2]) + 1)]
+        first, last, step = int(numbers[1]), int(numbers[2]), int(numbers[3] or 1)
+        return [text[numbers.end() :].replace("$", str(it)) for it in range(first, last + 1, step)]
     if words:
         return [text[words.end() :].replace("$", it) for it in words[1].split()]
     return [text]
@@ -189,13 +190,14 @@ def cases():
     return found
 
 
-def changes_in(store):
-    """How many changes a store has: its entries but the boot, the rows, the ends of hosts, and the notices that were handed."""
-    at, count = len(HEAD), 0
+def tags_in(store):
+    """The first byte of each entry of a store."""
+    at, found = len(HEAD), []
     while store[at] == 1:
         at, end = at + 5, at + 5 + int.from_bytes(store[at + 1 : at + 5], "big")
         while at < end:
             tag, sized = store[at], lambda here, width: width + int.from_bytes(store[here : here + width], "big")
+            found.append(tag)
             at += 1
             if tag == 5:
                 at += sized(at, 4)
@@ -204,8 +206,16 @@ def changes_in(store):
             if tag in (1, 4):
                 at += 8 * (2 if tag == 4 else 1)
                 at += sized(at, 4)
-                count += 1
-    return count
+    return found
+
+
+def entries_in(store):
+    return len(tags_in(store))
+
+
+def changes_in(store):
+    """How many of the entries are changes, with or without a moment."""
+    return sum(tag in (1, 4) for tag in tags_in(store))
 
 
 def is_notice(line):
@@ -214,8 +224,12 @@ def is_notice(line):
 
 def told(room, taken, asked):
     """What the program answers to these lines over the rows, in one run, and how many entries they make."""
-    lines, answers, makes = [], [], 0
-    for number, (where, text) in enumerate(asked, 1):
+    lines, answers, makes, heard = [], [], 0, []
+    for where, text in asked:
+        if text.startswith("> "):
+            heard.append(make.notice(text, make.told_address)[2])
+            continue
+        number = len(lines) + 1
         text, _, answer = text.partition(" -> ")
         line, head = make.sent(number, text)
         lines.append(line)
@@ -230,6 +244,8 @@ def told(room, taken, asked):
         expect(where, reply, answer)
     expect(f"{asked[0][0]}: replies", len(replies), len(wanted))
     expect(f"{asked[0][0]}: entries", changes_in(room.store.read_bytes()), makes)
+    if heard:
+        expect(f"{asked[0][0]}: notices", sorted(line for line in came["a.example"] if is_notice(line)), sorted(heard))
 
 
 def come_back(room, taken, name):
@@ -243,22 +259,40 @@ def come_back(room, taken, name):
     expect(f"{name}: the rows", new.read_bytes(), old)
 
 
+def stands(room, where, word, text):
+    """A store of these bytes: how many entries it has after a run, or where it is damaged."""
+    number, _, told = text.partition(" ")
+    store = make.bytes_of(told)
+    if word == "damaged":
+        refuses(room, where, store, int(number))
+        return
+    room.store.write_bytes(store)
+    expect(where, room.run({"a.example": []})[:2], (0, b""))
+    found = room.store.read_bytes()
+    # The run adds a boot and the end of its host.
+    expect(f"{where}: entries", entries_in(found), int(number) + 1)
+    expect(f"{where}: the header", found[: len(HEAD)], HEAD)
+
+
 def goes(room, name, steps):
     """Goes through a case, and counts its rows and its lines."""
     taken, asked = [], []
     for where, word, text in [*steps, ("", "again", "")]:
-        if word == "told":
-            asked.append((where, text))
+        if word in ("told", ">"):
+            asked.append((where, text if word == "told" else f"> {text}"))
             continue
         if asked:
             told(room, taken, asked)
             asked = []
         if word == "taken":
             taken.append(entry_of(spelled(text)))
+        elif word in ("opens", "damaged"):
+            stands(room, where, word, text)
         elif word != "again":
             entry = entry_of(text.encode() if word == "raw" else spelled(text))
             refuses(room, f"{where}: {name}", *store_of([*taken, entry]))
-    come_back(room, taken, name)
+    if taken:
+        come_back(room, taken, name)
     return len(steps)
 
 
