@@ -6,7 +6,7 @@
 links        each link of a page leads to a file, and to a heading where it names one
 paths        each path in code marks (`tests/..`, `crates/..`) is there, and each script that a block of commands calls
 definitions  in docs/model.md: each `Name.word` is defined, each `crate/file` is code, each test is there
-lines        each line of JSON is one that a test compares byte for byte (tests/lines, examples)
+lines        each line of JSON is one that a test compares byte for byte (tests/lines, examples, walk.py)
 statuses     the table of docs/operator.md is that of crates/ps_serve/src/status.rt
 sizes        README.md has 6 KB at most
 """
@@ -17,8 +17,10 @@ import sys
 
 ROOT = pathlib.Path(__file__).resolve().parents[2]
 sys.path.insert(0, str(ROOT / "tests" / "lines"))
+sys.path.insert(0, str(ROOT / "tests" / "docs"))
 import hosts
 import make
+import walk
 
 CRATES = ROOT / "crates"
 LINK = re.compile(r"(?<!!)\[[^\]]*\]\(([^)\s]+)\)")
@@ -112,12 +114,15 @@ def definitions(page, text):
 
 
 def corpus():
-    """All lines that the tests compare byte for byte."""
+    """All lines that the tests compare byte for byte, those of the walks among them."""
     lines, replies, notices = make.run_of_cases()
     found = {line.decode("utf-8", "replace") for line in (*lines, *replies, *notices)}
     for path in (ROOT / "tests/lines/hosts").glob("*.txt"):
         for _, *rest in hosts.steps(path):
             found.update(it if not it.startswith("notice ") and " {" not in it[:80] else it[it.index("{"):] for it in rest)
+    for page in pages():
+        for _, wanted in walk.WALK.findall(page.read_text()):
+            found.update(wanted.splitlines())
     for path in (ROOT / "examples").rglob("*"):
         if path.is_file() and path.suffix != ".md":
             found.update(path.read_text().splitlines())
