@@ -27,11 +27,13 @@ def plain(text):
 
 def inline(text):
     """A line of prose: bold, literal words and links."""
-    parts = re.split(r"(\*\*.+?\*\*|`[^`]+`|\[[^\]]+\]\([^)]+\))", text)
+    parts = re.split(r"(\*\*.+?\*\*|\*\w+\*|`[^`]+`|\[[^\]]+\]\([^)]+\))", text)
     made = []
     for part in parts:
         if part.startswith("**"):
             made.append(rf"\fB{plain(part[2:-2])}\fR")
+        elif part.startswith("*"):
+            made.append(rf"\fI{plain(part[1:-1])}\fR")
         elif part.startswith("`"):
             made.append(rf"\fB{plain(part[1:-1])}\fR")
         elif part.startswith("["):
