@@ -7,7 +7,7 @@ links        each link of a page leads to a file, and to a heading where it name
 paths        each path in code marks (`tests/..`, `crates/..`) is there, and each script that a block of commands calls
 definitions  in docs/model.md: each `Name.word` is defined, each `crate/file` is code, each test is there
 lines        each line of JSON is one that a test compares byte for byte (tests/lines, examples, walk.py), but for numbers as ids
-statuses     the table of docs/operator.md is that of crates/ps_serve/src/status.rt
+statuses     the table of docs/operator.md, and its synopsis, are those of crates/ps_serve/src/status.rt
 sizes        README.md has 6 KB at most
 """
 import json
@@ -166,6 +166,11 @@ def statuses(page, text):
             yield f"status {code} reports {word!r}"
     for code in set(table) - set(codes.values()):
         yield f"there is no status {code}"
+    usage = re.sub(r'\s*\\\n\s*', " ", re.search(r'"usage: (pubsubd .*?)\\n"', source, re.S)[1])
+    synopsis = {" ".join(line.split()) for block in BLOCK.findall(text) for line in block.splitlines() if line.startswith("pubsubd ")}
+    for command in usage.removeprefix("pubsubd ").split(" | "):
+        if f"pubsubd {command.strip()}" not in synopsis:
+            yield f"the synopsis lacks pubsubd {command}"
 
 
 def sizes(page, text):
