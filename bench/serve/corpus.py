@@ -82,9 +82,9 @@ def affiliate(k, nodes, affiliation="member"):
     return owning(ADDRESS % (node // 5000), k, "affiliations{node=node-%d}(%s)" % (node, row))
 
 
-def subscribing(node, k, name, numbers):
-    """So many addresses are subscribed to the owner's node by a line."""
-    rows = " ".join("subscription{jid=%s%d@a.example subscription=subscribed}" % (name, n) for n in numbers)
+def subscribing(node, k, name, numbers, host="a.example"):
+    """So many addresses of that host are subscribed to the owner's node by a line."""
+    rows = " ".join("subscription{jid=%s%d@%s subscription=subscribed}" % (name, n, host) for n in numbers)
     return owning(OWNER, k, "subscriptions{node=%s}(%s)" % (node, rows))
 
 

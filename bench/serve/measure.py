@@ -22,7 +22,7 @@ def numbers(name, default):
 
 
 def answered(source, sink, lines):
-    """Writes the lines, reads a reply to each, and says how long that took."""
+    """Writes the lines, reads a reply to each and what notices come before it, and says how long that took."""
     sent = "".join(lines).encode()
 
     def write():
@@ -32,7 +32,13 @@ def answered(source, sink, lines):
     writer = threading.Thread(target=write)
     start = time.monotonic()
     writer.start()
-    replies = [sink.readline() for _ in lines]
+    replies = []
+    while len(replies) < len(lines):
+        line = sink.readline()
+        if not line:
+            break
+        if b',"id":"n-' not in line[:300]:
+            replies.append(line)
     seconds = time.monotonic() - start
     writer.join()
     return seconds, b"".join(replies)

@@ -1,9 +1,10 @@
-"""What the notices of a publish cost, by how many hear of it: found, numbered and printed. The program hands none of them out yet.
+"""What the notices of a publish cost, by how many hear of it: found, numbered and printed.
 
 Usage: told.py PROGRAM FOLDER. To one node with 10, 1,000 and 65,536 subscribers (AUDIENCE), and to the personal node of an account whose 1,000 contacts (WANTING)
 want it, publishes of 200 bytes and of 16 KB come one after the other, on 1, 2 and 4 processors. From the time of a publish that of one to a node without an
-audience is taken off; the rest is that of the notices. Medians of ROUNDS (3). Then the same to 1,000 subscribers on one processor with OTHERS (10000) other
-nodes and ten times as many subscriptions of another node.
+audience is taken off; the rest is that of the notices. Subscribers are of a host that isn't served, so their notices wait; contacts are of the stream's own, so
+theirs are handed out meanwhile. Medians of ROUNDS (3). Then the same to 1,000 subscribers on one processor with OTHERS (10000) other nodes and ten times as many
+subscriptions of another node.
 """
 import os
 import pathlib
@@ -24,7 +25,7 @@ NODE = home.features(3)[0].removesuffix("+notify")
 def rows(node, name, count):
     """Lines of the node's owner that subscribe so many addresses."""
     for first in range(0, count, corpus.ROWS):
-        yield corpus.subscribing(node, first, name, range(first, min(first + corpus.ROWS, count)))
+        yield corpus.subscribing(node, first, name, range(first, min(first + corpus.ROWS, count)), "b.example")
 
 
 def item(k, node, size):

@@ -1,7 +1,7 @@
 #!/usr/bin/env python3
-"""Checks that each contract which docs/CLAIMS.md names is there: its file, its function, and each clause of it.
+"""Checks that each contract which docs/claims.md names is there: its file, its function, and each clause of it.
 
-    claims.py [FILE..]      FILE: docs/CLAIMS.md where none is given
+    claims.py [FILE..]      FILE: docs/claims.md where none is given
 
 A reference reads `crate/src/file.rt` `function`: `clause`, `clause`; one without clauses names a function whose one
 clause has no name, or a test. A relation of specs is named as `crate/specs/File.antt` `Word`.
@@ -47,7 +47,7 @@ def lacks(reference, names):
 
 def main(files):
     missing, count = [], 0
-    for file in files or [ROOT / "docs" / "CLAIMS.md"]:
+    for file in files or [ROOT / "docs" / "claims.md"]:
         for reference, names in REFERENCE.findall(pathlib.Path(file).read_text()):
             count += 1
             missing += lacks(reference, names)

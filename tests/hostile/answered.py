@@ -1,4 +1,4 @@
-"""What a line must be answered, by tables that stand here and in docs/STANZAS.md and from nothing that the program printed."""
+"""What a line must be answered, by tables that stand here and in docs/router.md and from nothing that the program printed."""
 import pathlib
 import sys
 

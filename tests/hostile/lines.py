@@ -1,4 +1,4 @@
-"""Hostile and malformed lines, and each denial that a tree alone can have, with the replies that the tables of docs/STANZAS.md give.
+"""Hostile and malformed lines, and each denial that a tree alone can have, with the replies that the tables of docs/router.md give.
 
 `made` gives the lines of the stream of a.example for the service host pubsub.example, and the replies in line order. No line here gets as far as asking whether
 its node stands, so the replies are the same whatever the service holds.

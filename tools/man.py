@@ -1,16 +1,18 @@
 #!/usr/bin/env python3
-"""Makes the man page of the program out of OPERATING.md, the one source of both.
+"""Makes the man page of the program, docs/pubsubd.1, out of docs/operator.md, the one source of both.
 
-Usage: man.py [--check]     writes pubsubd.1 beside this file, or says whether it is what would be written
+    man.py            writes it
+    man.py --check    says whether it is what would be written
 """
 import pathlib
 import re
 import sys
 
-HERE = pathlib.Path(__file__).resolve().parent
-SOURCE, PAGE = HERE / "OPERATING.md", HERE / "pubsubd.1"
+DOCS = pathlib.Path(__file__).resolve().parents[1] / "docs"
+SOURCE, PAGE = DOCS / "operator.md", DOCS / "pubsubd.1"
 HEAD = [
-    r".\" Made by man.py from OPERATING.md: change that, and run man.py.",
+    r"""'\" t""",
+    r".\" Made by tools/man.py from docs/operator.md: change that, and run tools/man.py.",
     ".TH PUBSUBD 1",
     ".SH NAME",
     r"pubsubd \- XMPP publish-subscribe and personal eventing behind a router",
@@ -25,11 +27,13 @@ def plain(text):
 
 def inline(text):
     """A line of prose: bold, literal words and links."""
-    parts = re.split(r"(\*\*.+?\*\*|`[^`]+`|\[[^\]]+\]\([^)]+\))", text)
+    parts = re.split(r"(\*\*.+?\*\*|\*\w+\*|`[^`]+`|\[[^\]]+\]\([^)]+\))", text)
     made = []
     for part in parts:
         if part.startswith("**"):
             made.append(rf"\fB{plain(part[2:-2])}\fR")
+        elif part.startswith("*"):
+            made.append(rf"\fI{plain(part[1:-1])}\fR")
         elif part.startswith("`"):
             made.append(rf"\fB{plain(part[1:-1])}\fR")
         elif part.startswith("["):
@@ -44,12 +48,15 @@ def row(line):
 
 
 def table(lines):
-    """A table with a heading: each row is a tagged paragraph, its first cell the tag."""
-    made = []
-    for line in lines[2:]:
-        first, *rest = row(line)
-        made += [".TP", inline(first), inline("; ".join(cell for cell in rest if cell))]
-    return made
+    """A table for tbl. The last column of the widest cells takes what is left of the line, so that the table fits a terminal."""
+    head, *rows = [row(line) for line in (lines[0], *lines[2:])]
+    wide = [max(len(cells[at]) for cells in rows) > 16 for at in range(len(head))]
+    share = 50 // max(sum(wide), 1)
+    columns = " ".join(f"lw({share}n)" if it else "l" for it in wide)
+    made = [".TS", "tab(@);", " ".join(["lb"] * len(head)), f"{columns}.", "@".join(map(inline, head))]
+    for cells in rows:
+        made += "@".join(f"T{{\n{inline(cell)}\nT}}" if wide[at] else inline(cell) for at, cell in enumerate(cells)).split("\n")
+    return [*made, ".TE"]
 
 
 def code(lines):
@@ -100,7 +107,7 @@ def main(words):
     made = page(SOURCE.read_text())
     if words == ["--check"]:
         if not PAGE.is_file() or PAGE.read_text() != made:
-            print("docs/pubsubd.1 is not what OPERATING.md says: run docs/man.py", file=sys.stderr)
+            print("docs/pubsubd.1 isn't what docs/operator.md says: run tools/man.py", file=sys.stderr)
             return 1
         return 0
     if words:

@@ -1,0 +1,93 @@
+#!/usr/bin/env python3
+"""What docs/claims.md says that is made from the sources: what each crate promises, and each law. tables.py writes it there.
+
+A crate's promise is the first sentence of its src/lib.rt. A law is a public function with an empty body: the check proves its contract, which
+is all that it has; what it says is the first sentence of its doc comment.
+"""
+import pathlib
+import re
+
+ROOT = pathlib.Path(__file__).resolve().parents[1]
+CRATES = ROOT / "crates"
+
+
+def names():
+    """The crates in the order of crates.txt, which is by layer."""
+    found = []
+    for line in (ROOT / "crates.txt").read_text().splitlines():
+        name = line.split(":")[0].split()[0] if line.strip() and not line.startswith("#") else ""
+        if (CRATES / name / "src").is_dir() and name:
+            found.append(name)
+    return found
+
+
+def plain(text):
+    """A doc comment's text without links, on one line."""
+    text = re.sub(r"\[(`[^`\]]+`)\](?!\()", r"\1", text)
+    return re.sub(r"\s+", " ", text).strip().replace("|", "/")
+
+
+def first_sentence(text):
+    match = re.match(r"(.*?[.:])(?= [A-Z`]|$)", plain(text))
+    return (match[1] if match else plain(text)).rstrip(":").rstrip(".") + "."
+
+
+def promise(name):
+    """The first sentence of what a crate says of itself."""
+    top = next(it for it in (CRATES / name / "src/lib.rt", CRATES / name / "src/main.rt") if it.is_file())
+    lines = []
+    for line in top.read_text().splitlines():
+        if not line.startswith("//!") or (lines and not line[3:].strip()):
+            break
+        lines.append(line[3:].strip())
+    return first_sentence(" ".join(lines))
+
+
+def functions_of(path):
+    """Each public function of a file at its top: its doc comment, its name, its lines up to its body, and whether that is empty."""
+    doc, head, name = [], [], None
+    for line in path.read_text().splitlines():
+        if name is None:
+            if line.startswith("///"):
+                doc.append(line[3:].strip())
+                continue
+            start = re.match(r"pub fn (\w+)", line)
+            if start:
+                name, head = start[1], [line]
+            elif not line.startswith("#["):
+                doc = []
+        else:
+            head.append(line)
+        if name and re.search(r"\{\s*\}?\s*$", line) and (line.startswith("{") or not line.startswith(" ")):
+            yield " ".join(doc), name, "\n".join(head), bool(re.search(r"\{\s*\}\s*$", line))
+            doc, name = [], None
+
+
+def laws_of(name):
+    """Each law of a crate: its file, its name, and what it says."""
+    found = []
+    for path in sorted((CRATES / name / "src").rglob("*.rt")):
+        for doc, function, head, is_empty in functions_of(path):
+            if is_empty and "ensures" in head:
+                found.append((path.relative_to(ROOT), function, first_sentence(doc)))
+    return found
+
+
+def promises():
+    rows = ["| Crate | What it is |", "|---|---|"]
+    for name in names():
+        if not name.endswith(("_tests", "_cases", "_laws")):
+            rows.append(f"| `{name}` | {promise(name)} |")
+    return "\n".join(rows) + "\n"
+
+
+def laws():
+    rows, last = ["| In | Law | What it says |", "|---|---|---|"], None
+    for name in names():
+        if name.endswith(("_tests", "_cases")):
+            continue
+        for path, function, says in laws_of(name):
+            where = f"[{name}](../{path})" if path != last else ""
+            rows.append(f"| {where} | `{function}` | {says} |")
+            last = path
+    return "\n".join(rows) + "\n"
