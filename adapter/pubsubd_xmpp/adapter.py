@@ -125,6 +125,8 @@ class Adapter:
         stream = streams[0]
         was_over = stream.over
         lines = stream.spool.lines()
+        if lines:
+            stream.read_at = time.monotonic()
         for line, end in lines:
             self._router.told(stream, line, end)
         self._session.flush()
@@ -299,12 +301,21 @@ class Adapter:
         while True:
             await asyncio.sleep(1)
             self._flush_kept()
-            if self._router.oldest() > self._config.answer_seconds:
+            if not (self._settled and self._session.can_take):
+                self._excuse()
+            if self._router.silence() > self._config.answer_seconds:
                 self._turn("it doesn't answer")
+            elif self._router.out_of_step:
+                self._turn("its replies fit no requests")
             elif any(stream.broken for stream in (self._run.streams if self._run else ())):
                 self._turn("it doesn't read a stream")
             elif any(not one.spool.can_cut and one.spool.at > 1 << 28 for others in self._reading.values() for one in others):
                 self._turn("the file of a stream can't be cut, and grows large")
+
+    def _excuse(self) -> None:
+        """While nothing is read, no reply is missed."""
+        for stream in self._run.streams if self._run else ():
+            stream.read_at = time.monotonic()
 
     async def _schedule(self) -> None:
         """Compacts at the times of the configuration."""

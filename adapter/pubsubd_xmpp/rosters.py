@@ -57,6 +57,9 @@ class Rosters:
         else:
             question.waiting.append(then)
 
+    def is_asking(self, account: str) -> bool:
+        return account in self._by_account
+
     def _question(self, account: str) -> _Question:
         self._serial += 1
         name = f"roster-{self._serial}"

@@ -36,6 +36,7 @@ class Router:
         self.counts: Counter[str] = Counter()
         self.streams: dict[str, Stream | None] = dict.fromkeys(config.hosts)
         self.waiting: dict[str, deque[tuple[bytes, Asked | None]]] = {host: deque() for host in config.hosts}
+        self.out_of_step = False  # a reply came that fits no request
         self.serves = False  # the service is there, and knows who is
         self.stopping = False
         self.features: list[Elem] | None = None
@@ -83,11 +84,13 @@ class Router:
 
     def begin(self, streams: list[Stream]) -> None:
         """A run began: the rows that aren't sure, then who is there, then the requests that wait."""
+        self.out_of_step = False
         for stream in streams:
             self.streams[stream.host] = stream
         self.rosters.tell_unsure()
         for presence in self.presences.all():
-            self._tell_presence(presence)
+            if not self.rosters.is_asking(bare_of(presence.get("from"))):
+                self._tell_presence(presence)
         for stream in streams:
             for line, asked in self.waiting[stream.host]:
                 stream.put(line, asked)
@@ -360,11 +363,11 @@ class Router:
             self._close(asked, errors.error(asked.head, *refusal, self._config.host))
 
     def _told_reply(self, stream: Stream, tree: Elem) -> None:
-        asked = stream.answered()
-        if asked is None or asked.head.get("id") != tree.get("id"):
+        asked = stream.answered(tree.get("id"))
+        if asked is None:
+            self.out_of_step = True
             say("a reply that belongs to no request", host=stream.host, id=tree.get("id"))
-            if asked is None:
-                return
+            return
         if asked.then is None:
             tree.attrs["to"] = asked.head.get("from")
             if tree.get("type") == "error":
@@ -404,6 +407,11 @@ class Router:
                     self._close(asked, errors.error(asked.head, "service-unavailable", "wait", errors.STOPPING, self._config.host))
 
     def oldest(self) -> float:
-        """Since when the oldest request in the service waits, in seconds."""
-        since = [stream.waits_since() for stream in self.streams.values() if stream is not None and stream.open]
+        """How long the oldest request has waited in the service, in seconds."""
+        since = [stream.open[0].since for stream in self.streams.values() if stream is not None and stream.open]
+        return time.monotonic() - min(since) if since else 0.0
+
+    def silence(self) -> float:
+        """How long the service has owed a reply and written nothing to that stream, in seconds."""
+        since = [max(stream.open[0].since, stream.read_at) for stream in self.streams.values() if stream is not None and stream.open]
         return time.monotonic() - min(since) if since else 0.0

@@ -29,6 +29,7 @@ class Stream:
         self.over = False  # the run has ended, and the spool grows no more
         self.broken = False  # the service reads this stream no more
         self.lines = 0
+        self.read_at = 0.0  # when it was last read
         self._in_flight = in_flight
         self._fd = -1
         self._part = 0
@@ -84,9 +85,9 @@ class Stream:
             else:
                 self._loop.remove_writer(self._fd)
 
-    def answered(self) -> Asked | None:
-        """The request whose reply came: replies come in the order of the lines."""
-        if not self.open:
+    def answered(self, name: str | None = None) -> Asked | None:
+        """The request whose reply came, which has its id: replies come in the order of the lines."""
+        if not self.open or name not in (None, self.open[0].head.get("id")):
             return None
         asked = self.open.popleft()
         if self.out:
@@ -113,7 +114,3 @@ class Stream:
         while self.out:
             keep(*self.out.popleft())
         self._part = 0
-
-    def waits_since(self) -> float:
-        """Since when the oldest request waits for its reply; 0 where none does."""
-        return self.open[0].since if self.open else 0.0
