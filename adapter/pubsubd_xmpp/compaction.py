@@ -11,7 +11,7 @@ from .kept import Kept
 from .log import say
 from .service import Process, meaning
 
-_HEADER = b"PUBSUBJ1"
+_HEADER = b"PUBSUBJ"  # and a version
 _BASE = "compacted bytes"
 
 

@@ -71,7 +71,7 @@ def take_over(folder: Path, hosts: tuple[str, ...], kept: Kept) -> list[Stream]:
             if host in hosts and (run / f"{at}.out").exists():
                 stream = Stream(host, Spool(run / f"{at}.out", kept.flush), 1)
                 _raise_numbers(stream.spool, kept)
-                stream.over = True
+                stream.over = stream.inherited = True
                 streams.append(stream)
         if not names:
             shutil.rmtree(run, ignore_errors=True)

@@ -342,7 +342,9 @@ class Router:
         return before + notice.xml(CLIENT) + behind
 
     def _told_tree(self, stream: Stream, tree: Elem) -> None:
-        if tree.name == "refused":
+        if stream.inherited and tree.name in ("refused", "iq") and not tree.get("id").startswith("n-"):
+            self._told_heir(tree)
+        elif tree.name == "refused":
             self._told_refused(stream, tree)
         elif tree.name == "iq" and tree.get("type") in ("result", "error"):
             self._told_reply(stream, tree)
@@ -375,6 +377,13 @@ class Router:
             else:
                 draw(tree)
         self._close(asked, tree)
+
+    def _told_heir(self, tree: Elem) -> None:
+        """A reply to a request that an earlier adapter took. What came in an envelope can't be answered, since nobody knows it any more."""
+        if tree.name == "iq" and tree.get("from") == self._config.host and is_full(tree.get("to")):
+            errors.explain(tree)
+            draw(tree)
+            self._to_server(tree)
 
     def _told_question(self, tree: Elem) -> None:
         """A question for capabilities goes to the resource, once."""

@@ -27,6 +27,7 @@ class Stream:
         self.open: deque[Asked] = deque()
         self.out: deque[tuple[bytes, Asked | None]] = deque()
         self.over = False  # the run has ended, and the spool grows no more
+        self.inherited = False  # of a run of an earlier adapter, whose requests nobody knows
         self.broken = False  # the service reads this stream no more
         self.lines = 0
         self.read_at = 0.0  # when it was last read
