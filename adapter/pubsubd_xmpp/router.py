@@ -61,7 +61,8 @@ class Router:
     def put(self, host: str, stanza: Elem, asked: Asked | None) -> None:
         """A line for the service: at once if it serves. Without it, what a person asked waits, and the rest is told at the next start."""
         stream = self.streams[host]
-        if stream is not None:
+        is_own = asked is not None and asked.then is not None
+        if stream is not None and (self.serves or is_own):
             stream.put(to_line(stanza), asked)
             self._dirty.add(host)
         else:
@@ -83,22 +84,26 @@ class Router:
                 stream.flush()
 
     def begin(self, streams: list[Stream]) -> None:
-        """A run began: the rows that aren't sure, then who is there, then the requests that wait."""
+        """A run began: the rows that aren't sure, and once they are answered who is there, and then the requests that wait."""
         self.out_of_step = False
         for stream in streams:
             self.streams[stream.host] = stream
-        self.rosters.tell_unsure()
+        self._ask_features()
+        self.rosters.start(lambda: self._let_through(streams))
+        self.flush_streams()
+
+    def _let_through(self, streams: list[Stream]) -> None:
+        if any(self.streams[stream.host] is not stream for stream in streams):
+            return
         for presence in self.presences.all():
             if not self.rosters.is_asking(bare_of(presence.get("from"))):
                 self._tell_presence(presence)
+        self.serves = True
         for stream in streams:
             for line, asked in self.waiting[stream.host]:
                 stream.put(line, asked)
             self.waiting[stream.host].clear()
             self._dirty.add(stream.host)
-        self.serves = True
-        self._ask_features()
-        self.flush_streams()
 
     def pause(self) -> None:
         """From now on requests wait for the next run. What was put and not written waits too."""
