@@ -258,14 +258,21 @@ async def moods_by_presence(world):
     want(heard.find(f"{EVENT}event/{EVENT}items").get("node") == node, "another node")
     await denied(eve.pubsub.get_items(ann.boundjid.bare, node), "not-authorized", "presence")
     await bob.pubsub.get_items(ann.boundjid.bare, node)
+    ann.auto_authorize = ann.auto_subscribe = bob.auto_subscribe = None
     await ann.update_roster(bob.boundjid.bare, subscription="remove")
-    await until(lambda: bob.boundjid.bare not in [str(one) for one in ann.client_roster], "bob is removed")
+    want(bob.boundjid.bare not in await contacts(ann), "bob isn't removed")
     await denied(bob.pubsub.get_items(ann.boundjid.bare, node), "not-authorized", "presence")
     bob.messages.clear()
     await ann["xep_0107"].publish_mood("sad")
     await ann.pubsub.get_items(None, node)
     await asyncio.sleep(1)
     want(not bob.heard(node), "who was removed hears of it")
+
+
+async def contacts(person):
+    """The contacts, as the server has them."""
+    roster = await person.make_iq_get(queryxmlns="jabber:iq:roster").send()
+    return [one.get("jid") for one in roster.xml.iter("{jabber:iq:roster}item")]
 
 
 def both(one, other):
@@ -284,6 +291,7 @@ async def until(true, what):
 async def groups(world):
     """The access model roster: those in the group read, others don't."""
     ann, bob = world.ann, world.bob
+    ann.auto_authorize = ann.auto_subscribe = bob.auto_subscribe = True
     bob.send_presence_subscription(ann.boundjid.bare)
     await until(lambda: both(ann, bob) and both(bob, ann), "both are contacts")
     options = ann.form("publish-options", access_model="roster")
