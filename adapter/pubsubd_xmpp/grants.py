@@ -71,8 +71,10 @@ class Grants:
 
     def _delegation(self, host: str, grant: Grant, told: Elem) -> None:
         grant.delegation = told.ns
-        grant.namespaces |= {kid.get("namespace") for kid in told.children("delegated")}
-        say("delegated", by=host, version=told.ns[len(DELEGATION) :], namespaces=len(grant.namespaces))
+        namespaces = grant.namespaces | {kid.get("namespace") for kid in told.children("delegated")}
+        if namespaces != grant.namespaces:
+            grant.namespaces = namespaces
+            say("delegated", by=host, version=told.ns[len(DELEGATION) :], namespaces=len(namespaces))
 
     def has(self, host: str, right: str) -> bool:
         grant = self._grants.get(host)
