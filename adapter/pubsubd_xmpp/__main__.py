@@ -1,0 +1,72 @@
+"""The command: `pubsubd-xmpp --config FILE`, and `--check` beside it to judge the configuration alone."""
+
+from __future__ import annotations
+
+import argparse
+import asyncio
+import fcntl
+import os
+import sqlite3
+import sys
+
+from . import VERSION
+from .adapter import Adapter
+from .config import BadConfig, Config, check_folders, read_config
+from .kept import Kept
+from .log import say
+from .service import OPEN_FAULT, USAGE
+
+
+def words() -> argparse.Namespace:
+    parser = argparse.ArgumentParser(prog="pubsubd-xmpp", description="Puts pubsubd behind an XMPP server, as a component of it.")
+    parser.add_argument("--config", metavar="FILE", default="/etc/pubsubd/xmpp.conf", help="the configuration (default: %(default)s)")
+    parser.add_argument("--check", action="store_true", help="judge the configuration, say what is wrong, and end")
+    parser.add_argument("--version", action="version", version=f"pubsubd-xmpp {VERSION}")
+    return parser.parse_args()
+
+
+def lock(config: Config) -> int:
+    """Holds the state folder, so that a second adapter over it is refused."""
+    fd = os.open(config.state / "lock", os.O_RDWR | os.O_CREAT | os.O_CLOEXEC, 0o600)
+    fcntl.flock(fd, fcntl.LOCK_EX | fcntl.LOCK_NB)
+    return fd
+
+
+async def serve(config: Config) -> int:
+    kept = Kept(config.state / "adapter.sqlite")
+    try:
+        return await Adapter(config, kept).run()
+    finally:
+        kept.close()
+
+
+def main() -> int:
+    told = words()
+    try:
+        config = read_config(told.config)
+        faults = check_folders(config)
+        if faults:
+            raise BadConfig(*faults)
+    except BadConfig as why:
+        for fault in why.faults:
+            say("configuration", fault=fault)
+        return USAGE
+    if told.check:
+        say("configuration is good", host=config.host, hosts=" ".join(config.hosts), program=config.program[0])
+        return 0
+    try:
+        held = lock(config)
+    except OSError:
+        say("a second adapter", why=f"another one holds {config.state / 'lock'}")
+        return OPEN_FAULT
+    try:
+        return asyncio.run(serve(config))
+    except sqlite3.Error as why:
+        say("the state can't be opened", file=config.state / "adapter.sqlite", why=why)
+        return OPEN_FAULT
+    finally:
+        os.close(held)
+
+
+if __name__ == "__main__":
+    sys.exit(main())

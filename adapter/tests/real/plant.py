@@ -1,0 +1,84 @@
+"""A server, the adapter and the service together, in a folder of their own."""
+
+from __future__ import annotations
+
+import os
+import pathlib
+import signal
+import subprocess
+import sys
+import tempfile
+import time
+
+from servers import HOSTS, SECRET, SERVERS, SERVICE
+
+ADAPTER = pathlib.Path(__file__).resolve().parent.parent.parent
+
+
+class Plant:
+    """What a test works with. The adapter is killed and started as a test wants it."""
+
+    def __init__(self, server: str, program: str, settings: str = ""):
+        self._temporary = tempfile.TemporaryDirectory(prefix=f"plant-{server}-")
+        self.folder = pathlib.Path(self._temporary.name)
+        self.server = SERVERS[server](self.folder)
+        self.adapter: subprocess.Popen | None = None
+        self.log = self.folder / "adapter.log"
+        (self.folder / "secret").write_text(SECRET)
+        keep = "yes" if server == "ejabberd" else "no"
+        (self.folder / "conf").write_text(
+            f"[server]\nport = {self.server.component_port}\nsecret_file = {self.folder}/secret\nkeep_presences = {keep}\n"
+            f"[service]\nhost = {SERVICE}\nhosts = {' '.join(HOSTS)}\nprogram = {program}\nstate = {self.folder}/state\nrun = {self.folder}/run\n{settings}"
+        )
+
+    def __enter__(self):
+        self.server.start()
+        self.start_adapter()
+        return self
+
+    def __exit__(self, *_):
+        if self.adapter is not None and self.adapter.poll() is None:
+            self.adapter.terminate()
+            try:
+                self.adapter.wait(30)
+            except subprocess.TimeoutExpired:
+                self.kill_service()
+                self.adapter.kill()
+                self.adapter.wait()
+        self.server.stop()
+        self._temporary.cleanup()
+
+    def said(self) -> str:
+        return self.log.read_text(errors="replace") if self.log.exists() else ""
+
+    def start_adapter(self) -> None:
+        """Starts the adapter, and waits until it serves and the server has granted."""
+        before = [self.said().count(words) for words in ("service started", "delegated by")]
+        with open(self.log, "ab") as log:
+            words = [sys.executable, str(ADAPTER / "pubsubd-xmpp"), "--config", str(self.folder / "conf")]
+            self.adapter = subprocess.Popen(words, stdout=log, stderr=log, stdin=subprocess.DEVNULL)
+        self.wait_said("service started", before[0] + 1)
+        self.wait_said("delegated by", before[1] + len(HOSTS))
+
+    def wait_said(self, words: str, count: int, seconds: float = 60) -> None:
+        until = time.monotonic() + seconds
+        while self.said().count(words) < count:
+            if time.monotonic() > until or self.adapter.poll() is not None:
+                raise TimeoutError(f"'{words}' wasn't said {count} times:\n{self.said()[-3000:]}")
+            time.sleep(0.05)
+
+    def service_pid(self) -> int:
+        return int(self.said().split("service started pid=")[-1].split()[0])
+
+    def kill_service(self) -> None:
+        try:
+            os.kill(self.service_pid(), signal.SIGKILL)
+        except ProcessLookupError:
+            pass
+
+    def kill_adapter(self) -> None:
+        self.adapter.kill()
+        self.adapter.wait()
+
+    def tell(self, number: int) -> None:
+        self.adapter.send_signal(number)

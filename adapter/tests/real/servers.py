@@ -1,0 +1,239 @@
+"""prosody and ejabberd as Debian packages them, each in a folder of its own, on ports of its own, with two virtual hosts and a component that is the adapter."""
+
+from __future__ import annotations
+
+import os
+import pathlib
+import shutil
+import signal
+import socket
+import subprocess
+import time
+
+SECRET = "only-for-tests"
+HOSTS = ("a.localhost", "b.localhost")
+SERVICE = "pubsub.localhost"
+PASSWORD = "pass"
+
+
+def free_port() -> int:
+    with socket.socket() as end:
+        end.bind(("127.0.0.1", 0))
+        return end.getsockname()[1]
+
+
+def wait_for_port(port: int, seconds: float, child: subprocess.Popen) -> None:
+    until = time.monotonic() + seconds
+    while time.monotonic() < until and child.poll() is None:
+        with socket.socket() as end:
+            end.settimeout(1)
+            if end.connect_ex(("127.0.0.1", port)) == 0:
+                return
+        time.sleep(0.1)
+    raise TimeoutError(f"nobody listens at {port}")
+
+
+class Server:
+    """What both have."""
+
+    name = ""
+    start_seconds = 60
+
+    def __init__(self, folder: pathlib.Path):
+        self.folder = folder / self.name
+        self.folder.mkdir(parents=True)
+        self.client_port, self.component_port = free_port(), free_port()
+        self.child: subprocess.Popen | None = None
+        self.write()
+
+    def write(self) -> None:
+        raise NotImplementedError
+
+    def words(self) -> list[str]:
+        raise NotImplementedError
+
+    def environment(self) -> dict[str, str]:
+        return dict(os.environ)
+
+    def start(self) -> None:
+        log = open(self.folder / "out", "ab")
+        self.child = subprocess.Popen(self.words(), stdout=log, stderr=log, stdin=subprocess.DEVNULL, env=self.environment(), process_group=0, cwd=self.folder)
+        wait_for_port(self.client_port, self.start_seconds, self.child)
+        wait_for_port(self.component_port, self.start_seconds, self.child)
+
+    def stop(self) -> None:
+        if self.child is None:
+            return
+        if self.child.poll() is None:
+            os.killpg(self.child.pid, signal.SIGTERM)
+            try:
+                self.child.wait(10)
+            except subprocess.TimeoutExpired:
+                pass
+        try:
+            os.killpg(self.child.pid, signal.SIGKILL)
+        except ProcessLookupError:
+            pass
+        self.child.wait()
+        self.child = None
+
+    def restart(self) -> None:
+        self.stop()
+        self.start()
+
+    def memory(self) -> int:
+        """The resident memory of the server, in KiB."""
+        assert self.child is not None
+        total = 0
+        for pid in filter(str.isdigit, os.listdir("/proc")):
+            try:
+                if os.getpgid(int(pid)) == self.child.pid:
+                    text = pathlib.Path(f"/proc/{pid}/status").read_text()
+                    total += int(text.split("VmRSS:")[1].split()[0])
+            except (ProcessLookupError, FileNotFoundError, IndexError):
+                continue
+        return total
+
+
+PROSODY = """
+run_as_root = true
+pidfile = "{folder}/prosody.pid"
+data_path = "{folder}/data"
+log = {{ info = "{folder}/log" }}
+modules_enabled = {{ "roster"; "saslauth"; "disco"; "ping"; "register"; {more} }}
+allow_registration = true
+modules_disabled = {{ "s2s"; "tls"; "offline" }}
+c2s_require_encryption = false
+allow_unencrypted_plain_auth = true
+c2s_ports = {{ {client} }}
+component_ports = {{ {component} }}
+interfaces = {{ "127.0.0.1" }}
+authentication = "internal_plain"
+storage = "internal"
+{hosts}
+{components}
+"""
+PROSODY_HOST = """
+VirtualHost "{host}"
+  modules_enabled = {{ "delegation"; "privilege" }}
+  delegations = {{
+    ["http://jabber.org/protocol/pubsub"] = {{ jid = "{service}" }};
+    ["http://jabber.org/protocol/pubsub#owner"] = {{ jid = "{service}" }};
+    ["urn:xmpp:delegation:2:bare:disco#info:*"] = {{ jid = "{service}" }};
+    ["urn:xmpp:delegation:2:bare:disco#items:*"] = {{ jid = "{service}" }};
+  }}
+  privileged_entities = {{ ["{service}"] = {{ roster = "get"; message = "outgoing"; presence = "managed_entity" }} }}
+"""
+PROSODY_COMPONENT = """
+Component "{service}"
+  component_secret = "{secret}"
+  modules_enabled = {{ "delegation"; "privilege" }}
+"""
+
+
+class Prosody(Server):
+    name = "prosody"
+    own_pubsub = ""  # more components, for a comparison
+
+    def write(self) -> None:
+        (self.folder / "data").mkdir(exist_ok=True)
+        hosts = "".join(PROSODY_HOST.format(host=host, service=SERVICE) for host in HOSTS)
+        component = PROSODY_COMPONENT.format(service=SERVICE, secret=SECRET) + self.own_pubsub
+        self.config = self.folder / "prosody.cfg.lua"
+        self.config.write_text(
+            PROSODY.format(folder=self.folder, client=self.client_port, component=self.component_port, hosts=hosts, components=component, more="")
+        )
+
+    def words(self) -> list[str]:
+        return ["prosody", "--config", str(self.config), "-F"]
+
+
+EJABBERD = """
+loglevel: info
+log_rotate_count: 0
+hosts: [{hosts}]
+listen:
+  -
+    port: {client}
+    ip: "127.0.0.1"
+    module: ejabberd_c2s
+    max_stanza_size: 262144
+    starttls: false
+    access: all
+    shaper: none
+  -
+    port: {component}
+    ip: "127.0.0.1"
+    module: ejabberd_service
+    access: all
+    global_routes: false
+    hosts:
+      "{service}":
+        password: "{secret}"
+auth_password_format: plain
+auth_method: internal
+registration_timeout: infinity
+acl:
+  pubsub:
+    server: "{service}"
+access_rules:
+  pubsub:
+    allow: pubsub
+modules:
+  mod_disco: {{}}
+  mod_caps: {{}}
+  mod_roster: {{}}
+  mod_ping: {{}}
+  mod_register:
+    ip_access: all
+    access: all
+  mod_delegation:
+    namespaces:
+      "http://jabber.org/protocol/pubsub":
+        access: pubsub
+      "http://jabber.org/protocol/pubsub#owner":
+        access: pubsub
+  mod_privilege:
+    roster:
+      get: pubsub
+    message:
+      outgoing: pubsub
+    presence:
+      managed_entity: pubsub
+{more}
+"""
+
+
+class Ejabberd(Server):
+    name = "ejabberd"
+    start_seconds = 120
+    more = ""
+
+    def write(self) -> None:
+        for part in ("db", "log"):
+            (self.folder / part).mkdir(exist_ok=True)
+        self.config = self.folder / "ejabberd.yml"
+        names = ", ".join(f'"{host}"' for host in HOSTS)
+        self.config.write_text(
+            EJABBERD.format(hosts=names, client=self.client_port, component=self.component_port, service=SERVICE, secret=SECRET, more=self.more)
+        )
+
+    def environment(self) -> dict[str, str]:
+        return dict(os.environ) | {
+            "EJABBERD_CONFIG_PATH": str(self.config),
+            "EJABBERD_LOG_PATH": str(self.folder / "log" / "ejabberd.log"),
+            "SPOOL_DIR": str(self.folder / "db"),
+            "ERL_CRASH_DUMP_SECONDS": "0",
+            "HOME": str(self.folder),
+        }
+
+    def words(self) -> list[str]:
+        library = next(pathlib.Path("/usr/lib").glob("*/ejabberd-*/ebin"))
+        return ["erl", "-noinput", "-pa", str(library), "-mnesia", "dir", f'"{self.folder}/db"', "-s", "ejabberd"]
+
+
+SERVERS = {one.name: one for one in (Prosody, Ejabberd)}
+
+
+def have(name: str) -> bool:
+    return shutil.which({"prosody": "prosody", "ejabberd": "ejabberdctl"}[name]) is not None
