@@ -194,25 +194,43 @@ fn runs(rt: &(impl Abort + Threads + Sync), alloc: Global, rows: &str) -> Result
     goes(rt, alloc, &mut service, rows)
 }
 
+fn all_run(rt: &(impl Abort + Threads + Sync), alloc: Global, tables: &[&str]) -> Result<(), Fail> {
+    for rows in tables {
+        runs(rt, alloc, rows)?;
+    }
+    Ok(())
+}
+
+// Three tests, since each has a time of its own.
 #[test]
-fn lines_on_several_hosts_are_answered_and_told(rt: HostRuntime) -> Result<(), Fail> {
-    for rows in [
+fn lines_on_several_hosts_are_answered(rt: HostRuntime) -> Result<(), Fail> {
+    let tables = [
         items::ROWS,
         access::ROWS,
         rosters::ROWS,
         bookmarks::ROWS,
         collections::ROWS,
+    ];
+    all_run(&rt, rt.alloc(), &tables)
+}
+
+#[test]
+fn subscribers_and_owners_are_told(rt: HostRuntime) -> Result<(), Fail> {
+    let tables = [
         streams::ROWS,
         dealt::ROWS,
         subscribers::ROWS,
         handed::ROWS,
         approvals::ROWS,
-        reach::ROWS,
-        interest::ROWS,
-        last::ROWS,
-        "",
-    ] {
-        runs(&rt, rt.alloc(), rows)?;
-    }
-    Ok(())
+    ];
+    all_run(&rt, rt.alloc(), &tables)
+}
+
+#[test]
+fn resources_are_told_of_what_they_want(rt: HostRuntime) -> Result<(), Fail> {
+    all_run(
+        &rt,
+        rt.alloc(),
+        &[reach::ROWS, interest::ROWS, last::ROWS, ""],
+    )
 }
