@@ -9,5 +9,5 @@ pub mod Taken
 pub mod Tallied
 pub mod Requests
 pub mod Resources
-pub mod Rows
+pub mod TakenRows
 pub mod Followed

@@ -21,7 +21,7 @@ use Rattle.ps_core.specs.Rows.{is_held}
 use Rattle.ps_core.specs.States.{Part, changed_part, fits_book, part_after}
 use Rattle.ps_core.specs.Told.{notices_by}
 use Rattle.ps_core.proofs.Both.{and_left, and_right}
-use Rattle.ps_core.proofs.Rows.{accepted-row, fits-held}
+use Rattle.ps_core.proofs.TakenRows.{accepted-row, fits-held}
 
 -- what is accepted fits the Book
 pub accepted_fits : (s : State) (e : Entry) → accepted s e ≡ true → fits_book s.book e ≡ true

@@ -4,7 +4,7 @@ use Rattle.ps_compact_codec.specs.Held.{held_row_of}
 use Rattle.ps_compact_codec.specs.Said.{row_said}
 use Rattle.ps_compact_codec.specs.declared.row.Row.{Row}
 use Rattle.ps_core.specs.States.{state_of}
-use Rattle.ps_core.proofs.Rows.{none-accepted, read-accepted}
+use Rattle.ps_core.proofs.TakenRows.{none-accepted, read-accepted}
 use Rattle.ps_core.proofs.accepting.is_accepted_row.Goals as goal
 
 pub returns-in-Some : goal.returns-in-Some

@@ -5,7 +5,7 @@ use Rattle.ps_compact_codec.specs.Held.{held_row_of}
 use Rattle.ps_compact_codec.specs.Said.{row_said}
 use Rattle.ps_compact_codec.specs.declared.row.Row.{Row}
 use Rattle.ps_core.specs.Numbers.{IsCountOfRow}
-use Rattle.ps_core.proofs.Rows.{read-is}
+use Rattle.ps_core.proofs.TakenRows.{read-is}
 use Rattle.ps_core.proofs.numbers.numbers_of_row.Goals as goal
 
 pub returns : goal.returns

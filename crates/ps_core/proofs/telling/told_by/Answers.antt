@@ -9,7 +9,7 @@ use Rattle.ps_core.specs.Requests.{IsRequestOf}
 use Rattle.ps_core.specs.States.{Part, fits_book, part_after, part_of}
 use Rattle.ps_core.specs.Told.{CanTell}
 use Rattle.ps_core.proofs.Holding.{can-tell}
-use Rattle.ps_core.proofs.Rows.{fits-held}
+use Rattle.ps_core.proofs.TakenRows.{fits-held}
 use Rattle.ps_core.proofs.Tallied.{fit-more}
 use Rattle.ps_core.proofs.telling.told_by.Goals as goal
 

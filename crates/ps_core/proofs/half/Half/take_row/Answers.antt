@@ -5,7 +5,7 @@ use Rattle.ps_compact_codec.specs.Said.{row_said}
 use Rattle.ps_compact_codec.specs.declared.row.Row.{Row}
 use Rattle.ps_core.specs.States.{part_of}
 use Rattle.ps_core.specs.declared.half.Half.{Half}
-use Rattle.ps_core.proofs.Rows.{based-key, based-part}
+use Rattle.ps_core.proofs.TakenRows.{based-key, based-part}
 use Rattle.ps_core.proofs.half.Half.take_row.Goals as goal
 
 pub put_in_tables-requires : goal.put_in_tables-requires
