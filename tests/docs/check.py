@@ -7,7 +7,7 @@ links        each link of a page leads to a file, and to a heading where it name
 paths        each path in code marks (`tests/..`, `crates/..`) is there, and each script that a block of commands calls
 definitions  in docs/model.md: each `Name.word` is defined, each `crate/file` is code, each test is there
 lines        each line of JSON is one that a test compares byte for byte (tests/lines, examples, walk.py), but for numbers as ids
-statuses     the table of docs/operator.md, and its synopsis, are those of crates/ps_serve/src/status.rt
+statuses     the table of docs/operator.md, and its synopsis, are those of the enum Status (src/status.rt)
 sizes        README.md has 6 KB at most
 """
 import json
@@ -154,7 +154,7 @@ def examples(known):
 def statuses(page, text):
     if page.name != "operator.md":
         return
-    source = (CRATES / "ps_serve/src/status.rt").read_text()
+    source = next(it.read_text() for it in sorted(CRATES.glob("*/src/status.rt")) if "pub enum Status" in it.read_text())
     codes = dict(re.findall(r"Status::(\w+)(?: \{ at: _ \})? => (\d+),", source))
     reports = dict(re.findall(r'Status::(\w+)(?: \{ at: _ \})? => "([^"\\]*)', source))
     table = dict(re.findall(r"^\| (\d+) \| (.*?) \|", text, re.M))
