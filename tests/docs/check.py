@@ -5,6 +5,7 @@
 
 links        each link of a page leads to a file, and to a heading where it names one
 paths        each path in code marks (`tests/..`, `crates/..`) is there, and each script that a block of commands calls
+crates       each crate that a page names is there
 definitions  in docs/model.md: each `Name.word` is defined, each `crate/file` is code, each test is there
 lines        each line of JSON is one that a test compares byte for byte (tests/lines, examples, walk.py), but for numbers as ids
 statuses     the table of docs/operator.md, and its synopsis, are those of the enum Status (src/status.rt)
@@ -65,6 +66,14 @@ def paths(page, text):
         for path in SCRIPT.findall(block):
             if not ("NAME" in path or (ROOT / path).exists()):
                 yield f"no {path}, which a command names"
+
+
+def crates(page, text):
+    if page.name == "CHANGELOG.md":
+        return
+    for name in sorted(set(re.findall(r"\bps_[a-z_]*[a-z]\b(?!_?\*)", text))):
+        if not (CRATES / name).is_dir():
+            yield f"no crate {name}"
 
 
 # ---- the model
@@ -179,7 +188,7 @@ def sizes(page, text):
 
 
 def main():
-    checks = [links, paths, definitions, examples(corpus()), statuses, sizes]
+    checks = [links, paths, crates, definitions, examples(corpus()), statuses, sizes]
     wrong, count = [], 0
     for page in pages():
         text = page.read_text()
