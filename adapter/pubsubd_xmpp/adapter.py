@@ -48,6 +48,7 @@ class Adapter:
         self._rarely = Rarely()
         self._run: Run | None = None
         self._number = 0
+        self._served_at = 0.0
         self._starts = 0
         self._began = time.monotonic()
 
@@ -207,7 +208,8 @@ class Adapter:
             if turned:
                 pause = 0.1
                 continue
-            pause = 0.1 if time.monotonic() - began > 10 else min(2 * pause, 30.0)
+            served = self._served_at > began
+            pause = 0.1 if time.monotonic() - began > 10 else min(2 * pause, 1.0 if served else 30.0)
             await self._sleep(pause)
             if self._stopping.is_set():
                 return 0
@@ -247,6 +249,7 @@ class Adapter:
     async def _attend(self, run: Run) -> None:
         """Lets requests through until the service ends, or it is to end."""
         self._run = run
+        self._served_at = time.monotonic()
         self._compaction.opened()
         self._router.begin(run.streams)
         notify("READY=1", "STATUS=serving" if self._session.is_up else "STATUS=waiting for the server")
