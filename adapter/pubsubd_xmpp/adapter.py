@@ -194,6 +194,7 @@ class Adapter:
             if want_compaction:
                 notify("STATUS=compacting")
                 await self._compaction.compact()
+            want_compaction = False
             began = time.monotonic()
             status = await self._one_run()
             if self._stopping.is_set():
