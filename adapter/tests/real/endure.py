@@ -118,7 +118,8 @@ class Load:
                 if heard != wanted:
                     raise Wrong(f"{what}: {who} heard of {node}: {difference(wanted, heard)}")
         total = sum(map(len, self.made.values()))
-        print(f"ok   {what}: {total} acknowledged, {self.denied} not; {sum(map(len, self.heard.values()))} events, each once and in order; {self.repeated} again by their ids", flush=True)
+        events = sum(map(len, self.heard.values()))
+        print(f"ok   {what}: {total} acknowledged, {self.denied} not; {events} events, each once and in order; {self.repeated} again by their ids", flush=True)
 
 
 def difference(wanted, heard):

@@ -18,7 +18,8 @@ def step(name: str, words: list[str], seconds: float) -> bool:
     """Runs the command. What it writes is shown where it fails, and its lines of success in any case."""
     began = time.monotonic()
     environment = dict(os.environ) | {"PYTHONDONTWRITEBYTECODE": "1"}
-    child = subprocess.Popen(words, stdout=subprocess.PIPE, stderr=subprocess.STDOUT, text=True, stdin=subprocess.DEVNULL, process_group=0, cwd=ADAPTER.parent, env=environment)
+    pipes = {"stdout": subprocess.PIPE, "stderr": subprocess.STDOUT, "stdin": subprocess.DEVNULL, "text": True}
+    child = subprocess.Popen(words, process_group=0, cwd=ADAPTER.parent, env=environment, **pipes)
     try:
         said, _ = child.communicate(timeout=seconds)
         status = child.returncode
