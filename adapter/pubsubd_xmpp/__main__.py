@@ -1,4 +1,4 @@
-"""The command: `pubsubd-xmpp --config FILE`, and `--check` beside it to judge the configuration alone."""
+"""The command: `pubsubd-xmpp --config FILE`, `--check` beside it to judge the configuration alone, and `--setup` to write one."""
 
 from __future__ import annotations
 
@@ -12,6 +12,7 @@ import sys
 from . import VERSION
 from .adapter import Adapter
 from .config import BadConfig, Config, check_folders, read_config
+from .install import CantSetUp, set_up
 from .kept import Kept
 from .log import say
 from .service import OPEN_FAULT, USAGE
@@ -21,6 +22,7 @@ def words() -> argparse.Namespace:
     parser = argparse.ArgumentParser(prog="pubsubd-xmpp", description="Puts pubsubd behind an XMPP server, as a component of it.")
     parser.add_argument("--config", metavar="FILE", default="/etc/pubsubd/xmpp.conf", help="the configuration (default: %(default)s)")
     parser.add_argument("--check", action="store_true", help="judge the configuration, say what is wrong, and end")
+    parser.add_argument("--setup", metavar="WORD", nargs="+", help="prosody or ejabberd, and the virtual hosts: write the configuration, a secret and the server's part")
     parser.add_argument("--version", action="version", version=f"pubsubd-xmpp {VERSION}")
     return parser.parse_args()
 
@@ -40,8 +42,19 @@ async def serve(config: Config) -> int:
         kept.close()
 
 
+def prepare(server: str, hosts: list[str]) -> int:
+    try:
+        set_up(server, hosts)
+    except CantSetUp as why:
+        say("not set up", why=why)
+        return USAGE
+    return 0
+
+
 def main() -> int:
     told = words()
+    if told.setup:
+        return prepare(told.setup[0], told.setup[1:])
     try:
         config = read_config(told.config)
         faults = check_folders(config)

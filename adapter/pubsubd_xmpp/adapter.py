@@ -9,6 +9,7 @@ import shutil
 import signal
 import time
 from collections import deque
+from collections.abc import Callable
 from sqlite3 import Error as BaseError
 
 from .compaction import Compaction, next_time
@@ -21,6 +22,7 @@ from .service import DAMAGED, FOR_A_PERSON, OPEN_FAULT, STREAM_FAULT, Run, meani
 from .session import Session
 from .spool import Watch
 from .stream import Stream
+from .trees import Elem
 
 # How long a server has to grant rights before notices go out without them.
 SETTLE = 2.0
@@ -48,13 +50,17 @@ class Adapter:
         self._rarely = Rarely()
         self._run: Run | None = None
         self._number = 0
+        self._served_at = 0.0
         self._starts = 0
         self._began = time.monotonic()
 
     # What the session tells
 
-    def take(self, stanza) -> None:
-        self._router.take(stanza)
+    def take(self, stanza: Elem) -> None:
+        try:
+            self._router.take(stanza)
+        except Exception as why:  # a fault of the adapter takes one stanza, and not the stream
+            say("fault", of="the adapter", at=f"{stanza.name} from {stanza.get('from')}", why=repr(why))
 
     def taken(self) -> None:
         self._router.flush_streams()
@@ -83,7 +89,7 @@ class Adapter:
     def drained(self) -> None:
         self.pump()
 
-    def _later(self, seconds: float, call) -> None:
+    def _later(self, seconds: float, call: Callable[[], None]) -> None:
         self._timers.append(self._loop.call_later(seconds, call))
 
     def _settle_early(self) -> None:
@@ -128,7 +134,10 @@ class Adapter:
         if lines:
             stream.read_at = time.monotonic()
         for line, end in lines:
-            self._router.told(stream, line, end)
+            try:
+                self._router.told(stream, line, end)
+            except Exception as why:  # likewise one line
+                say("fault", of="the adapter", at=line[:100], why=repr(why))
         self._session.flush()
         self._router.flush_streams()
         if lines:
@@ -159,8 +168,11 @@ class Adapter:
 
     async def run(self) -> int:
         """Serves until it is told to stop, or a person has to look. The status to end with."""
-        for name, call in ((signal.SIGTERM, self._stop), (signal.SIGINT, self._stop), (signal.SIGUSR1, self.tell_status), (signal.SIGUSR2, self._ask_compaction)):
-            self._loop.add_signal_handler(name, call)
+        for name in (signal.SIGTERM, signal.SIGINT):
+            self._loop.add_signal_handler(name, self._stop)
+        self._loop.add_signal_handler(signal.SIGUSR1, self.tell_status)
+        self._loop.add_signal_handler(signal.SIGUSR2, self._ask_compaction)
+        self._loop.set_exception_handler(lambda _, what: say("fault", of="the adapter", why=repr(what.get("exception") or what["message"])))
         self._loop.add_reader(self._watch.fd, self._watch.read)
         if not await self._take_over():
             return OPEN_FAULT
@@ -193,6 +205,7 @@ class Adapter:
             if want_compaction:
                 notify("STATUS=compacting")
                 await self._compaction.compact()
+            want_compaction = False
             began = time.monotonic()
             status = await self._one_run()
             if self._stopping.is_set():
@@ -207,7 +220,8 @@ class Adapter:
             if turned:
                 pause = 0.1
                 continue
-            pause = 0.1 if time.monotonic() - began > 10 else min(2 * pause, 30.0)
+            served = self._served_at > began
+            pause = 0.1 if time.monotonic() - began > 10 else min(2 * pause, 1.0 if served else 30.0)
             await self._sleep(pause)
             if self._stopping.is_set():
                 return 0
@@ -247,6 +261,7 @@ class Adapter:
     async def _attend(self, run: Run) -> None:
         """Lets requests through until the service ends, or it is to end."""
         self._run = run
+        self._served_at = time.monotonic()
         self._compaction.opened()
         self._router.begin(run.streams)
         notify("READY=1", "STATUS=serving" if self._session.is_up else "STATUS=waiting for the server")
@@ -303,6 +318,8 @@ class Adapter:
             self._flush_kept()
             if not (self._settled and self._session.can_take):
                 self._excuse()
+            elif not self._router.is_flooded:
+                self._session.read_on(True)
             if self._router.silence() > self._config.answer_seconds:
                 self._turn("it doesn't answer")
             elif self._router.out_of_step:

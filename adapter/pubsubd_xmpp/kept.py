@@ -104,13 +104,20 @@ class Kept:
         """Whether a notice of that number is above all that this address was given, and from now on counts as given."""
         last = self._seen.get(address)
         if last is None:
-            found = self._base.execute("SELECT number FROM notice WHERE address = ?", (address,)).fetchone()
-            last = max(found[0] if found else 0, self._numbers.get(address, 0))
+            last = max(self._number(address), self._numbers.get(address, 0))
         if number <= last:
             self._seen[address] = last
             return False
         self._seen[address] = number
         return True
+
+    def _number(self, address: str) -> int:
+        """The number that is kept. Where the disk doesn't tell, a notice may come twice, and is not lost."""
+        try:
+            found = self._base.execute("SELECT number FROM notice WHERE address = ?", (address,)).fetchone()
+        except sqlite3.Error:
+            return 0
+        return found[0] if found else 0
 
     def delivered(self, address: str, number: int) -> None:
         """The notice is with the server."""

@@ -63,6 +63,7 @@ def take_over(folder: Path, hosts: tuple[str, ...], kept: Kept) -> list[Stream]:
     """The streams of earlier runs that have something for the server, as streams that are over."""
     streams: list[Stream] = []
     for run in runs_in(folder):
+        before = len(streams)
         try:
             names = (run / "hosts").read_text(encoding="utf-8").split("\n")
         except OSError:
@@ -73,7 +74,7 @@ def take_over(folder: Path, hosts: tuple[str, ...], kept: Kept) -> list[Stream]:
                 _raise_numbers(stream.spool, kept)
                 stream.over = stream.inherited = True
                 streams.append(stream)
-        if not names:
+        if len(streams) == before:
             shutil.rmtree(run, ignore_errors=True)
     if streams:
         kept.flush()

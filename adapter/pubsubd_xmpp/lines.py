@@ -4,33 +4,32 @@ from __future__ import annotations
 
 import json
 from json.decoder import JSONDecodeError
+from json.encoder import encode_basestring as quote
 from typing import Any
 
 from .names import CLIENT
 from .trees import Elem
 
-_ENCODE = json.JSONEncoder(ensure_ascii=False, separators=(",", ":"), check_circular=False).encode
-
-
 class NotALine(Exception):
     """What came from the service is no line of a tree."""
 
 
-def _object(tree: Elem, outer: str) -> dict[str, Any]:
-    made: dict[str, Any] = {}
+def _text(tree: Elem, outer: str) -> str:
+    """The object of a tree, where `outer` is its parent's namespace."""
+    members = []
     if tree.attrs:
-        made["a"] = tree.attrs
+        members.append('"a":{' + ",".join([f"{quote(name)}:{quote(value)}" for name, value in tree.attrs.items()]) + "}")
     if tree.kids:
-        made["c"] = [kid if isinstance(kid, str) else _object(kid, tree.ns) for kid in tree.kids]
-    made["n"] = tree.name
+        members.append('"c":[' + ",".join([quote(kid) if isinstance(kid, str) else _text(kid, tree.ns) for kid in tree.kids]) + "]")
+    members.append('"n":' + quote(tree.name))
     if tree.ns != outer:
-        made["ns"] = tree.ns
-    return made
+        members.append('"ns":' + quote(tree.ns))
+    return "{" + ",".join(members) + "}"
 
 
 def to_line(tree: Elem) -> bytes:
     """The line with its newline."""
-    return (_ENCODE(_object(tree, CLIENT)) + "\n").encode()
+    return (_text(tree, CLIENT) + "\n").encode()
 
 
 def tree_of(made: dict[str, Any], outer: str) -> Elem:

@@ -18,13 +18,14 @@ from sqlite3 import Error as BaseError
 from .asked import Asked
 from .config import Config
 from .kept import REMOVED, Kept, Row, Told
+from .lines import to_line
 from .log import Rarely
-from .names import CLIENT, ROSTER, bare_of, host_of
+from .names import CLIENT, ROSTER, host_of
 from .trees import Elem, elem
 
 # Called with True once the service has been told, with False where the contacts couldn't be had.
 Then = Callable[[bool], None]
-Put = Callable[[str, Elem, Asked], None]
+Put = Callable[[str, bytes, Asked], None]
 
 
 @dataclass
@@ -105,7 +106,7 @@ class Rosters:
     def answered(self, stanza: Elem) -> bool:
         """Whether the stanza is the answer to a question; the rows that changed are then told."""
         question = self._by_id.get(stanza.get("id"))
-        if question is None or bare_of(stanza.get("from")) != question.account:
+        if question is None or stanza.get("from").lower() != question.account:
             return False
         del self._by_id[stanza.get("id")]
         question.timer.cancel()
@@ -146,7 +147,8 @@ class Rosters:
         now = self._rows(query)
         known = self._kept.roster(account)
         wanted = now | {contact: Row(REMOVED) for contact in known if contact not in now}
-        changed = [(contact, row) for contact, row in wanted.items() if known.get(contact) != Told(row, True) and not self._is_told(account, contact, row)]
+        unsure = [(contact, row) for contact, row in wanted.items() if known.get(contact) != Told(row, True)]
+        changed = [(contact, row) for contact, row in unsure if not self._is_told(account, contact, row)]
         if not changed:
             return True
         try:
@@ -175,7 +177,7 @@ class Rosters:
             self._settle(account, contact, mine, reply)
             then(reply)
 
-        self._put(host_of(account), stanza, Asked(stanza, then=settle))
+        self._put(host_of(account), to_line(stanza), Asked(stanza, then=settle))
 
     def _settle(self, account: str, contact: str, mine: tuple[Row, int], reply: Elem | None) -> None:
         """The service answered a row; or (None) the run ended first, and the row is told again at the next start."""

@@ -58,15 +58,15 @@ class Router:
 
     # To the service
 
-    def put(self, host: str, stanza: Elem, asked: Asked | None) -> None:
+    def put(self, host: str, line: bytes, asked: Asked | None) -> None:
         """A line for the service: at once if it serves. Without it, what a person asked waits, and the rest is told at the next start."""
         stream = self.streams[host]
         is_own = asked is not None and asked.then is not None
         if stream is not None and (self.serves or is_own):
-            stream.put(to_line(stanza), asked)
+            stream.put(line, asked)
             self._dirty.add(host)
         else:
-            self.keep(host, to_line(stanza), asked)
+            self.keep(host, line, asked)
 
     def keep(self, host: str, line: bytes, asked: Asked | None) -> None:
         """A line that waits for the next run, if it is a person's."""
@@ -131,7 +131,7 @@ class Router:
                 self.features = list(query.elements())
                 self._tell_features()
 
-        self.put(host, question, Asked(question, then=take))
+        self.put(host, to_line(question), Asked(question, then=take))
 
     def _tell_features(self) -> None:
         if self.features is None:
@@ -155,7 +155,7 @@ class Router:
             self._bounced(stanza)
         elif not self.grants.take(stanza) and host_of(stanza.get("from")) in self._config.hosts and stanza.get("from").isascii():
             stanza.attrs["from"] = canonical(stanza.get("from"))
-            self.put(host_of(stanza.get("from")), stanza, None)
+            self.put(host_of(stanza.get("from")), to_line(stanza), None)
 
     def _take_iq(self, stanza: Elem) -> None:
         kind, sender = stanza.get("type"), stanza.get("from")
@@ -245,15 +245,18 @@ class Router:
             return
         asked.head = Elem(stanza.name, stanza.ns, dict(stanza.attrs))
         stanza.attrs["from"] = canonical(stanza.get("from"))
-        mend(stanza)
-        asked.size = 256 + 2 * len(to_line(stanza))
+        line = to_line(stanza)
+        if b"jabber:x:data" in line:
+            mend(stanza)
+            line = to_line(stanza)
+        asked.size = 256 + 2 * len(line)
         self._open += 1
         self._open_bytes += asked.size
         account = bare_of(stanza.get("to") or stanza.get("from")).lower()
         if account == self._config.host:
-            self.rosters.behind(bare_of(stanza.get("from")), lambda _: self._go(host, stanza, asked, True))
+            self.rosters.behind(bare_of(stanza.get("from")), lambda _: self._go(host, line, asked, True))
         else:
-            self._with_roster(host_of(account), account, lambda told: self._go(host, stanza, asked, told))
+            self._with_roster(host_of(account), account, lambda told: self._go(host, line, asked, told))
 
     def _refusal(self, stanza: Elem, host: str) -> tuple[str, str, str] | None:
         """Why the adapter itself refuses the request: the condition, its type and a text."""
@@ -275,9 +278,9 @@ class Router:
         else:
             self.rosters.behind(account, then)
 
-    def _go(self, host: str, stanza: Elem, asked: Asked, told: bool) -> None:
+    def _go(self, host: str, line: bytes, asked: Asked, told: bool) -> None:
         if told:
-            self.put(host, stanza, asked)
+            self.put(host, line, asked)
         elif self.session.is_up:
             self._close(asked, errors.error(asked.head, "remote-server-timeout", "wait", errors.NO_ROSTER, self._config.host))
         else:

@@ -8,6 +8,7 @@ import os
 import signal
 import subprocess
 import time
+from collections.abc import Callable
 from pathlib import Path
 
 from .config import Config
@@ -49,7 +50,7 @@ class Process:
             words, stdin=subprocess.DEVNULL, stdout=subprocess.PIPE, stderr=subprocess.PIPE, process_group=0
         )
         self.pid = self._child.pid
-        self._rests = {}
+        self._rests: dict[int, bytes] = {}
         for pipe in (self._child.stdout, self._child.stderr):
             assert pipe is not None
             os.set_blocking(pipe.fileno(), False)
@@ -95,7 +96,7 @@ class Run:
         self.process: Process | None = None
         self._watched: list[int] = []
 
-    def make(self, wake, before_cut) -> None:
+    def make(self, wake: Callable[[Stream, bool], None], before_cut: Callable[[], None]) -> None:
         """Makes the pipes and the sinks. `wake` is told the stream that was written to."""
         self._folder.mkdir(mode=0o700)
         for at, host in enumerate(self._config.hosts):

@@ -148,4 +148,8 @@ class StreamParser:
 
     def _text(self, text: str) -> None:
         if self._stack and self._depth <= MAX_DEPTH:
-            self._stack[-1].kids.append(text)
+            kids = self._stack[-1].kids
+            if kids and isinstance(kids[-1], str):
+                kids[-1] += text  # a text comes in parts where the pieces of the stream part it
+            else:
+                kids.append(text)

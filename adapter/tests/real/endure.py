@@ -37,7 +37,11 @@ class Load:
         self.asked: dict[str, list[str]] = {"news": [], "urn:mine": []}
         self.heard: dict[str, list[str]] = {}
         self.denied = 0
+        self.patience = 40.0  # seconds; who asked an adapter that was killed isn't answered
         self.numbers = 0
+        self.names: set[tuple] = set()  # events by their ids
+        self.may_repeat = False  # an adapter that is killed gives the notices of its last write again, with their ids
+        self.repeated = 0
 
     async def connect(self):
         port = self.plant.server.client_port
@@ -66,15 +70,21 @@ class Load:
 
     def hear(self, client, message):
         told = event_item(message)
-        if told is not None and client.bare in self.heard:
+        if told is None or client.bare not in self.heard:
+            return
+        name = (client.bare, message.get("from"), message.get("id"), told)
+        if self.may_repeat and name in self.names:
+            self.repeated += 1
+        else:
             self.heard[client.bare].append(told)
+        self.names.add(name)
 
     async def one(self, node, to):
         self.numbers += 1
         item = f"i{self.numbers}"
         self.asked[node].append(item)
         try:
-            reply = await asyncio.wait_for(asyncio.shield(self.ann.publish(node, item, PAYLOAD, to)), 40)
+            reply = await asyncio.wait_for(asyncio.shield(self.ann.publish(node, item, PAYLOAD, to)), self.patience)
         except TimeoutError:
             self.denied += 1
             return
@@ -108,7 +118,8 @@ class Load:
                 if heard != wanted:
                     raise Wrong(f"{what}: {who} heard of {node}: {difference(wanted, heard)}")
         total = sum(map(len, self.made.values()))
-        print(f"ok   {what}: {total} acknowledged, {self.denied} not; {sum(map(len, self.heard.values()))} events, each once and in order", flush=True)
+        events = sum(map(len, self.heard.values()))
+        print(f"ok   {what}: {total} acknowledged, {self.denied} not; {events} events, each once and in order; {self.repeated} again by their ids", flush=True)
 
 
 def difference(wanted, heard):
@@ -132,6 +143,7 @@ async def kill_service(load, kills):
 
 
 async def kill_adapter(load, kills):
+    load.patience, load.may_repeat = 5.0, True
     for _ in range(kills):
         until = time.monotonic() + 0.8
         running = asyncio.create_task(load.run(lambda: time.monotonic() > until, width=2))
@@ -139,6 +151,11 @@ async def kill_adapter(load, kills):
         load.plant.kill_adapter()
         await asyncio.to_thread(load.plant.start_adapter)
         await running
+    load.patience = 40.0
+    await asyncio.sleep(2)
+    load.may_repeat = False
+    if load.repeated > 16 * kills:
+        raise Wrong(f"{load.repeated} notices came again after {kills} kills")
 
 
 async def compact(load):

@@ -10,7 +10,7 @@ import sys
 import tempfile
 import time
 
-from servers import HOSTS, SECRET, SERVERS, SERVICE
+from servers import HOSTS, SECRET, SERVERS, SERVICE, die_with_parent
 
 ADAPTER = pathlib.Path(__file__).resolve().parent.parent.parent
 
@@ -56,7 +56,7 @@ class Plant:
         before = [self.said().count(words) for words in ("service started", "delegated by")]
         with open(self.log, "ab") as log:
             words = [sys.executable, str(ADAPTER / "pubsubd-xmpp"), "--config", str(self.folder / "conf")]
-            self.adapter = subprocess.Popen(words, stdout=log, stderr=log, stdin=subprocess.DEVNULL)
+            self.adapter = subprocess.Popen(words, stdout=log, stderr=log, stdin=subprocess.DEVNULL, preexec_fn=die_with_parent)
         self.wait_said("service started", before[0] + 1)
         self.wait_said("delegated by", before[1] + len(HOSTS))
 

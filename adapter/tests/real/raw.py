@@ -4,6 +4,7 @@ from __future__ import annotations
 
 import asyncio
 import base64
+import ssl
 import sys
 from pathlib import Path
 
@@ -63,10 +64,12 @@ class Raw:
         self.closed = True
 
     async def connect(self, port, register=False):
-        reader, self._writer = await asyncio.open_connection("127.0.0.1", port)
+        self._reader, self._writer = await asyncio.open_connection("127.0.0.1", port)
         self._restart()
-        self._reading = asyncio.create_task(self._read(reader))
-        await self._next("features")
+        self._reading = asyncio.create_task(self._read(self._reader))
+        features = await self._next("features")
+        if features.child("starttls") is not None and features.child("starttls").child("required") is not None:
+            await self._encrypt()
         if register:
             fields = f"<username>{self.local}</username><password>{self.password}</password>"
             await self.iq("set", f"<query xmlns='jabber:iq:register'>{fields}</query>", self.host)
@@ -79,6 +82,18 @@ class Raw:
         await self.iq("set", f"<bind xmlns='urn:ietf:params:xml:ns:xmpp-bind'><resource>{resource}</resource></bind>")
         await self.iq("set", "<session xmlns='urn:ietf:params:xml:ns:xmpp-session'/>")
         return self
+
+    async def _encrypt(self):
+        """By whatever certificate the server has, since it is on this machine."""
+        self.send("<starttls xmlns='urn:ietf:params:xml:ns:xmpp-tls'/>")
+        await self._next("proceed")
+        self._reading.cancel()
+        context = ssl.create_default_context()
+        context.check_hostname, context.verify_mode = False, ssl.CERT_NONE
+        await self._writer.start_tls(context)
+        self._restart()
+        self._reading = asyncio.create_task(self._read(self._reader))
+        await self._next("features")
 
     async def _next(self, name):
         found = await asyncio.wait_for(self._other.get(), SECONDS)

@@ -2,6 +2,7 @@
 
 from __future__ import annotations
 
+import ctypes
 import os
 import pathlib
 import shutil
@@ -14,6 +15,11 @@ SECRET = "only-for-tests"
 HOSTS = ("a.localhost", "b.localhost")
 SERVICE = "pubsub.localhost"
 PASSWORD = "pass"
+
+
+def die_with_parent() -> None:
+    """What a test starts ends with it, however that ends (prctl, PR_SET_PDEATHSIG)."""
+    ctypes.CDLL(None).prctl(1, signal.SIGKILL)
 
 
 def free_port() -> int:
@@ -57,7 +63,9 @@ class Server:
 
     def start(self) -> None:
         log = open(self.folder / "out", "ab")
-        self.child = subprocess.Popen(self.words(), stdout=log, stderr=log, stdin=subprocess.DEVNULL, env=self.environment(), process_group=0, cwd=self.folder)
+        self.child = subprocess.Popen(
+            self.words(), stdout=log, stderr=log, stdin=subprocess.DEVNULL, env=self.environment(), process_group=0, cwd=self.folder, preexec_fn=die_with_parent
+        )
         wait_for_port(self.client_port, self.start_seconds, self.child)
         wait_for_port(self.component_port, self.start_seconds, self.child)
 

@@ -160,7 +160,8 @@ async def a_configuration_by_form(world):
     want(form["type"] == "form" and form["title"], "the form has no title")
     want(fields["pubsub#title"]["value"] == "News", str(got))
     want(all(one["label"] for var, one in fields.items() if var != "FORM_TYPE"), "a field without a label")
-    want({one["value"] for one in fields["pubsub#access_model"]["options"]} == {"open", "presence", "roster", "authorize", "whitelist"}, "the options of the access model")
+    models = {one["value"] for one in fields["pubsub#access_model"]["options"]}
+    want(models == {"open", "presence", "roster", "authorize", "whitelist"}, "the options of the access model")
     want(fields["pubsub#collection"]["type"] == "text-multi", "the type of the collection's field")
     form["type"] = "submit"
     form.get_fields()["pubsub#title"]["value"] = "New title"

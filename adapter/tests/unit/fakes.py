@@ -76,7 +76,8 @@ class FakeServer:
 
     def _open(self, attrs, writer):
         self.heads.append(attrs["to"])
-        writer.write(f"<stream:stream xmlns='jabber:component:accept' xmlns:stream='http://etherx.jabber.org/streams' from='{attrs['to']}' id='s1'>".encode())
+        names = "xmlns='jabber:component:accept' xmlns:stream='http://etherx.jabber.org/streams'"
+        writer.write(f"<stream:stream {names} from='{attrs['to']}' id='s1'>".encode())
         if self.error:
             self._refuse(writer, self.error)
 
@@ -137,7 +138,11 @@ class FakeServer:
 
     async def reply(self, name):
         """The iq with that id, taken out of what came."""
-        found = await self.until(lambda: next((one for one in self.got if one.name == "iq" and one.get("id") == name and one.get("type") in ("result", "error")), None), f"the reply {name}")
+
+        def fits(one):
+            return one.name == "iq" and one.get("id") == name and one.get("type") in ("result", "error")
+
+        found = await self.until(lambda: next((one for one in self.got if fits(one)), None), f"the reply {name}")
         self.got.remove(found)
         return found
 

@@ -48,6 +48,7 @@ class Start(AdapterCase):
         self.server.send(presence(f"{ANN}/1", CAPS + "<status>secret words</status>") + presence(f"{BOB}/2"))
         await self.until_told("bob@a.example/2")
         kill_service(self)
+        await self.until_said("service ended")
         self.server.send(request("1"))
         await self.server.reply("1")
         lines = self.told()
@@ -197,6 +198,7 @@ class End(AdapterCase):
         kill_service(self)
         for name in ("1", "2", "3"):
             self.assertEqual(condition(await self.server.reply(name)), ("internal-server-error", "wait"))
+        await self.until_said("service started", 2)
         self.server.send(request("4"))
         await self.server.reply("4")
         self.assertNotIn('"node":"old"', "".join(self.told()))
@@ -224,6 +226,7 @@ class End(AdapterCase):
         self.server.send(request("1", "close"))
         self.assertEqual(condition(await self.server.reply("1")), ("internal-server-error", "wait"))
         self.assertIn("a stream of the service ended alone", self.said())
+        await self.until_said("service started", 2)
         self.server.send(request("2"))
         self.assertEqual((await self.server.reply("2")).get("type"), "result")
 

@@ -1,0 +1,52 @@
+"""Runs tests as processes of their own, each within its time."""
+
+from __future__ import annotations
+
+import os
+import pathlib
+import signal
+import subprocess
+import sys
+import time
+
+ADAPTER = pathlib.Path(__file__).resolve().parent.parent.parent
+REAL = ADAPTER / "tests" / "real"
+DEBIANS = "/usr/bin/python3"  # the one that has Debian's libraries
+
+
+def step(name: str, words: list[str], seconds: float) -> bool:
+    """Runs the command. What it writes is shown where it fails, and its lines of success in any case."""
+    began = time.monotonic()
+    environment = dict(os.environ) | {"PYTHONDONTWRITEBYTECODE": "1"}
+    pipes = {"stdout": subprocess.PIPE, "stderr": subprocess.STDOUT, "stdin": subprocess.DEVNULL, "text": True}
+    child = subprocess.Popen(words, process_group=0, cwd=ADAPTER.parent, env=environment, **pipes)
+    try:
+        said, _ = child.communicate(timeout=seconds)
+        status = child.returncode
+    except subprocess.TimeoutExpired:
+        os.kill(child.pid, signal.SIGINT)  # it takes down what it started
+        try:
+            said, _ = child.communicate(timeout=30)
+        except subprocess.TimeoutExpired:
+            os.killpg(child.pid, signal.SIGKILL)
+            said, _ = child.communicate()
+        status = f"no end within {seconds:g} s"
+    for line in said.splitlines():
+        if status != 0 or line.startswith("ok "):
+            print(line)
+    print(f"{'ok  ' if status == 0 else 'FAIL'} {name}, {time.monotonic() - began:.0f} s{'' if status == 0 else f': {status}'}", flush=True)
+    return status == 0
+
+
+def units(seconds: float) -> bool:
+    return step("the parts and the duties", [sys.executable, "-W", "ignore", "-m", "unittest", "discover", "-s", "adapter", "-t", "adapter"], seconds)
+
+
+def real(server: str, program: str, kills: int, scale: float = 1.0) -> bool:
+    """Both libraries, and the kills."""
+    programs = [("slix.py", 90, []), ("aiox.py", 60, []), ("endure.py", 60 + 8 * kills, [str(kills)])]
+    passed = True
+    for script, seconds, more in programs:
+        words = [DEBIANS, "-W", "ignore", str(REAL / script), server, program, *more]
+        passed = step(f"{script} with {server}", words, seconds * scale) and passed
+    return passed

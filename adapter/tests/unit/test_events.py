@@ -1,0 +1,278 @@
+"""What an operator meets: a server that goes, a wrong secret, a second adapter, an adapter that is killed, compaction, limits, signals, systemd."""
+
+import asyncio
+import os
+import signal
+import socket
+import unittest
+
+from .fakes import ADAPTER, HOST, SERVICE, AdapterCase, condition, contact, delegated, kill_service, request
+from .test_duties import ANN, BOB, CAPS, presence
+
+
+class Server(AdapterCase):
+    async def test_a_server_that_goes_is_connected_to_again(self):
+        await self.start()
+        await self.server.stop()
+        await self.until_said("disconnected")
+        await self.until_said("not connected")
+        await self.server.start()
+        await self.server.until(lambda: self.server.is_up)
+        self.server.send(request("1"))
+        self.assertEqual((await self.server.reply("1")).get("type"), "result")
+        self.assertEqual(self.runs(), 1)
+
+    async def test_an_event_waits_for_the_server(self):
+        await self.start()
+        self.server.send(request("1", "slow 0.7") + request("2", f"notice 1 {SERVICE}"))
+        await self.until_told('"id":"1"')
+        self.server.drop()
+        await self.server.until(lambda: self.server.is_up)
+        await self.server.message(id="n-1")
+
+    async def test_a_wrong_secret_is_said(self):
+        self.server.secret = "another"
+        await self.start(wait=False)
+        await self.until_said("the server refuses the secret")
+        self.server.secret = "not a secret"
+        await self.server.until(lambda: self.server.is_up)
+
+    async def test_a_component_that_is_there_already_is_said(self):
+        self.server.error = "conflict"
+        await self.start(wait=False)
+        await self.until_said("a second adapter runs")
+
+    async def test_a_second_adapter_over_the_same_folder_is_refused(self):
+        await self.start()
+        words = [str(ADAPTER / "pubsubd-xmpp"), "--config", str(self.root / "conf")]
+        second = await asyncio.create_subprocess_exec("python3", *words, stderr=asyncio.subprocess.PIPE)
+        _, said = await second.communicate()
+        self.assertEqual(second.returncode, 9)
+        self.assertIn(b"a second adapter", said)
+        self.server.send(request("1"))
+        await self.server.reply("1")
+
+
+class Killed(AdapterCase):
+    async def test_what_a_killed_adapter_left_is_given_once(self):
+        await self.start()
+        self.server.send(request("1", f"notice 1 {SERVICE}"))
+        await self.server.message(id="n-1")
+        self.adapter.send_signal(signal.SIGSTOP)
+        self.server.send(request("2", f"notice 2 {SERVICE}"))
+        await asyncio.sleep(0.2)
+        self.adapter.send_signal(signal.SIGCONT)
+        await self.server.message(id="n-2")
+        await self.kill()
+        left = next((self.root / "run").glob("run-*"))
+        with open(left / "0.out", "ab") as file:
+            for number in (2, 3, 4):
+                file.write(f'{{"a":{{"from":"{SERVICE}","id":"n-{number}","to":"{ANN}"}},"c":["x"],"n":"message"}}\n'.encode())
+            file.write(f'{{"a":{{"from":"{SERVICE}","id":"late","to":"{ANN}/1","type":"result"}},"n":"iq"}}\n'.encode())
+            file.write(b'{"a":{"from":"half')
+        await self.start()
+        await self.server.reply("late")
+        self.assertEqual([one.get("id") for one in self.server.got if one.name == "message"], ["n-3", "n-4"])
+        self.server.send(request("5", f"notice 4 {SERVICE}") + request("6", f"notice 5 {SERVICE}"))
+        await self.server.message(id="n-5")
+        self.assertEqual([one.get("id") for one in self.server.got if one.name == "message"], ["n-3", "n-4"])
+        await self.until_said("half a line")
+
+    async def test_the_service_of_a_killed_adapter_ends_before_the_next_starts(self):
+        await self.start()
+        self.server.send(request("1", "slow 1.5"))
+        await self.until_told('"id":"1"')
+        await self.kill()
+        await self.start()
+        self.server.send(request("2"))
+        await self.server.reply("2")
+        self.assertEqual(self.runs(), 2)
+
+
+class Limits(AdapterCase):
+    settings = "[limits]\nopen_requests = 5\n"
+
+    async def test_more_requests_than_may_be_open_are_refused_for_now(self):
+        await self.start()
+        self.server.send(request("0", "slow 1") + "".join(request(str(at)) for at in range(1, 9)))
+        replies = [await self.server.reply(str(at)) for at in range(9)]
+        self.assertEqual([condition(one) for one in replies], [None] * 5 + [("resource-constraint", "wait")] * 4)
+        self.server.send(request("9"))
+        self.assertEqual((await self.server.reply("9")).get("type"), "result")
+
+    async def test_who_cannot_be_served_is_told_why(self):
+        await self.start()
+        self.server.send(request("1", sender=f"{ANN}/t\u00e9l\u00e9phone") + request("2", sender="eve@other.example/1"))
+        odd, foreign = await self.server.reply("1"), await self.server.reply("2")
+        self.assertEqual(condition(odd), ("not-acceptable", "modify"))
+        self.assertIn("resource", odd.find("error", "text").text())
+        self.assertEqual(condition(foreign), ("service-unavailable", "cancel"))
+        self.server.send(delegated("3", request("i", sender="eve@other.example/1", to=ANN)))
+        wrapped = await self.server.reply("3")
+        self.assertEqual(condition(wrapped.child("delegation").find("forwarded", "iq")), ("service-unavailable", "cancel"))
+        self.assertFalse([line for line in self.told() if '"create"' in line])
+
+    async def test_a_ping_and_capitals(self):
+        await self.start()
+        self.server.send(f"<iq from='{ANN}/1' to='{SERVICE}' id='p' type='get'><ping xmlns='urn:xmpp:ping'/></iq>" + request("2", sender="Ann@A.example/Res"))
+        self.assertEqual((await self.server.reply("p")).get("type"), "result")
+        self.assertEqual((await self.server.reply("2")).get("to"), "Ann@A.example/Res")
+        self.assertIn('"from":"ann@a.example/Res"', "".join(self.told()))
+
+
+class Hosts(AdapterCase):
+    hosts = "a.example, b.example"
+
+    async def test_each_host_has_its_stream_and_a_contact_of_another_is_told_first(self):
+        """A request on one stream waits until the row on the other is answered."""
+        self.server.on_connect = lambda: (self.server.grant(), self.server.grant(host="b.example"))
+        self.server.rosters[ANN] = [contact("dot@b.example", "from")]
+        await self.start()
+        self.server.send(request("1", "slow 0.5"))
+        self.server.send(delegated("d", request("2", sender="dot@b.example/1", to=ANN), host=HOST))
+        await self.server.reply("d")
+        lines = (self.root / "state" / "store.told").read_text().splitlines()
+        row = next(at for at, line in enumerate(lines) if "jabber:iq:roster" in line)
+        asked = next(at for at, line in enumerate(lines) if '"id":"2"' in line)
+        self.assertTrue(lines[row].startswith("a.example ") and lines[asked].startswith("b.example ") and row < asked)
+
+    async def test_a_request_waits_over_a_start_until_the_rows_are_answered(self):
+        self.server.on_connect = lambda: (self.server.grant(), self.server.grant(host="b.example"))
+        self.server.rosters[ANN] = [contact("dot@b.example", "from")]
+        await self.start()
+        self.server.send(request("1", "slow 1"))
+        await self.until_told('"id":"1"')
+        self.server.send(delegated("d", request("2", sender="dot@b.example/1", to=ANN), host=HOST))
+        await asyncio.sleep(0.4)
+        kill_service(self)
+        await self.server.reply("d")
+        lines = (self.root / "state" / "store.told").read_text().split("start\n")[-1].splitlines()
+        row = next(at for at, line in enumerate(lines) if "jabber:iq:roster" in line)
+        asked = next(at for at, line in enumerate(lines) if '"id":"2"' in line)
+        self.assertLess(row, asked)
+
+
+class Compacting(AdapterCase):
+    settings = "[compaction]\nbytes = 1000\nratio = 2\n"
+
+    async def test_a_store_is_compacted_when_told_and_no_request_is_lost(self):
+        await self.start()
+        self.server.send(request("1", "slow 0.5"))
+        await self.until_told('"id":"1"')
+        self.adapter.send_signal(signal.SIGUSR2)
+        await self.until_said("service is started anew why=compaction")
+        self.server.send("".join(request(str(at)) for at in range(2, 30)))
+        for at in range(1, 30):
+            self.assertEqual((await self.server.reply(str(at))).get("type"), "result")
+        self.assertIn("compacted bytes_before=108 bytes_now=18", self.said())
+        self.assertEqual((self.runs(), self.store.read_bytes()), (2, b"PUBSUBJ1 compacted"))
+        self.assertEqual(sorted(one.name for one in self.store.parent.glob("store*")), ["store", "store.told"])
+
+    async def test_a_store_that_grew_many_times_is_compacted_at_a_start(self):
+        self.store.write_bytes(b"PUBSUBJ1" + b"x" * 2000)
+        await self.start()
+        self.assertIn("compacted bytes_before=2008", self.said())
+        await self.stop()
+        self.store.write_bytes(b"PUBSUBJ1" + b"x" * 1010)
+        await self.start()
+        self.assertEqual(self.said().count("compacted bytes_before"), 1)  # less than 1000 and twice the 18 of before
+        await self.stop()
+        self.store.write_bytes(b"PUBSUBJ1" + b"x" * 1040)
+        await self.start()
+        self.assertEqual(self.said().count("compacted bytes_before"), 2)
+
+    async def test_where_it_fails_the_store_stands(self):
+        (self.root / "state" / "store.fail").write_text("")
+        await self.start()
+        before = self.store.read_bytes()
+        self.adapter.send_signal(signal.SIGUSR2)
+        await self.until_said("not compacted status=7")
+        await self.until_said("service started", 2)
+        self.assertEqual(self.store.read_bytes(), before)
+        self.server.send(request("1"))
+        await self.server.reply("1")
+
+    async def test_a_new_store_that_is_found_damaged_is_put_back(self):
+        await self.start()
+        before = self.store.read_bytes()
+        (self.root / "state" / "store.exit").write_text("5")
+        self.adapter.send_signal(signal.SIGUSR2)
+        await self.until_said("put back")
+        await self.until_said("service started", 2)
+        self.assertEqual(self.store.read_bytes(), before)
+
+
+class Kept(AdapterCase):
+    def configure(self, *_):
+        super().configure()
+        text = (self.root / "conf").read_text()
+        (self.root / "conf").write_text(text.replace("[server]\n", "[server]\nkeep_presences = yes\n", 1))
+
+    async def test_who_was_there_is_asked_where_the_server_does_not_tell(self):
+        await self.start()
+        self.server.send(presence(f"{ANN}/1", CAPS) + presence(f"{BOB}/1"))
+        await self.until_told("bob@a.example/1")
+        await asyncio.sleep(1.5)
+        await self.kill()
+        await self.start()
+        await self.until_told("bob@a.example/1")
+        self.assertIn('"ver":"AAAA"', "".join(self.told()))
+        asked = {one.get("to"): one for one in self.server.got if one.get("id").startswith("there-")}
+        self.assertEqual(set(asked), {f"{ANN}/1", f"{BOB}/1"})
+        self.server.send(f"<iq from='{ANN}/1' to='{SERVICE}' id='there-1' type='result'><query xmlns='http://jabber.org/protocol/disco#info'/></iq>")
+        self.server.send(f"<iq from='{BOB}/1' to='{SERVICE}' id='there-1' type='error'><error type='cancel'/></iq>")
+        gone = await self.until_told("unavailable")
+        self.assertIn("bob@a.example/1", gone)
+        await asyncio.sleep(6)
+        self.assertEqual(sum("unavailable" in line for line in self.told()), 1)
+
+
+class Signals(AdapterCase):
+    async def test_a_status_line(self):
+        await self.start()
+        self.server.send(request("1") + presence(f"{ANN}/1"))
+        await self.server.reply("1")
+        self.adapter.send_signal(signal.SIGUSR1)
+        await self.until_said("status server=connected service=serving")
+        line = next(one for one in self.said().splitlines() if " status " in one)
+        for words in ("runs=1", "open=0", "present=1", "store=108", "results=1", "iq_in="):
+            self.assertIn(words, line)
+
+    async def test_systemd_is_told(self):
+        with socket.socket(socket.AF_UNIX, socket.SOCK_DGRAM) as end:
+            end.bind(str(self.root / "notify"))
+            end.setblocking(False)
+            os.environ["NOTIFY_SOCKET"] = str(self.root / "notify")
+            try:
+                await self.start()
+                await self.stop()
+            finally:
+                del os.environ["NOTIFY_SOCKET"]
+            told = []
+            while True:
+                try:
+                    told.append(end.recv(4096).decode())
+                except BlockingIOError:
+                    break
+        self.assertTrue(any(one.startswith("READY=1") for one in told), told)
+        self.assertEqual(told[-1], "STOPPING=1")
+
+    async def test_a_configuration_is_judged(self):
+        words = ["python3", str(ADAPTER / "pubsubd-xmpp"), "--check", "--config", str(self.root / "conf")]
+        good = await asyncio.create_subprocess_exec(*words, stderr=asyncio.subprocess.PIPE)
+        _, said = await good.communicate()
+        self.assertEqual((good.returncode, b"configuration is good" in said), (0, True))
+        (self.root / "secret").unlink()
+        bad = await asyncio.create_subprocess_exec(*words, stderr=asyncio.subprocess.PIPE)
+        _, said = await bad.communicate()
+        self.assertEqual((bad.returncode, b"the secret can't be read" in said), (2, True))
+
+    async def test_a_program_that_is_not_there_is_said(self):
+        self.configure(program=self.root / "none")
+        await self.start(wait=False)
+        self.assertEqual(await self.ended(), 2)
+        self.assertIn("isn't there or can't be run", self.said())
+
+
+if __name__ == "__main__":
+    unittest.main()
