@@ -21,7 +21,3 @@ oldest-goes max (x ∷ xs) over =
 
 pub few-stay : (max : ℕ) (xs : List Copied) → length xs ≤ max → keep_newest each_one max xs ≡ xs
 few-stay max xs few = keep_newest-all each_one max xs (subst (λ k. k ≤ max) (sym (each-counts xs)) few)
-
-pub oldest-shorter : (max : ℕ) (xs : List Copied) → max < length xs → length (remove xs 0) + 1 ≡ length xs
-oldest-shorter max [] over = absurd (let no : 0 < 0 = omega (arith, over) in omega (arith, no))
-oldest-shorter max (x ∷ xs) over = omega arith

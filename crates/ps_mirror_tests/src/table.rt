@@ -23,7 +23,8 @@ const ROWS: &str = "\
 10:zero padded wide:other other other:
 10:empty:other:";
 
-/// Where the program speaks to the mirror.
+// The service and the node of a mirror, and the address that is told.
+#[derive(Drop)]
 struct Words {
     service: Jid,
     node: Text,

@@ -1,7 +1,7 @@
 use Rattle.std.proofs.Common.{◌≡◌, ◌<◌, ◌≤◌, length, ap, sym, ◌∙◌, arith}
 use Rattle.ps_base.specs.Rows.{keep_newest}
 use Rattle.ps_mirror.specs.Copy.{each_one}
-use Rattle.ps_mirror.proofs.Newest.{few-stay, oldest-goes, oldest-shorter}
+use Rattle.ps_mirror.proofs.Newest.{few-stay, oldest-goes}
 use Rattle.ps_mirror.proofs.mirror.keep.Goals as goal
 
 pub loop-items-preserved : goal.loop-items-preserved
@@ -12,4 +12,4 @@ loop-items-preserved c =
 pub returns : goal.returns
 returns c =
     let few : length c.loop-items.items.items ≤ c.args.max = omega (arith, c.loop-items-test.false, c.len.ensures) in
-    sym (few-stay c.args.max c.loop-items.items.items few) ∙ c.loop-items.invariant
+    record { items = sym (few-stay c.args.max c.loop-items.items.items few) ∙ c.loop-items.invariant }
