@@ -7,15 +7,20 @@ An example is a folder of examples/ with a.in and a.out, and b.in and b.out wher
 a.example and b.example, and those that come. Over both streams the lines are written in the order of their ids, each once those before it are
 answered; one whose id is no number is written behind the line above it. Replies are compared in their order, and of each address the notices; whether a
 notice comes before a reply or behind it is free. What examples/nodes.txt gives stands in README.md.
+
+Where mirror.in stands there too, it is what bob was told over more than one run: the lines of b.out, some of them again. `mirror` must make mirror.out of it, and these are the items of the
+last reply in b.out.
 """
 import json
 import pathlib
+import subprocess
 import sys
 import tempfile
 
 TOP = pathlib.Path(__file__).resolve().parent.parent.parent
 sys.path.insert(0, str(TOP / "tests" / "streams"))
 from serving import Late, Service
+from notation import PUBSUB
 from stanzas import is_notice
 
 
@@ -74,6 +79,20 @@ def run(program, name, folder):
             compare(stream.host, stream.lines(), wanted[at])
 
 
+def run_mirror(program, name):
+    here = TOP / "examples" / name
+    words = [program, "mirror", "pubsub.example", "news", "bob@b.example", "3", here / "mirror.in"]
+    ended = subprocess.run(words, timeout=60, stdout=subprocess.PIPE)
+    if (ended.returncode, ended.stdout) != (0, (here / "mirror.out").read_bytes()):
+        raise Wrong(f"the mirror ended with {ended.returncode}, and reported {ended.stdout!r}")
+    lines = (here / "b.out").read_bytes().splitlines()
+    if list(dict.fromkeys((here / "mirror.in").read_bytes().splitlines())) != lines:
+        raise Wrong("mirror.in isn't b.out, with some lines again")
+    items = json.loads(lines[-1])["c"][0]["c"][0]["c"]
+    if [it | {"ns": PUBSUB} for it in items] != [json.loads(line) for line in ended.stdout.splitlines()]:
+        raise Wrong("the mirror holds other items than the node")
+
+
 def run_nodes(program, folder):
     with Service(program, folder, ["a.example"]) as service:
         service.streams[0].send(*(TOP / "examples" / "nodes.txt").read_bytes().splitlines())
@@ -93,6 +112,8 @@ def main():
         with tempfile.TemporaryDirectory(prefix="examples-") as folder:
             try:
                 run_nodes(program, folder) if name == "nodes.txt" else run(program, name, folder)
+                if (TOP / "examples" / name / "mirror.in").is_file():
+                    run_mirror(program, name)
                 why = "as written"
             except (Wrong, Late, OSError) as error:
                 why, status = f"{type(error).__name__}: {error}", 1

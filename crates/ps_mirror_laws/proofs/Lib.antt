@@ -1,0 +1,13 @@
+pub mod Shown
+pub mod Heard
+pub mod Silent
+pub mod OtherKinds
+pub mod Own
+pub mod Requests
+pub mod Entries
+pub mod Whole
+pub mod Sizes
+pub mod SmallKinds
+pub mod SmallDrafts
+pub mod SmallEvents
+pub mod Short
