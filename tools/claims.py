@@ -9,6 +9,7 @@ import re
 
 ROOT = pathlib.Path(__file__).resolve().parents[1]
 CRATES = ROOT / "crates"
+LONG = 150
 
 
 def names():
@@ -28,8 +29,10 @@ def plain(text):
 
 
 def first_sentence(text):
+    """Its first sentence; of a long one the part before its first semicolon or colon, which says something by itself."""
     match = re.match(r"(.*?[.:])(?= [A-Z`]|$)", plain(text))
-    return (match[1] if match else plain(text)).rstrip(":").rstrip(".") + "."
+    found = (match[1] if match else plain(text)).rstrip(":").rstrip(".")
+    return (re.split(r"[;:] ", found)[0] if len(found) > LONG else found) + "."
 
 
 def promise(name):
