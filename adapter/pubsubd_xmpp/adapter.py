@@ -51,6 +51,7 @@ class Adapter:
         self._run: Run | None = None
         self._number = 0
         self._served_at = 0.0
+        self._connections = 0
         self._starts = 0
         self._began = time.monotonic()
 
@@ -70,6 +71,9 @@ class Adapter:
     def connected(self) -> None:
         notify("STATUS=connected")
         self._settled = False
+        if self._session.was_away and self._connections:
+            self._router.sweep()
+        self._connections += 1
         self._later(0.05, self._settle_early)
         self._later(SETTLE, self._settle)
         self._later(TELL, self._router.sweep)

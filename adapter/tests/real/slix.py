@@ -120,7 +120,7 @@ async def denied(answer, condition, words=""):
 
 class World:
     def __init__(self, plant):
-        self.port = plant.server.client_port
+        self.plant, self.port = plant, plant.server.client_port
         self.server = plant.server.name
         self.people = []
 
@@ -326,6 +326,12 @@ async def last_items(world):
     await bob.hears(lambda one: one.find(f"{EVENT}event/{EVENT}items[@node='urn:xmpp:avatar:metadata']") is not None, "the last avatar")
     await asyncio.sleep(1)
     want(not bob.heard("urn:xmpp:avatar:metadata"), "the last avatar comes twice")
+    starts = world.plant.said().count("service started")
+    world.plant.kill_service()
+    await asyncio.to_thread(world.plant.wait_said, "service started", starts + 1)
+    await world.ann["xep_0084"].publish_avatar_metadata([{"id": "0" * 40, "type": "image/png", "bytes": 1}])
+    await bob.hears_item("urn:xmpp:avatar:metadata", "0" * 40)
+    want(not bob.heard("urn:xmpp:avatar:metadata"), "a start of the service tells of the last avatar again")
     await bob.go()
 
 

@@ -22,6 +22,18 @@ class Server(AdapterCase):
         self.assertEqual((await self.server.reply("1")).get("type"), "result")
         self.assertEqual(self.runs(), 1)
 
+    async def test_who_comes_after_the_server_was_away_is_newly_there(self):
+        await self.start()
+        self.server.send(presence(f"{ANN}/1", CAPS))
+        await self.until_told('"ver":"AAAA"')
+        await self.server.stop()
+        await self.until_said("not connected")
+        self.server.on_connect = lambda: (self.server.grant(), self.server.send(presence(f"{ANN}/1", CAPS)))
+        await self.server.start()
+        await self.server.until(lambda: sum('"ver":"AAAA"' in line for line in self.told()) == 2)
+        lines = [line for line in self.told() if '"n":"presence"' in line]
+        self.assertEqual(["unavailable" in line for line in lines], [False, True, False])
+
     async def test_an_event_waits_for_the_server(self):
         await self.start()
         self.server.send(request("1", "slow 0.7") + request("2", f"notice 1 {SERVICE}"))
