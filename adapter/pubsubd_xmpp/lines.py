@@ -1,4 +1,4 @@
-"""Trees as lines of JSON, both ways, as docs/STANZAS.md says how a line is written."""
+"""Trees as lines of JSON, both ways, as docs/router.md says how a line is written."""
 
 from __future__ import annotations
 

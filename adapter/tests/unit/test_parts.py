@@ -39,10 +39,16 @@ def parse(text, ns="jabber:client"):
     return got
 
 
+def table(name, start):
+    """The cells of the rows of a table of docs/router.md that begin so."""
+    text = (TOP / "docs" / "router.md").read_text(encoding="utf-8").split(f"<!-- table: {name} -->")[1].split("<!-- end -->")[0]
+    return [line.split("|") for line in text.splitlines() if line.startswith(start) and line[len(start)].isdigit()]
+
+
 class Trees(unittest.TestCase):
     def test_the_stanza_of_the_documentation_is_the_line_of_the_documentation(self):
-        """docs/STANZAS.md shows both."""
-        text = (TOP / "docs" / "STANZAS.md").read_text(encoding="utf-8")
+        """docs/router.md shows both."""
+        text = (TOP / "docs" / "router.md").read_text(encoding="utf-8")
         stanza = text.split("<iq from='ann@a.example/1'")[1].split("</iq>")[0]
         (tree,) = parse("<iq from='ann@a.example/1'" + stanza.replace("\n", "").replace("  ", "") + "</iq>", "jabber:component:accept")
         self.assertIn(to_line(tree).decode().strip(), text)
@@ -145,16 +151,14 @@ class Errors(unittest.TestCase):
         self.assertIn("max_payload_size", tree.find("error", "text").text())
 
     def test_each_condition_of_the_service_has_a_text(self):
-        """The table of docs/STANZAS.md."""
-        table = (TOP / "docs" / "STANZAS.md").read_text(encoding="utf-8").split("| | Condition | Special condition | Type |")[1]
-        rows = [line.split("|") for line in table.splitlines() if line.startswith("| C")]
+        """The table of docs/router.md."""
+        rows = table("conditions", "| C")
         self.assertGreaterEqual(len(rows), 28)
         for row in rows:
             self.assertIn(row[3].strip() or row[2].strip(), errors.TEXTS)
 
     def test_each_refusal_of_a_line_has_an_answer(self):
-        text = (TOP / "docs" / "STANZAS.md").read_text(encoding="utf-8").split("## 2. Refusals of lines")[1].split("## 3.")[0]
-        words = {line.split("|")[2].strip().strip("`") for line in text.splitlines() if line.startswith("| L")}
+        words = {row[2].strip().strip("`") for row in table("refusals", "| L")}
         self.assertEqual(words, set(errors.REFUSALS))
 
 
