@@ -335,6 +335,17 @@ async def last_items(world):
     await bob.go()
 
 
+async def personal_events_outlive_the_adapter(world):
+    """Nobody sends a presence again, and a contact hears of what is published afterwards."""
+    ann, bob = world.ann, world.bob
+    await asyncio.sleep(2)  # what was gathered is written each second
+    world.plant.kill_adapter()
+    await asyncio.to_thread(world.plant.start_adapter)
+    bob.messages.clear()
+    await ann["xep_0084"].publish_avatar_metadata([{"id": "1" * 40, "type": "image/png", "bytes": 1}])
+    await bob.hears_item("urn:xmpp:avatar:metadata", "1" * 40, ann.boundjid.bare)
+
+
 async def vcards(world):
     """vCard4 over personal eventing (XEP-0292)."""
     ann, bob = world.ann, world.bob
@@ -379,6 +390,7 @@ CHECKS = (
     groups,
     avatars,
     last_items,
+    personal_events_outlive_the_adapter,
     vcards,
     discovery,
     a_resource_beyond_ascii,
