@@ -24,8 +24,9 @@ from .spool import Watch
 from .stream import Stream
 from .trees import Elem
 
-# How long a server has to grant rights before notices go out without them.
-SETTLE = 2.0
+# How long a server has to grant rights before events go out without them, and before what is missing is said.
+SETTLE = 3.0
+COMPLAIN = 8.0
 # How long after it came again a server has to tell who is there.
 TELL = 5.0
 
@@ -51,6 +52,7 @@ class Adapter:
         self._run: Run | None = None
         self._number = 0
         self._served_at = 0.0
+        self._connections = 0
         self._starts = 0
         self._began = time.monotonic()
 
@@ -70,8 +72,12 @@ class Adapter:
     def connected(self) -> None:
         notify("STATUS=connected")
         self._settled = False
+        if self._session.was_away and self._connections:
+            self._router.sweep()
+        self._connections += 1
         self._later(0.05, self._settle_early)
         self._later(SETTLE, self._settle)
+        self._later(COMPLAIN, self._router.grants.complain)
         self._later(TELL, self._router.sweep)
         if self._config.keep_presences:
             self._router.ask_whether_there()
@@ -93,10 +99,10 @@ class Adapter:
         self._timers.append(self._loop.call_later(seconds, call))
 
     def _settle_early(self) -> None:
-        """Notices go out as soon as every host granted what they need."""
+        """Events go out as soon as every host granted what they need."""
         if self._settled:
             return
-        if self._router.grants.complete():
+        if self._router.grants.can_speak():
             self._settle()
         else:
             self._later(0.05, self._settle_early)
@@ -104,7 +110,6 @@ class Adapter:
     def _settle(self) -> None:
         if not self._settled:
             self._settled = True
-            self._router.grants.complain()
             self.pump()
 
     # What the service writes

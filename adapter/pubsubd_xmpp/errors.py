@@ -52,7 +52,7 @@ FOREIGN = "Accounts of other servers aren't served here."
 BUSY = "More requests are open than this service takes at once: try again in a moment."
 ENDED = "The service was started anew while your request was open. It may have taken effect or not: look, and try again."
 STOPPING = "The service is being stopped: try again later."
-NO_ROSTER = "The server didn't tell the account's contacts in time, so what you may see couldn't be judged: try again."
+NO_ROSTER = "The account's contacts couldn't be had just now, so what you may do couldn't be judged: try again."
 
 
 def error(head: Elem, condition: str, kind: str, text: str, service: str) -> Elem:

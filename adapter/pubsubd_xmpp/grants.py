@@ -80,9 +80,9 @@ class Grants:
         grant = self._grants.get(host)
         return grant is not None and right in grant.rights
 
-    def complete(self) -> bool:
-        """Whether every host granted all that personal nodes need."""
-        return not any(grant.lacks() for grant in self._grants.values())
+    def can_speak(self) -> bool:
+        """Whether every host lets the adapter send events of its accounts."""
+        return all("message" in grant.rights for grant in self._grants.values())
 
     def complain(self) -> None:
         """One line for each host that granted less than personal nodes need."""

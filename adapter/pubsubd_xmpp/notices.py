@@ -29,6 +29,7 @@ class Notice:
     number: int
     to: str
     headline: bool
+    content: bytes  # what stands inside it, as it came
     inner: str
 
     @property
@@ -58,7 +59,7 @@ class Notices:
         if found is None:
             return None
         sender, number, to, headline, kids = found.groups()
-        return Notice(sender.decode(), int(number), to.decode(), headline is not None, self._inside(kids))
+        return Notice(sender.decode(), int(number), to.decode(), headline is not None, kids, self._inside(kids))
 
     def _inside(self, kids: bytes) -> str:
         inner = self._inner.get(kids)

@@ -17,6 +17,7 @@ from .log import Rarely, say
 from .names import CLIENT, DELEGATION, INFO, PING, bare_of, canonical, host_of, is_full
 from .notices import Notice, Notices
 from .presences import Presences
+from .repeats import Repeats
 from .rosters import Rosters
 from .session import Session
 from .stream import MANY_LINES, Stream
@@ -42,6 +43,7 @@ class Router:
         self.features: list[Elem] | None = None
         self._features_wanted: list[Elem] = []
         self._notices = Notices()
+        self._repeats = Repeats()
         self._rarely = Rarely()
         self._open = 0
         self._open_bytes = 0
@@ -203,21 +205,21 @@ class Router:
         if kind == "":
             if self.presences.take(sender, stanza):
                 self._with_roster(host, account, lambda _: self.presences.tell_there(sender))
-        elif self.presences.remove(sender):
+        elif self._remove(sender):
             self.rosters.behind(account, lambda _: self.presences.tell_gone(sender))
 
     def _bounced(self, stanza: Elem) -> None:
         """A message came back. Where it was for a resource that the server doesn't have, and presences are kept, it is gone."""
         self.counts["bounced"] += 1
         sender = canonical(stanza.get("from"))
-        if self._config.keep_presences and is_full(sender) and self.presences.remove(sender):
+        if self._config.keep_presences and is_full(sender) and self._remove(sender):
             self.presences.tell_gone(sender)
 
     def _found(self, address: str, there: bool) -> None:
         """Whether a resource of which the server didn't tell answered."""
         if there:
             self.presences.sure(address)
-        elif self.presences.remove(canonical(address)):
+        elif self._remove(canonical(address)):
             self.presences.tell_gone(canonical(address))
 
     def ask_whether_there(self) -> None:
@@ -229,9 +231,14 @@ class Router:
     def sweep(self) -> None:
         """Whoever the server told before it went, and not again, is gone."""
         for resource in self.presences.stale():
-            self.presences.remove(resource)
+            self._remove(resource)
             self.presences.tell_gone(resource)
         self.flush_streams()
+
+    def _remove(self, resource: str) -> bool:
+        """The resource isn't there any more. False where it wasn't."""
+        self._repeats.gone(resource)
+        return self.presences.remove(resource)
 
     # Requests
 
@@ -327,13 +334,17 @@ class Router:
             self.session.pass_by(lambda: stream.spool.give(end))
             return
         text = self._message(notice)
+        if is_full(notice.to) and notice.sender != self._config.host and self._repeats.is_repeat(notice.to, notice.sender, notice.content):
+            self.counts["last items again"] += 1
+            text = None
+        elif text is None:
+            self.counts["not granted"] += 1
 
         def given() -> None:
             self._kept.delivered(notice.bare, notice.number)
             stream.spool.give(end)
 
         if text is None:
-            self.counts["not granted"] += 1
             self.session.pass_by(given)
         else:
             self.counts["notices"] += 1

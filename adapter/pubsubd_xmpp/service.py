@@ -25,7 +25,7 @@ MEANINGS = {
     STREAM_FAULT: "couldn't read or write a stream: look whether the disk of the run folder is full",
     STORE_FAULT: "the disk of the store failed: look whether it is full",
     DAMAGED: "the store is damaged: keep the file, and put a backup in its place",
-    FULL: "the store is full: compact it, as docs/operator.md says",
+    FULL: "the store is full: stop the adapter and compact it by hand, as pubsubd(1) says",
     MEMORY: "had not enough memory",
     LONG: "took as many bytes as a run may take",
     OPEN_FAULT: "couldn't open a file: the store is held by another program, or may not be read and written by this user",

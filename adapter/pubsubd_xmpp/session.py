@@ -57,6 +57,7 @@ class Session:
         self._writing = False
         self._reading = False
         self.is_up = False
+        self.was_away = False  # the server itself was away since the last session, and with it all of its clients' sessions
 
     # Sending
 
@@ -180,6 +181,7 @@ class Session:
             names = [kid.name for kid in stanza.elements() if kid.ns == STREAM_ERRORS and kid.name != "text"]
             name = names[0] if names else "error"
             self._why = ADVICE.get(name, name)
+            self.was_away = self.was_away or name == "system-shutdown"
 
     def _up(self) -> None:
         self.is_up = True
@@ -188,6 +190,7 @@ class Session:
         self._rarely.forget("not connected")
         say("connected", server=f"{self._config.address}:{self._config.port}", component=self._config.host)
         self._owner.connected()
+        self.was_away = False
 
     # Sessions
 
@@ -212,6 +215,7 @@ class Session:
             pinging = asyncio.create_task(self._ping())
             await self._ended.wait()
         except OSError as why:
+            self.was_away = True
             self._why = f"the server isn't there: {why.strerror or 'no answer'}"
         finally:
             was_up = self.is_up

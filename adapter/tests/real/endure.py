@@ -175,9 +175,10 @@ async def restart_server(load):
     """Clients come again; what was acknowledged stands, and what is published then is heard of."""
     for client in (load.ann, load.bob, load.cid):
         client.close()
-    told = [load.plant.said().count(words) for words in ("delegated by", "granted by")]
+    wanted = (load.plant.granted, "granted by=")
+    told = [load.plant.said().count(words) for words in wanted]
     await asyncio.to_thread(load.plant.server.restart)
-    for words, count in zip(("delegated by", "granted by"), told, strict=True):
+    for words, count in zip(wanted, told, strict=True):
         await asyncio.to_thread(load.plant.wait_said, words, count + len(HOSTS))
     await asyncio.sleep(1)
     await load.connect()

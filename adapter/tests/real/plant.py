@@ -53,12 +53,18 @@ class Plant:
 
     def start_adapter(self) -> None:
         """Starts the adapter, and waits until it serves and the server has granted."""
-        before = [self.said().count(words) for words in ("service started", "delegated by")]
+        words = ("service started", self.granted, "granted by=")
+        before = [self.said().count(one) for one in words]
         with open(self.log, "ab") as log:
-            words = [sys.executable, str(ADAPTER / "pubsubd-xmpp"), "--config", str(self.folder / "conf")]
-            self.adapter = subprocess.Popen(words, stdout=log, stderr=log, stdin=subprocess.DEVNULL, preexec_fn=die_with_parent)
-        self.wait_said("service started", before[0] + 1)
-        self.wait_said("delegated by", before[1] + len(HOSTS))
+            command = [sys.executable, str(ADAPTER / "pubsubd-xmpp"), "--config", str(self.folder / "conf")]
+            self.adapter = subprocess.Popen(command, stdout=log, stderr=log, stdin=subprocess.DEVNULL, preexec_fn=die_with_parent)
+        for one, count, more in zip(words, before, (1, len(HOSTS), len(HOSTS)), strict=True):
+            self.wait_said(one, count + more)
+
+    @property
+    def granted(self) -> str:
+        """What is said of a host once all of its namespaces are delegated."""
+        return f"namespaces={self.server.namespaces}\n"
 
     def wait_said(self, words: str, count: int, seconds: float = 60) -> None:
         until = time.monotonic() + seconds

@@ -44,6 +44,7 @@ class Server:
 
     name = ""
     start_seconds = 60
+    namespaces = 0  # how many of each host it delegates
 
     def __init__(self, folder: pathlib.Path):
         self.folder = folder / self.name
@@ -141,6 +142,7 @@ Component "{service}"
 
 class Prosody(Server):
     name = "prosody"
+    namespaces = 4
     own_pubsub = ""  # more components, for a comparison
 
     def write(self) -> None:
@@ -214,6 +216,7 @@ modules:
 
 class Ejabberd(Server):
     name = "ejabberd"
+    namespaces = 2
     start_seconds = 120
     more = ""
 

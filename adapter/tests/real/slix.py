@@ -120,7 +120,7 @@ async def denied(answer, condition, words=""):
 
 class World:
     def __init__(self, plant):
-        self.port = plant.server.client_port
+        self.plant, self.port = plant, plant.server.client_port
         self.server = plant.server.name
         self.people = []
 
@@ -326,7 +326,24 @@ async def last_items(world):
     await bob.hears(lambda one: one.find(f"{EVENT}event/{EVENT}items[@node='urn:xmpp:avatar:metadata']") is not None, "the last avatar")
     await asyncio.sleep(1)
     want(not bob.heard("urn:xmpp:avatar:metadata"), "the last avatar comes twice")
+    starts = world.plant.said().count("service started")
+    world.plant.kill_service()
+    await asyncio.to_thread(world.plant.wait_said, "service started", starts + 1)
+    await world.ann["xep_0084"].publish_avatar_metadata([{"id": "0" * 40, "type": "image/png", "bytes": 1}])
+    await bob.hears_item("urn:xmpp:avatar:metadata", "0" * 40)
+    want(not bob.heard("urn:xmpp:avatar:metadata"), "a start of the service tells of the last avatar again")
     await bob.go()
+
+
+async def personal_events_outlive_the_adapter(world):
+    """Nobody sends a presence again, and a contact hears of what is published afterwards."""
+    ann, bob = world.ann, world.bob
+    await asyncio.sleep(2)  # what was gathered is written each second
+    world.plant.kill_adapter()
+    await asyncio.to_thread(world.plant.start_adapter)
+    bob.messages.clear()
+    await ann["xep_0084"].publish_avatar_metadata([{"id": "1" * 40, "type": "image/png", "bytes": 1}])
+    await bob.hears_item("urn:xmpp:avatar:metadata", "1" * 40, ann.boundjid.bare)
 
 
 async def vcards(world):
@@ -373,6 +390,7 @@ CHECKS = (
     groups,
     avatars,
     last_items,
+    personal_events_outlive_the_adapter,
     vcards,
     discovery,
     a_resource_beyond_ascii,

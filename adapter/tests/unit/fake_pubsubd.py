@@ -116,6 +116,13 @@ class Service:
             number, sender = rest.split(" ")
             self.notice(fd, a, number, sender)
             self.result(fd, a)
+        elif verb == "event":
+            number, sender, item, *stamp = rest.split(" ")
+            items = {"a": {"node": "urn:x"}, "c": [{"a": {"id": item}, "c": [{"n": "e", "ns": "urn:t"}], "n": "item"}], "n": "items"}
+            event = {"c": [items], "n": "event", "ns": "http://jabber.org/protocol/pubsub#event"}
+            delay = [{"a": {"stamp": one}, "n": "delay", "ns": "urn:xmpp:delay"} for one in stamp]
+            self.write(fd, {"a": {"from": sender, "id": f"n-{number}", "to": a["from"], "type": "headline"}, "c": [event, *delay], "n": "message"})
+            self.result(fd, a)
         elif verb == "question":
             asked = {"from": self.service, "id": f"n-{rest}", "to": a["from"], "type": "get"}
             self.write(fd, {"a": asked, "c": [{"a": {"node": "c#v"}, "n": "query", "ns": "http://jabber.org/protocol/disco#info"}], "n": "iq"})

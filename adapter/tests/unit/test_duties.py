@@ -240,15 +240,32 @@ class End(AdapterCase):
         self.assertIn("service ended status=0", self.said())
         self.assertEqual(list((self.root / "run").glob("run-*")), [])
 
-    async def test_what_the_service_told_again_under_a_new_number_passes(self):
-        """The last items come once more at each start, as new notices."""
+    async def events(self, *told):
+        """Which of these events of an account's node came: number and item each, with a stamp if it is a last item, to the sender's resource."""
+        for one in told:
+            self.server.send(request(f"e{one.split()[0]}", f"event {one.replace(' ', f' {BOB} ', 1)}"))
+            await self.server.reply(f"e{one.split()[0]}")
+        got = [one.get("id") for one in self.server.got if one.name == "message"]
+        self.server.got.clear()
+        return got
+
+    async def test_a_last_item_that_comes_once_more_at_a_start_is_dropped(self):
         await self.start()
-        self.server.send(request("1", f"notice 1 {SERVICE}"))
-        await self.server.message(id="n-1")
+        self.server.send(presence(f"{ANN}/1"))
+        self.assertEqual(await self.events("1 a", "2 b", "3 b"), ["n-1", "n-2", "n-3"])
         kill_service(self)
         await self.until_said("service started", 2)
-        self.server.send(request("2", f"notice 2 {SERVICE}"))
-        await self.server.message(id="n-2")
+        self.assertEqual(await self.events("4 b 2026-12-01T06:54:56Z", "5 b", "6 a"), ["n-5", "n-6"])
+
+    async def test_who_came_again_and_what_changed_is_told(self):
+        await self.start()
+        self.server.send(presence(f"{ANN}/1"))
+        self.assertEqual(await self.events("1 a"), ["n-1"])
+        kill_service(self)
+        await self.until_said("service started", 2)
+        self.assertEqual(await self.events("2 b 2026-12-01T06:54:56Z", "3 b 2026-12-01T06:54:56Z"), ["n-2"])
+        self.server.send(presence(f"{ANN}/1", kind="unavailable") + presence(f"{ANN}/1"))
+        self.assertEqual(await self.events("4 b 2026-12-01T06:54:56Z"), ["n-4"])
 
 
 class Silent(AdapterCase):

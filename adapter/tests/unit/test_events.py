@@ -4,6 +4,7 @@ import asyncio
 import os
 import signal
 import socket
+import subprocess
 import unittest
 
 from .fakes import ADAPTER, HOST, SERVICE, AdapterCase, condition, contact, delegated, kill_service, request
@@ -21,6 +22,18 @@ class Server(AdapterCase):
         self.server.send(request("1"))
         self.assertEqual((await self.server.reply("1")).get("type"), "result")
         self.assertEqual(self.runs(), 1)
+
+    async def test_who_comes_after_the_server_was_away_is_newly_there(self):
+        await self.start()
+        self.server.send(presence(f"{ANN}/1", CAPS))
+        await self.until_told('"ver":"AAAA"')
+        await self.server.stop()
+        await self.until_said("not connected")
+        self.server.on_connect = lambda: (self.server.grant(), self.server.send(presence(f"{ANN}/1", CAPS)))
+        await self.server.start()
+        await self.server.until(lambda: sum('"ver":"AAAA"' in line for line in self.told()) == 2)
+        lines = [line for line in self.told() if '"n":"presence"' in line]
+        self.assertEqual(["unavailable" in line for line in lines], [False, True, False])
 
     async def test_an_event_waits_for_the_server(self):
         await self.start()
@@ -150,6 +163,54 @@ class Hosts(AdapterCase):
         row = next(at for at, line in enumerate(lines) if "jabber:iq:roster" in line)
         asked = next(at for at, line in enumerate(lines) if '"id":"2"' in line)
         self.assertLess(row, asked)
+
+
+class Sixteen(AdapterCase):
+    hosts = " ".join(f"h{at}.example" for at in range(16))
+
+    async def test_sixteen_hosts_are_served_by_a_stream_each(self):
+        names = self.hosts.split()
+        self.server.on_connect = lambda: [self.server.grant(host=name) for name in names]
+        await self.start()
+        for name in names:
+            self.server.send(request(name, sender=f"ann@{name}/1"))
+        for name in names:
+            self.assertEqual((await self.server.reply(name)).get("to"), f"ann@{name}/1")
+        lines = (self.root / "state" / "store.told").read_text().splitlines()
+        self.assertEqual({line.split()[0] for line in lines if '"create"' in line}, set(names))
+
+
+class FullDisk(AdapterCase):
+    async def asyncSetUp(self):
+        await super().asyncSetUp()
+        self.disk = self.root / "state"
+        words = ["mount", "-t", "tmpfs", "-o", "size=512k", "tmpfs", str(self.disk)]
+        if os.geteuid() != 0 or subprocess.run(words, capture_output=True, check=False).returncode != 0:
+            self.skipTest("no small disk can be mounted here")
+
+    async def asyncTearDown(self):
+        if self.adapter is not None and self.adapter.returncode is None:
+            self.adapter.kill()
+            await self.adapter.wait()
+        if os.path.ismount(self.disk):
+            subprocess.run(["umount", "-l", str(self.disk)], check=True)
+        await super().asyncTearDown()
+
+    async def test_what_cannot_be_kept_is_not_told_and_the_request_is_refused_for_now(self):
+        await self.start()
+        self.server.rosters[ANN] = [contact(BOB, "from")]
+        with open(self.disk / "full", "wb") as file, self.assertRaises(OSError):
+            while True:
+                os.write(file.fileno(), b"x" * 512)
+        self.server.send(delegated("d1", request("1", sender=f"{BOB}/1", to=ANN)))
+        reply = await self.server.reply("d1")
+        self.assertEqual(condition(reply.child("delegation").find("forwarded", "iq")), ("remote-server-timeout", "wait"))
+        self.assertIn("the state can't be written", self.said())
+        self.assertFalse([line for line in self.told() if "jabber:iq:roster" in line])
+        (self.disk / "full").unlink()
+        self.server.send(delegated("d2", request("2", sender=f"{BOB}/1", to=ANN)))
+        reply = await self.server.reply("d2")
+        self.assertEqual(reply.child("delegation").find("forwarded", "iq").get("type"), "result")
 
 
 class Compacting(AdapterCase):

@@ -3,7 +3,6 @@
 import datetime
 import os
 import pathlib
-import re
 import tempfile
 import unittest
 
@@ -38,6 +37,12 @@ def parse(text, ns="jabber:client"):
     parser.feed(f"<stream:stream xmlns='{ns}' xmlns:stream='http://etherx.jabber.org/streams'>".encode())
     parser.feed(text.encode() if isinstance(text, str) else text)
     return got
+
+
+def table(name, start):
+    """The cells of the rows of a table of docs/router.md that begin so."""
+    text = (TOP / "docs" / "router.md").read_text(encoding="utf-8").split(f"<!-- table: {name} -->")[1].split("<!-- end -->")[0]
+    return [line.split("|") for line in text.splitlines() if line.startswith(start) and line[len(start)].isdigit()]
 
 
 class Trees(unittest.TestCase):
@@ -147,15 +152,13 @@ class Errors(unittest.TestCase):
 
     def test_each_condition_of_the_service_has_a_text(self):
         """The table of docs/router.md."""
-        text = (TOP / "docs" / "router.md").read_text(encoding="utf-8")
-        rows = [line.split("|") for line in text.splitlines() if re.match(r"\| C\d+ \|", line)]
+        rows = table("conditions", "| C")
         self.assertGreaterEqual(len(rows), 28)
         for row in rows:
             self.assertIn(row[3].strip() or row[2].strip(), errors.TEXTS)
 
     def test_each_refusal_of_a_line_has_an_answer(self):
-        text = (TOP / "docs" / "router.md").read_text(encoding="utf-8")
-        words = {line.split("|")[2].strip().strip("`") for line in text.splitlines() if re.match(r"\| L\d+ \|", line)}
+        words = {row[2].strip().strip("`") for row in table("refusals", "| L")}
         self.assertEqual(words, set(errors.REFUSALS))
 
 
