@@ -52,7 +52,7 @@ def units(seconds: float) -> bool:
 
 def real(server: str, program: str, kills: int, scale: float = 1.0) -> bool:
     """Both libraries, and the kills."""
-    programs = [("slix.py", 90, []), ("aiox.py", 60, []), ("endure.py", 60 + 8 * kills, [str(kills)])]
+    programs = [("slix.py", 120, []), ("aiox.py", 90, []), ("endure.py", 150 + 8 * kills, [str(kills)])]
     passed = True
     for script, seconds, more in programs:
         words = [DEBIANS, "-W", "ignore", str(REAL / script), server, program, *more]
