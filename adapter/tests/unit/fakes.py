@@ -16,6 +16,7 @@ ADAPTER = HERE.parent.parent
 sys.path.insert(0, str(ADAPTER))
 
 from pubsubd_xmpp.names import ROSTER
+from pubsubd_xmpp.service import die_with
 from pubsubd_xmpp.trees import Elem, elem
 from pubsubd_xmpp.xmltext import StreamParser, to_xml
 
@@ -231,7 +232,7 @@ class AdapterCase(unittest.IsolatedAsyncioTestCase):
         before = self.said().count("service started")
         with open(self.log, "ab") as log:
             words = [sys.executable, str(ADAPTER / "pubsubd-xmpp"), "--config", str(self.root / "conf")]
-            self.adapter = await asyncio.create_subprocess_exec(*words, stderr=log, stdout=log)
+            self.adapter = await asyncio.create_subprocess_exec(*words, stderr=log, stdout=log, preexec_fn=die_with(os.getpid()))
         if wait:
             await self.server.until(lambda: self.server.is_up, "the component")
             await self.until_said("service started", before + 1)
