@@ -28,7 +28,8 @@ line-on (Some bytes) (Some rest) line m now next is =
     let some = next.0 in
     let small : is_short line ≡ true = (let few : length line ≤ 262144 = next.3 in grind (arith, nat_tests, few)) in
     let split = ap (λ (lines : List (List ℕ)). all_taken lines m) (lines_of_first bytes some ∙ ap (λ (l : List ℕ). l ∷ lines_of (after_line bytes)) (sym next.1)) in
-    ap (λ (n : Mirrored). all_taken (lines_of rest) n) is ∙ ap (λ (r : List ℕ). all_taken (lines_of r) (mirror_after (news_in m.node m.who line) m)) next.2 ∙ sym (short-taken line (lines_of (after_line bytes)) m small) ∙ sym split
+    ap (λ (n : Mirrored). all_taken (lines_of rest) n) is ∙ ap (λ (r : List ℕ). all_taken (lines_of r) (mirror_after (news_in m.node m.who line) m)) next.2
+    ∙ sym (short-taken line (lines_of (after_line bytes)) m small) ∙ sym split
 
 pub long-on : (before after : Option (List ℕ)) (m : Mirrored) → IsNext TooLong before after → IsOnTheWay before m after m
 long-on None after m next = tt

@@ -1,10 +1,8 @@
 -- What a run reports, where all lines were taken.
-use Rattle.std.proofs.Common.{◌≡◌, ℕ, List, Option, Some, None, sym, ap, subst, ◌∙◌}
-use Rattle.ps_types.specs.Lines.{lines_of}
+use Rattle.std.proofs.Common.{◌≡◌, ℕ, List, Option, Some, None, ap, subst, ◌∙◌}
 use Rattle.ps_types.specs.declared.jid.Jid.{Jid}
-use Rattle.ps_types.specs.declared.node.NodeKey.{NodeKey}
 use Rattle.ps_wire.specs.Reading.{Gave}
-use Rattle.ps_mirror.specs.Filled.{HasTaken, IsReadWhole, all_taken}
+use Rattle.ps_mirror.specs.Filled.{HasTaken}
 use Rattle.ps_mirror.specs.Mirrored.{Mirrored, empty_mirror}
 use Rattle.ps_mirror.specs.Report.{IsReport, reported_lines}
 

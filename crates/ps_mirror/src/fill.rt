@@ -18,14 +18,17 @@ fn take_next<S: Source>(
     requires going { stopped_of lines.old ≡ None }
     ensures more { IfOk result (λ more. more ≡ true
         → IsOnTheWay (rest_of lines.old) mirror.old (rest_of lines.new) mirror.new) }
-    ensures done { IfOk result (λ more. more ≡ false → HasTaken (rest_of lines.old) mirror.old mirror.new) }
+    ensures done { IfOk result (λ more. more ≡ false
+        → HasTaken (rest_of lines.old) mirror.old mirror.new) }
     ensures falls { IfOk result (λ more. more ≡ true → budget_of lines.new < budget_of lines.old) }
     ensures going { OnOk result (stopped_of lines.new ≡ None) }
     ensures gave { Gave (S.left (source_of lines.old)) (S.left (source_of lines.new)) (given_of lines.old)
         (given_of lines.new) }
-    ensures whole { IfOk result (λ more. more ≡ false → IsReadWhole (rest_of lines.old) (S.left (source_of lines.new))) }
+    ensures whole { IfOk result (λ more. more ≡ false
+        → IsReadWhole (rest_of lines.old) (S.left (source_of lines.new))) }
     ensures later { S.faults (source_of lines.old) ≤ S.faults (source_of lines.new) }
-    ensures fault { IsErrOf result ReadFault → Rose (S.faults (source_of lines.old)) (S.faults (source_of lines.new)) }
+    ensures fault { IsErrOf result ReadFault
+        → Rose (S.faults (source_of lines.old)) (S.faults (source_of lines.new)) }
     ensures long { IsErrOf result Long → given_of lines.new ≡ 2 ^ 40 }
 {
     match lines.next(alloc)? {
@@ -50,7 +53,8 @@ pub(crate) fn take_lines<S: Source>(
         (given_of lines.new) }
     ensures whole { OnOk result (IsReadWhole (rest_of lines.old) (S.left (source_of lines.new))) }
     ensures later { S.faults (source_of lines.old) ≤ S.faults (source_of lines.new) }
-    ensures fault { IsErrOf result ReadFault → Rose (S.faults (source_of lines.old)) (S.faults (source_of lines.new)) }
+    ensures fault { IsErrOf result ReadFault
+        → Rose (S.faults (source_of lines.old)) (S.faults (source_of lines.new)) }
     ensures long { IsErrOf result Long → given_of lines.new ≡ 2 ^ 40 }
 {
     while take_next(alloc, mirror, lines)? {}

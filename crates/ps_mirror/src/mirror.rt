@@ -43,7 +43,12 @@ impl Model for Mirror {
 
     ghost coded = { Prim.hlevel (codes, tree_code) };
 
-    ghost view = { λ m. record { node = m.node; who = m.who; max = m.max; copy = record { greatest = m.greatest; items = m.items.items } } };
+    ghost view = { λ m. record {
+      node = m.node;
+      who = m.who;
+      max = m.max;
+      copy = record { greatest = m.greatest; items = m.items.items };
+    } };
 }
 
 // The item of the id goes.
@@ -133,8 +138,8 @@ impl Mirror {
 
     /// Takes a line. Want of memory leaves the mirror as before.
     pub fn take(&mut self, alloc: Global, line: &[u8]) -> Result<Taken, Memory>
-        ensures mirror { OnOk result (self.new ≡ mirrored.mirror_after (copy.news_in self.old.node self.old.who line.now) self.old) }
-        ensures taken { IfOk result (λ t. t ≡ mirrored.taken_as (copy.news_in self.old.node self.old.who line.now) self.old) }
+        ensures mirror { OnOk result (self.new ≡ mirrored.mirror_with line.now self.old) }
+        ensures taken { IfOk result (λ t. t ≡ mirrored.line_taken_as line.now self.old) }
         ensures err { OnErr result (self.new ≡ self.old) }
     {
         let news = news_in(alloc, &self.node, &self.who, line)?;

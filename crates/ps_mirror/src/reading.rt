@@ -27,7 +27,8 @@ fn payload_in(kids: &[Child]) -> Result<Option<Option<Elem>>, AllocError>
 
 // An item with an id.
 fn published_in(item: &Elem) -> Result<Option<Said>, AllocError>
-    ensures { IfOk result (λ s. s ≡ copy.published_in (attr_of (codes "id") item.now) (copy.payload_in (trees_of item.now))) }
+    ensures { IfOk result
+        (λ s. s ≡ copy.published_in (attr_of (codes "id") item.now) (copy.payload_in (trees_of item.now))) }
 {
     match item.attr("id") {
         None => Ok(None),

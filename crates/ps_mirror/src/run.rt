@@ -1,9 +1,6 @@
 // A source, mirrored and reported.
-ghost use Rattle.std.specs.Prelude.{◌≡◌, ◌≤◌, ◌++◌, IfOk, OnOk, IsErrOf};
-ghost use Rattle.std.specs.Io.KnownBytes.{IsAtEnd};
-ghost use Rattle.ps_base.specs.Causes.{Rose};
-ghost use Rattle.ps_wire.specs.Reading.{IsFresh, source_of, given_of};
-ghost use Rattle.ps_wire.specs.declared.lines.NextLineRefusal.TheVariants.{ReadFault};
+ghost use Rattle.std.specs.Prelude.{◌≡◌, ◌≤◌, IfOk};
+ghost use Rattle.ps_wire.specs.Reading.{IsFresh, source_of};
 ghost use Rattle.ps_mirror.specs.Report.{RanMirror, reported_line, reported_lines};
 
 use crate::copied::Copied;

@@ -30,7 +30,8 @@ config = record service_config { notify_retract = true }
 
 abbrev pub asks : List ℕ → ℕ → List Tree → Tree
 asks from number kids =
-    element (codes "iq") client ((codes "from", from) ∷ (codes "id", decimal number) ∷ (codes "to", codes "pubsub.example") ∷ (codes "type", codes "set") ∷ []) (element (codes "pubsub") pubsub_ns [] kids ∷ [])
+    element (codes "iq") client ((codes "from", from) ∷ (codes "id", decimal number) ∷ (codes "to", codes "pubsub.example") ∷ (codes "type", codes "set") ∷ [])
+    (element (codes "pubsub") pubsub_ns [] kids ∷ [])
 
 abbrev pub part : List ℕ → List (List ℕ × List ℕ) → List Tree → Tree
 part name attrs kids = element name pubsub_ns attrs kids
@@ -39,7 +40,8 @@ abbrev pub field : List ℕ → List ℕ → Tree
 field var text = element (codes "field") data_ns ((codes "var", var) ∷ []) (tree (codes "value") data_ns [] (words text none) ∷ [])
 
 abbrev pub form : Tree
-form = element (codes "x") data_ns ((codes "type", codes "submit") ∷ []) (field (codes "FORM_TYPE") (codes "http://jabber.org/protocol/pubsub#node_config") ∷ field (codes "pubsub#notify_retract") (codes "1") ∷ [])
+form = element (codes "x") data_ns ((codes "type", codes "submit") ∷ []) (field (codes "FORM_TYPE") (codes "http://jabber.org/protocol/pubsub#node_config") ∷ field (codes "pubsub#notify_retract")
+    (codes "1") ∷ [])
 
 abbrev pub ann : ℕ → List Tree → Entry
 ann line kids = Change (codes "a.example") line None (asks (codes "ann@a.example/1") line kids)

@@ -150,7 +150,8 @@ module _ (node : NodeKey) (who : Jid) (max : ℕ) (address : IsAddress who) wher
       (leads-far to ts x far are.1)
 
   -- what is quiet
-  leads-option : (o : Option Tree) (ts : List Tree) (x y : List Copied) → ((t : Tree) → o ≡ Some t → (k : ℕ) → effect max (said_of node who (with_id k t)) x ≡ x) → Leads (map (λ t. (who, t)) ts) x y → Leads (map (λ t. (who, t)) (cons_option o ts)) x y
+  leads-option : (o : Option Tree) (ts : List Tree) (x y : List Copied) → ((t : Tree) → o ≡ Some t → (k : ℕ) → effect max (said_of node who (with_id k t)) x ≡ x)
+      → Leads (map (λ t. (who, t)) ts) x y → Leads (map (λ t. (who, t)) (cons_option o ts)) x y
   leads-option None ts x y quiet more = more
   leads-option (Some t) ts x y quiet more = leads-both ((who, t) ∷ []) (map (λ t. (who, t)) ts) x x y (leads-one who t x x (quiet t refl)) more
 
@@ -257,15 +258,19 @@ module _ (node : NodeKey) (who : Jid) (config : NodeConfig) (tells : TellsAll co
         (one-told (g t.told) t.tells.tree x y t.tells.is (λ k. ap (λ said. effect config.max_items said x) (t.tells.says k) ∙ makes)) in
         subst (λ (evs : List Event). Leads node who config.max_items address (map (λ t. (who, t)) (filter_map g evs)) x y) (sym t.is)
         (subst (λ (ps : List (Jid × Tree)). Leads node who config.max_items address ps x y)
-        (sym (ap (λ (ts : List Tree). map {B = Jid × Tree} (λ t. (who, t)) ts) (filter_map-append g t.first (t.told ∷ [])) ∙ map-both node who config.max_items address (filter_map g t.first) (filter_map g (t.told ∷ [])))) parts)
+        (sym (ap (λ (ts : List Tree). map {B = Jid × Tree} (λ t. (who, t)) ts) (filter_map-append g t.first (t.told ∷ []))
+        ∙ map-both node who config.max_items address (filter_map g t.first) (filter_map g (t.told ∷ [])))) parts)
 
-    among-by : (evs : List Event) (t : IsTelling node who config.max_items s.book (step.book_after s.book e) evs) → Each IsAddress (whos evs) → (c : Bool) → list_any (same_jid who) (sorted (whos evs)) ≡ c → c ≡ true
+    among-by : (evs : List Event) (t : IsTelling node who config.max_items s.book (step.book_after s.book e) evs) → Each IsAddress (whos evs) → (c : Bool)
+        → list_any (same_jid who) (sorted (whos evs)) ≡ c → c ≡ true
     among-by evs t are true e = refl
     among-by evs t are false none =
         let after = step.book_after s.book e in
         let far = unsorted (λ w. same_jid who w ≡ false) (whos evs) are (none-any (same_jid who) (sorted (whos evs)) none) in
-        let last = flat-last (λ w. same_jid who w ≡ false) (λ ev. asked (step.book_for ev s.book after) ev) t.first t.told (subst (λ (evs : List Event). Each (λ w. same_jid who w ≡ false) (whos evs)) t.is far) in
-        absurd (true≢false (sym (is-among-asked (step.book_for t.told s.book after) t.told who t.tells.tree t.tells.is) ∙ any-none (same_jid who) (asked (step.book_for t.told s.book after) t.told) last))
+        let last = flat-last (λ w. same_jid who w ≡ false) (λ ev. asked (step.book_for ev s.book after) ev) t.first t.told
+        (subst (λ (evs : List Event). Each (λ w. same_jid who w ≡ false) (whos evs)) t.is far) in
+        absurd (true≢false (sym (is-among-asked (step.book_for t.told s.book after) t.told who t.tells.tree t.tells.is)
+        ∙ any-none (same_jid who) (asked (step.book_for t.told s.book after) t.told) last))
 
     asked-addresses : Each IsAddress (whos (step.events s.book e))
     asked-addresses =
@@ -300,7 +305,8 @@ module _ (node : NodeKey) (who : Jid) (config : NodeConfig) (tells : TellsAll co
   by-request b moment None at later stay = plain node who config tells own b b [] at.printable at refl tt
   by-request b moment (Some r) at later stay = outcome-of node who config tells own b at r moment r.ask later stay
 
-  pub entry-told : (s : State) (e : Entry) → accepted s e ≡ true → IsEntry e → IsNoBase e → StateIs s → Place node who config s.book → Place node who config (step.after s e).book → Stands node s.book (step.after s e).book
+  pub entry-told : (s : State) (e : Entry) → accepted s e ≡ true → IsEntry e → IsNoBase e → StateIs s → Place node who config s.book → Place node who config (step.after s e).book
+      → Stands node s.book (step.after s e).book
       → told node who config.max_items (step.notices_at s e) (shown node s.book.items) ≡ shown node (step.after s e).book.items
   entry-told s (Boot service) ok entry plain is at later stay = refl
   entry-told s (Change host line moment t) ok entry plain is at later stay =

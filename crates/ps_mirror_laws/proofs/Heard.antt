@@ -108,13 +108,15 @@ module _ (node : NodeKey) (who : Jid) where
   unfolding Saying
   notice-says b a None t is e = absurd (cc e)
   notice-says b a (Some config) t is e =
-      let parts = cond-some (may_read b a.node who && delivers a.switch config b who) (one_way (may_pass b who (a.way who)) (a.wanted who) (node_message a config who (a.behind (a.way who))) (node_message a config who Nodes.none)) t e in
+      let parts = cond-some (may_read b a.node who && delivers a.switch config b who) (one_way (may_pass b who (a.way who)) (a.wanted who) (node_message a config who (a.behind (a.way who)))
+      (node_message a config who Nodes.none)) t e in
       record {
         config = config;
         is = is;
         reads = and-first (may_read b a.node who) (delivers a.switch config b who) parts.0;
         says = one-some (Saying b a config) (may_pass b who (a.way who)) (a.wanted who) (node_message a config who (a.behind (a.way who))) (node_message a config who Nodes.none) t
-            (λ k. said-message node who a.node.service who config.notification_type (event_nodes (a.inside config) (a.behind (a.way who))) k) (λ k. said-message node who a.node.service who config.notification_type (event_nodes (a.inside config) Nodes.none) k) parts.1;
+            (λ k. said-message node who a.node.service who config.notification_type (event_nodes (a.inside config) (a.behind (a.way who))) k)
+            (λ k. said-message node who a.node.service who config.notification_type (event_nodes (a.inside config) Nodes.none) k) parts.1;
       }
 
   pub about-says : (b : Book) (a : About) (t : Tree) → told_about b a who ≡ Some t → AboutSays node who b a t
@@ -124,12 +126,14 @@ module _ (node : NodeKey) (who : Jid) where
   abbrev pub IsSilent : Option Tree → Type 0
   IsSilent o = (t : Tree) → o ≡ Some t → (k : ℕ) → said_of node who (with_id k t) ≡ None
 
-  pub silent-about : (b : Book) (a : About) → ((config : NodeConfig) → may_read b a.node who ≡ true → sent node who a.node.service who (first_said node.name (a.inside config ∷ [])) ≡ None) → IsSilent (told_about b a who)
+  pub silent-about : (b : Book) (a : About) → ((config : NodeConfig) → may_read b a.node who ≡ true → sent node who a.node.service who (first_said node.name (a.inside config ∷ [])) ≡ None)
+      → IsSilent (told_about b a who)
   silent-about b a none t e k = let s = about-says b a t e in s.says k ∙ none s.config s.reads
 
 -- ---- what the node itself says
 
-pub item-said : (node : NodeKey) (config : NodeConfig) (row : ItemRow) → config.deliver_payloads ≡ true → first_said node.name (items_inside node (Some row) config ∷ []) ≡ Some (Published (copied row))
+pub item-said : (node : NodeKey) (config : NodeConfig) (row : ItemRow) → config.deliver_payloads ≡ true
+    → first_said node.name (items_inside node (Some row) config ∷ []) ≡ Some (Published (copied row))
 item-said node config row payloads = rw (itself node.name, payloads) (by row.payload)
   where
     by : (payload : Option Tree) → published_in (Some row.id) (payload_in (trees_in (payload_nodes payload))) ≡ Some (Published (record { id = row.id; payload = payload }))
@@ -148,7 +152,8 @@ pub record IsToldOf (node : NodeKey) (who : Jid) (o : Option Tree) (said : Said)
   pub is : o ≡ Some tree
   pub says : (k : ℕ) → said_of node who (with_id k tree) ≡ Some said
 
-module _ (node : NodeKey) (who : Jid) (config : NodeConfig) (tells : TellsAll config) (b : Book) (row : is_subscribed (sub_at node who b.subs) ≡ true) (reads : may_read b node who ≡ true) (only : (c : NodeConfig) → config_at node b.nodes ≡ Some c → c ≡ config) where
+module _ (node : NodeKey) (who : Jid) (config : NodeConfig) (tells : TellsAll config) (b : Book) (row : is_subscribed (sub_at node who b.subs) ≡ true) (reads : may_read b node who ≡ true)
+    (only : (c : NodeConfig) → config_at node b.nodes ≡ Some c → c ≡ config) where
   config-by : (o : Option NodeRow) → node_at node b.nodes ≡ o → is_granted (read_at o b node who) ≡ true → config_at node b.nodes ≡ Some config
   config-by None e h = absurd (cc h)
   config-by (Some r) e h = let is : config_at node b.nodes ≡ Some r.config = ap (λ (o : Option NodeRow). option_map (λ (r : NodeRow). r.config) o) e in is ∙ ap Some (only r.config is)
@@ -174,7 +179,9 @@ module _ (node : NodeKey) (who : Jid) (config : NodeConfig) (tells : TellsAll co
       record {
         tree = node_message a config who (a.behind (a.way who));
         is = ap (node_notice b a who) has-config
-            ∙ some-notice (may_read b node who) (delivers always config b who) (may_pass b who (way_to b true node who)) (a.wanted who) (node_message a config who (a.behind (a.way who))) (node_message a config who Nodes.none) reads
+            ∙ some-notice (may_read b node who) (delivers always config b who) (may_pass b who (way_to b true node who)) (a.wanted who) (node_message a config who (a.behind (a.way who)))
+            (node_message a config who Nodes.none) reads
             all-delivered own-row;
-        says = λ k. said-message node who node.service who config.notification_type (event_nodes (inside config) (a.behind (a.way who))) k ∙ own-sent node who (first_said node.name (inside config ∷ [])) ∙ e;
+        says = λ k. said-message node who node.service who config.notification_type (event_nodes (inside config) (a.behind (a.way who))) k
+            ∙ own-sent node who (first_said node.name (inside config ∷ [])) ∙ e;
       }

@@ -122,7 +122,8 @@ answer-stay (Some caps) who name info b = usable-stay (is_usable caps name info)
 -- ---- the items of the node, where another one's change
 
 module _ (node m : NodeKey) (far : same_node node m ≡ false) where
-  put-far : (persist : Bool) (id : List ℕ) (who : Jid) (payloads : List Tree) (moment : Option ℕ) (most : ℕ) (rows : List ItemRow) → items_of node (cond persist (items_with (item_row m id who payloads moment) most rows) rows) ≡ items_of node rows
+  put-far : (persist : Bool) (id : List ℕ) (who : Jid) (payloads : List Tree) (moment : Option ℕ) (most : ℕ) (rows : List ItemRow)
+      → items_of node (cond persist (items_with (item_row m id who payloads moment) most rows) rows) ≡ items_of node rows
   put-far true id who payloads moment most rows = but-put node (item_row m id who payloads moment) far most rows
   put-far false id who payloads moment most rows = refl
 
@@ -130,11 +131,13 @@ module _ (node m : NodeKey) (far : same_node node m ≡ false) where
   published-far config who moment [] b = refl
   published-far config who moment (item ∷ items) b = put-far config.persist_items (item_id item.id b m who) who item.payloads moment config.max_items b.items
 
-  new-far : (given : Result NodeConfig Condition) (who : Jid) (moment : Option ℕ) (items : List AskItem) (b : Book) → items_of node (published_new given m who moment items b).items ≡ items_of node b.items
+  new-far : (given : Result NodeConfig Condition) (who : Jid) (moment : Option ℕ) (items : List AskItem) (b : Book)
+      → items_of node (published_new given m who moment items b).items ≡ items_of node b.items
   new-far (Err why) who moment items b = refl
   new-far (Ok config) who moment items b = published-far config who moment items (created m who config b)
 
-  pub publish-far : (o : Option NodeRow) (who : Jid) (moment : Option ℕ) (items : List AskItem) (options : Option Tree) (b : Book) → items_of node (published_by o m who moment items options b).items ≡ items_of node b.items
+  pub publish-far : (o : Option NodeRow) (who : Jid) (moment : Option ℕ) (items : List AskItem) (options : Option Tree) (b : Book)
+      → items_of node (published_by o m who moment items options b).items ≡ items_of node b.items
   publish-far None who moment items options b = new-far (options_config options (default_config true)) who moment items b
   publish-far (Some row) who moment items options b = published-far row.config who moment items b
 

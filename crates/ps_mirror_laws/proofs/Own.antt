@@ -139,11 +139,13 @@ node-gone node (x ∷ nodes) = at (is_node node x) refl (node-gone node nodes)
     at false e h = rw e h
 
 module _ (node : NodeKey) (who : Jid) (config : NodeConfig) (tells : TellsAll config) (own : IsAddress node.service) where
-  quiet-all : (b after : Book) (evs : List Event) → IsPrintable b → Place node who config after → Each (IsOther node) evs → Each (λ ev. IsQuiet node who config.max_items (shown node after.items) (given_of b after who ev)) evs
+  quiet-all : (b after : Book) (evs : List Event) → IsPrintable b → Place node who config after → Each (IsOther node) evs
+      → Each (λ ev. IsQuiet node who config.max_items (shown node after.items) (given_of b after who ev)) evs
   quiet-all b after [] is at others = tt
   quiet-all b after (ev ∷ evs) is at others = (quiet node who config tells own b after is at ev others.0, quiet-all b after evs is at others.1)
 
-  pub plain : (b after : Book) (evs : List Event) → IsPrintable b → Place node who config after → items_of node after.items ≡ items_of node b.items → Each (IsOther node) evs → Outcome node who config.max_items b after evs
+  pub plain : (b after : Book) (evs : List Event) → IsPrintable b → Place node who config after → items_of node after.items ≡ items_of node b.items → Each (IsOther node) evs
+      → Outcome node who config.max_items b after evs
   unfolding Outcome
   plain b after evs is at stays others = inl (record { stays = ap (λ (rows : List ItemRow). map copied rows) stays; quiet = quiet-all b after evs is at others })
 
@@ -172,7 +174,8 @@ module _ (node : NodeKey) (who : Jid) (config : NodeConfig) (tells : TellsAll co
         let pushed : items_of node (r ∷ []) ≡ r ∷ [] = rw own-one refl in
         record {
           before = items_of node kept;
-          is = ap (λ (rows : List ItemRow). items_of node rows) (put ∙ keep_newest-push (is_item_at node) r config.max_items own-one some rows) ∙ filter-append (is_item_at node) kept (r ∷ []) ∙ ap (λ (xs : List ItemRow). items_of node kept ++ xs) pushed;
+          is = ap (λ (rows : List ItemRow). items_of node rows) (put ∙ keep_newest-push (is_item_at node) r config.max_items own-one some rows) ∙ filter-append (is_item_at node) kept (r ∷ [])
+              ∙ ap (λ (xs : List ItemRow). items_of node kept ++ xs) pushed;
         }
 
     pub told-put : (first : List Event) → Each (IsFar node who) first → IsTelling node who config.max_items b after (first ++ event.Items node (Some (item_row node id from payloads moment)) ∷ [])
@@ -184,7 +187,8 @@ module _ (node : NodeKey) (who : Jid) (config : NodeConfig) (tells : TellsAll co
           is = refl;
           far = far;
           said = Published (copied r);
-          tells = told-of node who config tells after (at.hears.row not-empty) (at.hears.reads not-empty) at.hears.configured (items_inside node (Some r)) (Published (copied r)) (item-said node config r tells.payloads);
+          tells = told-of node who config tells after (at.hears.row not-empty) (at.hears.reads not-empty) at.hears.configured (items_inside node (Some r)) (Published (copied r))
+              (item-said node config r tells.payloads);
           makes = makes;
           again = again-shown node config.max_items after.items r last at.apart (few node who config tells own after at is);
         }
@@ -203,7 +207,8 @@ module _ (node : NodeKey) (who : Jid) (config : NodeConfig) (tells : TellsAll co
       let a = about_node after true node always (items_inside node item) in
       absurd (let no : None ≡ Some t = sym (ap (node_notice after a who) none) ∙ e in cc no)
 
-  silent-last : (b after : Book) (first : List Event) (item : Option ItemRow) → IsPrintable b → Place node who config after → items_of node after.items ≡ items_of node b.items → Each (IsOther node) first
+  silent-last : (b after : Book) (first : List Event) (item : Option ItemRow) → IsPrintable b → Place node who config after → items_of node after.items ≡ items_of node b.items
+      → Each (IsOther node) first
       → IsSilent node who (given after (event.Items node item) who) → Outcome node who config.max_items b after (first ++ event.Items node item ∷ [])
   unfolding Outcome
   silent-last b after first item is at stays others silent = inl (record {
@@ -232,11 +237,13 @@ module _ (node : NodeKey) (who : Jid) (config : NodeConfig) (tells : TellsAll co
 
   publish-new : (given : Result NodeConfig Condition) (from : Jid) (moment : Option ℕ) (items : List AskItem) (b : Book) → node_at node b.nodes ≡ None → IsPrintable b
       → Place node who config (published_new given node from moment items b) → PutBy b (published_new given node from moment items b) from moment items
-  publish-new (Err why) from moment items b none is at = silent-last b b (made_events node b b) (item_asked node from moment items b) is at refl (made-others b b) (no-node b (item_asked node from moment items b) (ap (λ (o : Option NodeRow). option_map (λ (r : NodeRow). r.config) o) none))
+  publish-new (Err why) from moment items b none is at = silent-last b b (made_events node b b) (item_asked node from moment items b) is at refl (made-others b b)
+      (no-node b (item_asked node from moment items b) (ap (λ (o : Option NodeRow). option_map (λ (r : NodeRow). r.config) o) none))
   publish-new (Ok c) from moment [] b none is at = let after = created node from c b in silent-last b after (made_events node b after) None is at refl (made-others b after) (none-asked b after at)
   publish-new (Ok c) from moment (item ∷ more) b none is at =
       let after = published_items node c from moment (item ∷ more) (created node from c b) in
-      let new : config_at node after.nodes ≡ Some c = ap (λ (o : Option NodeRow). option_map (λ (r : NodeRow). r.config) o) (node-push node (new_node node from c) b.nodes (same_node-itself node) none) in
+      let new : config_at node after.nodes ≡ Some c = ap (λ (o : Option NodeRow). option_map (λ (r : NodeRow). r.config) o)
+      (node-push node (new_node node from c) b.nodes (same_node-itself node) none) in
       put-one b after from moment item more c at new (ap (λ id. cond c.persist_items (items_with (item_row node id from item.payloads moment) c.max_items b.items) b.items) (id-same item.id b c from))
 
   publish-there : (r : NodeRow) (from : Jid) (moment : Option ℕ) (items : List AskItem) (b : Book) → node_at node b.nodes ≡ Some r → IsPrintable b
@@ -247,7 +254,8 @@ module _ (node : NodeKey) (who : Jid) (config : NodeConfig) (tells : TellsAll co
 
   pub publish-own : (o : Option NodeRow) (from : Jid) (moment : Option ℕ) (items : List AskItem) (options : Option Tree) (b : Book) → node_at node b.nodes ≡ o → IsPrintable b
       → Place node who config (published_by o node from moment items options b)
-      → Outcome node who config.max_items b (published_by o node from moment items options b) (made_events node b (published_by o node from moment items options b) ++ event.Items node (item_asked node from moment items b) ∷ [])
+      → Outcome node who config.max_items b (published_by o node from moment items options b)
+      (made_events node b (published_by o node from moment items options b) ++ event.Items node (item_asked node from moment items b) ∷ [])
   publish-own None from moment items options b none is at = publish-new (options_config options (default_config true)) from moment items b none is at
   publish-own (Some r) from moment items options b found is at = publish-there r from moment items b found is at
 
@@ -274,7 +282,8 @@ module _ (node : NodeKey) (who : Jid) (config : NodeConfig) (tells : TellsAll co
           is = refl;
           far = tt;
           said = Retracted id;
-          tells = told-of node who config tells later (at.hears.row some) (may-items b later.items node who ∙ at.hears.reads some) at.hears.configured (λ c. retract_tree node id) (Retracted id) (retract-said node id);
+          tells = told-of node who config tells later (at.hears.row some) (may-items b later.items node who ∙ at.hears.reads some) at.hears.configured (λ c. retract_tree node id) (Retracted id)
+              (retract-said node id);
           makes = sym gone;
           again = ap (λ (xs : List Copied). without (has_id id) xs) gone ∙ twice (has_id id) (shown node b.items) ∙ sym gone;
         }
@@ -289,13 +298,15 @@ module _ (node : NodeKey) (who : Jid) (config : NodeConfig) (tells : TellsAll co
           is = refl;
           far = tt;
           said = Purged;
-          tells = told-of node who config tells later (at.hears.row some) (may-items b later.items node who ∙ at.hears.reads some) at.hears.configured (λ c. named_tree (codes "purge") node) Purged (purge-said node);
+          tells = told-of node who config tells later (at.hears.row some) (may-items b later.items node who ∙ at.hears.reads some) at.hears.configured
+              (λ c. named_tree (codes "purge") node) Purged (purge-said node);
           makes = sym gone;
           again = sym gone;
         }
 
     -- where the node holds nothing, what is told says so
-    empty-plain : (after : Book) (evs : List Event) → items_of node b.items ≡ [] → shown node after.items ≡ [] → Each (λ ev. IsQuiet node who config.max_items [] (given_of b after who ev)) evs → Outcome node who config.max_items b after evs
+    empty-plain : (after : Book) (evs : List Event) → items_of node b.items ≡ [] → shown node after.items ≡ [] → Each (λ ev. IsQuiet node who config.max_items [] (given_of b after who ev)) evs
+        → Outcome node who config.max_items b after evs
     unfolding Outcome
     empty-plain after evs none later quiet = inl (record {
       stays = later ∙ sym (ap (λ (rows : List ItemRow). map copied rows) none);
@@ -320,7 +331,8 @@ module _ (node : NodeKey) (who : Jid) (config : NodeConfig) (tells : TellsAll co
         let some = some-row x xs e in
         let told = has-config node who config tells b (at.hears.row some) (at.hears.reads some) at.hears.configured in
         let notified : (notify || tells_retract (config_at node b.nodes)) ≡ true = ap (λ o. notify || tells_retract o) told ∙ or-true notify config.notify_retract tells.retracts in
-        subst (λ (evs : List Event). Outcome node who config.max_items b (retract_change node (id ∷ more) b) evs) (ap (λ c. cond c (event.Retract node id ∷ []) []) (sym notified)) (inr (retract-tells id more some))
+        subst (λ (evs : List Event). Outcome node who config.max_items b (retract_change node (id ∷ more) b) evs) (ap (λ c. cond c (event.Retract node id ∷ []) []) (sym notified))
+        (inr (retract-tells id more some))
 
     pub retract-own : (ids : List (List ℕ)) (notify : Bool) → IsPrintable b → Outcome node who config.max_items b (retract_change node ids b) (retract_events node ids notify b)
     retract-own [] notify is = plain b b [] is at refl tt
@@ -330,7 +342,8 @@ module _ (node : NodeKey) (who : Jid) (config : NodeConfig) (tells : TellsAll co
     unfolding Outcome
     purge-by [] none =
         let later = record b { items = items_without node b.items } in
-        empty-plain later (event.Purge node ∷ []) none (ap (λ (rows : List ItemRow). map copied rows) (gone-shown node b.items)) (told-quiet later (λ c. named_tree (codes "purge") node) Purged (λ c. purge-said node) refl, tt)
+        empty-plain later (event.Purge node ∷ []) none (ap (λ (rows : List ItemRow). map copied rows) (gone-shown node b.items))
+        (told-quiet later (λ c. named_tree (codes "purge") node) Purged (λ c. purge-said node) refl, tt)
     purge-by (x ∷ xs) e = inr (purge-tells (some-row x xs e))
 
     pub purge-own : Outcome node who config.max_items b (record b { items = items_without node b.items }) (event.Purge node ∷ [])
@@ -351,16 +364,20 @@ module _ (node : NodeKey) (who : Jid) (config : NodeConfig) (tells : TellsAll co
     config-found : (r : NodeRow) → node_at node b.nodes ≡ Some r → config_at node b.nodes ≡ Some r.config
     config-found r found = ap (λ (o : Option NodeRow). option_map (λ (r : NodeRow). r.config) o) found
 
-    set-own : (r : NodeRow) → node_at node b.nodes ≡ Some r → (given : Result NodeConfig Condition) → Place node who config (configured node given b) → items_of node (configured node given b).items ≡ items_of node b.items
+    set-own : (r : NodeRow) → node_at node b.nodes ≡ Some r → (given : Result NodeConfig Condition) → Place node who config (configured node given b)
+        → items_of node (configured node given b).items ≡ items_of node b.items
     set-own r found (Err why) later = refl
     set-own r found (Ok c) later =
-        let new : config_at node (nodes_with node c b.nodes) ≡ Some c = ap (λ (o : Option NodeRow). option_map (λ (r : NodeRow). r.config) o) (node_at-configured node c b.nodes ∙ ap (λ (o : Option NodeRow). option_map (with_config c) o) found) in
+        let new : config_at node (nodes_with node c b.nodes) ≡ Some c = ap (λ (o : Option NodeRow). option_map (λ (r : NodeRow). r.config) o)
+        (node_at-configured node c b.nodes ∙ ap (λ (o : Option NodeRow). option_map (with_config c) o) found) in
         let same = later.hears.configured c new in
         let old = at.hears.configured r.config (config-found r found) in
         let held = few node who config tells own b at (config-found r found ∙ ap Some old) in
-        ap (λ (c : NodeConfig). items_of node (items_under node c b.items)) same ∙ (rw tells.persists (ap (λ (rows : List ItemRow). items_of node rows) (keep_newest-all (is_item_at node) config.max_items b.items held)))
+        ap (λ (c : NodeConfig). items_of node (items_under node c b.items)) same ∙ (rw tells.persists
+        (ap (λ (rows : List ItemRow). items_of node rows) (keep_newest-all (is_item_at node) config.max_items b.items held)))
 
-    pub configured-own : (o : Option NodeRow) (form : Option Tree) → node_at node b.nodes ≡ o → Place node who config (configured_by o node form b) → items_of node (configured_by o node form b).items ≡ items_of node b.items
+    pub configured-own : (o : Option NodeRow) (form : Option Tree) → node_at node b.nodes ≡ o → Place node who config (configured_by o node form b)
+        → items_of node (configured_by o node form b).items ≡ items_of node b.items
     configured-own None form e later = refl
     configured-own (Some r) None e later = refl
     configured-own (Some r) (Some form) e later = set-own r e (config_given config_type r.config (form_of form)) later

@@ -152,7 +152,8 @@ module _ (k : ℕ) (few : k + 1 < 2 ^ 127) (s : State) (is : StateIs s) (small :
       let then_is = printable-after s e ok own is.rows in
       let names = addresses-after s e ok is.names in
       let evs = step.events s.book e in
-      all-brief s.book (step.book_after s.book e) is.rows then_is small.items (small-after e ok plain).items evs (sorted (flat_map (λ ev. asked_by (step.book_for ev s.book (step.book_after s.book e)) ev) evs))
+      all-brief s.book (step.book_after s.book e) is.rows then_is small.items (small-after e ok plain).items evs
+      (sorted (flat_map (λ ev. asked_by (step.book_for ev s.book (step.book_after s.book e)) ev) evs))
       (each-sorted IsAddress (flat_map (λ ev. asked_by (step.book_for ev s.book (step.book_after s.book e)) ev) evs)
       (all-asked s.book (step.book_after s.book e) evs is.names.audience names.audience (events-named s e ok is.names)))
       (events-after e ok)
@@ -171,19 +172,22 @@ bare-brief : (resource : List ℕ) (ns : List Notice) → Each BriefNotice ns �
 bare-brief [] ns are = are
 bare-brief (x ∷ resource) ns are = tt
 
-walk-brief : (E : List Entry) (s : State) (k : ℕ) (a : Jid) → k + length E < 2 ^ 127 → IsLawfulFrom s E → AreEntries E → Each IsNoBase E → StateIs s → IsSmallBook k s.book → Each BriefNotice (notices_from s E a)
+walk-brief : (E : List Entry) (s : State) (k : ℕ) (a : Jid) → k + length E < 2 ^ 127 → IsLawfulFrom s E → AreEntries E → Each IsNoBase E → StateIs s → IsSmallBook k s.book
+    → Each BriefNotice (notices_from s E a)
 walk-brief [] s k a few ok own plain is small = tt
 walk-brief (e ∷ E) s k a few ok own plain is small =
     let one : k + 1 < 2 ^ 127 = omega (arith, few) in
     each-both BriefNotice (to_address a (step.notices_at s e)) (notices_from (step.after s e) E a)
-    (bare-brief a.resource (filter (λ n. same_bare n.to a) (step.notices_at s e)) (each-filter BriefNotice (λ n. same_bare n.to a) (step.notices_at s e) (notices-brief k one s is small e ok.0 own.0 plain.0)))
+    (bare-brief a.resource (filter (λ n. same_bare n.to a) (step.notices_at s e)) (each-filter BriefNotice (λ n. same_bare n.to a) (step.notices_at s e)
+    (notices-brief k one s is small e ok.0 own.0 plain.0)))
     (walk-brief E (step.after s e) (k + 1) a (omega (arith, few)) ok.1 own.1 plain.1 (state-after s e ok.0 own.0 is) (small-after k one s is small e ok.0 plain.0))
 
 empty-small : IsSmallBook 0 empty_state.book
 empty-small = record { items = tt; counts = tt }
 
 -- each has a number that a copy takes
-numbers-few : (node : NodeKey) (who : Jid) (ns : List Notice) (m top : ℕ) → top < 2 ^ 127 → m + length ns ≤ top → ((k : ℕ) (n : Notice) → slice_get ns k ≡ Some n → n.number ≡ m + (k + 1)) → Each BriefNotice ns → Each (λ (n : Notice). IsBriefTo node who n.line) ns
+numbers-few : (node : NodeKey) (who : Jid) (ns : List Notice) (m top : ℕ) → top < 2 ^ 127 → m + length ns ≤ top → ((k : ℕ) (n : Notice) → slice_get ns k ≡ Some n → n.number ≡ m + (k + 1))
+    → Each BriefNotice ns → Each (λ (n : Notice). IsBriefTo node who n.line) ns
 unfolding BriefNotice
 numbers-few node who [] m top few fits at are = tt
 numbers-few node who (n ∷ ns) m top few fits at are =
@@ -228,7 +232,8 @@ module _ (node : NodeKey) (who : Jid) where
   passes-over max [] c are = refl
   passes-over max (line ∷ lines) c are = at (is_short line) refl are.0
     where
-      at : (b : Bool) → is_short line ≡ b → IsBriefTo node who line → copy_from node who max c (cond b (line ∷ filter is_short lines) (filter is_short lines)) ≡ copy_from node who max (copy_after max (news_in node who line) c) lines
+      at : (b : Bool) → is_short line ≡ b → IsBriefTo node who line → copy_from node who max c (cond b (line ∷ filter is_short lines) (filter is_short lines)) ≡ copy_from node who max
+          (copy_after max (news_in node who line) c) lines
       at true e brief = passes-over max lines (copy_after max (news_in node who line) c) are.1
       at false e (inl few) = absurd (let yes = short-line line few in cc (e, yes))
       at false e (inr none) = passes-over max lines c are.1 ∙ ap (λ o. copy_from node who max (copy_after max o c) lines) (sym none)

@@ -37,7 +37,8 @@ module _ (n : NodeKey) where
 
   newest-step : (most : ℕ) (r : ItemRow) (rows : List ItemRow) (b m : Bool) → is_item_at n r ≡ b → nat_le most (count_by (is_item_at n) rows) ≡ m
       → shown n (keep_newest (is_item_at n) most rows) ≡ keep_newest each_one most (shown n rows)
-      → shown n (cond (b && m) (keep_newest (is_item_at n) most rows) (r ∷ keep_newest (is_item_at n) most rows)) ≡ keep_newest each_one most (map copied (cond b (r ∷ items_of n rows) (items_of n rows)))
+      → shown n (cond (b && m) (keep_newest (is_item_at n) most rows) (r ∷ keep_newest (is_item_at n) most rows)) ≡ keep_newest each_one most
+      (map copied (cond b (r ∷ items_of n rows) (items_of n rows)))
   newest-step most r rows true true e f h = rw (count-shown rows, f) h
   newest-step most r rows true false e f h = rw (count-shown rows, f, e) (ap (λ (xs : List Copied). copied r ∷ xs) h)
   newest-step most r rows false m e f h = rw e h
@@ -59,7 +60,8 @@ module _ (n : NodeKey) where
   without-shown id [] = refl
   without-shown id (r ∷ rows) = without-step id r rows (same_node n r.node) (bytes_eq id r.id) refl refl (without-shown id rows)
 
-  gone-step : (r : ItemRow) (rows : List ItemRow) (b : Bool) → is_item_at n r ≡ b → items_of n (without (is_item_at n) rows) ≡ [] → items_of n (cond (not b) (r ∷ without (is_item_at n) rows) (without (is_item_at n) rows)) ≡ []
+  gone-step : (r : ItemRow) (rows : List ItemRow) (b : Bool) → is_item_at n r ≡ b → items_of n (without (is_item_at n) rows) ≡ []
+      → items_of n (cond (not b) (r ∷ without (is_item_at n) rows) (without (is_item_at n) rows)) ≡ []
   gone-step r rows true e h = h
   gone-step r rows false e h = rw e h
 
@@ -70,7 +72,8 @@ module _ (n : NodeKey) where
 -- ---- an item that comes
 
 push-step : (row r : ItemRow) (rows : List ItemRow) (b : Bool) → shown row.node (rows ++ row ∷ []) ≡ shown row.node rows ++ copied row ∷ []
-    → map copied (cond b (r ∷ items_of row.node (rows ++ row ∷ [])) (items_of row.node (rows ++ row ∷ []))) ≡ map copied (cond b (r ∷ items_of row.node rows) (items_of row.node rows)) ++ copied row ∷ []
+    → map copied (cond b (r ∷ items_of row.node (rows ++ row ∷ [])) (items_of row.node (rows ++ row ∷ []))) ≡ map copied
+    (cond b (r ∷ items_of row.node rows) (items_of row.node rows)) ++ copied row ∷ []
 push-step row r rows true h = ap (λ (xs : List Copied). copied r ∷ xs) h
 push-step row r rows false h = h
 
@@ -81,7 +84,8 @@ push-shown row (r ∷ rows) = push-step row r rows (is_item_at row.node r) (push
 pub put-shown : (row : ItemRow) (most : ℕ) (rows : List ItemRow) → shown row.node (items_with row most rows) ≡ items_after most (Published (copied row)) (shown row.node rows)
 put-shown row most rows =
     newest-shown row.node most (without (is_item_of row.node row.id) rows ++ row ∷ [])
-    ∙ ap (λ (xs : List Copied). keep_newest each_one most xs) (push-shown row (without (is_item_of row.node row.id) rows) ∙ ap (λ (xs : List Copied). xs ++ copied row ∷ []) (without-shown row.node row.id rows))
+    ∙ ap (λ (xs : List Copied). keep_newest each_one most xs) (push-shown row (without (is_item_of row.node row.id) rows)
+    ∙ ap (λ (xs : List Copied). xs ++ copied row ∷ []) (without-shown row.node row.id rows))
 
 -- ---- items of other nodes
 
@@ -165,7 +169,8 @@ module _ (n : NodeKey) where
       subst (LastOr (r ∷ rows)) (sym (ap (λ (xs : List ItemRow). find (is_item_at n) xs) (reverse_onto rows r []) ∙ found-push (reverse rows) r))
       (last-step r rows (find (is_item_at n) (reverse rows)) (is_item_at n r) refl (last-is rows))
 
-  of-node-step : (r : ItemRow) (rows : List ItemRow) (b : Bool) → is_item_at n r ≡ b → Each (λ (y : ItemRow). is_item_at n y ≡ true) (items_of n rows) → Each (λ (y : ItemRow). is_item_at n y ≡ true) (cond b (r ∷ items_of n rows) (items_of n rows))
+  of-node-step : (r : ItemRow) (rows : List ItemRow) (b : Bool) → is_item_at n r ≡ b → Each (λ (y : ItemRow). is_item_at n y ≡ true) (items_of n rows)
+      → Each (λ (y : ItemRow). is_item_at n y ≡ true) (cond b (r ∷ items_of n rows) (items_of n rows))
   of-node-step r rows true e h = (e, h)
   of-node-step r rows false e h = h
 
@@ -205,6 +210,7 @@ module _ (n : NodeKey) where
       let are = subst (Each (λ (y : ItemRow). is_item_at n y ≡ true)) last.is (of-node rows) in
       let far = subst (AreApart item_key) last.is (apart-filter item_key (is_item_at n) rows apart) in
       let stay = others-stay last.before x (last-passes last.before x are) are far in
-      let back = ap (λ (xs : List Copied). xs ++ copied x ∷ []) (ap (λ (xs : List ItemRow). without (has_id x.id) (map copied xs)) last.is ∙ stay) ∙ sym (push-copied last.before x) ∙ ap (λ (xs : List ItemRow). map copied xs) (sym last.is) in
+      let back = ap (λ (xs : List Copied). xs ++ copied x ∷ []) (ap (λ (xs : List ItemRow). without (has_id x.id) (map copied xs)) last.is ∙ stay) ∙ sym (push-copied last.before x)
+      ∙ ap (λ (xs : List ItemRow). map copied xs) (sym last.is) in
       ap (λ (xs : List Copied). keep_newest each_one most xs) back
       ∙ keep_newest-all each_one most (shown n rows) (subst (λ k. k ≤ most) (sym (count-shown n rows)) few)

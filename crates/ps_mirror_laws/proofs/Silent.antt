@@ -81,7 +81,8 @@ last-says node who b m to by moment (Some config) (Some item) t is last e =
       is = is;
       last = last;
       reads = and-third (is_leaf config.node_type) config.deliver_notifications (may_read b m to) (sends_last by config.send_last_published_item (is_interested b m to)) p.0;
-      says = λ k. subst (λ (u : Tree). said_of node who (with_id k u) ≡ sent node who m.service to (first_said node.name (items_inside m (Some item) config ∷ []))) (same_Some told t p.1) (said-message node who m.service to config.notification_type kids k);
+      says = λ k. subst (λ (u : Tree). said_of node who (with_id k u) ≡ sent node who m.service to (first_said node.name (items_inside m (Some item) config ∷ []))) (same_Some told t p.1)
+          (said-message node who m.service to config.notification_type kids k);
     }
 
 module _ (node : NodeKey) (who : Jid) where
@@ -101,13 +102,16 @@ module _ (node : NodeKey) (who : Jid) where
   module _ (own : IsAddress node.service) (b : Book) (is : IsPrintable b) where
     pub silent : (ev : Event) → IsFar ev → IsSilent node who (given b ev who)
     silent (event.Items m item) far =
-        silent-about node who b (about_node b true m always (items_inside m item)) (λ config reads. far-sent node m who who own (may-key m who b is reads).service far (one_said (trees_of (items_inside m item config))))
+        silent-about node who b (about_node b true m always (items_inside m item)) (λ config reads. far-sent node m who who own (may-key m who b is reads).service far
+        (one_said (trees_of (items_inside m item config))))
     silent (event.Retract m id) far =
-        silent-about node who b (about_node b true m always (λ config. retract_tree m id)) (λ config reads. far-sent node m who who own (may-key m who b is reads).service far (one_said (trees_of (retract_tree m id))))
+        silent-about node who b (about_node b true m always (λ config. retract_tree m id))
+        (λ config reads. far-sent node m who who own (may-key m who b is reads).service far (one_said (trees_of (retract_tree m id))))
     silent (event.Purge m) far =
         silent-about node who b (about_node b true m always (λ config. named_tree (codes "purge") m)) (λ config reads. far-sent node m who who own (may-key m who b is reads).service far (Some Purged))
     silent (event.Delete m) far = silent-about node who b (about_node b false m (λ config. config.notify_delete) (λ config. named_tree (codes "delete") m)) (λ config reads. none-sent _ None refl)
-    silent (event.Configuration m) far = silent-about node who b (about_node b false m (λ config. config.notify_config) (λ config. named_tree (codes "configuration") m)) (λ config reads. none-sent _ None refl)
+    silent (event.Configuration m) far = silent-about node who b (about_node b false m (λ config. config.notify_config) (λ config. named_tree (codes "configuration") m))
+        (λ config reads. none-sent _ None refl)
     silent (event.Associate m collection) far = silent-about node who b (about_new b m collection) (λ config reads. none-sent _ None refl)
     silent (event.Approval m owner subscriber) far = λ t e k.
         message-silent m.service owner t (message m.service owner [] (only (form_tree (approval_form m subscriber))))
@@ -167,16 +171,20 @@ module _ (node : NodeKey) (who : Jid) (config : NodeConfig) (tells : TellsAll co
       let s = last-says node who b node to by moment (config_at node b.nodes) (last_item node b.items) t refl refl one.1 in
       let same = at.hears.configured s.config s.is in
       let payloads = subst (λ (c : NodeConfig). c.deliver_payloads ≡ true) (sym same) tells.payloads in
-      let says = s.says k ∙ ap (λ (j : Jid). sent node who node.service j (first_said node.name (items_inside node (Some s.item) s.config ∷ []))) one.0 ∙ own-sent node who (first_said node.name (items_inside node (Some s.item) s.config ∷ [])) ∙ item-said node s.config s.item payloads in
+      let says = s.says k ∙ ap (λ (j : Jid). sent node who node.service j (first_said node.name (items_inside node (Some s.item) s.config ∷ []))) one.0
+      ∙ own-sent node who (first_said node.name (items_inside node (Some s.item) s.config ∷ [])) ∙ item-said node s.config s.item payloads in
       ap (λ said. effect config.max_items said (shown node b.items)) says ∙ again b at (s.is ∙ ap Some same) s.item s.last
 
   -- ---- events that change nothing
 
   module _ (before after : Book) (is : IsPrintable before) (at : Place node who config after) where
-    lasts : (m : NodeKey) (to : Jid) (by : Bool) (moment : Option ℕ) (b : Bool) → same_node node m ≡ b → IsQuiet node who config.max_items (shown node after.items) (given after (event.Last m to by moment) who)
-    lasts m to by moment false e = silent-quiet node who config.max_items (shown node after.items) (given after (event.Last m to by moment) who) (silent node who own after at.printable (event.Last m to by moment) e)
+    lasts : (m : NodeKey) (to : Jid) (by : Bool) (moment : Option ℕ) (b : Bool) → same_node node m ≡ b
+        → IsQuiet node who config.max_items (shown node after.items) (given after (event.Last m to by moment) who)
+    lasts m to by moment false e = silent-quiet node who config.max_items (shown node after.items) (given after (event.Last m to by moment) who)
+        (silent node who own after at.printable (event.Last m to by moment) e)
     lasts m to by moment true e =
-        subst (λ (n : NodeKey). IsQuiet node who config.max_items (shown node after.items) (given after (event.Last n to by moment) who)) ((same_node-Decides node m).0 e) (last-quiet after at to by moment)
+        subst (λ (n : NodeKey). IsQuiet node who config.max_items (shown node after.items) (given after (event.Last n to by moment) who)) ((same_node-Decides node m).0 e)
+        (last-quiet after at to by moment)
 
     quiet-by : (b : Book) (ev : Event) → IsPrintable b → IsFar node who ev → IsQuiet node who config.max_items (shown node after.items) (given b ev who)
     quiet-by b ev fits far = silent-quiet node who config.max_items (shown node after.items) (given b ev who) (silent node who own b fits ev far)

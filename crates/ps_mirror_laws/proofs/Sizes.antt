@@ -120,7 +120,8 @@ more-attrs k m n a attrs name value more =
     let p = quoted-size a.name in let q = quoted-size a.value in let r = more.most in
     record { most = omega (arith, p, q, r, name, value) }
 
-pub weigh-tree : (k a n : ℕ) (name ns : List ℕ) (attrs : List Attr) (kids : Nodes) → length name + length ns ≤ k → WeighAttrs a attrs → WeighIn n ns kids → Weighs (60 + 6 * k + a + n) (tree name ns attrs kids)
+pub weigh-tree : (k a n : ℕ) (name ns : List ℕ) (attrs : List Attr) (kids : Nodes) → length name + length ns ≤ k → WeighAttrs a attrs → WeighIn n ns kids
+    → Weighs (60 + 6 * k + a + n) (tree name ns attrs kids)
 weigh-tree k a n name ns attrs kids short own more = record { most = λ parent.
     let named = member (codes "n") (string name) (ns_member parent ns) in
     let inner = with_kids (items_of ns kids) named in

@@ -65,17 +65,17 @@ few s k e = leb-true (length s) k e
 pub message-brief : (from to : Jid) (kind : NoticeKind) (kids : Nodes) → IsAddress from → IsAddress to → WeighIn 200000 client kids → IsBrief (message from to (kind_attr kind) kids)
 message-brief from to Normal kids own address weigh = inl (λ n small.
     let w = weigh-tree 20 37165 200000 (codes "message") client _ kids (omega arith)
-        (more-attrs 4 3071 18709 _ _ (few (codes "from") 4 refl) (jid-size from own)
-        (more-attrs 2 41 18445 _ _ (few (codes "id") 2 refl) (id-size n small)
-        (more-attrs 2 3071 1 _ _ (few (codes "to") 2 refl) (jid-size to address) no-attrs))) weigh in
+    (more-attrs 4 3071 18709 _ _ (few (codes "from") 4 refl) (jid-size from own)
+    (more-attrs 2 41 18445 _ _ (few (codes "id") 2 refl) (id-size n small)
+    (more-attrs 2 3071 1 _ _ (few (codes "to") 2 refl) (jid-size to address) no-attrs))) weigh in
     let most = w.most client in
     omega (arith, most))
 message-brief from to Headline kids own address weigh = inl (λ n small.
     let w = weigh-tree 20 37243 200000 (codes "message") client _ kids (omega arith)
-        (more-attrs 4 3071 18787 _ _ (few (codes "from") 4 refl) (jid-size from own)
-        (more-attrs 2 41 18523 _ _ (few (codes "id") 2 refl) (id-size n small)
-        (more-attrs 2 3071 79 _ _ (few (codes "to") 2 refl) (jid-size to address)
-        (more-attrs 4 8 1 _ _ (few (codes "type") 4 refl) (few (codes "headline") 8 refl) no-attrs)))) weigh in
+    (more-attrs 4 3071 18787 _ _ (few (codes "from") 4 refl) (jid-size from own)
+    (more-attrs 2 41 18523 _ _ (few (codes "id") 2 refl) (id-size n small)
+    (more-attrs 2 3071 79 _ _ (few (codes "to") 2 refl) (jid-size to address)
+    (more-attrs 4 8 1 _ _ (few (codes "type") 4 refl) (few (codes "headline") 8 refl) no-attrs)))) weigh in
     let most = w.most client in
     omega (arith, most))
 
@@ -100,7 +100,8 @@ item-weighs config (Some row) is =
     (weigh-tree 43 19219 131200 (codes "item") event_ns _ _ (omega arith) (one-attr (codes "id") row.id 2 3200 refl is.id) (payload-weighs config.deliver_payloads row.payload is.payload))))
 
 items-weigh : (node : NodeKey) (kids : Nodes) → length node.name ≤ 512 → WeighIn 152000 event_ns kids → Weighs 156000 (items_tree node kids)
-items-weigh node kids short is = weigh-more 155427 156000 _ (omega arith) (weigh-tree 44 3103 152000 (codes "items") event_ns _ kids (omega arith) (one-attr (codes "node") node.name 4 512 refl short) is)
+items-weigh node kids short is = weigh-more 155427 156000 _ (omega arith) (weigh-tree 44 3103 152000 (codes "items") event_ns _ kids (omega arith)
+    (one-attr (codes "node") node.name 4 512 refl short) is)
 
 retract-weighs : (node : NodeKey) (id : List ℕ) → length node.name ≤ 512 → length id ≤ 3200 → Weighs 156000 (retract_tree node id)
 retract-weighs node id short small =
@@ -130,7 +131,8 @@ delay-weighs None = weigh-in-more 1 8000 client none (omega arith) (weigh-none c
 delay-weighs (Some moment) =
     let long : length (stamp moment) ≡ 20 = refl in
     weigh-in-more 400 8000 client _ (omega arith)
-    (only-weighs 398 client _ (weigh-tree 30 157 1 (codes "delay") (codes "urn:xmpp:delay") _ none (omega arith) (one-attr (codes "stamp") (stamp moment) 5 20 refl (omega (arith, long))) (weigh-none (codes "urn:xmpp:delay"))))
+    (only-weighs 398 client _ (weigh-tree 30 157 1 (codes "delay") (codes "urn:xmpp:delay") _ none (omega arith) (one-attr (codes "stamp") (stamp moment) 5 20 refl (omega (arith, long)))
+    (weigh-none (codes "urn:xmpp:delay"))))
 
 event-weighs : (inside : Tree) (behind : Nodes) → Weighs 156000 inside → WeighIn 8000 client behind → WeighIn 200000 client (event_nodes inside behind)
 event-weighs inside behind in-weighs more =
@@ -139,7 +141,8 @@ event-weighs inside behind in-weighs more =
 
 -- ---- a node that stands
 
-config-key : (node : NodeKey) (nodes : List NodeRow) (o : Option NodeRow) (config : NodeConfig) → Each NodeIs nodes → node_at node nodes ≡ o → option_map (λ (r : NodeRow). r.config) o ≡ Some config → IsKeyText node
+config-key : (node : NodeKey) (nodes : List NodeRow) (o : Option NodeRow) (config : NodeConfig) → Each NodeIs nodes → node_at node nodes ≡ o
+    → option_map (λ (r : NodeRow). r.config) o ≡ Some config → IsKeyText node
 config-key node nodes None config are e h = absurd (cc h)
 config-key node nodes (Some row) config are e h = found-key node nodes row are e
 
@@ -156,9 +159,11 @@ record TellsSmall (b : Book) (a : About) (who : Jid) : Type 0 where
 
 module _ (b : Book) (a : About) (who : Jid) (is : IsPrintable b) (address : IsAddress who) (tells : TellsSmall b a who) where
   node-message-brief : (config : NodeConfig) (behind : Nodes) → IsKeyText a.node → IsKeyText a.rules → WeighIn 8000 client behind → IsBrief (node_message a config who behind)
-  node-message-brief config behind key rules weigh = message-brief a.node.service who config.notification_type _ key.service address (event-weighs (a.inside config) behind (tells.inside config key rules) weigh)
+  node-message-brief config behind key rules weigh = message-brief a.node.service who config.notification_type _ key.service address
+      (event-weighs (a.inside config) behind (tells.inside config key rules) weigh)
 
-  one-brief : (passes wanted : Bool) (config : NodeConfig) (w : Way) → may_pass b who w ≡ passes → IsKeyText a.node → IsKeyText a.rules → Briefly (one_way passes wanted (node_message a config who (a.behind w)) (node_message a config who none))
+  one-brief : (passes wanted : Bool) (config : NodeConfig) (w : Way) → may_pass b who w ≡ passes → IsKeyText a.node → IsKeyText a.rules
+      → Briefly (one_way passes wanted (node_message a config who (a.behind w)) (node_message a config who none))
   one-brief true wanted config w e key rules = brief-some _ (node-message-brief config (a.behind w) key rules (tells.behind w e))
   one-brief false true config w e key rules = brief-some _ (node-message-brief config none key rules (weigh-in-more 1 8000 client none (omega arith) (weigh-none client)))
   one-brief false false config w e key rules = brief-none
@@ -166,7 +171,8 @@ module _ (b : Book) (a : About) (who : Jid) (is : IsPrintable b) (address : IsAd
   notice-brief : (o : Option NodeConfig) → config_at a.rules b.nodes ≡ o → Briefly (node_notice b a who o)
   notice-brief None e = brief-none
   notice-brief (Some config) e =
-      brief-if (may_read b a.node who && delivers a.switch config b who) (one_way (may_pass b who (a.way who)) (a.wanted who) (node_message a config who (a.behind (a.way who))) (node_message a config who none))
+      brief-if (may_read b a.node who && delivers a.switch config b who) (one_way (may_pass b who (a.way who)) (a.wanted who) (node_message a config who (a.behind (a.way who)))
+      (node_message a config who none))
       (λ h. one-brief (may_pass b who (a.way who)) (a.wanted who) config (a.way who) refl (may-key a.node who b is (and_parts (may_read b a.node who) (delivers a.switch config b who) h).0)
       (config-key a.rules b.nodes (node_at a.rules b.nodes) config is.nodes refl e))
 
@@ -219,7 +225,8 @@ one-address : (to who : Jid) (o : Option Tree) → (to ≡ who → Briefly o) �
 one-address to who o is = brief-if (same_jid to who) o (λ h. is ((same_jid-Decides to who).0 h))
 
 pub given-brief : (b : Book) (ev : Event) (who : Jid) → IsPrintable b → IsAddress who → Each IsSmall b.items → IsSmallEvent ev → Briefly (given b ev who)
-given-brief b (event.Items node item) who is address small own = node-brief b true node always (items_inside node item) who is address (λ config name. items-weigh node _ name (item-weighs config item own))
+given-brief b (event.Items node item) who is address small own = node-brief b true node always (items_inside node item) who is address
+    (λ config name. items-weigh node _ name (item-weighs config item own))
 given-brief b (event.Retract node id) who is address small own = node-brief b true node always _ who is address (λ config name. retract-weighs node id name own)
 given-brief b (event.Purge node) who is address small own = node-brief b true node always _ who is address (λ config name. named-weighs (codes "purge") node refl name)
 given-brief b (event.Delete node) who is address small own = node-brief b false node _ _ who is address (λ config name. named-weighs (codes "delete") node refl name)

@@ -60,7 +60,8 @@ held-small node id (x ∷ rows) is there = at (is_item_of node id x) refl there
         omega (arith, long, own)
     at false e h = held-small node id rows is.1 h
 
-retract-small : (node : NodeKey) (ids : List (List ℕ)) (notify : Bool) (b : Book) → Each IsSmall b.items → ((id : List ℕ) (more : List (List ℕ)) → ids ≡ id ∷ more → is_some (item_at node id b.items) ≡ true) → Each IsSmallEvent (retract_events node ids notify b)
+retract-small : (node : NodeKey) (ids : List (List ℕ)) (notify : Bool) (b : Book) → Each IsSmall b.items
+    → ((id : List ℕ) (more : List (List ℕ)) → ids ≡ id ∷ more → is_some (item_at node id b.items) ≡ true) → Each IsSmallEvent (retract_events node ids notify b)
 retract-small node [] notify b is there = tt
 retract-small node (id ∷ ids) notify b is there = each-cond IsSmallEvent _ (event.Retract node id ∷ []) [] (held-small node id b.items is (there id ids refl), tt) tt
 
@@ -103,7 +104,8 @@ question-small who None before = tt
 question-small who (Some caps) before = each-cond IsSmallEvent _ [] (event.Question who caps ∷ []) tt (tt, tt)
 
 -- the item that a publish asks
-item-small : (k : ℕ) (node : NodeKey) (who : Jid) (moment : Option ℕ) (items : List AskItem) (b : Book) → FirstSmall items → k + 1 < 2 ^ 127 → IsAddress who → Each (MadeFew k) b.counts → SmallOr (item_asked node who moment items b)
+item-small : (k : ℕ) (node : NodeKey) (who : Jid) (moment : Option ℕ) (items : List AskItem) (b : Book) → FirstSmall items → k + 1 < 2 ^ 127 → IsAddress who → Each (MadeFew k) b.counts
+    → SmallOr (item_asked node who moment items b)
 item-small k node who moment [] b own few is counts = tt
 item-small k node who moment (item ∷ items) b own few is counts = row-small k node who moment item b own few is counts
 
@@ -111,7 +113,8 @@ first-of : (x y : List ℕ) (xs ys : List (List ℕ)) → x ∷ xs ≡ y ∷ ys 
 first-of x y xs ys e = cc e
 
 -- the item that a retract names is there
-retract-there : (b : Book) (r : Request) (node : List ℕ) (ids : List (List ℕ)) → first_denial (retract_steps b r node ids) ≡ None → (id : List ℕ) (more : List (List ℕ)) → ids ≡ id ∷ more → is_some (item_at (node_of r node) id b.items) ≡ true
+retract-there : (b : Book) (r : Request) (node : List ℕ) (ids : List (List ℕ)) → first_denial (retract_steps b r node ids) ≡ None → (id : List ℕ) (more : List (List ℕ)) → ids ≡ id ∷ more
+    → is_some (item_at (node_of r node) id b.items) ≡ true
 retract-there b r node [] ok id more e = absurd (cc e)
 retract-there b r node (x ∷ ids) ok id more e =
     let p = step-parts _ _ ok in
@@ -124,12 +127,16 @@ retract-there b r node (x ∷ ids) ok id more e =
     subst (λ (i : List ℕ). is_some (item_at (node_of r node) i b.items) ≡ true) same (unless-holds (is_some (item_at (node_of r node) x b.items)) _ v.0)
 
 module _ (k : ℕ) (few : k + 1 < 2 ^ 127) (r : Request) (moment : Option ℕ) (from : IsAddress r.from) where
-  pub events-small : (a : Ask) (before after : Book) → first_denial (steps_of a before r) ≡ None → Each NodeIs before.nodes → IsSmallBook k before → Each IsSmallEvent (events_by a r moment before after)
+  pub events-small : (a : Ask) (before after : Book) → first_denial (steps_of a before r) ≡ None → Each NodeIs before.nodes → IsSmallBook k before
+      → Each IsSmallEvent (events_by a r moment before after)
   events-small (ask.Create node form) before after ok nodes is = made-small (stands (node_of r node) before.nodes) (node_of r node) (collection_of (node_of r node) after.links)
   events-small (ask.Publish node items options) before after ok nodes is =
       each-both IsSmallEvent (made_events (node_of r node) before after) (event.Items (node_of r node) (item_asked (node_of r node) r.from moment items before) ∷ [])
-      (made-small (stands (node_of r node) before.nodes) (node_of r node) (collection_of (node_of r node) after.links))
-      (item-small k (node_of r node) r.from moment items before (publish-small (node_at (node_of r node) before.nodes) before r node items options (node-found (node_of r node) before.nodes nodes) ok) few from is.counts, tt)
+      (made-small (stands (node_of r node) before.nodes) (node_of r node) (collection_of (node_of r node) after.links)) (
+        item-small k (node_of r node) r.from moment items before (publish-small (node_at (node_of r node) before.nodes) before r node items options
+            (node-found (node_of r node) before.nodes nodes) ok) few from is.counts,
+        tt,
+      )
   events-small (ask.Retract node ids notify) before after ok nodes is = retract-small (node_of r node) ids notify before is.items (retract-there before r node ids ok)
   events-small (ask.Purge node) before after ok nodes is = (tt, tt)
   events-small (ask.Delete node) before after ok nodes is = (tt, tt)

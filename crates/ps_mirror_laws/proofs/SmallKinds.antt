@@ -157,7 +157,8 @@ new-small : (given : Result NodeConfig Condition) (b : Book) (r : Request) (item
 new-small (Err why) b r items is ok = absurd (let no = (step-parts (Some why) _ ok).0 in cc no)
 new-small (Ok config) b r items is ok = items-small config items (node_limit_step b r ∷ []) (is.config config refl) (step-parts (made_step (Ok config) b r) _ ok).1
 
-pub publish-small : (o : Option NodeRow) (b : Book) (r : Request) (node : List ℕ) (items : List AskItem) (options : Option Tree) → FoundNode o → first_denial (publish_by o b r node items options) ≡ None → FirstSmall items
+pub publish-small : (o : Option NodeRow) (b : Book) (r : Request) (node : List ℕ) (items : List AskItem) (options : Option Tree) → FoundNode o
+    → first_denial (publish_by o b r node items options) ≡ None → FirstSmall items
 publish-small (Some row) b r node items options found ok =
     let x = step-parts (leaf_by (Some row)) _ ok in
     let y = step-parts (denied_by (publish b (node_of r node) r.from)) _ x.1 in
@@ -214,7 +215,8 @@ module _ (k : ℕ) (few : k + 1 < 2 ^ 127) (node : NodeKey) (who : Jid) (moment 
   published-small : (config : NodeConfig) (items : List AskItem) (b : Book) → FirstSmall items → IsSmallBook k b → IsSmallBook (k + 1) (published node config who moment items b)
   published-small config [] b own is = later k b b is refl refl
   published-small config (item ∷ items) b own is = record {
-    items = put-small config.persist_items (item_row node (item_id item.id b node who) who item.payloads moment) config.max_items b.items (row-small k node who moment item b own few by is.counts) is.items;
+    items = put-small config.persist_items (item_row node (item_id item.id b node who) who item.payloads moment) config.max_items b.items
+        (row-small k node who moment item b own few by is.counts) is.items;
     counts = counted-small k item.id node who b is.counts;
   }
 
@@ -222,7 +224,8 @@ module _ (k : ℕ) (few : k + 1 < 2 ^ 127) (node : NodeKey) (who : Jid) (moment 
   new-published (Err why) items b own is = later k b b is refl refl
   new-published (Ok config) items b own is = published-small config items (created node who config b) own (record { items = is.items; counts = is.counts })
 
-  published_by-small : (o : Option NodeRow) (items : List AskItem) (options : Option Tree) (b : Book) → FirstSmall items → IsSmallBook k b → IsSmallBook (k + 1) (published_by o node who moment items options b)
+  published_by-small : (o : Option NodeRow) (items : List AskItem) (options : Option Tree) (b : Book) → FirstSmall items → IsSmallBook k b
+      → IsSmallBook (k + 1) (published_by o node who moment items options b)
   published_by-small None items options b own is = new-published (options_config options (default_config true)) items b own is
   published_by-small (Some row) items options b own is = published-small row.config items b own is
 
@@ -301,7 +304,8 @@ module _ (k : ℕ) (few : k + 1 < 2 ^ 127) (r : Request) (moment : Option ℕ) (
   changed-small (ask.Subscribe node who form) b ok nodes is = subscribed-small k (sub_options form (base_options b (node_of r node) who)) (node_of r node) who (new_state b r (node_of r node) who) b is
   changed-small (ask.Unsubscribe node who subid) b ok nodes is = later k b (changed_by (ask.Unsubscribe node who subid) r moment b) is refl refl
   changed-small (ask.OptionsGet node who) b ok nodes is = later k b b is refl refl
-  changed-small (ask.OptionsSet node who form) b ok nodes is = subscribed-small k (sub_options form (base_options b (node_of r node) who)) (node_of r node) who (sub_at (node_of r node) who b.subs) b is
+  changed-small (ask.OptionsSet node who form) b ok nodes is = subscribed-small k (sub_options form (base_options b (node_of r node) who)) (node_of r node) who
+      (sub_at (node_of r node) who b.subs) b is
   changed-small (ask.ItemsGet node max ids) b ok nodes is = later k b b is refl refl
   changed-small (ask.InfoGet node) b ok nodes is = later k b b is refl refl
   changed-small (ask.NodesGet node) b ok nodes is = later k b b is refl refl

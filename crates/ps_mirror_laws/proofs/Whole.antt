@@ -83,11 +83,13 @@ module _ (node : NodeKey) (who : Jid) (max : ℕ) (address : IsAddress who) wher
   -- those to other addresses say nothing
   if-own : (n : Notice) (ns : List Notice) (items : List Copied) (c : Bool) → same_jid n.to who ≡ c → IsToOne node who max address n
       → ((items : List Copied) → told node who max (filter (λ (n : Notice). same_jid n.to who) ns) items ≡ told node who max ns items)
-      → told node who max (cond c (n ∷ filter (λ (n : Notice). same_jid n.to who) ns) (filter (λ (n : Notice). same_jid n.to who) ns)) items ≡ told node who max ns (effect max (said_in node who n.line) items)
+      → told node who max (cond c (n ∷ filter (λ (n : Notice). same_jid n.to who) ns) (filter (λ (n : Notice). same_jid n.to who) ns)) items ≡ told node who max ns
+      (effect max (said_in node who n.line) items)
   if-own n ns items true e one later = later (effect max (said_in node who n.line) items)
   if-own n ns items false e one later = later items ∙ ap (λ said. told node who max ns (effect max said items)) (sym (one e))
 
-  pub own-told : (ns : List Notice) (items : List Copied) → Each (IsToOne node who max address) ns → told node who max (filter (λ (n : Notice). same_jid n.to who) ns) items ≡ told node who max ns items
+  pub own-told : (ns : List Notice) (items : List Copied) → Each (IsToOne node who max address) ns
+      → told node who max (filter (λ (n : Notice). same_jid n.to who) ns) items ≡ told node who max ns items
   own-told [] items are = refl
   own-told (n ∷ ns) items are = if-own n ns items (same_jid n.to who) refl are.0 (λ items. own-told ns items are.1)
 
@@ -100,7 +102,8 @@ module _ (node : NodeKey) (who : Jid) (max : ℕ) (address : IsAddress who) wher
 
   if-bare : (n : Notice) (ns : List Notice) (items : List Copied) (c : Bool) → same_bare n.to (bare who) ≡ c → IsToOne node who max address n
       → ((items : List Copied) → told node who max (filter (λ (n : Notice). same_bare n.to (bare who)) ns) items ≡ told node who max ns items)
-      → told node who max (cond c (n ∷ filter (λ (n : Notice). same_bare n.to (bare who)) ns) (filter (λ (n : Notice). same_bare n.to (bare who)) ns)) items ≡ told node who max ns (effect max (said_in node who n.line) items)
+      → told node who max (cond c (n ∷ filter (λ (n : Notice). same_bare n.to (bare who)) ns) (filter (λ (n : Notice). same_bare n.to (bare who)) ns)) items ≡ told node who max ns
+      (effect max (said_in node who n.line) items)
   if-bare n ns items true e one later = later (effect max (said_in node who n.line) items)
   if-bare n ns items false e one later = later items ∙ ap (λ said. told node who max ns (effect max said items)) (sym (one (far-bare n (same_jid n.to who) refl e)))
 
@@ -147,7 +150,8 @@ numbered-id k said some small =
     let high : nat_lt k (2 ^ 127) ≡ true = grind (arith, nat_tests, small) in
     rw (read, own, low, high) refl
 
-read-by : (node : NodeKey) (who : Jid) (n : Notice) (r : Result Tree LineRefusal) → is_notice_line n.to n.number n.line r ≡ true → 1 ≤ n.number → n.number < 2 ^ 127 → news_of node who r ≡ option_map (news n.number) (said_by node who r)
+read-by : (node : NodeKey) (who : Jid) (n : Notice) (r : Result Tree LineRefusal) → is_notice_line n.to n.number n.line r ≡ true → 1 ≤ n.number → n.number < 2 ^ 127
+    → news_of node who r ≡ option_map (news n.number) (said_by node who r)
 read-by node who n (Err why) is some small = absurd (cc is)
 read-by node who n (Ok t) is some small =
     let p = and_parts (bytes_eq n.line (print t)) (is_notice_tree n.to n.number t) is in
@@ -242,7 +246,8 @@ module _ (node : NodeKey) (who : Jid) (max : ℕ) where
   new-news c n said above = let up : nat_lt c.greatest n.number ≡ true = grind (arith, nat_tests, above) in rw up refl
 
   -- the next one is news, unless it says nothing
-  fresh : (lines : List (List ℕ)) (had : List Notice) (n : Notice) (behind : List Notice) (c : Copy) (o : Option Said) → said_in node who n.line ≡ o → AscendFrom c.greatest (n ∷ behind) → Each (IsHad c.greatest) had
+  fresh : (lines : List (List ℕ)) (had : List Notice) (n : Notice) (behind : List Notice) (c : Copy) (o : Option Said) → said_in node who n.line ≡ o → AscendFrom c.greatest (n ∷ behind)
+      → Each (IsHad c.greatest) had
       → ((d : Copy) → Each (IsHad d.greatest) (n ∷ had) → AscendFrom d.greatest behind → (copy_from node who max d lines).items ≡ told node who max behind d.items)
       → (copy_from node who max (copy_after max (option_map (news n.number) o) c) lines).items ≡ told node who max behind (effect max o c.items)
   unfolding IsHad AscendFrom
@@ -252,7 +257,8 @@ module _ (node : NodeKey) (who : Jid) (max : ℕ) where
       ap (λ (d : Copy). (copy_from node who max d lines).items) (new-news c n said up)
       ∙ later (taken c n said) (inl (let l : n.number ≤ n.number = omega arith in l), had-more c.greatest n.number had (omega (arith, up)) olds) rise.1
 
-  run : (lines : List (List ℕ)) (had ns : List Notice) (c : Copy) → Each (IsHad c.greatest) had → Each (IsRead node who) had → Each (IsRead node who) ns → AscendFrom c.greatest ns → HasInOrder node who had ns lines
+  run : (lines : List (List ℕ)) (had ns : List Notice) (c : Copy) → Each (IsHad c.greatest) had → Each (IsRead node who) had → Each (IsRead node who) ns → AscendFrom c.greatest ns
+      → HasInOrder node who had ns lines
       → (copy_from node who max c lines).items ≡ told node who max ns c.items
   unfolding IsHad IsRead AscendFrom
   run [] had ns c olds reads news_read up none = ap (λ (ns : List Notice). told node who max ns c.items) (sym none)
@@ -275,7 +281,8 @@ module _ (node : NodeKey) (who : Jid) (max : ℕ) where
 
 -- ---- the law
 
-to-one-by : (node : NodeKey) (who : Jid) (n : Notice) (r : Result Tree LineRefusal) → IsAddress who → IsAddress n.to → is_notice_line n.to n.number n.line r ≡ true → same_jid n.to who ≡ false → said_by node who r ≡ None
+to-one-by : (node : NodeKey) (who : Jid) (n : Notice) (r : Result Tree LineRefusal) → IsAddress who → IsAddress n.to → is_notice_line n.to n.number n.line r ≡ true → same_jid n.to who ≡ false
+    → said_by node who r ≡ None
 to-one-by node who n (Err why) address to is far = refl
 to-one-by node who n (Ok t) address to is far =
     let p = and_parts (bytes_eq n.line (print t)) (is_notice_tree n.to n.number t) is in
@@ -291,7 +298,8 @@ pub mirror-exact : EachMirrorIsExact
 mirror-exact node who config E lines h order =
     let a = bare who in
     let ns = notices E a in
-    let at : (k : ℕ) (n : Notice) → slice_get (notices E (bare who)) k ≡ Some n → n.number ≡ 0 + (k + 1) = λ k n g. numbers-rise E a h.lawful k n g ∙ ap (λ m. m + (k + 1)) (no-counter E a h.no_base) in
+    let at : (k : ℕ) (n : Notice) → slice_get (notices E (bare who)) k ≡ Some n → n.number ≡ 0 + (k + 1) = λ k n g. numbers-rise E a h.lawful k n g
+    ∙ ap (λ m. m + (k + 1)) (no-counter E a h.no_base) in
     let own = unhanded-are E a 0 h.lawful h.spelled in
     let reads = all-read node who a (length ns) ns h.few (range-by ns 0 (length ns) (omega arith) at) own in
     let mine = λ (n : Notice). same_jid n.to who in

@@ -25,14 +25,14 @@ const ROWS: &str = "\
 
 // The service and the node of a mirror, and the address that is told.
 #[derive(Drop)]
-struct Words {
+struct MirrorWords {
     service: Jid,
     node: Text,
     who: Jid,
 }
 
-fn words(rt: &HostRuntime) -> Result<Words, Fail> {
-    Ok(Words {
+fn mirror_words(rt: &HostRuntime) -> Result<MirrorWords, Fail> {
+    Ok(MirrorWords {
         service: Jid::read(rt.alloc(), b"pubsub.example")?,
         node: Text::of(rt.alloc(), "news")?,
         who: Jid::read(rt.alloc(), b"bob@b.example")?,
@@ -100,7 +100,7 @@ fn shown(rt: &HostRuntime, mirror: &Mirror) -> Result<String, Fail> {
 // The report of a source that has this text and fails at these reads, or why there is none.
 fn reported(
     rt: &HostRuntime,
-    words: &Words,
+    words: &MirrorWords,
     max: u64,
     text: &str,
     failing: &[u64],
@@ -130,7 +130,7 @@ fn reported(
     Ok(told)
 }
 
-fn holds(rt: &HostRuntime, words: &Words, row: &str) -> Result<bool, Fail> {
+fn holds(rt: &HostRuntime, words: &MirrorWords, row: &str) -> Result<bool, Fail> {
     let Some((max, rest)) = row.split_once(':') else {
         return Ok(false);
     };
@@ -143,15 +143,16 @@ fn holds(rt: &HostRuntime, words: &Words, row: &str) -> Result<bool, Fail> {
     let max = most_of(max);
     let lines = text_of(rt, names)?;
     let report = text_of(rt, report)?;
-    let mut mirror =
-        Mirror::new(rt.alloc(), &words.service, &words.node, &words.who, max)?;
-    Ok(taken(rt, &mut mirror, lines.as_str())?.as_str() == wanted
-        && shown(rt, &mirror)?.as_str() == report.as_str()
-        && reported(rt, words, max, lines.as_str(), &[])?.as_str() == report.as_str())
+    let mut mirror = Mirror::new(rt.alloc(), &words.service, &words.node, &words.who, max)?;
+    Ok(
+        taken(rt, &mut mirror, lines.as_str())?.as_str() == wanted
+            && shown(rt, &mirror)?.as_str() == report.as_str()
+            && reported(rt, words, max, lines.as_str(), &[])?.as_str() == report.as_str(),
+    )
 }
 
 // A line that is longer than lines may be is passed over.
-fn passes_over(rt: &HostRuntime, words: &Words) -> Result<bool, Fail> {
+fn passes_over(rt: &HostRuntime, words: &MirrorWords) -> Result<bool, Fail> {
     let mut text = text_of(rt, "first second")?;
     let _ = text.pop();
     for _ in 0..262_144 {
@@ -163,7 +164,7 @@ fn passes_over(rt: &HostRuntime, words: &Words) -> Result<bool, Fail> {
 
 #[test]
 fn a_mirror_holds_what_it_was_told(rt: HostRuntime) -> Result<(), Fail> {
-    let words = words(&rt)?;
+    let words = mirror_words(&rt)?;
     for row in ROWS.lines() {
         let same = holds(&rt, &words, row)?;
         assert!(rt; same, "{row}");
