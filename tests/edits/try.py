@@ -4,12 +4,8 @@
     try.py              those of TRIED, of the crates whose proof is too dear for `rt ci` to begin its edits with
     try.py NAME/EDIT..  these, of tests/edits or of the crates' must-fail; NAME/EDIT=PATH where several functions have the name
 
-It asks the toolchain's own `rt` to read, apply and check edits. The check is of the functions that the edits change, so it says of the
-callers of these nothing; what is refused is that function's own contract.
-
-A check reads all libraries below its crate, which for a crate of the hall takes most of its time. So edits of one crate are tried together, as far as none changes
-a function from which one may come to a function of another: what is refused of the one says then nothing of the other. Where such a check says anything
-but which of these functions are proved, each of its edits is tried alone.
+It asks the toolchain's own `rt` to read, apply and check an edit. The check is of the function that each change stands in, so it says of the
+callers of that function nothing; what is refused is that function's own contract.
 """
 
 import importlib.machinery
@@ -18,106 +14,42 @@ import os
 import re
 import shutil
 import sys
-import tempfile
-import time
 from concurrent.futures import ThreadPoolExecutor
 
 HERE = os.path.dirname(os.path.abspath(__file__))
 ROOT = os.path.dirname(os.path.dirname(HERE))
-LANES = int(os.environ.get("LANES", os.cpu_count() or 1))
+LANES = 4
 TRIED = [
     "ps_access/pending_reads",
     "ps_access/publishers_anyone",
-    "ps_compact/an_occupied_store_is_done",
-    "ps_compact/counters_left_out",
-    "ps_compact/nothing_is_written",
-    "ps_compact/notices_left_out",
     "ps_compact_codec/link_names_its_child",
     "ps_compact_codec/moment_is_dropped",
-    "ps_compact_import/child_is_a_collection_already",
-    "ps_compact_import/more_items_than_kept",
-    "ps_core/commit_keeps_the_old",
-    "ps_core/handed_though_none_is_left",
-    "ps_core/notices_not_counted",
-    "ps_core/row_after_a_boot",
-    "ps_disco/accounts_list_what_is_closed",
-    "ps_disco/items_are_given_unasked",
-    "ps_disco/the_target_is_asked",
-    "ps_disk/lost_is_whole",
     "ps_effects/all_items_stay",
-    "ps_effects/any_answer_is_kept",
     "ps_effects/retract_purges",
-    "ps_endpoints/clock_not_given_back",
-    "ps_endpoints/ports_given_back_in_reverse",
     "ps_entity/oldest_items",
     "ps_entity/subscribers_read=ps_entity::items::check",
     "ps_events/last_item_again",
     "ps_events/publishers_are_asked",
     "ps_events/retract_is_told_anyway",
-    "ps_fanout/contact_that_only_gives_presence",
     "ps_fanout/leaf_is_not_asked",
     "ps_fanout/nearest_is_passed_over",
-    "ps_hall/handed_before_it_is_durable",
-    "ps_hall/over_while_a_reader_runs",
-    "ps_hall_flush/leaves_what_is_not_flushed",
-    "ps_hall_flush/mark_of_the_state_tells_no_fault",
-    "ps_hall_flush/settles_what_came_since",
-    "ps_hall_open/handed_notice_stays",
-    "ps_hall_open/no_entries_are_answered",
-    "ps_hall_open/nothing_is_durable",
-    "ps_hall_open/unlawful_store_opens",
-    "ps_hall_state/fault_told_as_full",
-    "ps_hall_state/notices_are_lost",
-    "ps_hall_state/shown_before_it_is_durable",
     "ps_io/asked_as_another_kind=ps_io::mem_world::MemWorldWorld::open_sink",
     "ps_io/fault_not_counted",
-    "ps_items/replaced_item_keeps_its_place",
     "ps_journal/gate_before_the_sync",
     "ps_journal/kept_though_cut_short",
     "ps_journal/not_broken",
     "ps_journal/nothing_is_appended",
     "ps_nodes/configuration_stays",
     "ps_nodes/made_where_it_stands",
-    "ps_notices/addresses_are_not_merged",
-    "ps_notices/id_is_not_the_number",
-    "ps_notices/one_counter_for_all_addresses",
     "ps_owner/anyone_at_accounts",
     "ps_owner/approved_unasked",
-    "ps_record/any_print",
-    "ps_record/open_gate",
-    "ps_rehearse/errors_of_one_stream_alone",
-    "ps_rehearse/others_counted_as_changes",
     "ps_request/other_address_forbidden=ps_request::entity::subscribe",
     "ps_rows/a_changed_row_is_lost",
     "ps_rows/packing_keeps_the_empty_places",
-    "ps_secrecy_step/each_says_the_others",
-    "ps_secrecy_step/other_entry_is_not_taken",
-    "ps_secrecy_step/refused_in_one_refused_in_both",
-    "ps_serve/always_open_fault",
-    "ps_serve/always_usage",
-    "ps_serve/cause_of_the_end_lost",
-    "ps_serve/fault_of_the_store_hidden",
-    "ps_serve/lesser_cause_reported",
-    "ps_serve/lines_are_not_told",
-    "ps_serve/lines_of_a_mirror_are_dropped",
-    "ps_serve/store_given_back_under_another_name",
-    "ps_streams/ends_while_a_reader_runs",
-    "ps_streams/gone_is_not_said",
-    "ps_streams/line_without_room_is_dropped",
-    "ps_streams/notice_is_not_recorded",
-    "ps_streams/notice_is_recorded_before_it_is_written",
-    "ps_streams/refusal_taken_as_the_end",
-    "ps_turn/gives_the_opening_value",
-    "ps_twin/gives_into_the_other_slot",
-    "ps_twin/raises_no_firm_word",
-    "ps_twin/waits_in_the_other_line",
     "ps_types/bare_keeps_resource",
     "ps_types/child_of_any_namespace",
     "ps_wire/line_held_where_none_is",
     "ps_wire/other_member",
-    "ps_workers/end_of_a_reader_not_told",
-    "ps_workers/last_frame_left_out",
-    "ps_workers/passes_of_a_host_swapped",
 ]
 
 
@@ -154,109 +86,27 @@ def functions_of(folder, edit):
     return list(dict.fromkeys(found))
 
 
-class Edit:
-    """An edit of a crate: its name, the texts that it makes, and the functions that it changes. Or why it can't be tried."""
-
-    def __init__(self, rt, crates, name):
-        self.name, _, function = name.partition("=")
-        crate, file = file_of(self.name)
-        self.crate, self.said, self.is_refused = crates.get(crate), None, False
-        if self.crate is None or not file:
-            self.said = "no such edit"
-            return
-        lacking = [it.name for it in self.crate.below() if not os.path.isdir(it.rlib)]
-        if lacking:
-            self.said = f"{lacking[0]} isn't built: run rt ci first"
-            return
-        with open(file, encoding="utf-8") as text:
-            self.text = text.read()
-        self.functions = [function] if function else functions_of(self.crate.folder, file)
-        _, self.said = rt.edited(self.text, self.crate.folder)
-
-    def plain(self):
-        """The names of the functions, without what they stand in."""
-        return {it.rpartition("::")[2] for it in self.functions}
-
-
-def calls_in(folder):
-    """Returns for each name of a function of a crate the names of those of its functions that those of that name may call."""
-    bodies = {}
-    for root, _, files in os.walk(f"{folder}/src"):
-        for file in files:
-            with open(f"{root}/{file}", encoding="utf-8") as text:
-                parts = re.split(r"(?m)^\s*(?:pub(?:\([a-z]+\))?\s+)?fn\s+(\w+)", text.read())
-            for name, body in zip(parts[1::2], parts[2::2]):
-                bodies[name] = bodies.get(name, "") + body
-    return {name: {it for it in re.findall(r"\b(\w+)\b", body) if it in bodies} for name, body in bodies.items()}
-
-
-def reached(calls, names):
-    """Returns the names that these lead to."""
-    found, more = set(), set(names)
-    while more:
-        more = {it for name in more for it in calls.get(name, ())} - found
-        found |= more
-    return found
-
-
-def groups_of(edits):
-    """Returns the edits of one crate in groups: no edit of a group leads to what another one of it changes, and no two change one file's text in one place."""
-    calls = calls_in(edits[0].crate.folder)
-    groups = []
-    for edit in edits:
-        led = reached(calls, edit.plain()) | edit.plain()
-        for group in groups:
-            if all(not led & other.plain() and not (reached(calls, other.plain()) & edit.plain()) for other in group):
-                group.append(edit)
-                break
-        else:
-            groups.append([edit])
-    return groups
-
-
-def texts_of(rt, group):
-    """Returns the texts that all edits of a group make, one applied after the other, or none where they don't fit together."""
-    return rt.edited("\n".join(it.text for it in group), group[0].crate.folder)[0]
-
-
-def is_open(lines, function):
-    """Whether the prover said of the function that it isn't proved: True, False, or None where it said nothing of it."""
-    said = [it for it in lines if re.match(rf"fn (\S+::)?{re.escape(function)}: ", it)]
-    if not said:
-        return None
-    return any(re.search(r": (not proved|no proof)", it) for it in said)
-
-
-def tries(rt, group, kept):
-    """Tries the edits of a group by one check, and each alone where that tells too little."""
-    texts = texts_of(rt, group)
-    lines, status = [], None
-    if texts is not None:
-        functions = [it for edit in group for it in edit.functions]
-        flags = ["--jobs", "1", *(word for it in functions for word in ("--only", it))]
-        ran = rt.checked(group[0].crate, texts, flags, kept)
-        lines, status = ran.stdout.split("\n"), ran.returncode
+def refusal(rt, crates, name):
+    """Returns whether the prover refuses an edit, and what there is to say of it."""
+    name, _, function = name.partition("=")
+    crate, edit = file_of(name)
+    if crate not in crates or not edit:
+        return False, "no such edit"
+    crate = crates[crate]
+    lacking = [it.name for it in crate.below() if not os.path.isdir(it.rlib)]
+    if lacking:
+        return False, f"{lacking[0]} isn't built: run rt ci first"
+    texts, why = rt.read_edit(edit, crate.folder)
+    if why:
+        return False, why
+    functions = [function] if function else functions_of(crate.folder, edit)
+    ran = rt.checked(crate, texts, ["--jobs", "1", *(word for it in functions for word in ("--only", it))], None)
+    lines = ran.stdout.split("\n")
+    open_ones = [it for it in lines if re.match(r"fn \S+: (not proved|no proof)", it)]
     strange = next((it for it in lines if "error[" in it), "")
-    found = {edit: [is_open(lines, it) for it in edit.functions] for edit in group}
-    tells = status in (0, 1) and not strange and all(it is not None for opens in found.values() for it in opens)
-    if not tells and len(group) > 1:
-        for edit in group:
-            tries(rt, [edit], kept)
-        return
-    for edit in group:
-        edit.is_refused = tells and any(found[edit])
-        at = ", ".join(edit.functions)
-        edit.said = f"refused at {at}" if edit.is_refused else strange or f"NOT REFUSED at {at}: {' '.join(lines[-3:])}"[:300]
-
-
-def try_crate(rt, edits):
-    """Tries the edits of one crate, over one another's work."""
-    began = time.monotonic()
-    groups = groups_of(edits)
-    with tempfile.TemporaryDirectory(prefix="edits-") as kept:
-        for group in groups:
-            tries(rt, group, kept)
-    print(f"{edits[0].crate.name}: {len(edits)} edits by {len(groups)} checks in {time.monotonic() - began:.0f} s", flush=True)
+    if ran.returncode == 1 and open_ones and not strange:
+        return True, f"refused at {', '.join(functions)}"
+    return False, strange or f"NOT REFUSED at {', '.join(functions)}: {' '.join(lines[-3:])}"[:300]
 
 
 def main(names):
@@ -266,20 +116,14 @@ def main(names):
     rt.Crate.allowed = rt.handles_of(ROOT)
     rt.rtlib.guarded()
     crates = {it.name: it for it in rt.rtlib.crates_below(ROOT)}
-    edits = [Edit(rt, crates, it) for it in names or TRIED]
-    by_crate = {}
-    for edit in edits:
-        if not edit.said:
-            by_crate.setdefault(edit.crate.name, []).append(edit)
-    # Those with most below them take longest, and begin first.
-    order = sorted(by_crate.values(), key=lambda it: -len(it[0].crate.below()))
+    names = names or TRIED
     with ThreadPoolExecutor(LANES) as pool:
-        list(pool.map(lambda it: try_crate(rt, it), order))
-    for edit in edits:
-        print(f"{edit.name}: {edit.said}")
-    refused = sum(it.is_refused for it in edits)
-    print(f"{len(edits)} edits, {refused} refused")
-    return 0 if edits and refused == len(edits) else 1
+        tried = list(pool.map(lambda it: refusal(rt, crates, it), names))
+    for name, (_, said) in zip(names, tried):
+        print(f"{name}: {said}")
+    refused = sum(is_well for is_well, _ in tried)
+    print(f"{len(names)} edits, {refused} refused")
+    return 0 if names and refused == len(names) else 1
 
 
 if __name__ == "__main__":

@@ -1,8 +1,12 @@
-//! What `ps_compact` makes, seen from outside: stores compacted beside disks that fail, and stopped after each call of the disk.
+//! What `ps_compact_codec`, `ps_compact_export` and `ps_compact` make, seen from outside: rows as trees and read again, the rows of
+//! tables as entries, and stores compacted, stopped after each call of the disk.
 //!
-//! Which rows a store is compacted to, and which stores aren't, stands in `tests/rows` and `tests/compact`, which run the program. The tests stand apart since
-//! each crate is proved once more with its own. Nothing stands on this crate, and it has no public function.
+//! The tests stand apart since each crate is proved once more with its own. Nothing stands on this crate, and it has no public function.
 #![tactic(auto)]
 
 #[cfg(test)]
 mod compacting;
+#[cfg(test)]
+mod rows;
+#[cfg(test)]
+mod trees;

@@ -1,51 +1,294 @@
 // The two examples of XEP-0115 (§5.2 and §5.3), answers that are ill-formed, and a long one.
+ghost use Rattle.std.specs.Prelude.{◌≢◌, []};
+
 use ps_caps::{VerRefusal, check, read_info, ver_of};
-use ps_types::{Info, Text};
-use ps_wire::read_tree;
+use ps_names::element;
+use ps_types::{Attrs, Child, Info, Kids, Text};
 use std::alloc::Global;
 use std::process::Abort;
 use std::test::Fail;
 
-// Answers, each behind a word and its string: it `agrees` with that, is `well`-formed and of another string, or `ill`-formed. The long one has 256 features, the
-// last of them first.
-const ANSWERS: &str =
-    r#"agrees QgayPKawpkPSDYmwT/WM94uAlu0= {"n":"query","ns":"http://jabber.org/protocol/disco#info","c":[{"n":"feature","a":{"var":"http://jabber.org/protocol/caps"}},{"n":"feature","a":{"var":"http://jabber.org/protocol/disco#items"}},{"n":"feature","a":{"var":"http://jabber.org/protocol/disco#info"}},{"n":"feature","a":{"var":"http://jabber.org/protocol/muc"}},{"n":"identity","a":{"category":"client","type":"pc","xml:lang":"","name":"Exodus 0.9.1"}}]}
-agrees q07IKJEyjvHSyhy//CH0CxmKi8w= {"n":"query","ns":"http://jabber.org/protocol/disco#info","c":[{"n":"identity","a":{"category":"client","type":"pc","xml:lang":"en","name":"Psi 0.11"}},{"n":"feature","a":{"var":"http://jabber.org/protocol/caps"}},{"n":"feature","a":{"var":"http://jabber.org/protocol/disco#info"}},{"n":"feature","a":{"var":"http://jabber.org/protocol/disco#items"}},{"n":"feature","a":{"var":"http://jabber.org/protocol/muc"}},{"n":"x","ns":"jabber:x:data","a":{"type":"result"},"c":[{"n":"field","a":{"type":"","var":"os"},"c":[{"n":"value","c":["Mac"]}]},{"n":"field","a":{"type":"hidden","var":"FORM_TYPE"},"c":[{"n":"value","c":["urn:xmpp:dataforms:softwareinfo"]}]},{"n":"field","a":{"type":"","var":"ip_version"},"c":[{"n":"value","c":["ipv6"]},{"n":"value","c":["ipv4"]}]},{"n":"field","a":{"type":"","var":"os_version"},"c":[{"n":"value","c":["10.5.1"]}]},{"n":"field","a":{"type":"","var":"software"},"c":[{"n":"value","c":["Psi"]}]},{"n":"field","a":{"type":"","var":"software_version"},"c":[{"n":"value","c":["0.11"]}]}]},{"n":"identity","a":{"category":"client","type":"pc","xml:lang":"el","name":"Ψ 0.11"}}]}
-ill - {"n":"query","ns":"http://jabber.org/protocol/disco#info","c":[{"n":"identity","a":{"category":"client","type":"pc","xml:lang":"en","name":"Psi"}},{"n":"identity","a":{"category":"client","type":"bot","xml:lang":"en","name":"Psi"}},{"n":"identity","a":{"category":"client","type":"pc","xml:lang":"en","name":"Psi"}}]}
-ill - {"n":"query","ns":"http://jabber.org/protocol/disco#info","c":[{"n":"feature","a":{"var":"http://jabber.org/protocol/muc"}},{"n":"feature","a":{"var":"http://jabber.org/protocol/caps"}},{"n":"feature","a":{"var":"http://jabber.org/protocol/muc"}}]}
-ill - {"n":"query","ns":"http://jabber.org/protocol/disco#info","c":[{"n":"x","ns":"jabber:x:data","a":{"type":"result"},"c":[{"n":"field","a":{"type":"hidden","var":"FORM_TYPE"},"c":[{"n":"value","c":["urn:xmpp:dataforms:softwareinfo"]}]}]},{"n":"x","ns":"jabber:x:data","a":{"type":"result"},"c":[{"n":"field","a":{"type":"hidden","var":"FORM_TYPE"},"c":[{"n":"value","c":["urn:a"]}]}]},{"n":"x","ns":"jabber:x:data","a":{"type":"result"},"c":[{"n":"field","a":{"type":"hidden","var":"FORM_TYPE"},"c":[{"n":"value","c":["urn:xmpp:dataforms:softwareinfo"]}]}]}]}
-ill - {"n":"query","ns":"http://jabber.org/protocol/disco#info","c":[{"n":"x","ns":"jabber:x:data","a":{"type":"result"},"c":[{"n":"field","a":{"type":"hidden","var":"FORM_TYPE"},"c":[{"n":"value","c":["urn:xmpp:dataforms:softwareinfo"]},{"n":"value","c":["urn:a"]}]}]}]}
-well - {"n":"query","ns":"http://jabber.org/protocol/disco#info","c":[{"n":"identity","a":{"category":"client","type":"pc","xml:lang":"en","name":"Psi"}},{"n":"identity","a":{"category":"client","type":"pc","xml:lang":"en","name":"Psi 2"}},{"n":"x","ns":"jabber:x:data","a":{"type":"result"},"c":[{"n":"field","a":{"type":"hidden","var":"FORM_TYPE"},"c":[{"n":"value","c":["urn:xmpp:dataforms:softwareinfo"]},{"n":"value","c":["urn:xmpp:dataforms:softwareinfo"]}]}]},{"n":"x","ns":"jabber:x:data","a":{"type":"result"},"c":[{"n":"field","a":{"type":"","var":"FORM_TYPE"},"c":[{"n":"value","c":["urn:xmpp:dataforms:softwareinfo"]},{"n":"value","c":["urn:a"]}]}]},{"n":"x","ns":"jabber:x:data","a":{"type":"result"},"c":[{"n":"field","a":{"type":"","var":"FORM_TYPE"},"c":[{"n":"value","c":["urn:xmpp:dataforms:softwareinfo"]}]}]},{"n":"x","ns":"jabber:x:data","a":{"type":"result"},"c":[{"n":"field","a":{"type":"hidden","var":"FORM_TYPE"},"c":[]}]}]}
-agrees 2jmj7l5rSw0yVb/vlWAYkK/YBwk= {"n":"query","ns":"http://jabber.org/protocol/disco#info"}
-agrees LuRdj3+NfnH64FgIQAUChB6mAz4= {"n":"query","ns":"http://jabber.org/protocol/disco#info","c":[{"n":"feature","a":{"var":"urn:f:255"}},{"n":"feature","a":{"var":"urn:f:254"}},{"n":"feature","a":{"var":"urn:f:253"}},{"n":"feature","a":{"var":"urn:f:252"}},{"n":"feature","a":{"var":"urn:f:251"}},{"n":"feature","a":{"var":"urn:f:250"}},{"n":"feature","a":{"var":"urn:f:249"}},{"n":"feature","a":{"var":"urn:f:248"}},{"n":"feature","a":{"var":"urn:f:247"}},{"n":"feature","a":{"var":"urn:f:246"}},{"n":"feature","a":{"var":"urn:f:245"}},{"n":"feature","a":{"var":"urn:f:244"}},{"n":"feature","a":{"var":"urn:f:243"}},{"n":"feature","a":{"var":"urn:f:242"}},{"n":"feature","a":{"var":"urn:f:241"}},{"n":"feature","a":{"var":"urn:f:240"}},{"n":"feature","a":{"var":"urn:f:239"}},{"n":"feature","a":{"var":"urn:f:238"}},{"n":"feature","a":{"var":"urn:f:237"}},{"n":"feature","a":{"var":"urn:f:236"}},{"n":"feature","a":{"var":"urn:f:235"}},{"n":"feature","a":{"var":"urn:f:234"}},{"n":"feature","a":{"var":"urn:f:233"}},{"n":"feature","a":{"var":"urn:f:232"}},{"n":"feature","a":{"var":"urn:f:231"}},{"n":"feature","a":{"var":"urn:f:230"}},{"n":"feature","a":{"var":"urn:f:229"}},{"n":"feature","a":{"var":"urn:f:228"}},{"n":"feature","a":{"var":"urn:f:227"}},{"n":"feature","a":{"var":"urn:f:226"}},{"n":"feature","a":{"var":"urn:f:225"}},{"n":"feature","a":{"var":"urn:f:224"}},{"n":"feature","a":{"var":"urn:f:223"}},{"n":"feature","a":{"var":"urn:f:222"}},{"n":"feature","a":{"var":"urn:f:221"}},{"n":"feature","a":{"var":"urn:f:220"}},{"n":"feature","a":{"var":"urn:f:219"}},{"n":"feature","a":{"var":"urn:f:218"}},{"n":"feature","a":{"var":"urn:f:217"}},{"n":"feature","a":{"var":"urn:f:216"}},{"n":"feature","a":{"var":"urn:f:215"}},{"n":"feature","a":{"var":"urn:f:214"}},{"n":"feature","a":{"var":"urn:f:213"}},{"n":"feature","a":{"var":"urn:f:212"}},{"n":"feature","a":{"var":"urn:f:211"}},{"n":"feature","a":{"var":"urn:f:210"}},{"n":"feature","a":{"var":"urn:f:209"}},{"n":"feature","a":{"var":"urn:f:208"}},{"n":"feature","a":{"var":"urn:f:207"}},{"n":"feature","a":{"var":"urn:f:206"}},{"n":"feature","a":{"var":"urn:f:205"}},{"n":"feature","a":{"var":"urn:f:204"}},{"n":"feature","a":{"var":"urn:f:203"}},{"n":"feature","a":{"var":"urn:f:202"}},{"n":"feature","a":{"var":"urn:f:201"}},{"n":"feature","a":{"var":"urn:f:200"}},{"n":"feature","a":{"var":"urn:f:199"}},{"n":"feature","a":{"var":"urn:f:198"}},{"n":"feature","a":{"var":"urn:f:197"}},{"n":"feature","a":{"var":"urn:f:196"}},{"n":"feature","a":{"var":"urn:f:195"}},{"n":"feature","a":{"var":"urn:f:194"}},{"n":"feature","a":{"var":"urn:f:193"}},{"n":"feature","a":{"var":"urn:f:192"}},{"n":"feature","a":{"var":"urn:f:191"}},{"n":"feature","a":{"var":"urn:f:190"}},{"n":"feature","a":{"var":"urn:f:189"}},{"n":"feature","a":{"var":"urn:f:188"}},{"n":"feature","a":{"var":"urn:f:187"}},{"n":"feature","a":{"var":"urn:f:186"}},{"n":"feature","a":{"var":"urn:f:185"}},{"n":"feature","a":{"var":"urn:f:184"}},{"n":"feature","a":{"var":"urn:f:183"}},{"n":"feature","a":{"var":"urn:f:182"}},{"n":"feature","a":{"var":"urn:f:181"}},{"n":"feature","a":{"var":"urn:f:180"}},{"n":"feature","a":{"var":"urn:f:179"}},{"n":"feature","a":{"var":"urn:f:178"}},{"n":"feature","a":{"var":"urn:f:177"}},{"n":"feature","a":{"var":"urn:f:176"}},{"n":"feature","a":{"var":"urn:f:175"}},{"n":"feature","a":{"var":"urn:f:174"}},{"n":"feature","a":{"var":"urn:f:173"}},{"n":"feature","a":{"var":"urn:f:172"}},{"n":"feature","a":{"var":"urn:f:171"}},{"n":"feature","a":{"var":"urn:f:170"}},{"n":"feature","a":{"var":"urn:f:169"}},{"n":"feature","a":{"var":"urn:f:168"}},{"n":"feature","a":{"var":"urn:f:167"}},{"n":"feature","a":{"var":"urn:f:166"}},{"n":"feature","a":{"var":"urn:f:165"}},{"n":"feature","a":{"var":"urn:f:164"}},{"n":"feature","a":{"var":"urn:f:163"}},{"n":"feature","a":{"var":"urn:f:162"}},{"n":"feature","a":{"var":"urn:f:161"}},{"n":"feature","a":{"var":"urn:f:160"}},{"n":"feature","a":{"var":"urn:f:159"}},{"n":"feature","a":{"var":"urn:f:158"}},{"n":"feature","a":{"var":"urn:f:157"}},{"n":"feature","a":{"var":"urn:f:156"}},{"n":"feature","a":{"var":"urn:f:155"}},{"n":"feature","a":{"var":"urn:f:154"}},{"n":"feature","a":{"var":"urn:f:153"}},{"n":"feature","a":{"var":"urn:f:152"}},{"n":"feature","a":{"var":"urn:f:151"}},{"n":"feature","a":{"var":"urn:f:150"}},{"n":"feature","a":{"var":"urn:f:149"}},{"n":"feature","a":{"var":"urn:f:148"}},{"n":"feature","a":{"var":"urn:f:147"}},{"n":"feature","a":{"var":"urn:f:146"}},{"n":"feature","a":{"var":"urn:f:145"}},{"n":"feature","a":{"var":"urn:f:144"}},{"n":"feature","a":{"var":"urn:f:143"}},{"n":"feature","a":{"var":"urn:f:142"}},{"n":"feature","a":{"var":"urn:f:141"}},{"n":"feature","a":{"var":"urn:f:140"}},{"n":"feature","a":{"var":"urn:f:139"}},{"n":"feature","a":{"var":"urn:f:138"}},{"n":"feature","a":{"var":"urn:f:137"}},{"n":"feature","a":{"var":"urn:f:136"}},{"n":"feature","a":{"var":"urn:f:135"}},{"n":"feature","a":{"var":"urn:f:134"}},{"n":"feature","a":{"var":"urn:f:133"}},{"n":"feature","a":{"var":"urn:f:132"}},{"n":"feature","a":{"var":"urn:f:131"}},{"n":"feature","a":{"var":"urn:f:130"}},{"n":"feature","a":{"var":"urn:f:129"}},{"n":"feature","a":{"var":"urn:f:128"}},{"n":"feature","a":{"var":"urn:f:127"}},{"n":"feature","a":{"var":"urn:f:126"}},{"n":"feature","a":{"var":"urn:f:125"}},{"n":"feature","a":{"var":"urn:f:124"}},{"n":"feature","a":{"var":"urn:f:123"}},{"n":"feature","a":{"var":"urn:f:122"}},{"n":"feature","a":{"var":"urn:f:121"}},{"n":"feature","a":{"var":"urn:f:120"}},{"n":"feature","a":{"var":"urn:f:119"}},{"n":"feature","a":{"var":"urn:f:118"}},{"n":"feature","a":{"var":"urn:f:117"}},{"n":"feature","a":{"var":"urn:f:116"}},{"n":"feature","a":{"var":"urn:f:115"}},{"n":"feature","a":{"var":"urn:f:114"}},{"n":"feature","a":{"var":"urn:f:113"}},{"n":"feature","a":{"var":"urn:f:112"}},{"n":"feature","a":{"var":"urn:f:111"}},{"n":"feature","a":{"var":"urn:f:110"}},{"n":"feature","a":{"var":"urn:f:109"}},{"n":"feature","a":{"var":"urn:f:108"}},{"n":"feature","a":{"var":"urn:f:107"}},{"n":"feature","a":{"var":"urn:f:106"}},{"n":"feature","a":{"var":"urn:f:105"}},{"n":"feature","a":{"var":"urn:f:104"}},{"n":"feature","a":{"var":"urn:f:103"}},{"n":"feature","a":{"var":"urn:f:102"}},{"n":"feature","a":{"var":"urn:f:101"}},{"n":"feature","a":{"var":"urn:f:100"}},{"n":"feature","a":{"var":"urn:f:099"}},{"n":"feature","a":{"var":"urn:f:098"}},{"n":"feature","a":{"var":"urn:f:097"}},{"n":"feature","a":{"var":"urn:f:096"}},{"n":"feature","a":{"var":"urn:f:095"}},{"n":"feature","a":{"var":"urn:f:094"}},{"n":"feature","a":{"var":"urn:f:093"}},{"n":"feature","a":{"var":"urn:f:092"}},{"n":"feature","a":{"var":"urn:f:091"}},{"n":"feature","a":{"var":"urn:f:090"}},{"n":"feature","a":{"var":"urn:f:089"}},{"n":"feature","a":{"var":"urn:f:088"}},{"n":"feature","a":{"var":"urn:f:087"}},{"n":"feature","a":{"var":"urn:f:086"}},{"n":"feature","a":{"var":"urn:f:085"}},{"n":"feature","a":{"var":"urn:f:084"}},{"n":"feature","a":{"var":"urn:f:083"}},{"n":"feature","a":{"var":"urn:f:082"}},{"n":"feature","a":{"var":"urn:f:081"}},{"n":"feature","a":{"var":"urn:f:080"}},{"n":"feature","a":{"var":"urn:f:079"}},{"n":"feature","a":{"var":"urn:f:078"}},{"n":"feature","a":{"var":"urn:f:077"}},{"n":"feature","a":{"var":"urn:f:076"}},{"n":"feature","a":{"var":"urn:f:075"}},{"n":"feature","a":{"var":"urn:f:074"}},{"n":"feature","a":{"var":"urn:f:073"}},{"n":"feature","a":{"var":"urn:f:072"}},{"n":"feature","a":{"var":"urn:f:071"}},{"n":"feature","a":{"var":"urn:f:070"}},{"n":"feature","a":{"var":"urn:f:069"}},{"n":"feature","a":{"var":"urn:f:068"}},{"n":"feature","a":{"var":"urn:f:067"}},{"n":"feature","a":{"var":"urn:f:066"}},{"n":"feature","a":{"var":"urn:f:065"}},{"n":"feature","a":{"var":"urn:f:064"}},{"n":"feature","a":{"var":"urn:f:063"}},{"n":"feature","a":{"var":"urn:f:062"}},{"n":"feature","a":{"var":"urn:f:061"}},{"n":"feature","a":{"var":"urn:f:060"}},{"n":"feature","a":{"var":"urn:f:059"}},{"n":"feature","a":{"var":"urn:f:058"}},{"n":"feature","a":{"var":"urn:f:057"}},{"n":"feature","a":{"var":"urn:f:056"}},{"n":"feature","a":{"var":"urn:f:055"}},{"n":"feature","a":{"var":"urn:f:054"}},{"n":"feature","a":{"var":"urn:f:053"}},{"n":"feature","a":{"var":"urn:f:052"}},{"n":"feature","a":{"var":"urn:f:051"}},{"n":"feature","a":{"var":"urn:f:050"}},{"n":"feature","a":{"var":"urn:f:049"}},{"n":"feature","a":{"var":"urn:f:048"}},{"n":"feature","a":{"var":"urn:f:047"}},{"n":"feature","a":{"var":"urn:f:046"}},{"n":"feature","a":{"var":"urn:f:045"}},{"n":"feature","a":{"var":"urn:f:044"}},{"n":"feature","a":{"var":"urn:f:043"}},{"n":"feature","a":{"var":"urn:f:042"}},{"n":"feature","a":{"var":"urn:f:041"}},{"n":"feature","a":{"var":"urn:f:040"}},{"n":"feature","a":{"var":"urn:f:039"}},{"n":"feature","a":{"var":"urn:f:038"}},{"n":"feature","a":{"var":"urn:f:037"}},{"n":"feature","a":{"var":"urn:f:036"}},{"n":"feature","a":{"var":"urn:f:035"}},{"n":"feature","a":{"var":"urn:f:034"}},{"n":"feature","a":{"var":"urn:f:033"}},{"n":"feature","a":{"var":"urn:f:032"}},{"n":"feature","a":{"var":"urn:f:031"}},{"n":"feature","a":{"var":"urn:f:030"}},{"n":"feature","a":{"var":"urn:f:029"}},{"n":"feature","a":{"var":"urn:f:028"}},{"n":"feature","a":{"var":"urn:f:027"}},{"n":"feature","a":{"var":"urn:f:026"}},{"n":"feature","a":{"var":"urn:f:025"}},{"n":"feature","a":{"var":"urn:f:024"}},{"n":"feature","a":{"var":"urn:f:023"}},{"n":"feature","a":{"var":"urn:f:022"}},{"n":"feature","a":{"var":"urn:f:021"}},{"n":"feature","a":{"var":"urn:f:020"}},{"n":"feature","a":{"var":"urn:f:019"}},{"n":"feature","a":{"var":"urn:f:018"}},{"n":"feature","a":{"var":"urn:f:017"}},{"n":"feature","a":{"var":"urn:f:016"}},{"n":"feature","a":{"var":"urn:f:015"}},{"n":"feature","a":{"var":"urn:f:014"}},{"n":"feature","a":{"var":"urn:f:013"}},{"n":"feature","a":{"var":"urn:f:012"}},{"n":"feature","a":{"var":"urn:f:011"}},{"n":"feature","a":{"var":"urn:f:010"}},{"n":"feature","a":{"var":"urn:f:009"}},{"n":"feature","a":{"var":"urn:f:008"}},{"n":"feature","a":{"var":"urn:f:007"}},{"n":"feature","a":{"var":"urn:f:006"}},{"n":"feature","a":{"var":"urn:f:005"}},{"n":"feature","a":{"var":"urn:f:004"}},{"n":"feature","a":{"var":"urn:f:003"}},{"n":"feature","a":{"var":"urn:f:002"}},{"n":"feature","a":{"var":"urn:f:001"}},{"n":"feature","a":{"var":"urn:f:000"}}]}
-ill - {"n":"query","ns":"http://jabber.org/protocol/disco#info","c":[{"n":"feature","a":{"var":"urn:f:255"}},{"n":"feature","a":{"var":"urn:f:254"}},{"n":"feature","a":{"var":"urn:f:253"}},{"n":"feature","a":{"var":"urn:f:252"}},{"n":"feature","a":{"var":"urn:f:251"}},{"n":"feature","a":{"var":"urn:f:250"}},{"n":"feature","a":{"var":"urn:f:249"}},{"n":"feature","a":{"var":"urn:f:248"}},{"n":"feature","a":{"var":"urn:f:247"}},{"n":"feature","a":{"var":"urn:f:246"}},{"n":"feature","a":{"var":"urn:f:245"}},{"n":"feature","a":{"var":"urn:f:244"}},{"n":"feature","a":{"var":"urn:f:243"}},{"n":"feature","a":{"var":"urn:f:242"}},{"n":"feature","a":{"var":"urn:f:241"}},{"n":"feature","a":{"var":"urn:f:240"}},{"n":"feature","a":{"var":"urn:f:239"}},{"n":"feature","a":{"var":"urn:f:238"}},{"n":"feature","a":{"var":"urn:f:237"}},{"n":"feature","a":{"var":"urn:f:236"}},{"n":"feature","a":{"var":"urn:f:235"}},{"n":"feature","a":{"var":"urn:f:234"}},{"n":"feature","a":{"var":"urn:f:233"}},{"n":"feature","a":{"var":"urn:f:232"}},{"n":"feature","a":{"var":"urn:f:231"}},{"n":"feature","a":{"var":"urn:f:230"}},{"n":"feature","a":{"var":"urn:f:229"}},{"n":"feature","a":{"var":"urn:f:228"}},{"n":"feature","a":{"var":"urn:f:227"}},{"n":"feature","a":{"var":"urn:f:226"}},{"n":"feature","a":{"var":"urn:f:225"}},{"n":"feature","a":{"var":"urn:f:224"}},{"n":"feature","a":{"var":"urn:f:223"}},{"n":"feature","a":{"var":"urn:f:222"}},{"n":"feature","a":{"var":"urn:f:221"}},{"n":"feature","a":{"var":"urn:f:220"}},{"n":"feature","a":{"var":"urn:f:219"}},{"n":"feature","a":{"var":"urn:f:218"}},{"n":"feature","a":{"var":"urn:f:217"}},{"n":"feature","a":{"var":"urn:f:216"}},{"n":"feature","a":{"var":"urn:f:215"}},{"n":"feature","a":{"var":"urn:f:214"}},{"n":"feature","a":{"var":"urn:f:213"}},{"n":"feature","a":{"var":"urn:f:212"}},{"n":"feature","a":{"var":"urn:f:211"}},{"n":"feature","a":{"var":"urn:f:210"}},{"n":"feature","a":{"var":"urn:f:209"}},{"n":"feature","a":{"var":"urn:f:208"}},{"n":"feature","a":{"var":"urn:f:207"}},{"n":"feature","a":{"var":"urn:f:206"}},{"n":"feature","a":{"var":"urn:f:205"}},{"n":"feature","a":{"var":"urn:f:204"}},{"n":"feature","a":{"var":"urn:f:203"}},{"n":"feature","a":{"var":"urn:f:202"}},{"n":"feature","a":{"var":"urn:f:201"}},{"n":"feature","a":{"var":"urn:f:200"}},{"n":"feature","a":{"var":"urn:f:199"}},{"n":"feature","a":{"var":"urn:f:198"}},{"n":"feature","a":{"var":"urn:f:197"}},{"n":"feature","a":{"var":"urn:f:196"}},{"n":"feature","a":{"var":"urn:f:195"}},{"n":"feature","a":{"var":"urn:f:194"}},{"n":"feature","a":{"var":"urn:f:193"}},{"n":"feature","a":{"var":"urn:f:192"}},{"n":"feature","a":{"var":"urn:f:191"}},{"n":"feature","a":{"var":"urn:f:190"}},{"n":"feature","a":{"var":"urn:f:189"}},{"n":"feature","a":{"var":"urn:f:188"}},{"n":"feature","a":{"var":"urn:f:187"}},{"n":"feature","a":{"var":"urn:f:186"}},{"n":"feature","a":{"var":"urn:f:185"}},{"n":"feature","a":{"var":"urn:f:184"}},{"n":"feature","a":{"var":"urn:f:183"}},{"n":"feature","a":{"var":"urn:f:182"}},{"n":"feature","a":{"var":"urn:f:181"}},{"n":"feature","a":{"var":"urn:f:180"}},{"n":"feature","a":{"var":"urn:f:179"}},{"n":"feature","a":{"var":"urn:f:178"}},{"n":"feature","a":{"var":"urn:f:177"}},{"n":"feature","a":{"var":"urn:f:176"}},{"n":"feature","a":{"var":"urn:f:175"}},{"n":"feature","a":{"var":"urn:f:174"}},{"n":"feature","a":{"var":"urn:f:173"}},{"n":"feature","a":{"var":"urn:f:172"}},{"n":"feature","a":{"var":"urn:f:171"}},{"n":"feature","a":{"var":"urn:f:170"}},{"n":"feature","a":{"var":"urn:f:169"}},{"n":"feature","a":{"var":"urn:f:168"}},{"n":"feature","a":{"var":"urn:f:167"}},{"n":"feature","a":{"var":"urn:f:166"}},{"n":"feature","a":{"var":"urn:f:165"}},{"n":"feature","a":{"var":"urn:f:164"}},{"n":"feature","a":{"var":"urn:f:163"}},{"n":"feature","a":{"var":"urn:f:162"}},{"n":"feature","a":{"var":"urn:f:161"}},{"n":"feature","a":{"var":"urn:f:160"}},{"n":"feature","a":{"var":"urn:f:159"}},{"n":"feature","a":{"var":"urn:f:158"}},{"n":"feature","a":{"var":"urn:f:157"}},{"n":"feature","a":{"var":"urn:f:156"}},{"n":"feature","a":{"var":"urn:f:155"}},{"n":"feature","a":{"var":"urn:f:154"}},{"n":"feature","a":{"var":"urn:f:153"}},{"n":"feature","a":{"var":"urn:f:152"}},{"n":"feature","a":{"var":"urn:f:151"}},{"n":"feature","a":{"var":"urn:f:150"}},{"n":"feature","a":{"var":"urn:f:149"}},{"n":"feature","a":{"var":"urn:f:148"}},{"n":"feature","a":{"var":"urn:f:147"}},{"n":"feature","a":{"var":"urn:f:146"}},{"n":"feature","a":{"var":"urn:f:145"}},{"n":"feature","a":{"var":"urn:f:144"}},{"n":"feature","a":{"var":"urn:f:143"}},{"n":"feature","a":{"var":"urn:f:142"}},{"n":"feature","a":{"var":"urn:f:141"}},{"n":"feature","a":{"var":"urn:f:140"}},{"n":"feature","a":{"var":"urn:f:139"}},{"n":"feature","a":{"var":"urn:f:138"}},{"n":"feature","a":{"var":"urn:f:137"}},{"n":"feature","a":{"var":"urn:f:136"}},{"n":"feature","a":{"var":"urn:f:135"}},{"n":"feature","a":{"var":"urn:f:134"}},{"n":"feature","a":{"var":"urn:f:133"}},{"n":"feature","a":{"var":"urn:f:132"}},{"n":"feature","a":{"var":"urn:f:131"}},{"n":"feature","a":{"var":"urn:f:130"}},{"n":"feature","a":{"var":"urn:f:129"}},{"n":"feature","a":{"var":"urn:f:128"}},{"n":"feature","a":{"var":"urn:f:127"}},{"n":"feature","a":{"var":"urn:f:126"}},{"n":"feature","a":{"var":"urn:f:125"}},{"n":"feature","a":{"var":"urn:f:124"}},{"n":"feature","a":{"var":"urn:f:123"}},{"n":"feature","a":{"var":"urn:f:122"}},{"n":"feature","a":{"var":"urn:f:121"}},{"n":"feature","a":{"var":"urn:f:120"}},{"n":"feature","a":{"var":"urn:f:119"}},{"n":"feature","a":{"var":"urn:f:118"}},{"n":"feature","a":{"var":"urn:f:117"}},{"n":"feature","a":{"var":"urn:f:116"}},{"n":"feature","a":{"var":"urn:f:115"}},{"n":"feature","a":{"var":"urn:f:114"}},{"n":"feature","a":{"var":"urn:f:113"}},{"n":"feature","a":{"var":"urn:f:112"}},{"n":"feature","a":{"var":"urn:f:111"}},{"n":"feature","a":{"var":"urn:f:110"}},{"n":"feature","a":{"var":"urn:f:109"}},{"n":"feature","a":{"var":"urn:f:108"}},{"n":"feature","a":{"var":"urn:f:107"}},{"n":"feature","a":{"var":"urn:f:106"}},{"n":"feature","a":{"var":"urn:f:105"}},{"n":"feature","a":{"var":"urn:f:104"}},{"n":"feature","a":{"var":"urn:f:103"}},{"n":"feature","a":{"var":"urn:f:102"}},{"n":"feature","a":{"var":"urn:f:101"}},{"n":"feature","a":{"var":"urn:f:100"}},{"n":"feature","a":{"var":"urn:f:099"}},{"n":"feature","a":{"var":"urn:f:098"}},{"n":"feature","a":{"var":"urn:f:097"}},{"n":"feature","a":{"var":"urn:f:096"}},{"n":"feature","a":{"var":"urn:f:095"}},{"n":"feature","a":{"var":"urn:f:094"}},{"n":"feature","a":{"var":"urn:f:093"}},{"n":"feature","a":{"var":"urn:f:092"}},{"n":"feature","a":{"var":"urn:f:091"}},{"n":"feature","a":{"var":"urn:f:090"}},{"n":"feature","a":{"var":"urn:f:089"}},{"n":"feature","a":{"var":"urn:f:088"}},{"n":"feature","a":{"var":"urn:f:087"}},{"n":"feature","a":{"var":"urn:f:086"}},{"n":"feature","a":{"var":"urn:f:085"}},{"n":"feature","a":{"var":"urn:f:084"}},{"n":"feature","a":{"var":"urn:f:083"}},{"n":"feature","a":{"var":"urn:f:082"}},{"n":"feature","a":{"var":"urn:f:081"}},{"n":"feature","a":{"var":"urn:f:080"}},{"n":"feature","a":{"var":"urn:f:079"}},{"n":"feature","a":{"var":"urn:f:078"}},{"n":"feature","a":{"var":"urn:f:077"}},{"n":"feature","a":{"var":"urn:f:076"}},{"n":"feature","a":{"var":"urn:f:075"}},{"n":"feature","a":{"var":"urn:f:074"}},{"n":"feature","a":{"var":"urn:f:073"}},{"n":"feature","a":{"var":"urn:f:072"}},{"n":"feature","a":{"var":"urn:f:071"}},{"n":"feature","a":{"var":"urn:f:070"}},{"n":"feature","a":{"var":"urn:f:069"}},{"n":"feature","a":{"var":"urn:f:068"}},{"n":"feature","a":{"var":"urn:f:067"}},{"n":"feature","a":{"var":"urn:f:066"}},{"n":"feature","a":{"var":"urn:f:065"}},{"n":"feature","a":{"var":"urn:f:064"}},{"n":"feature","a":{"var":"urn:f:063"}},{"n":"feature","a":{"var":"urn:f:062"}},{"n":"feature","a":{"var":"urn:f:061"}},{"n":"feature","a":{"var":"urn:f:060"}},{"n":"feature","a":{"var":"urn:f:059"}},{"n":"feature","a":{"var":"urn:f:058"}},{"n":"feature","a":{"var":"urn:f:057"}},{"n":"feature","a":{"var":"urn:f:056"}},{"n":"feature","a":{"var":"urn:f:055"}},{"n":"feature","a":{"var":"urn:f:054"}},{"n":"feature","a":{"var":"urn:f:053"}},{"n":"feature","a":{"var":"urn:f:052"}},{"n":"feature","a":{"var":"urn:f:051"}},{"n":"feature","a":{"var":"urn:f:050"}},{"n":"feature","a":{"var":"urn:f:049"}},{"n":"feature","a":{"var":"urn:f:048"}},{"n":"feature","a":{"var":"urn:f:047"}},{"n":"feature","a":{"var":"urn:f:046"}},{"n":"feature","a":{"var":"urn:f:045"}},{"n":"feature","a":{"var":"urn:f:044"}},{"n":"feature","a":{"var":"urn:f:043"}},{"n":"feature","a":{"var":"urn:f:042"}},{"n":"feature","a":{"var":"urn:f:041"}},{"n":"feature","a":{"var":"urn:f:040"}},{"n":"feature","a":{"var":"urn:f:039"}},{"n":"feature","a":{"var":"urn:f:038"}},{"n":"feature","a":{"var":"urn:f:037"}},{"n":"feature","a":{"var":"urn:f:036"}},{"n":"feature","a":{"var":"urn:f:035"}},{"n":"feature","a":{"var":"urn:f:034"}},{"n":"feature","a":{"var":"urn:f:033"}},{"n":"feature","a":{"var":"urn:f:032"}},{"n":"feature","a":{"var":"urn:f:031"}},{"n":"feature","a":{"var":"urn:f:030"}},{"n":"feature","a":{"var":"urn:f:029"}},{"n":"feature","a":{"var":"urn:f:028"}},{"n":"feature","a":{"var":"urn:f:027"}},{"n":"feature","a":{"var":"urn:f:026"}},{"n":"feature","a":{"var":"urn:f:025"}},{"n":"feature","a":{"var":"urn:f:024"}},{"n":"feature","a":{"var":"urn:f:023"}},{"n":"feature","a":{"var":"urn:f:022"}},{"n":"feature","a":{"var":"urn:f:021"}},{"n":"feature","a":{"var":"urn:f:020"}},{"n":"feature","a":{"var":"urn:f:019"}},{"n":"feature","a":{"var":"urn:f:018"}},{"n":"feature","a":{"var":"urn:f:017"}},{"n":"feature","a":{"var":"urn:f:016"}},{"n":"feature","a":{"var":"urn:f:015"}},{"n":"feature","a":{"var":"urn:f:014"}},{"n":"feature","a":{"var":"urn:f:013"}},{"n":"feature","a":{"var":"urn:f:012"}},{"n":"feature","a":{"var":"urn:f:011"}},{"n":"feature","a":{"var":"urn:f:010"}},{"n":"feature","a":{"var":"urn:f:009"}},{"n":"feature","a":{"var":"urn:f:008"}},{"n":"feature","a":{"var":"urn:f:007"}},{"n":"feature","a":{"var":"urn:f:006"}},{"n":"feature","a":{"var":"urn:f:005"}},{"n":"feature","a":{"var":"urn:f:004"}},{"n":"feature","a":{"var":"urn:f:003"}},{"n":"feature","a":{"var":"urn:f:002"}},{"n":"feature","a":{"var":"urn:f:001"}},{"n":"feature","a":{"var":"urn:f:000"}},{"n":"feature","a":{"var":"urn:f:128"}}]}"#;
+const INFO: &str = "http://jabber.org/protocol/disco#info";
 
-// Whether what an answer comes to is of that word.
-fn is_such(alloc: Global, info: &Info, word: &str, ver: &str) -> Result<bool, Fail> {
-    let wanted = Text::of(alloc, ver)?;
-    let checked = check(alloc, info, &wanted);
-    let agrees = match ver_of(alloc, info) {
-        Ok(own) => own.is(ver),
-        Err(VerRefusal::IllFormed) => return Ok(
-            word == "ill" && checked == Err(VerRefusal::IllFormed),
-        ),
-        Err(VerRefusal::Memory) => return Err(Fail::new("no memory")),
-    };
-    Ok(agrees == (word == "agrees") && checked == Ok(agrees) && word != "ill")
+const DATA: &str = "jabber:x:data";
+
+const SOFTWARE: &str = "urn:xmpp:dataforms:softwareinfo";
+
+const CAPS: &str = "http://jabber.org/protocol/caps";
+
+const ITEMS: &str = "http://jabber.org/protocol/disco#items";
+
+const MUC: &str = "http://jabber.org/protocol/muc";
+
+fn put(alloc: Global, attrs: &mut Attrs, name: &str, value: &str) -> Result<(), Fail> {
+    let name = Text::of(alloc, name)?;
+    let value = Text::of(alloc, value)?;
+    attrs.put(name, value)?;
+    Ok(())
 }
 
-fn is_row(alloc: Global, row: &str) -> Result<bool, Fail> {
-    let (word, rest) = row.split_once(' ').ok_or("no word")?;
-    let (ver, line) = rest.split_once(' ').ok_or("no answer")?;
-    let tree = read_tree(alloc, line.as_bytes())?;
-    let info = read_info(alloc, &tree)?;
-    is_such(alloc, &info, word, ver)
+// A child of that name.
+fn add(
+    alloc: Global,
+    kids: &mut Kids,
+    name: &str,
+    ns: &str,
+    attrs: Attrs,
+    inner: Kids,
+) -> Result<(), Fail>
+    requires { name.now ≢ [] }
+{
+    let child = element(alloc, name, ns, attrs, inner)?;
+    kids.push(Child::Tree(child))?;
+    Ok(())
 }
 
-/// Each answer is of its word.
-pub fn goes(rt: &impl Abort, alloc: Global) -> Result<(), Fail> {
-    for row in ANSWERS.lines() {
-        assert!(rt; is_row(alloc, row)?, "{row}");
+fn put_identity(
+    alloc: Global,
+    attrs: &mut Attrs,
+    kind: &str,
+    lang: &str,
+    name: &str,
+) -> Result<(), Fail> {
+    put(alloc, attrs, "category", "client")?;
+    put(alloc, attrs, "type", kind)?;
+    put(alloc, attrs, "xml:lang", lang)?;
+    put(alloc, attrs, "name", name)
+}
+
+fn add_identity(
+    alloc: Global,
+    kids: &mut Kids,
+    kind: &str,
+    lang: &str,
+    name: &str,
+) -> Result<(), Fail> {
+    let mut attrs = Attrs::new(alloc);
+    put_identity(alloc, &mut attrs, kind, lang, name)?;
+    add(alloc, kids, "identity", INFO, attrs, Kids::new(alloc))
+}
+
+fn add_feature(alloc: Global, kids: &mut Kids, var: &str) -> Result<(), Fail> {
+    let mut attrs = Attrs::new(alloc);
+    put(alloc, &mut attrs, "var", var)?;
+    add(alloc, kids, "feature", INFO, attrs, Kids::new(alloc))
+}
+
+fn add_features(alloc: Global, kids: &mut Kids, vars: &[&str]) -> Result<(), Fail> {
+    for var in vars {
+        add_feature(alloc, kids, var)?;
     }
     Ok(())
+}
+
+// A value, unless it is empty.
+fn add_value(alloc: Global, kids: &mut Kids, value: &str) -> Result<(), Fail> {
+    if value.is_empty() {
+        return Ok(());
+    }
+    let text = Text::of(alloc, value)?;
+    let mut words = Kids::new(alloc);
+    words.push(Child::Words(text))?;
+    add(alloc, kids, "value", DATA, Attrs::new(alloc), words)
+}
+
+fn values(alloc: Global, first: &str, second: &str) -> Result<Kids, Fail> {
+    let mut values = Kids::new(alloc);
+    add_value(alloc, &mut values, first)?;
+    add_value(alloc, &mut values, second)?;
+    Ok(values)
+}
+
+// A field of one value, or of two where the second isn't empty.
+fn add_field(
+    alloc: Global,
+    kids: &mut Kids,
+    kind: &str,
+    var: &str,
+    first: &str,
+    second: &str,
+) -> Result<(), Fail> {
+    let inner = values(alloc, first, second)?;
+    let mut attrs = Attrs::new(alloc);
+    put(alloc, &mut attrs, "type", kind)?;
+    put(alloc, &mut attrs, "var", var)?;
+    add(alloc, kids, "field", DATA, attrs, inner)
+}
+
+fn add_form(alloc: Global, kids: &mut Kids, fields: Kids) -> Result<(), Fail> {
+    let mut attrs = Attrs::new(alloc);
+    put(alloc, &mut attrs, "type", "result")?;
+    add(alloc, kids, "x", DATA, attrs, fields)
+}
+
+// A form of that type alone.
+fn add_typed(
+    alloc: Global,
+    kids: &mut Kids,
+    kind: &str,
+    first: &str,
+    second: &str,
+) -> Result<(), Fail> {
+    let mut fields = Kids::new(alloc);
+    add_field(alloc, &mut fields, kind, "FORM_TYPE", first, second)?;
+    add_form(alloc, kids, fields)
+}
+
+fn info(alloc: Global, kids: Kids) -> Result<Info, Fail> {
+    let query = element(alloc, "query", INFO, Attrs::new(alloc), kids)?;
+    Ok(read_info(alloc, &query)?)
+}
+
+fn checked(alloc: Global, info: &Info, ver: &str) -> Result<Result<bool, VerRefusal>, Fail> {
+    let ver = Text::of(alloc, ver)?;
+    Ok(check(alloc, info, &ver))
+}
+
+fn agrees(rt: &impl Abort, alloc: Global, info: &Info, ver: &str) -> Result<(), Fail> {
+    match ver_of(alloc, info) {
+        Ok(own) => assert!(rt; own.is(ver)),
+        Err(_) => assert!(rt; false),
+    }
+    assert_eq!(rt; checked(alloc, info, ver)?, Ok(true));
+    assert_eq!(rt;
+        checked(alloc, info, "QgayPKawpkPSDYmwT/WM94uAlu0")?,
+        Ok(false)
+    );
+    Ok(())
+}
+
+fn has_ver(rt: &impl Abort, alloc: Global, kids: Kids, ver: &str) -> Result<(), Fail> {
+    let info = info(alloc, kids)?;
+    agrees(rt, alloc, &info, ver)
+}
+
+fn has_none(rt: &impl Abort, alloc: Global, info: &Info) -> Result<(), Fail> {
+    match ver_of(alloc, info) {
+        Ok(_) => assert!(rt; false),
+        Err(e) => assert_eq!(rt; e, VerRefusal::IllFormed),
+    }
+    assert_eq!(rt; checked(alloc, info, "AAAA")?, Err(VerRefusal::IllFormed));
+    Ok(())
+}
+
+fn is_ill_formed(rt: &impl Abort, alloc: Global, kids: Kids) -> Result<(), Fail> {
+    let info = info(alloc, kids)?;
+    has_none(rt, alloc, &info)
+}
+
+fn is_well_formed(rt: &impl Abort, alloc: Global, kids: Kids) -> Result<(), Fail> {
+    let info = info(alloc, kids)?;
+    assert_eq!(rt; checked(alloc, &info, "AAAA")?, Ok(false));
+    Ok(())
+}
+
+fn add_simple(alloc: Global, kids: &mut Kids) -> Result<(), Fail> {
+    add_features(alloc, kids, &[CAPS, ITEMS, INFO, MUC])?;
+    add_identity(alloc, kids, "pc", "", "Exodus 0.9.1")
+}
+
+#[test]
+fn the_simple_example(rt: HostRuntime) -> Result<(), Fail> {
+    let mut kids = Kids::new(rt.alloc());
+    add_simple(rt.alloc(), &mut kids)?;
+    has_ver(&rt, rt.alloc(), kids, "QgayPKawpkPSDYmwT/WM94uAlu0=")
+}
+
+fn add_fields(alloc: Global, fields: &mut Kids) -> Result<(), Fail> {
+    add_field(alloc, fields, "", "os", "Mac", "")?;
+    add_field(alloc, fields, "hidden", "FORM_TYPE", SOFTWARE, "")?;
+    add_field(alloc, fields, "", "ip_version", "ipv6", "ipv4")?;
+    add_field(alloc, fields, "", "os_version", "10.5.1", "")?;
+    add_field(alloc, fields, "", "software", "Psi", "")?;
+    add_field(alloc, fields, "", "software_version", "0.11", "")
+}
+
+fn add_software(alloc: Global, kids: &mut Kids) -> Result<(), Fail> {
+    let mut fields = Kids::new(alloc);
+    add_fields(alloc, &mut fields)?;
+    add_form(alloc, kids, fields)
+}
+
+fn add_complex(alloc: Global, kids: &mut Kids) -> Result<(), Fail> {
+    add_identity(alloc, kids, "pc", "en", "Psi 0.11")?;
+    add_features(alloc, kids, &[CAPS, INFO, ITEMS, MUC])?;
+    add_software(alloc, kids)?;
+    add_identity(alloc, kids, "pc", "el", "\u{3a8} 0.11")
+}
+
+#[test]
+fn the_complex_example(rt: HostRuntime) -> Result<(), Fail> {
+    let mut kids = Kids::new(rt.alloc());
+    add_complex(rt.alloc(), &mut kids)?;
+    has_ver(&rt, rt.alloc(), kids, "q07IKJEyjvHSyhy//CH0CxmKi8w=")
+}
+
+fn repeats_identity(alloc: Global, kids: &mut Kids) -> Result<(), Fail> {
+    add_identity(alloc, kids, "pc", "en", "Psi")?;
+    add_identity(alloc, kids, "bot", "en", "Psi")?;
+    add_identity(alloc, kids, "pc", "en", "Psi")
+}
+
+fn repeats_form(alloc: Global, kids: &mut Kids) -> Result<(), Fail> {
+    add_typed(alloc, kids, "hidden", SOFTWARE, "")?;
+    add_typed(alloc, kids, "hidden", "urn:a", "")?;
+    add_typed(alloc, kids, "hidden", SOFTWARE, "")
+}
+
+#[test]
+fn what_is_repeated_is_ill_formed(rt: HostRuntime) -> Result<(), Fail> {
+    let mut kids = Kids::new(rt.alloc());
+    repeats_identity(rt.alloc(), &mut kids)?;
+    is_ill_formed(&rt, rt.alloc(), kids)?;
+    let mut kids = Kids::new(rt.alloc());
+    add_features(rt.alloc(), &mut kids, &[MUC, CAPS, MUC])?;
+    is_ill_formed(&rt, rt.alloc(), kids)?;
+    let mut kids = Kids::new(rt.alloc());
+    repeats_form(rt.alloc(), &mut kids)?;
+    is_ill_formed(&rt, rt.alloc(), kids)?;
+    let mut kids = Kids::new(rt.alloc());
+    add_typed(rt.alloc(), &mut kids, "hidden", SOFTWARE, "urn:a")?;
+    is_ill_formed(&rt, rt.alloc(), kids)
+}
+
+fn add_near(alloc: Global, kids: &mut Kids) -> Result<(), Fail> {
+    add_identity(alloc, kids, "pc", "en", "Psi")?;
+    add_identity(alloc, kids, "pc", "en", "Psi 2")?;
+    add_typed(alloc, kids, "hidden", SOFTWARE, SOFTWARE)?;
+    add_typed(alloc, kids, "", SOFTWARE, "urn:a")?;
+    add_typed(alloc, kids, "", SOFTWARE, "")?;
+    add_typed(alloc, kids, "hidden", "", "")
+}
+
+#[test]
+fn what_is_near_it_is_well_formed(rt: HostRuntime) -> Result<(), Fail> {
+    let mut kids = Kids::new(rt.alloc());
+    add_near(rt.alloc(), &mut kids)?;
+    is_well_formed(&rt, rt.alloc(), kids)?;
+    has_ver(
+        &rt,
+        rt.alloc(),
+        Kids::new(rt.alloc()),
+        "2jmj7l5rSw0yVb/vlWAYkK/YBwk=",
+    )
+}
+
+fn add_many(alloc: Global, kids: &mut Kids) -> Result<(), Fail> {
+    for i in 0..256u32 {
+        let number = 255 - i;
+        let var = format!(in alloc; "urn:f:{number:03}")?;
+        add_feature(alloc, kids, var.as_str())?;
+    }
+    Ok(())
+}
+
+#[test]
+fn a_long_answer_is_sorted(rt: HostRuntime) -> Result<(), Fail> {
+    let mut kids = Kids::new(rt.alloc());
+    add_many(rt.alloc(), &mut kids)?;
+    let again = kids.clone()?;
+    has_ver(&rt, rt.alloc(), kids, "LuRdj3+NfnH64FgIQAUChB6mAz4=")?;
+    let mut kids = again;
+    add_feature(rt.alloc(), &mut kids, "urn:f:128")?;
+    is_ill_formed(&rt, rt.alloc(), kids)
 }

@@ -1,5 +1,5 @@
 //! What forms mean to the service, seen from outside: forms of `ps_forms`, configurations and options of `ps_config`, verification strings of
-//! `ps_caps`. What is printed for a configuration and for options `tests/lines` compares byte for byte.
+//! `ps_caps`.
 //!
 //! The tests stand apart since each crate is proved once more with its own. Nothing stands on this crate, and it has no public function.
 #![tactic(auto)]
@@ -10,5 +10,3 @@ mod capabilities;
 mod configs;
 #[cfg(test)]
 mod forms;
-#[cfg(test)]
-mod tests;

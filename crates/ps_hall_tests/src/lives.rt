@@ -308,36 +308,47 @@ fn served(
 // bytes behind 24 of their own, the notice that was handed with its address in 16, and the end of the host in 12.
 const LEFT: usize = 31 + (5 + 24 + 188) + (5 + 24 + 213) + (5 + 24 + 257) + (5 + 16) + (5 + 12);
 
+#[test]
+fn a_host_is_served_from_the_opening_to_the_end(rt: HostRuntime) -> Result<(), Fail> {
+    let disk = MemDisk::new(rt.alloc(), b"", &[])?;
+    let disk = served(&rt, rt.alloc(), disk, Life::Whole)?;
+    assert_eq!(rt; disk.bytes().len(), LEFT);
+    Ok(())
+}
+
 // The workers have the clock's moment of each line in eight bytes. Their source gives the three lines at once, so that these share a frame: two gates and two
 // lengths less.
 const SHARED: usize = LEFT + 3 * 8 - 2 * 5;
 
-// A second life has another Boot, a line and a notice.
-const AGAIN: usize = LEFT + (5 + 17) + (5 + 24 + 257) + (5 + 16);
+#[test]
+fn the_workers_of_a_stream_answer_all_lines(rt: HostRuntime) -> Result<(), Fail> {
+    let disk = MemDisk::new(rt.alloc(), b"", &[])?;
+    let disk = served(&rt, rt.alloc(), disk, Life::Written)?;
+    assert_eq!(rt; disk.bytes().len(), SHARED);
+    Ok(())
+}
+
+#[test]
+fn the_calls_that_may_give_a_writer_something_ring(rt: HostRuntime) -> Result<(), Fail> {
+    let disk = MemDisk::new(rt.alloc(), b"", &[])?;
+    let _ = served(&rt, rt.alloc(), disk, Life::Ringing)?;
+    Ok(())
+}
+
+#[test]
+fn a_store_that_was_served_goes_on(rt: HostRuntime) -> Result<(), Fail> {
+    let disk = MemDisk::new(rt.alloc(), b"", &[])?;
+    let disk = served(&rt, rt.alloc(), disk, Life::Whole)?;
+    let _ = served(&rt, rt.alloc(), disk, Life::Second)?;
+    Ok(())
+}
 
 // The opening of an empty disk takes this many calls of it, and then the first frame begins.
 const FIRST: u64 = 14;
 
-// A life over an empty disk, and a second one over what it left, with the disk's lengths behind them. What fails leaves its Boot alone.
 #[test]
-fn a_host_lives_and_lives_again(rt: HostRuntime) -> Result<(), Fail> {
-    let alloc = rt.alloc();
-    let lives: [(Life, &[u64], usize); 4] = [
-        (Life::Failing, &[FIRST], 0),
-        (Life::Ringing, &[], LEFT),
-        (Life::Written, &[], SHARED),
-        (Life::Whole, &[], LEFT),
-    ];
-    for (life, fails, length) in lives {
-        let disk = MemDisk::new(alloc, b"", fails)?;
-        let disk = served(&rt, alloc, disk, life)?;
-        if length > 0 {
-            assert_eq!(rt; disk.bytes().len(), length);
-        }
-    }
-    let disk = MemDisk::new(alloc, b"", &[])?;
-    let disk = served(&rt, alloc, disk, Life::Whole)?;
-    let disk = served(&rt, alloc, disk, Life::Second)?;
-    assert_eq!(rt; disk.bytes().len(), AGAIN);
+fn no_line_is_taken_once_the_disk_failed(rt: HostRuntime) -> Result<(), Fail> {
+    let disk = MemDisk::new(rt.alloc(), b"", &[FIRST])?;
+    let _ = served(&rt, rt.alloc(), disk, Life::Failing)?;
     Ok(())
 }

@@ -1,10 +1,8 @@
-// Each kind of request as it is spelled and written, and the numbers of conditions.
-use ps_names::condition;
-use ps_request::{read_request, request_tree};
+// Each kind of request as it is spelled and written, and what a request and a denial hold.
+use ps_request::{TakenTree, read_request, request_tree, take_tree};
 use ps_types::{Ask, Condition, Elem, Request, Text};
 use ps_wire::{print_tree, read_tree};
 use std::alloc::Global;
-use std::process::Abort;
 use std::test::Fail;
 
 // What is asked, and the line that the service writes for it.
@@ -35,7 +33,6 @@ Present {\"a\":{\"from\":\"ann@a.example/1\",\"id\":\"1\"},\"c\":[{\"a\":{\"hash
 Absent {\"a\":{\"from\":\"ann@a.example/1\",\"id\":\"1\",\"to\":\"pubsub.example\",\"type\":\"unavailable\"},\"n\":\"presence\"}\n\
 CapsAnswer {\"a\":{\"from\":\"ann@a.example/1\",\"id\":\"1\",\"to\":\"pubsub.example\",\"type\":\"result\"},\"c\":[{\"a\":{\"node\":\"urn:n#v\"},\"c\":[{\"a\":{\"var\":\"urn:f\"},\"n\":\"feature\"}],\"n\":\"query\",\"ns\":\"http://jabber.org/protocol/disco#info\"}],\"n\":\"iq\"}\n\
 Silent {\"a\":{\"from\":\"ann@a.example/1\",\"id\":\"1\",\"to\":\"pubsub.example\",\"type\":\"error\"},\"n\":\"message\"}\n\
-Publish {\"a\":{\"from\":\"ann@a.example/1\",\"id\":\"1\",\"to\":\"pubsub.example\",\"type\":\"set\"},\"c\":[{\"c\":[{\"a\":{\"node\":\"news\"},\"c\":[{\"a\":{\"id\":\"i1\"},\"c\":[{\"c\":[\"hi\"],\"n\":\"entry\",\"ns\":\"urn:t\"}],\"n\":\"item\"},{\"n\":\"item\"}],\"n\":\"publish\"},{\"c\":[{\"a\":{\"type\":\"submit\"},\"c\":[{\"a\":{\"var\":\"pubsub#title\"},\"c\":[{\"c\":[\"T\"],\"n\":\"value\"}],\"n\":\"field\"}],\"n\":\"x\",\"ns\":\"jabber:x:data\"}],\"n\":\"publish-options\"}],\"n\":\"pubsub\",\"ns\":\"http://jabber.org/protocol/pubsub\"}],\"n\":\"iq\"}\n\
 ";
 
 // The tree of a line.
@@ -96,7 +93,11 @@ fn name_of(ask: &Ask) -> &'static str {
 // Whether the request is written as that line.
 fn is_written(alloc: Global, request: &Request, line: &str) -> Result<bool, Fail> {
     let tree = request_tree(alloc, request)?;
-    let text = print_tree(alloc, &tree)?;
+    is_printed(alloc, &tree, line)
+}
+
+fn is_printed(alloc: Global, tree: &Elem, line: &str) -> Result<bool, Fail> {
+    let text = print_tree(alloc, tree)?;
     Ok(text.as_slice() == line.as_bytes())
 }
 
@@ -109,17 +110,90 @@ fn is_kind(alloc: Global, want: &str, line: &str) -> Result<bool, Fail> {
     is_written(alloc, &request, line)
 }
 
-fn are_kinds(rt: &impl Abort, alloc: Global) -> Result<(), Fail> {
-    for row in KINDS.lines() {
-        let (want, line) = row.split_once(' ').unwrap_or(("", ""));
-        assert!(rt; is_kind(alloc, want, line)?, "{want}");
+// Whether each of the rows is of its kind.
+fn are_kinds(alloc: Global, rows: &str) -> Result<bool, Fail> {
+    for row in rows.lines() {
+        match row.split_once(' ') {
+            Some((want, line)) => {
+                if !is_kind(alloc, want, line)? {
+                    return Ok(false);
+                }
+            }
+            None => return Ok(false),
+        }
     }
-    Ok(())
+    Ok(true)
 }
 
 #[test]
 fn each_kind_is_read_and_written(rt: HostRuntime) -> Result<(), Fail> {
-    assert!(rt; condition(17) == Some(Condition::C17));
-    assert!(rt; condition(0).is_none() && condition(29).is_none());
-    are_kinds(&rt, rt.alloc())
+    assert!(rt; are_kinds(rt.alloc(), KINDS)?);
+    Ok(())
+}
+
+fn taken_from(alloc: Global, tree: &Elem) -> Result<TakenTree, Fail> {
+    let host = Text::of(alloc, "a.example")?;
+    let service = Text::of(alloc, "pubsub.example")?;
+    Ok(take_tree(alloc, tree, &host, &service)?)
+}
+
+fn taken(alloc: Global, line: &str) -> Result<TakenTree, Fail> {
+    let tree = tree_of(alloc, line)?;
+    taken_from(alloc, &tree)
+}
+
+// Whether it is a denied message with the id 7, whose reply goes from the service host to Ann.
+fn is_denied_message(taken: &TakenTree) -> bool {
+    match taken {
+        TakenTree::Denied(head, why) => {
+            *why == Condition::C13
+                && head.name.is("message")
+                && head.sender.local.is("ann")
+                && head.target.host.is("pubsub.example")
+                && head.id.is("7")
+                && head.is_answered
+        }
+        _ => false,
+    }
+}
+
+#[test]
+fn a_denied_stanza_has_the_head_of_its_reply(rt: HostRuntime) -> Result<(), Fail> {
+    let line =
+        "{\"a\":{\"from\":\"Ann@A.example/1\",\"id\":\"7\",\"to\":\"a b@c\"},\"n\":\"message\"}";
+    assert!(rt; is_denied_message(&taken(rt.alloc(), line)?));
+    Ok(())
+}
+
+// Whether it is two items for `news`, the first of the id `i1` with a payload and the second without either, with options.
+fn are_two_items(ask: &Ask) -> bool {
+    match ask {
+        Ask::Publish {
+            node,
+            items,
+            options: Some(options),
+        } => match items.as_slice() {
+            [first, second] => {
+                node.is("news")
+                    && options.name.is("x")
+                    && first.id.is("i1")
+                    && first.payloads.as_slice().len() == 1
+                    && second.id.is_empty()
+                    && second.payloads.as_slice().is_empty()
+            }
+            _ => false,
+        },
+        _ => false,
+    }
+}
+
+// The line of an item with a payload and one without, with options.
+const TWO_ITEMS: &str =
+    "{\"a\":{\"from\":\"ann@a.example/1\",\"id\":\"1\",\"to\":\"pubsub.example\",\"type\":\"set\"},\"c\":[{\"c\":[{\"a\":{\"node\":\"news\"},\"c\":[{\"a\":{\"id\":\"i1\"},\"c\":[{\"c\":[\"hi\"],\"n\":\"entry\",\"ns\":\"urn:t\"}],\"n\":\"item\"},{\"n\":\"item\"}],\"n\":\"publish\"},{\"c\":[{\"a\":{\"type\":\"submit\"},\"c\":[{\"a\":{\"var\":\"pubsub#title\"},\"c\":[{\"c\":[\"T\"],\"n\":\"value\"}],\"n\":\"field\"}],\"n\":\"x\",\"ns\":\"jabber:x:data\"}],\"n\":\"publish-options\"}],\"n\":\"pubsub\",\"ns\":\"http://jabber.org/protocol/pubsub\"}],\"n\":\"iq\"}";
+
+#[test]
+fn a_request_holds_what_its_tree_spells(rt: HostRuntime) -> Result<(), Fail> {
+    let request = request_of(rt.alloc(), TWO_ITEMS)?;
+    assert!(rt; are_two_items(&request.ask) && request.from.resource.is("1") && request.id.is("1"));
+    Ok(())
 }
