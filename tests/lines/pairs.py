@@ -44,7 +44,7 @@ def halves(path):
         if side != SIDES[len(found) % 2]:
             raise ValueError(f"{path.name}: {text}")
         found.append(half(number, rest, *below))
-    return [[*left, "=", *right] for left, right in zip(found[::2], found[1::2])]
+    return found
 
 
 def main():
