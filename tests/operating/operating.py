@@ -1,21 +1,14 @@
 #!/usr/bin/env python3
-"""What an operator meets: openings that fail are named on the standard error, a store is held by one program at a time, and where memory is short
-nothing is lost that was answered.
+"""What an operator meets: openings that fail are named on the standard error, and a store is held by one program at a time.
 
 Usage: operating.py PROGRAM
 """
 import os
 import pathlib
-import re
-import resource
 import subprocess
 import sys
 import tempfile
 import time
-
-sys.path.insert(0, str(pathlib.Path(__file__).resolve().parent.parent / "lines"))
-from notation import Element, form
-from stanzas import asked, publish, retrieve
 
 LINE = (
     b'{"a":{"from":"ann@a.example/1","id":"1","to":"pubsub.example","type":"set"},"c":[{"c":[{"a":{"node":"news"},"n":"create"}],'
@@ -85,70 +78,11 @@ def held(program, folder):
         raise Wrong(f"the store that is free again: {third!r}")
 
 
-# ---- memory
-
-ANN = "ann@a.example/1"
-# The sizes of the address space that are tried, how far they lie apart, and the load.
-SIZES, STEP, PUBLISHES, PAYLOAD = 20, 2 << 20, 400, 16_000
-MEMORY = 7
-PUBLISHED = re.compile(rb'"type":"result"}.*"a":{"id":"(i\d+)"}')
-
-
-def loaded():
-    """A node that keeps all items, and many that are published."""
-    configure = Element("configure", None, {}, [form("node_config", "submit", [("max_items", None, ["max"])])])
-    yield asked(ANN, "c", "set", [Element("create", None, {"node": "news"}, []), configure])
-    for number in range(PUBLISHES):
-        yield publish(ANN, number, "news", f"i{number}", "x" * PAYLOAD)
-
-
-def within(size, *told):
-    """A run in an address space of so many bytes."""
-    limit = None if size is None else lambda: resource.setrlimit(resource.RLIMIT_AS, (size, size))
-    done = subprocess.run(words(*told), capture_output=True, timeout=300, check=False, preexec_fn=limit)
-    return done.returncode, done.stdout
-
-
-def least(program, folder):
-    """The least size, by steps, in which a run without lines ends well."""
-    empty = folder / "empty"
-    empty.write_bytes(b"")
-    for steps in range(1, 1024):
-        if within(steps * STEP, program, folder / "none", empty, folder / "out") == (0, b""):
-            return steps * STEP
-    raise Wrong("no size serves a run without lines")
-
-
-def short_of_memory(program, folder):
-    """Under load, at twenty sizes: the run ends well, or by the status of memory, and what was answered is there."""
-    there, question = folder / "in", folder / "question"
-    there.write_bytes(b"".join(line + b"\n" for line in loaded()))
-    question.write_bytes(retrieve(ANN, "q", "news") + b"\n")
-    begin, ended = least(program, folder), []
-    for size in (begin + steps * STEP for steps in range(SIZES)):
-        store, sink = folder / f"store-{size}", folder / f"out-{size}"
-        status, report = within(size, program, store, there, sink)
-        if (status, report) not in ((0, b""), (MEMORY, b"out of memory\n")):
-            raise Wrong(f"in {size} bytes: ended with {status}, and reported {report!r}")
-        replies = sink.read_bytes().split(b"\n")[:-1] if sink.exists() else []
-        answered = [found[1] for found in map(PUBLISHED.search, replies) if found]
-        if status == 0 and len(answered) != PUBLISHES:
-            raise Wrong(f"in {size} bytes: {len(answered)} answers")
-        again = within(None, program, store, question, folder / "again")
-        kept = set(re.findall(rb'"a":{"id":"(i\d+)"}', (folder / "again").read_bytes()))
-        if again != (0, b"") or not kept.issuperset(answered):
-            raise Wrong(f"in {size} bytes: {len(set(answered) - kept)} answered items are lost, {again}")
-        ended.append((status, len(answered)))
-        store.unlink()
-    if not any(status == MEMORY for status, _ in ended):
-        raise Wrong(f"no size was too small: {ended}")
-
-
 def main():
     if len(sys.argv) != 2:
         sys.exit(__doc__.strip())
     program = str(pathlib.Path(sys.argv[1]).resolve())
-    for part in (openings, held, short_of_memory):
+    for part in (openings, held):
         with tempfile.TemporaryDirectory() as folder:
             try:
                 part(program, pathlib.Path(folder))
