@@ -126,8 +126,8 @@ def refused(room):
     expect("the new one", entries_in(room.bytes_of("none")), [])
 
     expect("itself", room.compact("s", "s")[0], 2)
-    expect("a store that isn't there", room.compact("nowhere", "empty"), (0, b""))
-    expect("its new one", entries_in(room.bytes_of("empty")), [])
+    expect("a store that isn't there", room.compact("nowhere", "empty"), (9, b"open fault\n"))
+    expect("what it made", [room.path(name).exists() for name in ("nowhere", "empty")], [False, False])
     missing = room.path("missing") / "it"
     expect("no folder", room.run("compact", room.path("s"), missing), (9, b"open fault\n"))
     with open(room.path("s"), "rb+") as held:
