@@ -20,7 +20,8 @@ use Rattle.ps_audit.specs.Listed.{affil_whos, contact_whos, sub_whos}
 
 -- what is told of a list is what is told of its parts
 module _ {R : Type 0} (told : List R → List Jid) (splits : (xs ys : List R) → told (xs ++ ys) ≡ told xs ++ told ys) where
-  pub one-more : (rows : List R) (i : ℕ) (x : R) (front now after : List Jid) → i < length rows → x ≡ get_or rows i x → now ≡ front ++ told (take i rows) → after ≡ now ++ told (x ∷ []) → after ≡ front ++ told (take (i + 1) rows)
+  pub one-more : (rows : List R) (i : ℕ) (x : R) (front now after : List Jid) → i < length rows → x ≡ get_or rows i x → now ≡ front ++ told (take i rows) → after ≡ now ++ told (x ∷ [])
+      → after ≡ front ++ told (take (i + 1) rows)
   one-more rows i x front now after within is so_far more =
       let next : take (i + 1) rows ≡ take i rows ++ x ∷ [] = take_more rows i x within ∙ ap (λ (y : R). take i rows ++ y ∷ []) (sym is) in
       more ∙ ap (λ (js : List Jid). js ++ told (x ∷ [])) so_far ∙ append_assoc front (told (take i rows)) (told (x ∷ []))
@@ -63,11 +64,13 @@ own-some row h = ap (λ (b : Bool). cond b (row.key.service ∷ []) []) h
 pub own-none : (row : NodeRow) → is_account row.key.service ≡ false → own_account row ≡ []
 own-none row h = ap (λ (b : Bool). cond b (row.key.service ∷ []) []) h
 
-pub known-is : (book : Book) (row : NodeRow) (own one two all : List Jid) (rows : List AffilRow) (subs : List SubRow) (account : Jid) → own ≡ own_account row → rows ≡ affils_of row.key book.affils → subs ≡ subs_of row.key book.subs → account ≡ account_of row
+pub known-is : (book : Book) (row : NodeRow) (own one two all : List Jid) (rows : List AffilRow) (subs : List SubRow) (account : Jid) → own ≡ own_account row
+    → rows ≡ affils_of row.key book.affils → subs ≡ subs_of row.key book.subs → account ≡ account_of row
     → one ≡ own ++ affil_whos rows → two ≡ one ++ sub_whos subs → all ≡ two ++ contact_whos account book.rosters → all ≡ known book row
 known-is book row own one two all rows subs account o r s k e f g =
     let C = contact_whos account book.rosters in
     let step : all ≡ ((own ++ affil_whos rows) ++ sub_whos subs) ++ C = g ∙ ap (λ (js : List Jid). js ++ C) (f ∙ ap (λ (js : List Jid). js ++ sub_whos subs) e) in
-    let turned : ((own ++ affil_whos rows) ++ sub_whos subs) ++ C ≡ own ++ (affil_whos rows ++ (sub_whos subs ++ C)) = append_assoc (own ++ affil_whos rows) (sub_whos subs) C ∙ append_assoc own (affil_whos rows) (sub_whos subs ++ C) in
+    let turned : ((own ++ affil_whos rows) ++ sub_whos subs) ++ C ≡ own ++ (affil_whos rows ++ (sub_whos subs ++ C)) = append_assoc (own ++ affil_whos rows) (sub_whos subs) C
+    ∙ append_assoc own (affil_whos rows) (sub_whos subs ++ C) in
     let parts : own ++ (affil_whos rows ++ (sub_whos subs ++ C)) ≡ known book row = (λ i. o i ++ (affil_whos (r i) ++ (sub_whos (s i) ++ contact_whos (k i) book.rosters))) in
     step ∙ turned ∙ parts

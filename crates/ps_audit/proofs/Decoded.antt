@@ -11,7 +11,10 @@ use Rattle.ps_audit_laws.specs.declared.told.Four.{Four}
 use Rattle.ps_audit.specs.Codes.{verdict_code}
 
 all : List Verdict
-all = Granted ByAffiliation ∷ Granted ByOpen ∷ Granted ByPresence ∷ Granted ByGroup ∷ Granted BySubscription ∷ Granted ByPublishModel ∷ Pending ∷ Denied C1 ∷ Denied C2 ∷ Denied C3 ∷ Denied C4 ∷ Denied C5 ∷ Denied C6 ∷ Denied C7 ∷ Denied C8 ∷ Denied C9 ∷ Denied C10 ∷ Denied C11 ∷ Denied C12 ∷ Denied C13 ∷ Denied C14 ∷ Denied C15 ∷ Denied C16 ∷ Denied C17 ∷ Denied C18 ∷ Denied C19 ∷ Denied C20 ∷ Denied C21 ∷ Denied C22 ∷ Denied C23 ∷ Denied C24 ∷ Denied C25 ∷ Denied C26 ∷ Denied C27 ∷ Denied C28 ∷ []
+all =
+    Granted ByAffiliation ∷ Granted ByOpen ∷ Granted ByPresence ∷ Granted ByGroup ∷ Granted BySubscription ∷ Granted ByPublishModel ∷ Pending
+    ∷ Denied C1 ∷ Denied C2 ∷ Denied C3 ∷ Denied C4 ∷ Denied C5 ∷ Denied C6 ∷ Denied C7 ∷ Denied C8 ∷ Denied C9 ∷ Denied C10 ∷ Denied C11 ∷ Denied C12 ∷ Denied C13 ∷ Denied C14
+    ∷ Denied C15 ∷ Denied C16 ∷ Denied C17 ∷ Denied C18 ∷ Denied C19 ∷ Denied C20 ∷ Denied C21 ∷ Denied C22 ∷ Denied C23 ∷ Denied C24 ∷ Denied C25 ∷ Denied C26 ∷ Denied C27 ∷ Denied C28 ∷ []
 
 verdict_of : ℕ → Option Verdict
 verdict_of n = find (λ v. verdict_code v == n) all

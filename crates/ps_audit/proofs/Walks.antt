@@ -53,21 +53,26 @@ module _ (E : List Entry) (who : Jid) (node : NodeKey) (i : ℕ) (state : State)
           listed = same-line (is_told E who node (suc i)) refl;
         }
       where
-        line-is : at + 1 ≡ suc i → four ≡ verdicts_after E who node (suc i) → told ≡ lines E who node i → told ++ record { after = at + 1; four = four } ∷ [] ≡ lines E who node i ++ last E who node true (suc i)
+        line-is : at + 1 ≡ suc i → four ≡ verdicts_after E who node (suc i) → told ≡ lines E who node i
+            → told ++ record { after = at + 1; four = four } ∷ [] ≡ lines E who node i ++ last E who node true (suc i)
         line-is a f t = λ k. t k ++ record { after = a k; four = f k } ∷ []
 
         same-line : (b : Bool) → is_told E who node (suc i) ≡ b → told ++ record { after = at + 1; four = four } ∷ [] ≡ lines E who node (suc i)
         same-line true h = line-is (one-more w.counted) next-four w.listed ∙ sym (lines-more E who node i ∙ ap (λ (b : Bool). lines E who node i ++ last E who node b (suc i)) h)
         same-line false h = absurd (differs (next-four ∙ quiet E who node i h ∙ sym w.asked))
 
-pub walk-begins : (E : List Entry) (who : Jid) (node : NodeKey) (state : State) (four : Option Four) → state ≡ empty_state → four ≡ four_at state.book node who → Walk E who node 0 state 0 four (record { after = 0; four = four } ∷ [])
+pub walk-begins : (E : List Entry) (who : Jid) (node : NodeKey) (state : State) (four : Option Four) → state ≡ empty_state → four ≡ four_at state.book node who
+    → Walk E who node 0 state 0 four (record { after = 0; four = four } ∷ [])
 walk-begins E who node state four e f =
     let first : four ≡ verdicts_after E who node 0 = f ∙ ap (λ (s : State). four_at s.book node who) e in
     record { going = going-begins E state e; counted = refl; asked = first; listed = λ k. record { after = 0; four = first k } ∷ [] }
 
-pub walk-ends : (E : List Entry) (who : Jid) (node : NodeKey) (i : ℕ) (state : State) (at : ℕ) (newest : Option Four) (told : List ExplainLine) → Walk E who node i state at newest told → i ≡ length E → told ≡ history E who node
+pub walk-ends : (E : List Entry) (who : Jid) (node : NodeKey) (i : ℕ) (state : State) (at : ℕ) (newest : Option Four) (told : List ExplainLine) → Walk E who node i state at newest told
+    → i ≡ length E → told ≡ history E who node
 walk-ends E who node i state at newest told w e = w.listed ∙ ap (lines E who node) e
 
 -- the same walk by equal parts
-pub walk-as : (E : List Entry) (who : Jid) (node : NodeKey) (state : State) (at i j : ℕ) → i ≡ j → (newest last : Option Four) → newest ≡ last → (told all : List ExplainLine) → told ≡ all → Walk E who node i state at newest told → Walk E who node j state at last all
-walk-as E who node state at i j e newest last f told all h w = subst (λ (xs : List ExplainLine). Walk E who node j state at last xs) h (subst (λ (four : Option Four). Walk E who node j state at four told) f (subst (λ (k : ℕ). Walk E who node k state at newest told) e w))
+pub walk-as : (E : List Entry) (who : Jid) (node : NodeKey) (state : State) (at i j : ℕ) → i ≡ j → (newest last : Option Four) → newest ≡ last → (told all : List ExplainLine) → told ≡ all
+    → Walk E who node i state at newest told → Walk E who node j state at last all
+walk-as E who node state at i j e newest last f told all h w = subst (λ (xs : List ExplainLine). Walk E who node j state at last xs) h
+    (subst (λ (four : Option Four). Walk E who node j state at four told) f (subst (λ (k : ℕ). Walk E who node k state at newest told) e w))

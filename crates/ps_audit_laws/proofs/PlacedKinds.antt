@@ -66,7 +66,8 @@ published-placed : (node : NodeKey) (config : NodeConfig) (who : Jid) (moment : 
 published-placed node config who moment [] b is = is
 published-placed node config who moment (item ∷ items) b is = record { nodes = is.nodes; rosters = is.rosters }
 
-new-placed : (given : Result NodeConfig Condition) (node : NodeKey) (who : Jid) (moment : Option ℕ) (items : List AskItem) (b : Book) → IsAddress node.service → IsPlaced b → IsPlaced (published_new given node who moment items b)
+new-placed : (given : Result NodeConfig Condition) (node : NodeKey) (who : Jid) (moment : Option ℕ) (items : List AskItem) (b : Book) → IsAddress node.service → IsPlaced b
+    → IsPlaced (published_new given node who moment items b)
 new-placed (Err why) node who moment items b own is = is
 new-placed (Ok config) node who moment items b own is = published-placed node config who moment items (created node who config b) (created-placed node who config b own is)
 
@@ -103,7 +104,8 @@ roster-placed None who item b own is = is
 roster-placed (Some remove) who item b own is = record { nodes = is.nodes; rosters = each-filter ContactIs (λ x. not (is_contact_of who item.jid x)) b.rosters is.rosters }
 roster-placed (Some (set state)) who item b own is = record {
   nodes = is.nodes;
-  rosters = each-put ContactIs (is_contact_of (bare who) (bare item.jid)) (record { account = bare who; contact = bare item.jid; state = state; groups = item.groups }) b.rosters (bare-is item.jid own) is.rosters;
+  rosters = each-put ContactIs (is_contact_of (bare who) (bare item.jid)) (record { account = bare who; contact = bare item.jid; state = state; groups = item.groups }) b.rosters
+      (bare-is item.jid own) is.rosters;
 }
 
 usable-placed : (usable : Bool) (caps : Caps) (who : Jid) (info : Info) (b : Book) → IsPlaced b → IsPlaced (usable_answer usable caps who info b)
@@ -128,10 +130,12 @@ changed-placed (ask.SubsGet node) r moment b own target is = is
 changed-placed (ask.SubsSet node rows) r moment b own target is = record { nodes = is.nodes; rosters = is.rosters }
 changed-placed (ask.MyAffils node) r moment b own target is = is
 changed-placed (ask.MySubs node) r moment b own target is = is
-changed-placed (ask.Subscribe node who form) r moment b own target is = subscribed-placed (sub_options form (base_options b (node_of r node) who)) (node_of r node) who (new_state b r (node_of r node) who) b is
+changed-placed (ask.Subscribe node who form) r moment b own target is = subscribed-placed (sub_options form (base_options b (node_of r node) who)) (node_of r node) who
+    (new_state b r (node_of r node) who) b is
 changed-placed (ask.Unsubscribe node who subid) r moment b own target is = record { nodes = is.nodes; rosters = is.rosters }
 changed-placed (ask.OptionsGet node who) r moment b own target is = is
-changed-placed (ask.OptionsSet node who form) r moment b own target is = subscribed-placed (sub_options form (base_options b (node_of r node) who)) (node_of r node) who (sub_at (node_of r node) who b.subs) b is
+changed-placed (ask.OptionsSet node who form) r moment b own target is = subscribed-placed (sub_options form (base_options b (node_of r node) who)) (node_of r node) who
+    (sub_at (node_of r node) who b.subs) b is
 changed-placed (ask.ItemsGet node max ids) r moment b own target is = is
 changed-placed (ask.InfoGet node) r moment b own target is = is
 changed-placed (ask.NodesGet node) r moment b own target is = is

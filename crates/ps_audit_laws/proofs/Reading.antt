@@ -60,7 +60,8 @@ module _ (book : Book) (row : NodeRow) (a : Jid) where
   model-none subs found Presence =
       ap (λ (o : Option RosterRow). granted_if (row_gets_presence o) ByPresence C18) (none-found a (is_contact_at (account_of row)) (λ (r : RosterRow). r.contact) book.rosters found)
   model-none subs found Roster =
-      ap (λ (o : Option RosterRow). granted_if (row_in_groups row.config.roster_groups_allowed o) ByGroup C19) (none-found a (is_contact_at (account_of row)) (λ (r : RosterRow). r.contact) book.rosters found)
+      ap (λ (o : Option RosterRow). granted_if (row_in_groups row.config.roster_groups_allowed o) ByGroup C19)
+      (none-found a (is_contact_at (account_of row)) (λ (r : RosterRow). r.contact) book.rosters found)
   model-none subs found Authorize =
       ap (λ b. granted_if b BySubscription C20) (none-any a (is_sub_at row.key) (λ (r : SubRow). r.who) (λ r. is_subscribed r.state) book.subs subs)
   model-none subs found Whitelist = refl
@@ -131,11 +132,14 @@ known-bare book row named placed own =
     let rows = rows-named book named in
     each-both IsBare (own_account row) _ (account (is_account row.key.service) refl)
     (each-both IsBare (affiliated book row) _
-    (each-map IsBare (λ (r : AffilRow). bare r.who) (affils_of row.key book.affils) (each-by (λ (r : AffilRow). IsBare (bare r.who)) AffilIs (affils_of row.key book.affils) (λ r is. is-bare r.who is) (each-filter AffilIs (is_affil_at row.key) book.affils rows.affils)))
+    (each-map IsBare (λ (r : AffilRow). bare r.who) (affils_of row.key book.affils)
+    (each-by (λ (r : AffilRow). IsBare (bare r.who)) AffilIs (affils_of row.key book.affils) (λ r is. is-bare r.who is) (each-filter AffilIs (is_affil_at row.key) book.affils rows.affils)))
     (each-both IsBare (subscribers book row) _
-    (each-map IsBare (λ (r : SubRow). bare r.who) (subs_of row.key book.subs) (each-by (λ (r : SubRow). IsBare (bare r.who)) SubIs (subs_of row.key book.subs) (λ r is. is-bare r.who is) (each-filter SubIs (is_sub_at row.key) book.subs rows.subs)))
+    (each-map IsBare (λ (r : SubRow). bare r.who) (subs_of row.key book.subs)
+    (each-by (λ (r : SubRow). IsBare (bare r.who)) SubIs (subs_of row.key book.subs) (λ r is. is-bare r.who is) (each-filter SubIs (is_sub_at row.key) book.subs rows.subs)))
     (each-map IsBare (λ (r : RosterRow). bare r.contact) (filter (is_contact_at (account_of row)) book.rosters)
-    (each-by (λ (r : RosterRow). IsBare (bare r.contact)) ContactIs (filter (is_contact_at (account_of row)) book.rosters) (λ r is. is-bare r.contact is) (each-filter ContactIs (is_contact_at (account_of row)) book.rosters placed.rosters)))))
+    (each-by (λ (r : RosterRow). IsBare (bare r.contact)) ContactIs (filter (is_contact_at (account_of row)) book.rosters) (λ r is. is-bare r.contact is)
+    (each-filter ContactIs (is_contact_at (account_of row)) book.rosters placed.rosters)))))
   where
     account : (b : Bool) → is_account row.key.service ≡ b → Each IsBare (cond b (row.key.service ∷ []) [])
     account true e = (record { address = own; bare = no-resource row.key.service e }, tt)

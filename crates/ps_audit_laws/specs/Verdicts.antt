@@ -28,7 +28,8 @@ verdict_text (Denied why) = codes "denied " ++ decimal (number_of why)
 abbrev pub four_text : Option Four → List ℕ
 four_text None = codes "no node"
 four_text (Some four) =
-    codes "read " ++ (verdict_text four.read ++ (codes ", subscribe " ++ (verdict_text four.subscribe ++ (codes ", publish " ++ (verdict_text four.publish ++ (codes ", own " ++ verdict_text four.own))))))
+    codes "read " ++ (verdict_text four.read ++ (codes ", subscribe " ++ (verdict_text four.subscribe ++ (codes ", publish " ++ (verdict_text four.publish
+    ++ (codes ", own " ++ verdict_text four.own))))))
 
 abbrev pub four_if : Bool → Book → NodeKey → Jid → Option Four
 four_if false book node who = None

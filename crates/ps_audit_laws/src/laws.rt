@@ -26,7 +26,8 @@ pub fn each_line_is_of_one()
     ensures { EachLineIsOfOne }
 {}
 
-/// What is said of the others is the verdict of each address that has neither an affiliation nor a subscription at the node, is in the roster of its account nowhere, and isn't the account.
+/// What is said of the others is the verdict of each address that has neither an affiliation nor a subscription at the node, isn't in the roster of its
+/// account, and isn't the account.
 pub fn no_row_names_the_others()
     ensures { NoRowNamesTheOthers }
 {}

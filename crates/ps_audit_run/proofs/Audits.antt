@@ -32,7 +32,8 @@ module _ {D : Type 0} (g : Ghosts D) (report : List Entry → List (List ℕ)) (
   }
 
   -- it was, and has these entries
-  module _ (entries : List Entry) (stored : g.tells → IsStore (g.seen old) entries) (stands : g.tells → spelled (g.seen new) entries) (durable : g.tells → LeavesList (g.synced new) (g.written new) entries) (up : g.tells → HasHeader (g.seen old) → Upgrades (g.seen old) (g.seen new)) where
+  module _ (entries : List Entry) (stored : g.tells → IsStore (g.seen old) entries) (stands : g.tells → spelled (g.seen new) entries)
+      (durable : g.tells → LeavesList (g.synced new) (g.written new) entries) (up : g.tells → HasHeader (g.seen old) → Upgrades (g.seen old) (g.seen new)) where
     still : g.tells → StillStands (held_on g old) (held_on g new)
     still tells = record {
       entries = λ E spells. subst (spelled (g.seen new)) (one_list (g.seen old) entries E (stored tells).spells spells) (stands tells);
@@ -40,7 +41,8 @@ module _ {D : Type 0} (g : Ghosts D) (report : List Entry → List (List ℕ)) (
       upgraded = up tells;
     }
 
-    pub audit-told : {M : Type 0} (lines : Result (List (List ℕ)) M) → IfOk lines (λ ls. ls ≡ report entries) → Audited g.tells report (held_on g old) (held_on g new) (g.left_since new) (told_by lines)
+    pub audit-told : {M : Type 0} (lines : Result (List (List ℕ)) M) → IfOk lines (λ ls. ls ≡ report entries)
+        → Audited g.tells report (held_on g old) (held_on g new) (g.left_since new) (told_by lines)
     audit-told (Ok ls) are = record {
       told = λ tells. record { entries = entries; stored = stored tells; are = are };
       stands = still;

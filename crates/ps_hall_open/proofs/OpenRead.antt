@@ -33,7 +33,8 @@ none-stops at stops = by stops.number stops.one stops.here
     by (suc n) one h = cc h
 
 -- where an entry isn't accepted there is a header, which was upgraded
-pub untaken-upgraded : (old new : List ℕ) (placed : List Placed) (why : ReadWhy) (b : Bool) → is_header (take 8 old) ≡ b → (is_header (take 8 old) ≡ true → Upgrades old new) → (is_header (take 8 old) ≡ false → placed ≡ [])
+pub untaken-upgraded : (old new : List ℕ) (placed : List Placed) (why : ReadWhy) (b : Bool) → is_header (take 8 old) ≡ b → (is_header (take 8 old) ≡ true → Upgrades old new)
+    → (is_header (take 8 old) ≡ false → placed ≡ [])
     → IfDamaged why (StopsAt placed) → IfFoundDamaged why (StaysOrUpgrades old new)
 untaken-upgraded old new placed (read.Damaged at) true h up none stops = inr (up h)
 untaken-upgraded old new placed (read.Damaged at) false h up none stops = absurd (none-stops at (subst (λ (ps : List Placed). StopsAt ps at) (none h) stops))

@@ -13,7 +13,8 @@ pub entries-init : goal.entries-init
 entries-init g c =
     let four = c.four_verdicts-last.result in
     let line : ExplainLine = record { after = 0; four = four } in
-    let asked : four ≡ four_at c.in_ok-service.service.state.book c.args.node.now c.args.who.now = c.four_verdicts-last.ensures ∙ ap (λ (b : Book). four_at b c.args.node.now c.args.who.now) c.tables.ensures.book in
+    let asked : four ≡ four_at c.in_ok-service.service.state.book c.args.node.now c.args.who.now =
+    c.four_verdicts-last.ensures ∙ ap (λ (b : Book). four_at b c.args.node.now c.args.who.now) c.tables.ensures.book in
     let pushed : c.push.new.self.items ≡ line ∷ [] = c.in_ok-push.ensures.items ∙ ap (λ (ls : List ExplainLine). ls ++ line ∷ []) c.new-lines.ensures.items in
     subst (λ (ls : List ExplainLine). Walk c.args.entries.now c.args.who.now c.args.node.now 0 c.in_ok-service.service.state 0 four ls) (sym pushed)
     (walk-begins c.args.entries.now c.args.who.now c.args.node.now c.in_ok-service.service.state four c.in_ok-service.ensures.empty asked)
@@ -51,18 +52,23 @@ entries-preserved g c =
     let four = c.four_verdicts-four.result in
     let line : ExplainLine = record { after = c.entries.after + 1; four = four } in
     let asked : four ≡ four_at later.book node who = c.four_verdicts-four.ensures ∙ ap (λ (b : Book). four_at b node who) c.tables-in-entries.ensures.book in
-    let quiet = walk-quiet E who node i before c.entries.after c.entries.last c.entries.lines.items c.entries.invariant c.entry-item.result here c.entries-test.true later c.in_ok-take.ensures.ok four asked in
-    let told = walk-told E who node i before c.entries.after c.entries.last c.entries.lines.items c.entries.invariant c.entry-item.result here c.entries-test.true later c.in_ok-take.ensures.ok four asked in
+    let quiet = walk-quiet E who node i before c.entries.after c.entries.last c.entries.lines.items c.entries.invariant c.entry-item.result here c.entries-test.true later
+    c.in_ok-take.ensures.ok four asked in
+    let told = walk-told E who node i before c.entries.after c.entries.last c.entries.lines.items c.entries.invariant c.entry-item.result here c.entries-test.true later
+    c.in_ok-take.ensures.ok four asked in
     elim c.if-not-stay.branch [
       | then-not-stay+in_ok-push-2 w ↦
           let pushed : w.push-then-not-stay.new.self.items ≡ c.entries.lines.items ++ line ∷ [] = search rules in
           let differs : (four ≡ c.entries.last → ⊥) = λ e. true≢false (sym (c.stay.ensures.1 e) ∙ w.if-not-stay.true) in
-          walk-as E who node later (c.entries.after + 1) (suc i) (i + 1) next four c.if-not-stay.last (sym w.last-is) (c.entries.lines.items ++ line ∷ []) c.if-not-stay.lines.items (sym (ap (λ v. v.items) w.lines-is ∙ pushed)) (told differs)
+          walk-as E who node later (c.entries.after + 1) (suc i) (i + 1) next four c.if-not-stay.last (sym w.last-is) (c.entries.lines.items ++ line ∷ []) c.if-not-stay.lines.items
+          (sym (ap (λ v. v.items) w.lines-is ∙ pushed)) (told differs)
       | else-not-stay w ↦
           let same : four ≡ c.entries.last = c.stay.ensures.0 w.if-not-stay.false in
-          walk-as E who node later (c.entries.after + 1) (suc i) (i + 1) next c.entries.last c.if-not-stay.last (sym w.last-is) c.entries.lines.items c.if-not-stay.lines.items (sym (ap (λ v. v.items) w.lines-is)) (quiet same)
+          walk-as E who node later (c.entries.after + 1) (suc i) (i + 1) next c.entries.last c.if-not-stay.last (sym w.last-is) c.entries.lines.items c.if-not-stay.lines.items
+          (sym (ap (λ v. v.items) w.lines-is)) (quiet same)
     ]
 
 pub returns : goal.returns
 returns g c =
-    walk-ends c.args.entries.now c.args.who.now c.args.node.now c.entries.entry-index c.entries.service.state c.entries.after c.entries.last c.entries.lines.items c.entries.invariant (omega (arith, c.entries-test.false, c.entries.auto.entry-index-end))
+    walk-ends c.args.entries.now c.args.who.now c.args.node.now c.entries.entry-index c.entries.service.state c.entries.after c.entries.last c.entries.lines.items c.entries.invariant
+    (omega (arith, c.entries-test.false, c.entries.auto.entry-index-end))

@@ -8,7 +8,8 @@ use Rattle.ps_audit.proofs.knowing.add_contacts.Goals as goal
 pub rows-preserved : goal.rows-preserved
 rows-preserved c =
     let account = c.args.account.now in
-    one-more (slot_whos account) (slots-split account) c.places-slot-items.result.now c.rows.slot-index c.slot-item.result c.args.whos.now.items c.rows.whos.items c.add_contact.new.whos.items c.rows-test.true c.slot-item.is c.rows.invariant
+    one-more (slot_whos account) (slots-split account) c.places-slot-items.result.now c.rows.slot-index c.slot-item.result c.args.whos.now.items c.rows.whos.items
+    c.add_contact.new.whos.items c.rows-test.true c.slot-item.is c.rows.invariant
     (c.in_ok-add_contact.ensures ∙ ap (λ (js : List Jid). c.rows.whos.items ++ js) (slot-one account c.slot-item.result))
 
 pub returns : goal.returns

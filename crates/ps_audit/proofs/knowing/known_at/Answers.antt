@@ -18,5 +18,7 @@ returns c =
       | else-is_account_address w ↦
           ap (λ v. v.items) w.whos-is ∙ c.new-whos.ensures.items ∙ sym (own-none row (sym c.is_account_address.ensures.account ∙ w.if-is_account_address.false))
     ] in
-    known-is (book_of c.args.tables.now) row c.if-is_account_address.whos.items c.add_affiliated.new.whos.items c.add_subscribers.new.whos.items c.add_contacts.new.whos.items c.deref.result.now c.deref-2.result.now c.account_of.result.now own
-    (c.deref.ensures.value ∙ c.in_ok-of_node.ensures.rows) (c.deref-2.ensures.value ∙ c.in_ok-of_node-2.ensures.rows) c.account_of.ensures c.in_ok-add_affiliated.ensures c.in_ok-add_subscribers.ensures c.in_ok-add_contacts.ensures
+    known-is (book_of c.args.tables.now) row c.if-is_account_address.whos.items c.add_affiliated.new.whos.items c.add_subscribers.new.whos.items c.add_contacts.new.whos.items
+    c.deref.result.now c.deref-2.result.now c.account_of.result.now own
+    (c.deref.ensures.value ∙ c.in_ok-of_node.ensures.rows) (c.deref-2.ensures.value ∙ c.in_ok-of_node-2.ensures.rows) c.account_of.ensures
+    c.in_ok-add_affiliated.ensures c.in_ok-add_subscribers.ensures c.in_ok-add_contacts.ensures

@@ -25,7 +25,8 @@ entries-preserved g c =
     let i = c.entries.entry-index in
     let here = slice_get_read E (length E) i c.entry-item.result refl c.entries-test.true c.entry-item.is in
     let next : suc i ≡ i + 1 = omega arith in
-    going-as E c.take.new.service.state (suc i) (i + 1) next (going-on E i c.entries.service.state c.entries.invariant c.entry-item.result here c.entries-test.true c.take.new.service.state c.in_ok-take.ensures.ok)
+    going-as E c.take.new.service.state (suc i) (i + 1) next
+    (going-on E i c.entries.service.state c.entries.invariant c.entry-item.result here c.entries-test.true c.take.new.service.state c.in_ok-take.ensures.ok)
 
 pub returns : goal.returns
 returns g c = going-ends c.args.entries.now c.entries.entry-index c.entries.service.state c.entries.invariant (omega arith)

@@ -48,7 +48,8 @@ returns-in-Ok-taken-clause-any_moment g c tells E spells few =
 pub returns-in-Err-taken-clause-refused : goal.returns-in-Err-taken-clause-refused
 returns-in-Err-taken-clause-refused g c =
     let D = g.D.Disk in
-    untaken D.tells (D.seen c.args.disk) (D.faults c.args.disk) (D.faults c.close-disk.result) c.in-Ok.placed.items c.in-Err-taken.why (λ tells. c.in-Ok.ensures.entries tells) c.in-Err-taken.ensures.err
+    untaken D.tells (D.seen c.args.disk) (D.faults c.args.disk) (D.faults c.close-disk.result) c.in-Ok.placed.items c.in-Err-taken.why
+    (λ tells. c.in-Ok.ensures.entries tells) c.in-Err-taken.ensures.err
 
 pub returns-in-Err-taken-clause-any_moment : goal.returns-in-Err-taken-clause-any_moment
 returns-in-Err-taken-clause-any_moment g c tells E spells few =
