@@ -1,0 +1,5 @@
+pub mod Feeding
+pub mod Following
+pub mod Laws
+pub mod Lines
+pub mod Pieces
