@@ -31,14 +31,14 @@ module _ (feed piece : List ℕ) (Before Now : Type 0) (none : Before → piece 
   answered-one : (k before : ℕ) (a : Answered) → IsAnswered feed Before k before a → IsAnswered (feed ++ piece) Now k before a
   answered-one k before a i = record { later = i.later; many = many-on k a.taken i.many; leads = leads-on feed piece a.taken a.entries i.leads }
 
-  pub answered-on : (k before : ℕ) (as : List Answered) → AreAnswered feed Before k before as → AreAnswered (feed ++ piece) Now k before as
+  pub answered-on : (k before : ℕ) (xs : List Answered) → AreAnswered feed Before k before xs → AreAnswered (feed ++ piece) Now k before xs
   answered-on k before [] le = let a = length-append feed piece in omega (arith, le, a)
-  answered-on k before (a ∷ as) i = (answered-one k before a i.0, answered-on (suc k) a.taken as i.1)
+  answered-on k before (a ∷ xs) i = (answered-one k before a i.0, answered-on (suc k) a.taken xs i.1)
 
 -- the same where only what is known of the end changes
-pub answered-as : (feed : List ℕ) (Before Now : Type 0) → (Before → Now) → (k before : ℕ) (as : List Answered) → AreAnswered feed Before k before as → AreAnswered feed Now k before as
+pub answered-as : (feed : List ℕ) (Before Now : Type 0) → (Before → Now) → (k before : ℕ) (xs : List Answered) → AreAnswered feed Before k before xs → AreAnswered feed Now k before xs
 answered-as feed Before Now f k before [] le = le
-answered-as feed Before Now f k before (a ∷ as) i = (record { later = i.0.later; many = by i.0.many; leads = i.0.leads }, answered-as feed Before Now f (suc k) a.taken as i.1)
+answered-as feed Before Now f k before (a ∷ xs) i = (record { later = i.0.later; many = by i.0.many; leads = i.0.leads }, answered-as feed Before Now f (suc k) a.taken xs i.1)
   where
     by : (k ≤ a.taken) ⊎ (Before × (a.taken ≡ length feed)) → (k ≤ a.taken) ⊎ (Now × (a.taken ≡ length feed))
     by (inl le) = inl le
@@ -51,7 +51,7 @@ abbrev pub at_all : List ℕ → Arrival → List Entry → Answered
 at_all feed arrival E = record { arrival = arrival; taken = length feed; entries = E }
 
 module _ (feed : List ℕ) (Ended : Type 0) (arrival : Arrival) (E : List Entry) (leads : LeadsTo feed (length feed) E) where
-  pub answered-more : (k before line : ℕ) (as : List Answered) → AreAnswered feed Ended k before as → line ≡ k + length as → (line ≤ length feed) ⊎ Ended → AreAnswered feed Ended k before (as ++ at_all feed arrival E ∷ [])
+  pub answered-more : (k before line : ℕ) (xs : List Answered) → AreAnswered feed Ended k before xs → line ≡ k + length xs → (line ≤ length feed) ⊎ Ended → AreAnswered feed Ended k before (xs ++ at_all feed arrival E ∷ [])
   answered-more k before line [] le n many = (
     record { later = le; many = by many; leads = leads },
     (let h : length feed ≤ length feed = omega arith in h),
@@ -60,17 +60,17 @@ module _ (feed : List ℕ) (Ended : Type 0) (arrival : Arrival) (E : List Entry)
       by : (line ≤ length feed) ⊎ Ended → (k ≤ length feed) ⊎ (Ended × (length feed ≡ length feed))
       by (inl l) = inl (omega (arith, l, n))
       by (inr e) = inr (e, refl)
-  answered-more k before line (a ∷ as) i n many = (i.0, answered-more (suc k) a.taken line as i.1 (omega (arith, n)) many)
+  answered-more k before line (a ∷ xs) i n many = (i.0, answered-more (suc k) a.taken line xs i.1 (omega (arith, n)) many)
 
-pub said-more : (host : List ℕ) (k line : ℕ) (as : List Answered) (a : Answered) → line ≡ k + length as → said_from host k (as ++ a ∷ []) ≡ said_from host k as ++ said (reply_at host line a)
+pub said-more : (host : List ℕ) (k line : ℕ) (xs : List Answered) (a : Answered) → line ≡ k + length xs → said_from host k (xs ++ a ∷ []) ≡ said_from host k xs ++ said (reply_at host line a)
 said-more host k line [] a n = append-nil (said (reply_at host k a)) ∙ ap (λ (m : ℕ). said (reply_at host m a)) (let e : k ≡ line = omega (arith, n) in e)
-said-more host k line (b ∷ as) a n =
-    ap (λ (t : List ℕ). said (reply_at host k b) ++ t) (said-more host (suc k) line as a (omega (arith, n)))
-    ∙ sym (append_assoc (said (reply_at host k b)) (said_from host (suc k) as) (said (reply_at host line a)))
+said-more host k line (b ∷ xs) a n =
+    ap (λ (t : List ℕ). said (reply_at host k b) ++ t) (said-more host (suc k) line xs a (omega (arith, n)))
+    ∙ sym (append_assoc (said (reply_at host k b)) (said_from host (suc k) xs) (said (reply_at host line a)))
 
-pub arrivals-more : (as : List Answered) (a : Answered) → arrivals_of (as ++ a ∷ []) ≡ arrivals_of as ++ a.arrival ∷ []
+pub arrivals-more : (xs : List Answered) (a : Answered) → arrivals_of (xs ++ a ∷ []) ≡ arrivals_of xs ++ a.arrival ∷ []
 arrivals-more [] a = refl
-arrivals-more (b ∷ as) a = ap (λ (t : List Arrival). b.arrival ∷ t) (arrivals-more as a)
+arrivals-more (b ∷ xs) a = ap (λ (t : List Arrival). b.arrival ∷ t) (arrivals-more xs a)
 
-pub length-more : (as : List Answered) (a : Answered) → length (as ++ a ∷ []) ≡ suc (length as)
-length-more as a = let l = length-append as (a ∷ []) in omega (arith, l)
+pub length-more : (xs : List Answered) (a : Answered) → length (xs ++ a ∷ []) ≡ suc (length xs)
+length-more xs a = let l = length-append xs (a ∷ []) in omega (arith, l)

@@ -1,6 +1,6 @@
 -- The end of a run.
 use Rattle.std.proofs.Common.{◌≡◌, ◌≢◌, ◌⊎◌, inl, inr, ℕ, ◌+◌, ◌<◌, ◌≤◌, ◌^◌, arith, List, [], ◌++◌, Option, Some, None, length, refl, ap, sym, ◌∙◌, subst}
-use Rattle.std.specs.Prelude.{IsTrue, Result, Ok, Err}
+use Rattle.std.specs.Prelude.{IsTrue, OnOk, Result, Ok, Err}
 use Rattle.std.specs.Io.KnownBytes.{Appends, Consumes}
 use Rattle.ps_base.specs.Causes.{Rose}
 use Rattle.ps_wire.specs.AtEnd.{nothing_of}
@@ -9,8 +9,8 @@ use Rattle.ps_wire.specs.Writing.{AppendsFront}
 use Rattle.ps_wire.proofs.Written.{none_written}
 use Rattle.ps_follow_run.specs.Following.{AreAnswered, Follows, GaveAll, GaveFewer, HasCause, IsReadToEnd, Worked, end_in, said_from}
 use Rattle.ps_follow_run.specs.Lines.{AllSo, EndsSo, IsEnd, SoFar, Told}
-use Rattle.ps_follow_run.specs.declared.pieces.FollowEnd.{FollowEnd}
-use Rattle.ps_follow_run.specs.declared.pieces.FollowEnd.TheVariants as end
+use Rattle.ps_follow_run.specs.declared.ends.FollowEnd.{FollowEnd}
+use Rattle.ps_follow_run.specs.declared.ends.FollowEnd.TheVariants as end
 use Rattle.ps_follow_run.specs.declared.pieces.Taking.{Taking}
 use Rattle.ps_follow_run.proofs.Answering.{answered-as}
 use Rattle.ps_follow_run.proofs.Coming.{came-none}
@@ -28,10 +28,10 @@ pub record Counts (w : Worked) (why : FollowEnd) : Type 0 where
   pub fault : why ≡ end.Fault → Rose w.feed.faults w.feed_now.faults ⊎ (Rose w.input.faults w.input_now.faults ⊎ Rose w.sink.faults w.sink_now.faults)
 
 gave-all : (w : Worked) (given : ℕ) → Gave w.input.bytes w.input_now.bytes 0 given → given ≡ 2 ^ 40 → GaveAll w.input w.input_now
-gave-all w given g e = (g.0, (g.1, (let n = g.2 in omega (arith, n, e))))
+gave-all w given g e = (g.0, g.1, (let n = g.2 in omega (arith, n, e)))
 
 gave-fewer : (w : Worked) (given : ℕ) → Gave w.input.bytes w.input_now.bytes 0 given → given < 2 ^ 40 → GaveFewer w.input w.input_now
-gave-fewer w given g e = (g.0, (g.1, (let n = g.2 in omega (arith, n, e))))
+gave-fewer w given g e = (g.0, g.1, (let n = g.2 in omega (arith, n, e)))
 
 long-by : (w : Worked) (feed : List ℕ) (given : ℕ) → Gave w.input.bytes w.input_now.bytes 0 given → (length feed ≡ 2 ^ 40) ⊎ (given ≡ 2 ^ 40) → (length feed ≡ 2 ^ 40) ⊎ GaveAll w.input w.input_now
 long-by w feed given g (inl e) = inl e
@@ -70,6 +70,13 @@ module _ (host : List ℕ) (w : Worked) (now : Told) (feed-is : now.feed ≡ w.f
         bad = good-of t s.feed now.feed s.taken;
         cause = record { feed_later = c.feed; input_later = c.input; sink_later = c.sink; fault = c.fault; long = λ e. absurd (let no : end.Done ≡ end.Long = e in cc no) };
       }
+
+  -- by what all of it came to
+  pub finish : {T : Type 0} (r : Result T FollowEnd) (t : Taking) → w.feed.faults ≤ w.feed_now.faults → w.input.faults ≤ w.input_now.faults → w.sink.faults ≤ w.sink_now.faults
+      → (r ≡ Err end.Fault → Rose w.feed.faults w.feed_now.faults ⊎ (Rose w.input.faults w.input_now.faults ⊎ Rose w.sink.faults w.sink_now.faults))
+      → OnOk r (IsTrue t.ended × (IsReadToEnd w.input_now × (given < 2 ^ 40))) → AllSo host (told_at w) now t given r → Follows host w (end_in r)
+  finish (Ok x) t a b c fault ended so = finish-ok t so.0 (record { feed = a; input = b; sink = c; fault = λ e. absurd (let no : end.Done ≡ end.Fault = e in cc no) }) ended.0 ended.1 ended.2 so.1 so.2
+  finish (Err why) t a b c fault ended so = finish-err why (record { feed = a; input = b; sink = c; fault = λ e. fault (ap Err e) }) so
 
 -- nothing was done, for want of memory
 pub nothing-done : (host : List ℕ) (w : Worked) → w.feed_now ≡ w.feed → w.input_now ≡ w.input → w.sink_now ≡ w.sink → Follows host w end.Memory

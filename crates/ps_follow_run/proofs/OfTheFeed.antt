@@ -41,9 +41,9 @@ module _ (E : List Entry) (ok : lawful E) (feed : List ℕ) (of : IsFeedOf E fee
   of-front : (n : ℕ) (F : List Entry) → LeadsTo feed n F → IsFront F E
   of-front n F f = (feed-good E [] F (take n feed) f.at goes_on ok (E, refl) (front-of E feed n of) f.fed).0
 
-  go : (k n : ℕ) (before : List Entry) → LeadsTo feed n before → (as : List Answered) → AreAnswered feed Ended k n as → AreOf E before as
+  go : (k n : ℕ) (before : List Entry) → LeadsTo feed n before → (rest : List Answered) → AreAnswered feed Ended k n rest → AreOf E before rest
   go k n before lead [] le = tt
-  go k n before lead (a ∷ as) i = (of-front a.taken a.entries i.0.leads, (grow n a.taken before a.entries i.0.later lead i.0.leads, go (suc k) a.taken a.entries i.0.leads as i.1))
+  go k n before lead (a ∷ rest) i = (of-front a.taken a.entries i.0.leads, (grow n a.taken before a.entries i.0.later lead i.0.leads, go (suc k) a.taken a.entries i.0.leads rest i.1))
 
-  pub each-of : (as : List Answered) → AreAnswered feed Ended 1 0 as → AreOf E [] as
-  each-of as i = go 1 0 [] (begin feed) as i
+  pub each-of : (rest : List Answered) → AreAnswered feed Ended 1 0 rest → AreOf E [] rest
+  each-of rest i = go 1 0 [] (begin feed) rest i

@@ -4,7 +4,7 @@ use Rattle.std.specs.Prelude.{IsTrue}
 use Rattle.std.specs.Io.KnownBytes.{Consumes}
 use Rattle.ps_follow_run.specs.Following.{IfBad}
 use Rattle.ps_follow_run.specs.Pieces.{HasTaken, PieceEnds, TookPiece}
-use Rattle.ps_follow_run.specs.declared.pieces.FollowEnd.{FollowEnd}
+use Rattle.ps_follow_run.specs.declared.ends.FollowEnd.{FollowEnd}
 use Rattle.ps_follow_run.specs.declared.pieces.Taking.{Taking}
 use Rattle.ps_follow_run.proofs.Taking.{consumed-more, consumed-none}
 

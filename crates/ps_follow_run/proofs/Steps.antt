@@ -12,8 +12,8 @@ use Rattle.ps_follow_laws.specs.Answer.{answer_to}
 use Rattle.ps_follow_run.specs.Following.{Answered, AreAnswered, CameOf, IfBad, IsGood, arrivals_of, said, said_from}
 use Rattle.ps_follow_run.specs.Lines.{EndsSo, IsEnd, SoFar, Told}
 use Rattle.ps_follow_run.specs.Pieces.{HasTaken, PieceEnds, TookPiece}
-use Rattle.ps_follow_run.specs.declared.pieces.FollowEnd.{FollowEnd}
-use Rattle.ps_follow_run.specs.declared.pieces.FollowEnd.TheVariants as end
+use Rattle.ps_follow_run.specs.declared.ends.FollowEnd.{FollowEnd}
+use Rattle.ps_follow_run.specs.declared.ends.FollowEnd.TheVariants as end
 use Rattle.ps_follow_run.specs.declared.pieces.Taking.{Taking}
 use Rattle.ps_follow_run.proofs.Answering.{answered-as, answered-more, answered-on, arrivals-more, at_all, leads-whole, length-more, said-more}
 use Rattle.ps_follow_run.proofs.Coming.{came-more, came-none}
@@ -120,37 +120,33 @@ module _ (host : List ℕ) (b n : Told) (t : Taking) (line : ℕ) (s : SoFar hos
   -- ---- a line that came
 
   module _ (arrival : Arrival) (rest : Option (List ℕ)) (came : CameOf n.input rest (arrival ∷ [])) (ready : (line + 1 ≤ length s.feed) ⊎ IsTrue t.ended) where
-    E : List Entry
+    abbrev E : List Entry
     E = s.taken.entries
 
-    a : Answered
+    abbrev a : Answered
     a = at_all s.feed arrival E
 
-    all : List Answered
+    abbrev all : List Answered
     all = s.answered ++ a ∷ []
 
     number : line + 1 ≡ 1 + length s.answered
     number = let m = s.many in omega (arith, m)
 
     came-all : CameOf b.input rest (arrivals_of all)
-    unfolding all a E
     came-all = subst (CameOf b.input rest) (sym (arrivals-more s.answered (at_all s.feed arrival s.taken.entries))) (came-more b.input n.input rest (arrivals_of s.answered) (arrival ∷ []) s.came came)
 
     answers-all : AreAnswered s.feed (IsTrue t.ended) 1 0 all
-    unfolding all a E
     answers-all =
         answered-more s.feed (IsTrue t.ended) arrival s.taken.entries (leads-whole s.feed s.taken.entries t.follower.at s.taken.is.fed) 1 0 (line + 1) s.answered s.answers number ready
 
-    reply : List ℕ
+    abbrev reply : List ℕ
     reply = said (answer_to host (replay s.taken.entries).book (line + 1) arrival)
 
     said-all : said_from host 1 all ≡ said_from host 1 s.answered ++ reply
-    unfolding all a E reply
     said-all = said-more host 1 (line + 1) s.answered (at_all s.feed arrival s.taken.entries) number
 
     -- its reply was written
     pub line-more : (sink : Option (List ℕ)) → Appends n.sink sink (said (answer_to host (replay s.taken.entries).book (line + 1) arrival)) → SoFar host b (record { feed = n.feed; input = rest; sink = sink }) t (line + 1)
-    unfolding reply
     line-more sink wrote = record {
       feed = s.feed;
       gave = s.gave;
@@ -158,18 +154,13 @@ module _ (host : List ℕ) (b n : Told) (t : Taking) (line : ℕ) (s : SoFar hos
       answered = all;
       came = came-all;
       answers = answers-all;
-      many = (let l = length-more s.answered a in let l' : length all ≡ length s.answered + 1 = longer l in let m = s.many in omega (arith, l', m));
+      many = (let l = length-more s.answered (at_all s.feed arrival s.taken.entries) in let m = s.many in omega (arith, l, m));
       behind = ready;
       wrote = subst (Appends b.sink sink) (sym said-all) (appends_more b.sink n.sink sink (said_from host 1 s.answered) reply s.wrote wrote);
     }
-      where
-        longer : length (s.answered ++ a ∷ []) ≡ suc (length s.answered) → length all ≡ length s.answered + 1
-        unfolding all
-        longer l = omega (arith, l)
 
     -- or a front of it
     pub line-cut : (sink : Option (List ℕ)) (given : ℕ) → AppendsFront n.sink sink (said (answer_to host (replay s.taken.entries).book (line + 1) arrival)) → EndsSo host b (record { feed = n.feed; input = rest; sink = sink }) given end.Fault
-    unfolding reply
     line-cut sink given front = record {
       feed = s.feed;
       gave = s.gave;
@@ -201,6 +192,12 @@ module _ (host : List ℕ) (b n : Told) (t : Taking) (line : ℕ) (s : SoFar hos
           bad = tt;
           long = λ e. absurd (let no : end.Memory ≡ end.Long = e in cc no);
         }
+
+    -- by why it was not written whole
+    pub line-ends : (sink : Option (List ℕ)) (given : ℕ) (why : FollowEnd) → (why ≡ end.Fault) ⊎ (why ≡ end.Memory) → (why ≡ end.Fault → AppendsFront n.sink sink (said (answer_to host (replay s.taken.entries).book (line + 1) arrival)))
+        → (why ≡ end.Memory → Keeps n.sink sink) → EndsSo host b (record { feed = n.feed; input = rest; sink = sink }) given why
+    line-ends sink given why (inl e) front keeps = subst (EndsSo host b (record { feed = n.feed; input = rest; sink = sink }) given) (sym e) (line-cut sink given (front e))
+    line-ends sink given why (inr e) front keeps = subst (EndsSo host b (record { feed = n.feed; input = rest; sink = sink }) given) (sym e) (line-lost sink given (keeps e))
 
 -- ---- the begin
 

@@ -1,5 +1,5 @@
 -- A piece of a feed, by what was read and what the follower made of it.
-use Rattle.std.proofs.Common.{◌≡◌, ◌≢◌, ◌⊎◌, inl, inr, ℕ, ◌+◌, ◌<◌, ◌≤◌, ◌^◌, arith, Bool, true, false, List, [], ◌∷◌, ◌++◌, Option, Some, None, length, take, refl, ap, sym, ◌∙◌, subst, append_assoc, append-nil, length-append}
+use Rattle.std.proofs.Common.{◌≡◌, ◌≢◌, ◌⊎◌, inl, inr, ℕ, ◌+◌, ◌-◌, ◌<◌, ◌≤◌, ◌^◌, arith, Bool, true, false, List, [], ◌∷◌, ◌++◌, Option, Some, None, length, take, refl, ap, sym, ◌∙◌, subst, append_assoc, append-nil, cond, length-append, length-take}
 use Rattle.std.specs.Prelude.{IsTrue}
 use Rattle.std.specs.Io.KnownBytes.{Appends, Consumes, IsAtEnd, Keeps}
 use Rattle.ps_types.specs.declared.entry.Entry.{Entry}
@@ -11,9 +11,10 @@ use Rattle.ps_follow.specs.View.{Following}
 use Rattle.ps_follow.specs.declared.refusal.FeedRefusal.{FeedRefusal}
 use Rattle.ps_follow.specs.declared.refusal.FeedRefusal.TheVariants as refusal
 use Rattle.ps_follow_run.specs.Following.{IfBad, IsGood}
-use Rattle.ps_follow_run.specs.Pieces.{HasTaken, PieceEnds, TookPiece, end_by}
-use Rattle.ps_follow_run.specs.declared.pieces.FollowEnd.{FollowEnd}
-use Rattle.ps_follow_run.specs.declared.pieces.FollowEnd.TheVariants as end
+use Rattle.ps_follow_run.specs.Ends.{end_by}
+use Rattle.ps_follow_run.specs.Pieces.{HasTaken, PieceEnds, TookPiece}
+use Rattle.ps_follow_run.specs.declared.ends.FollowEnd.{FollowEnd}
+use Rattle.ps_follow_run.specs.declared.ends.FollowEnd.TheVariants as end
 use Rattle.ps_follow_run.specs.declared.pieces.Taking.{Taking}
 
 pub consumed-none : (left : Option (List ℕ)) → Consumes left left []
@@ -66,6 +67,13 @@ never-fault refusal.Memory = λ e. cc e
 
 -- ---- one piece
 
+pub not-ended : (b : Bool) → b ≡ false → IsTrue b → ⊥
+not-ended b e t = absurd (let no : false ≡ true = sym e ∙ t in cc no)
+
+-- as many bytes as were read
+pub read-long : (count : ℕ) (room piece : List ℕ) → piece ≡ take count room → count ≤ length room → length piece ≡ count
+read-long count room piece e le = let l = ap (λ (t : List ℕ). length t) e in let k = length-take count room in omega (arith, l, k, le)
+
 pub good-of : (t : Taking) (feed : List ℕ) (left : Option (List ℕ)) → HasTaken t feed left → IsGood feed
 good-of t feed left h = record { entries = h.entries; at = t.follower.at; fed = h.is.fed }
 
@@ -81,12 +89,12 @@ stood-still t feed left ended h = record {
 
 -- an end at which nothing was given
 pub ends-still : (t : Taking) (feed : List ℕ) (before now : Option (List ℕ)) (why : FollowEnd) → (IsTrue t.ended → ⊥) → Consumes before now [] → (why ≢ end.Done) → IfBad feed why → (why ≡ end.Long → length feed ≡ 2 ^ 40) → PieceEnds t feed before now why
-ends-still t feed before now why going gave never bad long = record {
+ends-still t feed before now why going gave never badly long = record {
   piece = [];
   gave = gave;
   going = going;
   never = never;
-  bad = subst (λ (x : List ℕ). IfBad x why) (sym (append-nil feed)) bad;
+  bad = subst (λ (x : List ℕ). IfBad x why) (sym (append-nil feed)) badly;
   long = λ e. ap (λ (x : List ℕ). length x) (append-nil feed) ∙ long e;
 }
 
@@ -106,13 +114,9 @@ end-found old new feed before now f g e going few gave at h =
       piece = [];
       gave = gave;
       taken = subst (λ (x : List ℕ). HasTaken new x now) (sym same) taken;
-      some = inr (truth new.ended e);
+      some = inr e;
       still = λ x. absurd (going x);
     }
-  where
-    truth : (b : Bool) → b ≡ true → IsTrue b
-    truth true e = tt
-    truth false e = absurd (cc e)
 
 -- a piece of it was taken
 pub piece-taken : (old new : Taking) (feed piece : List ℕ) (before now : Option (List ℕ)) (F : List Entry) → new.given ≡ old.given + length piece → new.ended ≡ false → (IsTrue old.ended → ⊥) → IsAt new.follower [] (feed ++ piece) F → Consumes before now piece → 0 < length piece
@@ -128,16 +132,12 @@ piece-taken old new feed piece before now F g e going is gave some few h =
         is = is;
         counted = omega (arith, g, c, l);
         most = omega (arith, few, c, l);
-        early = λ t. absurd (untrue new.ended e t);
-        at_end = λ t. absurd (untrue new.ended e t);
+        early = λ t. absurd (not-ended new.ended e t);
+        at_end = λ t. absurd (not-ended new.ended e t);
       };
       some = inl some;
       still = λ x. absurd (going x);
     }
-  where
-    untrue : (b : Bool) → b ≡ false → IsTrue b → ⊥
-    untrue true e t = absurd (cc e)
-    untrue false e t = t
 
 -- or refused
 pub piece-refused : (old : Taking) (f : Following) (feed piece : List ℕ) (before now : Option (List ℕ)) (why : FeedRefusal) → (IsTrue old.ended → ⊥) → IsStuck f [] (feed ++ piece) why → Consumes before now piece → PieceEnds old feed before now (end_by why)
@@ -153,3 +153,28 @@ piece-refused old f feed piece before now why going s gave = record {
 -- the feed gave all that it may
 pub all-given : (t : Taking) (feed : List ℕ) (left : Option (List ℕ)) → HasTaken t feed left → 2 ^ 40 ≤ t.given → length feed ≡ 2 ^ 40
 all-given t feed left h full = let c = h.counted in let m = h.most in omega (arith, c, m, full)
+
+-- what is left to take falls
+pub piece-falls : (old new : Taking) (feed : List ℕ) (before now : Option (List ℕ)) → HasTaken old feed before → TookPiece old new feed before now → old.ended ≡ false → (2 ^ 40 - new.given) + cond new.ended 0 1 < (2 ^ 40 - old.given) + cond old.ended 0 1
+piece-falls old new feed before now h p going = by p.some
+  where
+    by : (0 < length p.piece) ⊎ IsTrue new.ended → (2 ^ 40 - new.given) + cond new.ended 0 1 < (2 ^ 40 - old.given) + cond old.ended 0 1
+    by (inr e) =
+        let a = h.counted in
+        let b = p.taken.counted in
+        let l = length-append feed p.piece in
+        let one : cond old.ended 0 1 ≡ 1 = ap (λ (x : Bool). cond x 0 1) going in
+        let none : cond new.ended 0 1 ≡ 0 = ap (λ (x : Bool). cond x 0 1) e in
+        omega (arith, a, b, l, one, none)
+    by (inl some) =
+        let a = h.counted in
+        let b = p.taken.counted in
+        let m = p.taken.most in
+        let l = length-append feed p.piece in
+        let one : cond old.ended 0 1 ≡ 1 = ap (λ (x : Bool). cond x 0 1) going in
+        let most = at-most new.ended in
+        omega (arith, a, b, l, m, one, most, some)
+      where
+        at-most : (b : Bool) → cond b 0 1 ≤ 1
+        at-most true = omega arith
+        at-most false = omega arith

@@ -16,8 +16,8 @@ use Rattle.ps_wire.specs.declared.streams.Sink.{Ghosts as SinkGhosts}
 use Rattle.ps_wire.specs.declared.streams.Source.{Ghosts as SourceGhosts}
 use Rattle.ps_follow_laws.specs.Answer.{answer_to}
 use Rattle.ps_follow_laws.specs.Feed.{Fed, Stop, goes_on}
-use Rattle.ps_follow_run.specs.declared.pieces.FollowEnd.{FollowEnd}
-use Rattle.ps_follow_run.specs.declared.pieces.FollowEnd.TheVariants as end
+use Rattle.ps_follow_run.specs.declared.ends.FollowEnd.{FollowEnd}
+use Rattle.ps_follow_run.specs.declared.ends.FollowEnd.TheVariants as end
 
 -- nothing stopped it
 abbrev pub end_in : {T : Type 0} → Result T FollowEnd → FollowEnd

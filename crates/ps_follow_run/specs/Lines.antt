@@ -11,8 +11,8 @@ use Rattle.ps_wire.specs.declared.streams.Source.{Ghosts as SourceGhosts}
 use Rattle.ps_wire.specs.Writing.{AppendsFront}
 use Rattle.ps_follow_run.specs.Following.{Answered, AreAnswered, CameOf, IfBad, arrivals_of, said_from}
 use Rattle.ps_follow_run.specs.Pieces.{HasTaken}
-use Rattle.ps_follow_run.specs.declared.pieces.FollowEnd.{FollowEnd}
-use Rattle.ps_follow_run.specs.declared.pieces.FollowEnd.TheVariants as end
+use Rattle.ps_follow_run.specs.declared.ends.FollowEnd.{FollowEnd}
+use Rattle.ps_follow_run.specs.declared.ends.FollowEnd.TheVariants as end
 use Rattle.ps_follow_run.specs.declared.pieces.Taking.{Taking}
 
 -- what the feed, the input and the sink tell

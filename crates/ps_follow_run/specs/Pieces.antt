@@ -4,18 +4,10 @@ use Rattle.std.specs.Io.KnownBytes.{Consumes}
 use Rattle.ps_types.specs.declared.entry.Entry.{Entry}
 use Rattle.ps_wire.specs.AtEnd.{nothing_of}
 use Rattle.ps_follow.specs.Followed.{IsAt}
-use Rattle.ps_follow.specs.declared.refusal.FeedRefusal.{FeedRefusal}
-use Rattle.ps_follow.specs.declared.refusal.FeedRefusal.TheVariants as refusal
 use Rattle.ps_follow_run.specs.Following.{IfBad}
-use Rattle.ps_follow_run.specs.declared.pieces.FollowEnd.{FollowEnd}
-use Rattle.ps_follow_run.specs.declared.pieces.FollowEnd.TheVariants as end
+use Rattle.ps_follow_run.specs.declared.ends.FollowEnd.{FollowEnd}
+use Rattle.ps_follow_run.specs.declared.ends.FollowEnd.TheVariants as end
 use Rattle.ps_follow_run.specs.declared.pieces.Taking.{Taking}
-
-abbrev pub end_by : FeedRefusal → FollowEnd
-end_by (refusal.Bad at) = end.Bad at
-end_by (refusal.Gap at expected) = end.Bad at
-end_by (refusal.Differs at) = end.Bad at
-end_by refusal.Memory = end.Memory
 
 -- the feed gave these bytes, and this is left of it
 pub record HasTaken (t : Taking) (feed : List ℕ) (left : Option (List ℕ)) : Type 0 where

@@ -1,5 +1,5 @@
 // The entries of a store, written as a feed.
-ghost use Rattle.std.specs.Prelude.{◌≡◌, ◌<◌, ◌^◌, IfErr, IsErrOf, OnErr, OnOk, length};
+ghost use Rattle.std.specs.Prelude.{◌≡◌, ◌<◌, ◌≤◌, ◌^◌, IsErrOf, OnOk, length};
 ghost use Rattle.std.specs.Io.KnownBytes.{Appends};
 ghost use Rattle.ps_base.specs.Causes.{Rose};
 ghost use Rattle.ps_model.specs.Entries.{IsEntry, spelling};

@@ -3,8 +3,9 @@ ghost use Rattle.std.specs.Prelude.{◌≡◌, []};
 ghost use Rattle.ps_follow_run.specs.Following.{Follows, end_in, worked};
 ghost use Rattle.ps_follow_run.specs.Pieces.{HasTaken};
 
+use crate::ends::FollowEnd;
 use crate::lines::follow_all;
-use crate::pieces::{FollowEnd, Taking};
+use crate::pieces::Taking;
 use ps_types::Text;
 use ps_wire::{Lines, LinesRefusal, Sink, Source};
 use std::alloc::Global;

@@ -5,14 +5,16 @@
 //! `specs/Laws.antt` has the law that ties it to another service: where the feed is of one lawful list, each answer is given at a front of it, and no answer behind an earlier one.
 #![tactic(auto)]
 
+mod ends;
 mod feeding;
 mod following;
 mod laws;
 mod lines;
 mod pieces;
+mod room;
 mod writing;
 
+pub use ends::FollowEnd;
 pub use feeding::{FeedEnd, run_feed};
 pub use following::{Followed, run_follow};
 pub use laws::each_answer_is_of_the_feed;
-pub use pieces::FollowEnd;

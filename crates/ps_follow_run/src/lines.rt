@@ -1,5 +1,5 @@
 // The lines of an input, answered one after another.
-ghost use Rattle.std.specs.Prelude.{◌≡◌, ◌≢◌, ◌⊎◌, ◌+◌, ◌<◌, ◌≤◌, ◌^◌, ◌∷◌, [], List, ℕ, None, IfErr, IfNone, IfOk, IfSome, IsErrOf, IsSome, IsTrue, OnErr, OnOk};
+ghost use Rattle.std.specs.Prelude.{◌≡◌, ◌≢◌, ◌⊎◌, ◌+◌, ◌<◌, ◌≤◌, ◌^◌, ◌∷◌, [], List, ℕ, None, IfErr, IfNone, IfOk, IfSome, IsErrOf, IsSome, IsTrue, OnErr, OnOk, false};
 ghost use Rattle.std.specs.Io.KnownBytes.{Appends, Keeps};
 ghost use Rattle.ps_base.specs.Causes.{Rose};
 ghost use Rattle.ps_types.specs.declared.entry.Entry.{Entry};
@@ -12,7 +12,8 @@ ghost use Rattle.ps_follow_run.specs.Following.{CameOf, said};
 ghost use Rattle.ps_follow_run.specs.Lines.{AllSo, IsEnd, NextSo, SoFar, Told, told};
 ghost use Rattle.ps_follow_run.specs.Pieces.{HasBegun};
 
-use crate::pieces::{FollowEnd, Taking, take_rest};
+use crate::ends::FollowEnd;
+use crate::pieces::{Taking, take_rest};
 use ps_follow::Follower;
 use ps_types::{Arrival, Text};
 use ps_wire::{
@@ -130,12 +131,17 @@ fn follow_line<R: Threads + Sync, F: Source, S: Source, K: Sink>(
         ⊎ (Rose (S.faults (source_of lines.old)) (S.faults (source_of lines.new))
         ⊎ Rose (K.faults sink.old) (K.faults sink.new)) }
 {
-    taking.take_piece(rt, feed)?;
-    match next_arrival(alloc, lines)? {
-        None => Ok(false),
-        Some(arrival) => {
-            answer_line(alloc, &taking.follower, host, line + 1, &arrival, sink)?;
-            Ok(true)
+    if let Err(why) = taking.take_piece(rt, feed) {
+        return Err(why);
+    }
+    match next_arrival(alloc, lines) {
+        Err(why) => Err(why),
+        Ok(None) => Ok(false),
+        Ok(Some(arrival)) => {
+            match answer_line(alloc, &taking.follower, host, line + 1, &arrival, sink) {
+                Ok(()) => Ok(true),
+                Err(why) => Err(why),
+            }
         }
     }
 }
@@ -203,7 +209,11 @@ pub(crate) fn follow_all<R: Threads + Sync, F: Source, S: Source, K: Sink>(
         ⊎ (Rose (S.faults (source_of lines.old)) (S.faults (source_of lines.new))
         ⊎ Rose (K.faults sink.old) (K.faults sink.new)) }
 {
-    follow_each(rt, alloc, host, taking, feed, lines, sink)?;
-    take_rest(rt, taking, feed)?;
-    Ok(())
+    if let Err(why) = follow_each(rt, alloc, host, taking, feed, lines, sink) {
+        return Err(why);
+    }
+    match take_rest(rt, taking, feed) {
+        Ok(()) => Ok(()),
+        Err(why) => Err(why),
+    }
 }

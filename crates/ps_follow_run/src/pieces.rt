@@ -1,31 +1,16 @@
 // A follower's feed, which is taken a piece at a time.
-ghost use Rattle.std.specs.Prelude.{◌≡◌, ◌≢◌, ◌<◌, ◌≤◌, List, ℕ, [], None, length, take, false, IfOk, IsErrOf, IsTrue, MatchResult, OnOk};
-ghost use Rattle.std.specs.Io.KnownBytes.{Consumes, IsAtEnd, Keeps};
-ghost use Rattle.ps_base.specs.Causes.{HasCause, Rose};
-ghost use Rattle.ps_follow_run.specs.Pieces.{HasBegun, HasTaken, Piece, end_by};
+ghost use Rattle.std.specs.Prelude.{◌≡◌, ◌≤◌, List, ℕ, [], false, IfOk, IsErrOf, IsTrue, OnOk};
+ghost use Rattle.std.specs.declared.option.Option.{Option};
+ghost use Rattle.ps_base.specs.Causes.{Rose};
+ghost use Rattle.ps_follow_run.specs.Pieces.{HasBegun, HasTaken, Piece};
 
+use crate::ends::{FollowEnd, end_of};
+use crate::room::Room;
 use ps_base::Memory;
-use ps_follow::{FeedRefusal, Follower};
-use ps_wire::{Failed, Source};
+use ps_follow::Follower;
+use ps_wire::Source;
 use std::alloc::Global;
 use std::thread::Threads;
-
-/// How a run of a follower ended.
-#[derive(Clone, Copy, PartialEq, Eq, Debug)]
-pub enum FollowEnd {
-    /// The feed and the input were read to their end, and all lines answered.
-    Done,
-    /// The record at that offset of the feed is bad, leaves a gap, or holds another entry than the one at its place.
-    Bad { at: u64 },
-    /// The feed, the input or the sink failed.
-    Fault,
-    /// The feed or the input gave 2^40 bytes.
-    Long,
-    Memory,
-}
-
-/// The most bytes that one read takes.
-const ROOM: usize = 65_536;
 
 /// The most bytes that are taken of a feed.
 const LIMIT: u64 = 1 << 40;
@@ -34,35 +19,9 @@ const LIMIT: u64 = 1 << 40;
 #[derive(Drop)]
 pub(crate) struct Taking {
     pub(crate) follower: Follower,
-    room: Vec<u8>,
+    room: Room,
     given: u64,
     pub(crate) ended: bool,
-    ghost some: { 0 < length room.items },
-}
-
-fn end_of(why: FeedRefusal) -> FollowEnd
-    ensures { result ≡ end_by why }
-{
-    match why {
-        FeedRefusal::Bad { at }
-        | FeedRefusal::Gap { at, expected: _ }
-        | FeedRefusal::Differs { at } => FollowEnd::Bad { at },
-        FeedRefusal::Memory => FollowEnd::Memory,
-    }
-}
-
-// Reads into the front of the room, at most so many bytes.
-fn read_front<F: Source>(feed: &mut F, room: &mut [u8], most: usize) -> Result<usize, Failed>
-    requires some { 0 < most }
-    requires fits { most ≤ length room.old }
-    ensures count { IfOk result (λ n. n ≤ most) }
-    ensures bytes { MatchResult result
-        (λ n. Consumes (F.left feed.old) (F.left feed.new) (take n room.new)
-        × (n ≡ 0 → IsAtEnd (F.left feed.new)))
-        (λ _. Keeps (F.left feed.old) (F.left feed.new)) }
-    ensures cause { HasCause (F.faults feed.old) (F.faults feed.new) result }
-{
-    feed.read(&mut room[..most])
 }
 
 impl Taking {
@@ -73,7 +32,7 @@ impl Taking {
     {
         Ok(Taking {
             follower: Follower::new(alloc)?,
-            room: vec![in alloc; 0u8; ROOM]?,
+            room: Room::new(alloc)?,
             given: 0,
             ended: false,
         })
@@ -97,10 +56,7 @@ impl Taking {
         if self.given >= LIMIT {
             return Err(FollowEnd::Long);
         }
-        let most = usize::try_from(LIMIT - self.given)
-            .unwrap_or(ROOM)
-            .min(self.room.len());
-        let Ok(count) = read_front(feed, &mut self.room, most) else {
+        let Ok(count) = self.room.read(feed, LIMIT - self.given) else {
             return Err(FollowEnd::Fault);
         };
         if count == 0 {
@@ -108,7 +64,7 @@ impl Taking {
             return Ok(());
         }
         self.given += count as u64;
-        match self.follower.feed(rt, &self.room[..count]) {
+        match self.follower.feed(rt, self.room.front(count)) {
             Ok(_) => Ok(()),
             Err(why) => Err(end_of(why)),
         }
@@ -129,7 +85,9 @@ pub(crate) fn take_rest<R: Threads + Sync, F: Source>(
     ensures fault { IsErrOf result FollowEnd.Fault → Rose (F.faults feed.old) (F.faults feed.new) }
 {
     'rest: while !taking.ended {
-        taking.take_piece(rt, feed)?;
+        if let Err(why) = taking.take_piece(rt, feed) {
+            return Err(why);
+        }
     }
     Ok(())
 }

@@ -32,5 +32,18 @@ lines-preserved g c =
       feed_later = (let x = i.feed_later in let y = c.follow_line.ensures.feed_later in omega (arith, x, y));
       input_later = (let x = i.input_later in let y = c.follow_line.ensures.input_later in omega (arith, x, y));
       sink_later = (let x = i.sink_later in let y = c.follow_line.ensures.sink_later in omega (arith, x, y));
-      bound = ?;
+      bound = (let b = i.bound in let f = c.in-Ok-true.ensures.falls c.in-Ok-true.field-0-test in omega (arith, b, f));
     }
+
+pub lines-smaller : goal.lines-smaller
+lines-smaller g c = c.in-Ok-true.ensures.falls c.in-Ok-true.field-0-test
+
+pub returns-in-Ok-false-clause-so : goal.returns-in-Ok-false-clause-so
+returns-in-Ok-false-clause-so g c = λ before s.
+    let n = c.follow_line.new in
+    let r = subst (λ (b : Bool). NextSo c.args.host.now before (told g.F.Source g.S.Source g.K.Sink n.feed n.lines n.sink) n.taking c.lines.line (given_of n.lines) (Ok b)) c.in-Ok-false.field-0-test
+    (c.in-Ok-false.ensures.so before (c.lines.invariant.so before s)) in
+    (c.lines.line, r.0, r.1)
+
+pub returns-in-Err-clause-so : goal.returns-in-Err-clause-so
+returns-in-Err-clause-so g c = λ before s. c.in-Err.ensures.so before (c.lines.invariant.so before s)

@@ -35,7 +35,7 @@ pub returns-in-Some-clause-grows : goal.returns-in-Some-clause-grows
 returns-in-Some-clause-grows g c = λ F is.
     let stands : Stands c.self.inside.service.state c.self.inside.log.items F = subst (λ (f : Following). Has f F) (sym c.self.view_is) is in
     let w = c.take_all-taken.ensures.went F stands in
-    (w.entries, (w.stands, grown F c.as_slice.result.now c.take_all-taken.new.service.state c.take_all-taken.new.log.items c.take_all-taken.result.0 c.take_all-taken.result.1 w))
+    (w.entries, w.stands, grown F c.as_slice.result.now c.take_all-taken.new.service.state c.take_all-taken.new.log.items c.take_all-taken.result.0 c.take_all-taken.result.1 w)
 
 pub returns-clause-at : goal.returns-clause-at
 returns-clause-at g c = λ E F stream is.
@@ -64,4 +64,4 @@ pub returns-clause-grows : goal.returns-clause-grows
 returns-clause-grows g c = λ F is.
     let stands : Stands c.self.inside.service.state c.self.inside.log.items F = subst (λ (f : Following). Has f F) (sym c.self.view_is) is in
     let w = c.take_all-taken.ensures.went F stands in
-    (w.entries, (w.stands, grown F c.as_slice.result.now c.take_all-taken.new.service.state c.take_all-taken.new.log.items c.take_all-taken.result.0 c.take_all-taken.result.1 w))
+    (w.entries, w.stands, grown F c.as_slice.result.now c.take_all-taken.new.service.state c.take_all-taken.new.log.items c.take_all-taken.result.0 c.take_all-taken.result.1 w)
