@@ -26,7 +26,7 @@ use Rattle.ps_model.specs.Replies.{entry_by, entry_of, moment_of, outcome_entry,
 use Rattle.ps_model.specs.Taken.{Taken}
 use Rattle.ps_model.specs.Taken as taken
 use Rattle.ps_model.specs.Asking.{ask_of}
-use Rattle.ps_model.specs.Stanza.{host_jid, is_served, is_stanza, jid_of, target_of}
+use Rattle.ps_model.specs.Stanza.{is_served, is_stanza, jid_of, target_of}
 use Rattle.ps_model.specs.Taking.{ask_taken, head_of, is_white, request_of, result_taken, sender_taken, target_taken, tree_taken}
 use Rattle.ps_model.specs.Taking as taking
 use Rattle.ps_core.specs.Requests.{IsRequestOf}

@@ -4,14 +4,13 @@ use Rattle.std.proofs.lemmas.List.{drop_at, drop-append-le, drop-drop, take_at}
 use Rattle.std.proofs.lemmas.List.Concat.{flat_map-append}
 use Rattle.ps_types.specs.declared.entry.Entry.{Entry}
 use Rattle.ps_model.specs.Book.{State}
-use Rattle.ps_follow_laws.specs.Feed.{AreTaken, Ends, Fed, Sent, Stop, after_all, bad, feed_of, gap, goes_on, other, sent_bytes}
+use Rattle.ps_follow_laws.specs.Feed.{AreTaken, Ends, Fed, Stop, after_all, bad, feed_of, gap, goes_on, other, sent_bytes}
 use Rattle.ps_follow_laws.specs.Follow.{IsFront}
 use Rattle.ps_follow_laws.proofs.Ending.{grows}
-use Rattle.ps_follow_laws.proofs.Gets.{front-itself}
 use Rattle.ps_follow_laws.proofs.Piecewise.{after-both, goes-on, taken-both}
 use Rattle.ps_follow.specs.Feeding.{EndsAs, Went}
-use Rattle.ps_follow.specs.Followed.{Has, IsAt, IsOfFront, RefusedAs}
-use Rattle.ps_follow.specs.Following.{Goes, Stands}
+use Rattle.ps_follow.specs.Followed.{IsAt, IsOfFront, RefusedAs}
+use Rattle.ps_follow.specs.Following.{Goes}
 use Rattle.ps_follow.specs.Refused.{refused_by}
 use Rattle.ps_follow.specs.View.{Following}
 use Rattle.ps_follow.specs.declared.feeding.End.{End}

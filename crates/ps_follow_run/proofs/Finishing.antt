@@ -1,5 +1,5 @@
 -- The end of a run.
-use Rattle.std.proofs.Common.{◌≡◌, ◌≢◌, ◌⊎◌, inl, inr, ℕ, ◌+◌, ◌<◌, ◌≤◌, ◌^◌, arith, List, [], ◌++◌, Option, Some, None, length, refl, ap, sym, ◌∙◌, subst}
+use Rattle.std.proofs.Common.{◌≡◌, ◌⊎◌, inl, inr, ℕ, ◌<◌, ◌≤◌, ◌^◌, arith, List, [], Option, length, ap, sym, subst}
 use Rattle.std.specs.Prelude.{IsTrue, OnOk, Result, Ok, Err}
 use Rattle.std.specs.Io.KnownBytes.{Appends, Consumes}
 use Rattle.ps_base.specs.Causes.{Rose}
@@ -7,7 +7,7 @@ use Rattle.ps_wire.specs.AtEnd.{nothing_of}
 use Rattle.ps_wire.specs.Reading.{Gave}
 use Rattle.ps_wire.specs.Writing.{AppendsFront}
 use Rattle.ps_wire.proofs.Written.{none_written}
-use Rattle.ps_follow_run.specs.Following.{AreAnswered, Follows, GaveAll, GaveFewer, HasCause, IsReadToEnd, Worked, end_in, said_from}
+use Rattle.ps_follow_run.specs.Following.{Follows, GaveAll, GaveFewer, IsReadToEnd, Worked, end_in, said_from}
 use Rattle.ps_follow_run.specs.Lines.{AllSo, EndsSo, IsEnd, SoFar, Told}
 use Rattle.ps_follow_run.specs.declared.ends.FollowEnd.{FollowEnd}
 use Rattle.ps_follow_run.specs.declared.ends.FollowEnd.TheVariants as end

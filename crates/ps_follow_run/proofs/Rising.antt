@@ -1,6 +1,6 @@
 -- Counts that rise, and bytes that are given, over several calls.
-use Rattle.std.proofs.Common.{◌≡◌, ◌⊎◌, inl, inr, ℕ, ◌+◌, ◌-◌, ◌≤◌, ◌^◌, arith, List, length, Option, min, ap}
-use Rattle.ps_base.specs.Causes.{Rose, next_count}
+use Rattle.std.proofs.Common.{◌⊎◌, inl, inr, ℕ, ◌+◌, ◌≤◌, ◌^◌, arith, List, length, Option, ap}
+use Rattle.ps_base.specs.Causes.{Rose}
 use Rattle.ps_wire.specs.Reading.{Gave, IsFresh, budget_of}
 use Rattle.ps_wire.specs.declared.lines.Lines.{Lines}
 use Rattle.ps_wire.specs.declared.streams.Source.{Ghosts}

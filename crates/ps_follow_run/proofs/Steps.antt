@@ -1,5 +1,5 @@
 -- One line after another, as it is answered.
-use Rattle.std.proofs.Common.{◌≡◌, ◌≢◌, ◌⊎◌, inl, inr, ℕ, ◌+◌, ◌<◌, ◌≤◌, ◌^◌, arith, List, [], ◌∷◌, ◌++◌, Option, Some, None, length, refl, ap, sym, ◌∙◌, subst, append-nil, length-append}
+use Rattle.std.proofs.Common.{◌≡◌, ◌≢◌, ◌⊎◌, inl, inr, ℕ, ◌+◌, ◌<◌, ◌≤◌, ◌^◌, arith, List, [], ◌∷◌, ◌++◌, Option, length, refl, sym, ◌∙◌, subst, append-nil, length-append}
 use Rattle.std.specs.Prelude.{IsTrue}
 use Rattle.std.specs.Io.KnownBytes.{Appends, Keeps}
 use Rattle.ps_types.specs.declared.entry.Arrival.{Arrival}
@@ -10,7 +10,7 @@ use Rattle.ps_wire.specs.Writing.{AppendsFront}
 use Rattle.ps_wire.proofs.Written.{appends_more, appends_same, none_written, second_part}
 use Rattle.ps_follow_laws.specs.Answer.{answer_to}
 use Rattle.ps_follow_run.specs.Following.{Answered, AreAnswered, CameOf, IfBad, IsGood, arrivals_of, said, said_from}
-use Rattle.ps_follow_run.specs.Lines.{EndsSo, IsEnd, SoFar, Told}
+use Rattle.ps_follow_run.specs.Lines.{EndsSo, SoFar, Told}
 use Rattle.ps_follow_run.specs.Pieces.{HasTaken, PieceEnds, TookPiece}
 use Rattle.ps_follow_run.specs.declared.ends.FollowEnd.{FollowEnd}
 use Rattle.ps_follow_run.specs.declared.ends.FollowEnd.TheVariants as end

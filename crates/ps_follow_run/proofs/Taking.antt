@@ -1,12 +1,12 @@
 -- A piece of a feed, by what was read and what the follower made of it.
-use Rattle.std.proofs.Common.{◌≡◌, ◌≢◌, ◌⊎◌, inl, inr, ℕ, ◌+◌, ◌-◌, ◌<◌, ◌≤◌, ◌^◌, arith, Bool, true, false, List, [], ◌∷◌, ◌++◌, Option, Some, None, length, take, refl, ap, sym, ◌∙◌, subst, append_assoc, append-nil, cond, length-append, length-take}
+use Rattle.std.proofs.Common.{◌≡◌, ◌≢◌, ◌⊎◌, inl, inr, ℕ, ◌+◌, ◌-◌, ◌<◌, ◌≤◌, ◌^◌, arith, Bool, true, false, List, [], ◌++◌, Option, Some, None, length, take, refl, ap, sym, ◌∙◌, subst, append_assoc, append-nil, cond, length-append, length-take}
 use Rattle.std.specs.Prelude.{IsTrue}
 use Rattle.std.specs.Io.KnownBytes.{Appends, Consumes, IsAtEnd, Keeps}
 use Rattle.ps_types.specs.declared.entry.Entry.{Entry}
 use Rattle.ps_wire.specs.AtEnd.{nothing_of}
 use Rattle.ps_wire.specs.Writing.{AppendsFront}
-use Rattle.ps_follow_laws.specs.Feed.{Fed, bad, gap, goes_on, other}
-use Rattle.ps_follow.specs.Followed.{IsAt, IsOfFront, IsStuck, RefusedAs}
+use Rattle.ps_follow_laws.specs.Feed.{bad, gap, other}
+use Rattle.ps_follow.specs.Followed.{IsAt, IsStuck, RefusedAs}
 use Rattle.ps_follow.specs.View.{Following}
 use Rattle.ps_follow.specs.declared.refusal.FeedRefusal.{FeedRefusal}
 use Rattle.ps_follow.specs.declared.refusal.FeedRefusal.TheVariants as refusal

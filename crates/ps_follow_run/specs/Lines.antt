@@ -1,8 +1,6 @@
 -- Lines that are answered one after another.
-use Rattle.std.specs.Prelude.{◌≡◌, ◌≢◌, ◌⊎◌, ℕ, ◌+◌, ◌<◌, ◌≤◌, ◌^◌, [], ◌∷◌, ◌++◌, Bool, true, false, IsTrue, List, Option, Some, None, Result, Ok, Err, length}
+use Rattle.std.specs.Prelude.{◌≡◌, ◌≢◌, ◌⊎◌, ℕ, ◌+◌, ◌≤◌, ◌^◌, Bool, true, false, IsTrue, List, Option, Result, Ok, Err, length}
 use Rattle.std.specs.Io.KnownBytes.{Appends, Consumes}
-use Rattle.ps_types.specs.declared.entry.Arrival.{Arrival}
-use Rattle.ps_model.specs.Replay.{replay}
 use Rattle.ps_wire.specs.AtEnd.{nothing_of}
 use Rattle.ps_wire.specs.Reading.{rest_of}
 use Rattle.ps_wire.specs.declared.lines.Lines.{Lines}

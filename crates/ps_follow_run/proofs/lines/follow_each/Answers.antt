@@ -1,9 +1,8 @@
-use Rattle.std.proofs.Common.{◌≡◌, ◌+◌, Bool, Ok, refl, sym, ap, ◌∙◌, subst, arith, inl, inr, ◌⊎◌, ℕ, ◌≤◌}
-use Rattle.ps_base.specs.Causes.{Rose}
-use Rattle.ps_wire.specs.Reading.{budget_of, given_of, rest_of, source_of}
+use Rattle.std.proofs.Common.{Bool, Ok, subst, arith}
+use Rattle.ps_wire.specs.Reading.{given_of, source_of}
 use Rattle.ps_wire.proofs.Gaining.{gave_none}
 use Rattle.ps_follow_run.specs.Lines.{NextSo, told}
-use Rattle.ps_follow_run.proofs.Rising.{fresh-bound, gave-on, rose-on}
+use Rattle.ps_follow_run.proofs.Rising.{fresh-bound, gave-on}
 use Rattle.ps_follow_run.proofs.lines.follow_each.Goals as goal
 
 pub lines-init : goal.lines-init

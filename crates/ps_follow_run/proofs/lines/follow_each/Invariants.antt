@@ -1,5 +1,5 @@
 use Rattle.std.proofs.Common.{◌≡◌, ◌≤◌, ◌+◌, ◌^◌, None}
-use Rattle.ps_wire.specs.Reading.{Gave, budget_of, given_of, rest_of, source_of, stopped_of}
+use Rattle.ps_wire.specs.Reading.{Gave, budget_of, given_of, source_of, stopped_of}
 use Rattle.ps_follow_run.specs.Lines.{SoFar, Told, told}
 use Rattle.ps_follow_run.specs.Pieces.{HasBegun}
 use Rattle.ps_follow_run.proofs.lines.follow_each.Given as goal

@@ -1,7 +1,7 @@
-use Rattle.std.proofs.Common.{subst, ◌<◌, arith}
-use Rattle.ps_wire.specs.Reading.{Ends, IsNext, Takes, budget_of, ended_of, held_of, rest_of, source_of}
+use Rattle.std.proofs.Common.{subst}
+use Rattle.ps_wire.specs.Reading.{IsNext, rest_of}
 use Rattle.ps_wire.specs.declared.lines.NextLine.{NextLine}
-use Rattle.ps_follow_run.proofs.Coming.{came-end, came-line, came-long, rest-end}
+use Rattle.ps_follow_run.proofs.Coming.{came-end, came-line, came-long}
 use Rattle.ps_follow_run.proofs.lines.next_arrival.Goals as goal
 
 pub returns-in-Ok-Line-clause-some : goal.returns-in-Ok-Line-clause-some

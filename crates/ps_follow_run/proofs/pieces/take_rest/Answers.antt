@@ -1,6 +1,5 @@
-use Rattle.std.proofs.Common.{◌≡◌, ◌++◌, Err, ap, arith}
+use Rattle.std.proofs.Common.{◌++◌, arith}
 use Rattle.ps_follow_run.proofs.Resting.{rests-done, rests-end, rests-more, rests-none}
-use Rattle.ps_follow_run.proofs.Rising.{rose-later}
 use Rattle.ps_follow_run.proofs.Taking.{piece-falls}
 use Rattle.ps_follow_run.proofs.pieces.take_rest.Goals as goal
 

@@ -1,4 +1,4 @@
-use Rattle.std.proofs.Common.{List, ℕ, sym, subst}
+use Rattle.std.proofs.Common.{sym, subst}
 use Rattle.ps_follow.specs.Followed.{Has}
 use Rattle.ps_follow.specs.View.{Following}
 use Rattle.ps_follow.proofs.follower.Follower.feed.Goals as goal

@@ -1,5 +1,4 @@
-use Rattle.std.proofs.Common.{rules, ◌≡◌, ℕ, ◌+◌, ◌++◌, List, length, drop, sym, ap, subst, ◌∙◌}
-use Rattle.ps_types.specs.declared.entry.Entry.{Entry}
+use Rattle.std.proofs.Common.{rules, ◌≡◌, ◌+◌, ◌++◌, length, drop, sym, ap, subst, ◌∙◌}
 use Rattle.ps_follow.specs.Followed.{Has, IsAt}
 use Rattle.ps_follow.specs.Following.{Stands}
 use Rattle.ps_follow.specs.Refused.{refused_by}

@@ -1,4 +1,4 @@
-use Rattle.std.proofs.Common.{◌≡◌, List, ℕ, [], Err, refl, sym, ap, subst, arith, length, take, ◌+◌, ◌<◌, ◌≤◌, ◌^◌}
+use Rattle.std.proofs.Common.{◌≡◌, List, ℕ, [], refl, sym, subst, arith, length, take, ◌+◌, ◌<◌, ◌≤◌, ◌^◌}
 use Rattle.std.specs.Io.KnownBytes.{Consumes}
 use Rattle.ps_follow_run.specs.Pieces.{PieceEnds}
 use Rattle.ps_follow_run.specs.declared.ends.FollowEnd.{FollowEnd}
