@@ -26,8 +26,13 @@ const NOT_ALLOWED: &str =
 const PRESENCE: &str = r#"{"a":{"from":"ann@a.example/1"},"n":"presence"}"#;
 
 // The reply to the line, printed; nothing where there is none.
-fn answered(rt: HostRuntime, follower: &Follower, line: u64, text: &str) -> Result<Vec<u8>, Fail> {
-    let alloc = rt.alloc();
+fn answered<R: Abort>(
+    rt: &R,
+    alloc: Global,
+    follower: &Follower,
+    line: u64,
+    text: &str,
+) -> Result<Vec<u8>, Fail> {
     let host = Text::of(alloc, "a.example")?;
     let answer = follower.answer(&host, line, &arrival(alloc, text)?)?;
     assert_eq!(rt; answer.place, follower.count());
@@ -56,7 +61,7 @@ fn reads_are_answered_and_changes_refused(rt: HostRuntime) -> Result<(), Fail> {
         (OTHER, NOT_ALLOWED),
         (PRESENCE, ""),
     ] {
-        assert!(rt; answered(rt, &follower, 3, text)?.as_slice() == reply.as_bytes());
+        assert!(rt; answered(&rt, alloc, &follower, 3, text)?.as_slice() == reply.as_bytes());
     }
     assert_eq!(rt; follower.count(), 3);
     Ok(())

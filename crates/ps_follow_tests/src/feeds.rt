@@ -4,6 +4,7 @@ use ps_follow::{FeedRefusal, Follower};
 use std::alloc::Global;
 use std::process::Abort;
 use std::test::Fail;
+use std::thread::Threads;
 
 // The record of a boot of `pubsub.example` at the first place.
 const BOOT: [u8; 29] = [
@@ -47,16 +48,20 @@ fn pieces_repeats_and_cuts_add_nothing(rt: HostRuntime) -> Result<(), Fail> {
 }
 
 // What comes of the bytes behind the three records; it stays so until a cut, and the records stay taken.
-fn refused(rt: HostRuntime, bytes: &[u8], why: FeedRefusal) -> Result<(), Fail> {
-    let alloc = rt.alloc();
+fn refused<R: Abort + Threads + Sync>(
+    rt: &R,
+    alloc: Global,
+    bytes: &[u8],
+    why: FeedRefusal,
+) -> Result<(), Fail> {
     let mut follower = Follower::new(alloc)?;
     let mut feed = three(alloc)?;
     feed.extend_from_slice(bytes)?;
-    assert_eq!(rt; follower.feed(&rt, &feed), Err(why));
-    assert_eq!(rt; follower.feed(&rt, &BOOT), Err(why));
+    assert_eq!(rt; follower.feed(rt, &feed), Err(why));
+    assert_eq!(rt; follower.feed(rt, &BOOT), Err(why));
     assert_eq!(rt; follower.count(), 3);
     follower.cut();
-    assert_eq!(rt; follower.feed(&rt, &BOOT), Ok(3));
+    assert_eq!(rt; follower.feed(rt, &BOOT), Ok(3));
     Ok(())
 }
 
@@ -66,34 +71,40 @@ fn a_record_that_is_not_taken_is_named_at_its_offset(rt: HostRuntime) -> Result<
     let at = three(alloc)?.len() as u64;
     // A length over 2^30, as soon as its head is there; one of 2^30 might still come.
     refused(
-        rt,
+        &rt,
+        alloc,
         &[0, 0, 0, 0, 0, 0, 0, 3, 0x40, 0, 0, 1],
         FeedRefusal::Bad { at },
     )?;
     // No entry; an entry and a byte more; one that isn't accepted.
     refused(
-        rt,
+        &rt,
+        alloc,
         &[0, 0, 0, 0, 0, 0, 0, 3, 0, 0, 0, 1, 9],
         FeedRefusal::Bad { at },
     )?;
     refused(
-        rt,
+        &rt,
+        alloc,
         record(alloc, 3, &nobody(alloc)?)?.as_slice(),
         FeedRefusal::Bad { at },
     )?;
     // A place past the next; another entry at a place that is there, and bytes that are none.
     refused(
-        rt,
+        &rt,
+        alloc,
         record(alloc, 4, &gone(alloc)?)?.as_slice(),
         FeedRefusal::Gap { at, expected: 3 },
     )?;
     refused(
-        rt,
+        &rt,
+        alloc,
         record(alloc, 0, &gone(alloc)?)?.as_slice(),
         FeedRefusal::Differs { at },
     )?;
     refused(
-        rt,
+        &rt,
+        alloc,
         &[0, 0, 0, 0, 0, 0, 0, 0, 0, 0, 0, 1, 9],
         FeedRefusal::Bad { at },
     )
