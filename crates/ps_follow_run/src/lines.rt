@@ -121,7 +121,8 @@ fn follow_line<R: Threads + Sync, F: Source, S: Source, K: Sink>(
     ensures begun { OnOk result (HasBegun taking.new (F.left feed.new)) }
     ensures going { OnOk result (stopped_of lines.new ≡ None) }
     ensures falls { IfOk result (λ more. IsTrue more → budget_of lines.new < budget_of lines.old) }
-    ensures ended { IfOk result (λ more. (more ≡ false) → IsEnd (S.left (source_of lines.new)) × (given_of lines.new < 2 ^ 40)) }
+    ensures ended { IfOk result (λ more. (more ≡ false) → IsEnd (S.left (source_of lines.new))) }
+    ensures early { IfOk result (λ more. (more ≡ false) → given_of lines.new < 2 ^ 40) }
     ensures gave { Gave (S.left (source_of lines.old)) (S.left (source_of lines.new))
         (given_of lines.old) (given_of lines.new) }
     ensures feed_later { F.faults feed.old ≤ F.faults feed.new }
@@ -163,7 +164,8 @@ fn follow_each<R: Threads + Sync, F: Source, S: Source, K: Sink>(
         → AllSo host.now before (told F.Source S.Source K.Sink feed.new lines.new sink.new) taking.new
         (given_of lines.new) result }
     ensures begun { OnOk result (HasBegun taking.new (F.left feed.new)) }
-    ensures ended { OnOk result (IsEnd (S.left (source_of lines.new)) × (given_of lines.new < 2 ^ 40)) }
+    ensures ended { OnOk result (IsEnd (S.left (source_of lines.new))) }
+    ensures early { OnOk result (given_of lines.new < 2 ^ 40) }
     ensures gave { Gave (S.left (source_of lines.old)) (S.left (source_of lines.new))
         (given_of lines.old) (given_of lines.new) }
     ensures feed_later { F.faults feed.old ≤ F.faults feed.new }
@@ -199,7 +201,9 @@ pub(crate) fn follow_all<R: Threads + Sync, F: Source, S: Source, K: Sink>(
         → SoFar host.now before (told F.Source S.Source K.Sink feed.old lines.old sink.old) taking.old 0
         → AllSo host.now before (told F.Source S.Source K.Sink feed.new lines.new sink.new) taking.new
         (given_of lines.new) result }
-    ensures ended { OnOk result (IsTrue taking.new.ended × (IsEnd (S.left (source_of lines.new)) × (given_of lines.new < 2 ^ 40))) }
+    ensures taken { OnOk result (IsTrue taking.new.ended) }
+    ensures ended { OnOk result (IsEnd (S.left (source_of lines.new))) }
+    ensures early { OnOk result (given_of lines.new < 2 ^ 40) }
     ensures gave { Gave (S.left (source_of lines.old)) (S.left (source_of lines.new))
         (given_of lines.old) (given_of lines.new) }
     ensures feed_later { F.faults feed.old ≤ F.faults feed.new }

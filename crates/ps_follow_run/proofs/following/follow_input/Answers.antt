@@ -28,7 +28,7 @@ returns g c =
     let gave = subst (λ (m : ℕ). Gave (s.left first) (s.left last) m (given_of n.lines)) fresh.given_none c.follow_all.ensures.gave in
     let r = c.follow_all.result in
     let e = c.follow_all.ensures in
-    let base = finish host w (told f s k n.feed n.lines n.sink) refl refl (given_of n.lines) gave r n.taking e.feed_later e.input_later e.sink_later e.fault e.ended (e.so (told_at w) so) in
+    let base = finish host w (told f s k n.feed n.lines n.sink) refl refl (given_of n.lines) gave r n.taking e.feed_later e.input_later e.sink_later e.fault e.taken e.ended e.early (e.so (told_at w) so) in
     let by-input = subst (λ x. Follows host (worked f s k c.args.feed.now n.feed x last c.args.sink.now n.sink) (end_in r)) c.in-Ok.ensures.ok.0 base in
     let by-close = subst (λ x. Follows host (worked f s k c.args.feed.now n.feed c.args.input x c.args.sink.now n.sink) (end_in r)) (sym c.close.ensures) by-input in
     subst (λ (x : FollowEnd). Follows host (worked f s k c.args.feed.now n.feed c.args.input c.close.result c.args.sink.now n.sink) x) (sym c.end_of-end.ensures) by-close
