@@ -98,6 +98,8 @@ TRIED = [
     "ps_serve/cause_of_the_end_lost",
     "ps_serve/fault_of_the_store_hidden",
     "ps_serve/lesser_cause_reported",
+    "ps_serve/lines_are_not_told",
+    "ps_serve/lines_of_a_mirror_are_dropped",
     "ps_serve/store_given_back_under_another_name",
     "ps_streams/ends_while_a_reader_runs",
     "ps_streams/gone_is_not_said",

@@ -6,7 +6,10 @@ Usage: run.py PROGRAM
 import subprocess
 import sys
 
-USAGE = "usage: pubsubd serve --service HOST --store PATH HOST IN OUT [HOST IN OUT].. | rehearse SEED COUNT | compact PATH NEW\n"
+USAGE = (
+    "usage: pubsubd serve --service HOST --store PATH HOST IN OUT [HOST IN OUT].. | rehearse SEED COUNT | compact PATH NEW"
+    " | mirror SERVICE NODE ADDRESS MAX IN\n"
+)
 
 # A node is made by the first stanza; the other three ask of nodes that aren't there.
 CASES = [

@@ -15,8 +15,8 @@ use Rattle.ps_workers.specs.Headline.{HasReasons, NoneBroke, Serves, Worked}
 use Rattle.ps_serve.specs.Ends.{IsServing, worst_of}
 use Rattle.ps_serve.specs.Headline.{the_limits}
 use Rattle.ps_serve.specs.Room.{LacksRoom}
-use Rattle.ps_serve.specs.declared.status.Status.{Status}
-use Rattle.ps_serve.specs.declared.status.Status.TheVariants.{StoreFault, StoreFull}
+use Rattle.ps_status.specs.declared.status.Status.{Status}
+use Rattle.ps_status.specs.declared.status.Status.TheVariants.{StoreFault, StoreFull}
 use Rattle.ps_serve.proofs.Ranks.{IsOf, met-full, met-store, some-stream}
 
 get-there : {X : Type 0} (xs : List X) (k : ℕ) → k < length xs → (x : X) × (slice_get xs k ≡ Some x)

@@ -7,39 +7,9 @@ use Rattle.ps_base.specs.Causes.{Rose}
 use Rattle.ps_io.specs.World.{Reports, ReportsFront}
 use Rattle.ps_io.specs.declared.world.World.{Ghosts}
 use Rattle.ps_rehearse.specs.declared.numbers.Numbers.{Numbers}
-use Rattle.ps_serve.specs.Numbers.{OnlyTells, number_line, numbers_report}
-
-pub front-more : (old new : Option (List ℕ)) (a b : List ℕ) → ReportsFront old new a → ReportsFront old new (a ++ b)
-front-more old new a b f = record {
-  front = f.front;
-  behind = f.behind ++ b;
-  split = ap (λ (l : List ℕ). l ++ b) f.split ∙ append_assoc f.front f.behind b;
-  adds = f.adds;
-}
-
--- a front behind what was reported
-pub front-then : (old mid new : Option (List ℕ)) (a b : List ℕ) → Appends old mid a → ReportsFront mid new b → ReportsFront old new (a ++ b)
-front-then old mid new a b first more = record {
-  front = a ++ more.front;
-  behind = more.behind;
-  split = ap (λ (l : List ℕ). a ++ l) more.split ∙ sym (append_assoc a more.front more.behind);
-  adds = Appends-trans old mid new a more.front first more.adds;
-}
-
-module _ {S R K D C : Type 0} (w : Ghosts S R K D C) where
-  pub only-then : (old mid new : S) → OnlyTells w old mid → OnlyTells w mid new → OnlyTells w old new
-  only-then old mid new p q = record {
-    same_sources = λ n. q.same_sources n ∙ p.same_sources n;
-    same_sinks = λ n. q.same_sinks n ∙ p.same_sinks n;
-    same_stores = λ n. q.same_stores n ∙ p.same_stores n;
-    same_lefts = λ n t x. (λ was. (q.same_lefts n t x).0 ((p.same_lefts n t x).0 was), λ is. (p.same_lefts n t x).1 ((q.same_lefts n t x).1 is));
-    same_clocks = λ n. q.same_clocks n ∙ p.same_clocks n;
-    asked = q.asked ∙ p.asked;
-    last = q.last ∙ p.last;
-  }
-
-pub rose-then : (a b c : ℕ) → a ≤ b → Rose b c → Rose a c
-rose-then a b c later rose = grind (arith)
+use Rattle.ps_status.specs.Telling.{OnlyTells}
+use Rattle.ps_serve.specs.Numbers.{number_line, numbers_report}
+use Rattle.ps_status.proofs.Fronts.{front-more, front-then}
 
 -- ---- the five lines
 

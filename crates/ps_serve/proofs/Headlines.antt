@@ -27,11 +27,11 @@ use Rattle.ps_serve.specs.Comes.{Lived, not_opened}
 use Rattle.ps_serve.specs.Crashes.{HasWhole}
 use Rattle.ps_serve.specs.Ends.{worst_in, worst_of}
 use Rattle.ps_serve.specs.Headline.{Headline, Idle, IdleCause, the_limits}
-use Rattle.ps_serve.specs.Outside.{held_as}
+use Rattle.ps_status.specs.Outside.{held_as}
 use Rattle.ps_serve.specs.Room.{max_whole}
 use Rattle.ps_serve.specs.Starts.{at_of, start_of}
-use Rattle.ps_serve.specs.declared.status.Status.{Status}
-use Rattle.ps_serve.specs.declared.status.Status.TheVariants.{StoreFault}
+use Rattle.ps_status.specs.declared.status.Status.{Status}
+use Rattle.ps_status.specs.declared.status.Status.TheVariants.{StoreFault}
 use Rattle.ps_serve.specs.declared.storing.Run.{Run}
 use Rattle.ps_serve.proofs.Causes.{calm, fault-is, first-cause, full-is, is-serving, none-broke, not-finished, whole-is}
 use Rattle.ps_serve.proofs.Ranks.{serving}

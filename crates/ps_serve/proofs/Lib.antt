@@ -8,6 +8,6 @@ mod Headlines
 mod Opened
 mod Over
 mod Streams
-mod Asking
 pub mod Fronts
-pub mod Rehearsals
+pub mod Told
+mod Nothing

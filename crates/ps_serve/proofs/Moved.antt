@@ -1,32 +1,14 @@
 -- What is told of a world holds of one that tells the same.
-use Rattle.std.proofs.Common.{◌≡◌, ◌≢◌, ◌⊎◌, inl, inr, ℕ, Bool, true, false, List, refl, sym, ◌∙◌, subst}
-use Rattle.std.specs.Str.{bytes_eq}
-use Rattle.std.proofs.lemmas.Slice.Eq.{bytes_eq-Decides}
+use Rattle.std.proofs.Common.{◌≡◌, inl, inr, ℕ, List, sym, ◌∙◌, subst}
 use Rattle.ps_io.specs.Held.{HeldStore}
 use Rattle.ps_args.specs.declared.command.Stream.{Stream}
 use Rattle.ps_workers.specs.Headline.{Worked}
 use Rattle.ps_serve.specs.Headline.{Headline, Idle}
-use Rattle.ps_serve.specs.Outside.{IsWorkedIn, Outside, SameStreams}
+use Rattle.ps_serve.specs.Worked.{IsWorkedIn}
+use Rattle.ps_status.specs.Outside.{Outside, SameStreams}
 use Rattle.ps_serve.specs.Runs.{Ran}
-use Rattle.ps_serve.specs.declared.status.Status.{Status}
-
--- a name is this one, or another
-pub is-or-not : (n name : List ℕ) → (n ≡ name) ⊎ (n ≢ name)
-is-or-not n name = tested (bytes_eq n name) refl
-  where
-    tested : (b : Bool) → bytes_eq n name ≡ b → (n ≡ name) ⊎ (n ≢ name)
-    tested true is = inl ((bytes_eq-Decides n name).0 is)
-    tested false is = inr (λ e. let yes : bytes_eq n name ≡ true = (bytes_eq-Decides n name).1 e in cc)
-
-pub same-refl : (o : Outside) → SameStreams o o
-same-refl o = record { same_sources = λ n. refl; same_sinks = λ n. refl; same_clocks = λ n. refl }
-
-pub same-trans : (a b c : Outside) → SameStreams a b → SameStreams b c → SameStreams a c
-same-trans a b c p q = record {
-  same_sources = λ n. q.same_sources n ∙ p.same_sources n;
-  same_sinks = λ n. q.same_sinks n ∙ p.same_sinks n;
-  same_clocks = λ n. q.same_clocks n ∙ p.same_clocks n;
-}
+use Rattle.ps_status.specs.declared.status.Status.{Status}
+use Rattle.ps_status.proofs.Moved.{same-trans}
 
 -- ---- the store
 

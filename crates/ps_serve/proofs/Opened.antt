@@ -19,10 +19,10 @@ use Rattle.ps_workers.specs.declared.serving.Ended.{Ended}
 use Rattle.ps_serve.specs.Comes.{Comes, ComesIdle, ComesServed, Lived, Lives, NotLived}
 use Rattle.ps_serve.specs.Ends.{worst_in, worst_of}
 use Rattle.ps_serve.specs.Headline.{Idle, the_limits}
-use Rattle.ps_serve.specs.Outside.{held_as}
+use Rattle.ps_status.specs.Outside.{held_as}
 use Rattle.ps_serve.specs.Starts.{Start, at_of, start_of}
-use Rattle.ps_serve.specs.declared.status.Status.{Status}
-use Rattle.ps_serve.specs.declared.status.Status.TheVariants.{Memory}
+use Rattle.ps_status.specs.declared.status.Status.{Status}
+use Rattle.ps_status.specs.declared.status.Status.TheVariants.{Memory}
 use Rattle.ps_serve.specs.declared.storing.Run.{Run}
 use Rattle.ps_serve.proofs.Headlines.{headline, idle-by}
 

@@ -19,10 +19,10 @@ use Rattle.ps_workers.specs.declared.serving.Ended.{Ended}
 use Rattle.ps_serve.specs.Comes.{Comes, ComesServed}
 use Rattle.ps_serve.specs.Ends.{IsServing}
 use Rattle.ps_serve.specs.Headline.{Headline, IdleCause}
-use Rattle.ps_serve.specs.Outside.{held_as, outside}
+use Rattle.ps_status.specs.Outside.{held_as, outside}
 use Rattle.ps_serve.specs.Runs.{RanOver, RanServing}
-use Rattle.ps_serve.specs.declared.status.Status.{Status}
-use Rattle.ps_serve.specs.declared.status.Status.TheVariants.{OpenFault}
+use Rattle.ps_status.specs.declared.status.Status.{Status}
+use Rattle.ps_status.specs.declared.status.Status.TheVariants.{OpenFault}
 use Rattle.ps_serve.specs.declared.storing.Run.{Run}
 use Rattle.ps_serve.proofs.Streams.{all-back}
 use Rattle.ps_serve.proofs.Works.{clock_by, each-told, sink_by}

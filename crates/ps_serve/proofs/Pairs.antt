@@ -7,13 +7,13 @@ use Rattle.ps_io.specs.Held.{HeldStore, IsHeldStore, Same, SameBut, SameLeft, Sa
 use Rattle.ps_io.specs.declared.world.World.{Ghosts}
 use Rattle.ps_endpoints.proofs.Back.{returned}
 use Rattle.ps_serve.specs.Compacting.{ComesOf, Compacts, CompactsOver, LeavesOtherStores, Pair, status_by}
-use Rattle.ps_serve.specs.Outside.{Outside, SameStreams, held_as, outside}
-use Rattle.ps_serve.specs.Runs.{reported_from}
-use Rattle.ps_serve.specs.declared.status.Status.{Status}
-use Rattle.ps_serve.specs.declared.status.Status.TheVariants.{Done, Usage, OpenFault, StoreDamaged, StoreFault, StoreFull, Occupied, StreamFault, StreamLong, Memory}
-use Rattle.ps_serve.proofs.Moved.{same-trans}
-use Rattle.ps_serve.proofs.Stored.{lefts-back, lefts-trans}
-use Rattle.ps_serve.proofs.Works.{store-is}
+use Rattle.ps_status.specs.Outside.{Outside, SameStreams, held_as, outside}
+use Rattle.ps_status.specs.Telling.{reported_from}
+use Rattle.ps_status.specs.declared.status.Status.{Status}
+use Rattle.ps_status.specs.declared.status.Status.TheVariants.{Done, Usage, OpenFault, StoreDamaged, StoreFault, StoreFull, Occupied, StreamFault, StreamLong, Memory}
+use Rattle.ps_status.proofs.Moved.{same-trans}
+use Rattle.ps_status.proofs.Moved.{lefts-back, lefts-trans}
+use Rattle.ps_status.proofs.Moved.{store-is}
 
 -- ---- what comes of it, told of stores that are the same
 
@@ -125,18 +125,3 @@ module _ (old new new1 : Outside) (lefts lefts_now lefts_told : List ℕ → ℕ
   pub if-compacted : (tells : Type 0) (st : Status) (o : Option Pair) → IfSome o (Compacts tells old new lefts lefts_now st) → IfSome o (Compacts tells old new1 lefts lefts_told st)
   if-compacted tells st None is = is
   if-compacted tells st (Some p) is = compacts-told tells st p is
-
--- ---- the count of faults
-
--- as far as a status tells it, the count before the report is none above the one now
-pub since-then : (st : Status) (before : ℕ) (last : ℕ × ℕ) (now : ℕ) → before ≤ now → last.1 ≤ now → reported_from st before last ≤ now
-since-then OpenFault before last now was is = is
-since-then (StoreDamaged at) before last now was is = is
-since-then StoreFault before last now was is = is
-since-then StoreFull before last now was is = is
-since-then Occupied before last now was is = is
-since-then StreamFault before last now was is = is
-since-then StreamLong before last now was is = is
-since-then Done before last now was is = was
-since-then Usage before last now was is = was
-since-then Memory before last now was is = was

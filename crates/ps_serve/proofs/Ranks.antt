@@ -7,8 +7,8 @@ use Rattle.ps_workers.specs.ReadEnd.{ReadEnd}
 use Rattle.ps_workers.specs.ReadEnd.TheVariants as reader
 use Rattle.ps_workers.specs.Headline.{Worked}
 use Rattle.ps_serve.specs.Ends.{IsServing, closed_status, rank, stream_status, worst, worst_in, worst_of, write_status}
-use Rattle.ps_serve.specs.declared.status.Status.{Status}
-use Rattle.ps_serve.specs.declared.status.Status.TheVariants.{Done, Memory, StoreFault, StoreFull, StreamFault, StreamLong}
+use Rattle.ps_status.specs.declared.status.Status.{Status}
+use Rattle.ps_status.specs.declared.status.Status.TheVariants.{Done, Memory, StoreFault, StoreFull, StreamFault, StreamLong}
 
 -- ---- of two
 

@@ -5,23 +5,16 @@ use Rattle.ps_disk.specs.declared.device.Disk.{Ghosts as DiskGhosts}
 use Rattle.ps_io.specs.Held.{IsHeldStore, Same, SameBut, SameLeft, SameLefts, SameLeftsBut}
 use Rattle.ps_io.specs.declared.world.World.{Ghosts}
 use Rattle.ps_endpoints.proofs.Back.{returned}
-use Rattle.ps_args.specs.declared.command.Command.{Command}
-use Rattle.ps_args.specs.declared.command.Command.TheVariants.{Serve, Rehearse, Compact}
-use Rattle.ps_serve.specs.Outside.{Outside, SameStreams, held_as, outside}
+use Rattle.ps_commands.specs.declared.command.Command.{Command}
+use Rattle.ps_mirror_command.specs.Mirroring.{mirror_touches}
+use Rattle.ps_commands.specs.declared.command.Command.TheVariants.{Serve, Rehearse, Compact, Mirror}
+use Rattle.ps_status.specs.Outside.{Outside, SameStreams, held_as, outside}
 use Rattle.ps_serve.specs.Runs.{Leaves, LeavesAll, RanOver, Runs, Served}
-use Rattle.ps_serve.specs.declared.status.Status.{Status}
-use Rattle.ps_serve.proofs.Moved.{is-or-not, ran-moved, same-moved, same-refl, same-trans}
-use Rattle.ps_serve.proofs.Works.{store-is}
-
-pub lefts-back : (name : List ℕ) (old new : List ℕ → ℕ → List ℕ → Type 0) → SameLeftsBut name old new → SameLeft (old name) (new name) → SameLefts old new
-lefts-back name old new others back n =
-    elim (is-or-not n name) [
-      | inl same ↦ subst (λ (m : List ℕ). SameLeft (old m) (new m)) (sym same) back
-      | inr differs ↦ others n differs
-    ]
-
-pub lefts-trans : (a b c : ℕ → List ℕ → Type 0) → SameLeft a b → SameLeft b c → SameLeft a c
-lefts-trans a b c p q t x = (λ was. (q t x).0 ((p t x).0 was), λ is. (p t x).1 ((q t x).1 is))
+use Rattle.ps_status.specs.declared.status.Status.{Status}
+use Rattle.ps_status.proofs.Moved.{is-or-not, same-refl, same-trans}
+use Rattle.ps_serve.proofs.Moved.{ran-moved, same-moved}
+use Rattle.ps_status.proofs.Moved.{store-is}
+use Rattle.ps_status.proofs.Moved.{but-told, lefts-back, lefts-trans, untouched-told}
 
 -- ---- the store
 
@@ -58,12 +51,7 @@ module _ {W S K D C : Type 0} (w : Ghosts W S K D C) (g : DiskGhosts D) (s : Ser
 module _ (old new new1 : Outside) (lefts lefts_now lefts_told : List ℕ → ℕ → List ℕ → Type 0) (after : SameStreams new new1)
     (stores : Same new.stores new1.stores) (same_lefts : SameLefts lefts_now lefts_told) where
   runs-told : (tells : Type 0) (st : Status) (s : Served) → Runs tells old new lefts lefts_now st s → Runs tells old new1 lefts lefts_told st s
-  runs-told tells st s (inl not) = inl (record {
-    same = same-trans old new new1 not.same after;
-    stores = λ n. stores n ∙ not.stores n;
-    lefts_same = λ n. lefts-trans (lefts n) (lefts_now n) (lefts_told n) (not.lefts_same n) (same_lefts n);
-    status = not.status;
-  })
+  runs-told tells st s (inl not) = inl (untouched-told old new new1 lefts lefts_now lefts_told after stores same_lefts st not)
   runs-told tells st s (inr ran) =
       inr (ran-moved old old new new1 (same-refl old) after tells s.service s.streams (old.stores s.store) (old.stores s.store) (new.stores s.store) (new1.stores s.store)
       refl (sym (stores s.store)) (lefts_now s.store) (lefts_told s.store) (λ t c. (same_lefts s.store t c).1) st ran)
@@ -94,3 +82,4 @@ module _ (old new new1 : Outside) (lefts lefts_now lefts_told : List ℕ → ℕ
     other_stores = λ n one two. stores n ∙ others.other_stores n one two;
     other_lefts = λ n one two. lefts-trans (lefts n) (lefts_now n) (lefts_told n) (others.other_lefts n one two) (same_lefts n);
   }
+  leaves-told (Some (Mirror words)) others = but-told old new new1 lefts lefts_now lefts_told after stores same_lefts (mirror_touches words) others

@@ -16,8 +16,8 @@ use Rattle.ps_wire.specs.declared.streams.Source.{Ghosts as SourceGhosts}
 use Rattle.ps_args.specs.Well.{AreApart as AreApartBy, IsWellServed}
 use Rattle.ps_args.specs.Words.{hosts_of}
 use Rattle.ps_args.specs.declared.command.Stream.{Stream}
-use Rattle.ps_serve.specs.Outside.{SameStreams, outside}
-use Rattle.ps_serve.proofs.Moved.{is-or-not}
+use Rattle.ps_status.specs.Outside.{SameStreams, outside}
+use Rattle.ps_status.proofs.Moved.{is-or-not}
 
 -- ---- hosts
 

@@ -16,26 +16,14 @@ use Rattle.ps_workers.specs.Teams.{worked_of, worked_one}
 use Rattle.ps_workers.specs.Working.{clocks, sinks}
 use Rattle.ps_workers.specs.declared.serving.Ended.{Ended}
 use Rattle.ps_serve.specs.Ends.{stream_status, worst, worst_in, worst_of}
-use Rattle.ps_serve.specs.Outside.{IsWorkedIn, held_as, outside}
+use Rattle.ps_serve.specs.Worked.{IsWorkedIn}
+use Rattle.ps_status.specs.Outside.{held_as, outside}
+use Rattle.ps_status.proofs.Moved.{held-is}
 
 -- ---- what is held is what the object tells
 
-pub held-is : (h : Held) (faults : ℕ) (bytes : Option (List ℕ)) → IsHeld h faults bytes → record { faults = faults; bytes = bytes } ≡ h
-held-is h faults bytes is = λ i. record { faults = is.same_faults i; bytes = is.same_bytes i }
-
 pub clock-is : (h : HeldClock) (faults : ℕ) (told : Option (List (Option ℕ))) → IsHeldClock h faults told → record { faults = faults; told = told } ≡ h
 clock-is h faults told is = λ i. record { faults = is.same_faults i; told = is.same_told i }
-
-pub store-is : {D : Type 0} (g : DiskGhosts D) (d : D) (h : HeldStore)
-    → IsHeldStore h (g.faults d) (g.seen d) (g.synced d) (g.written d) (g.moment d) (g.syncs d) → held_as g d ≡ h
-store-is g d h is = λ i. record {
-  faults = is.same_faults i;
-  seen = is.same_seen i;
-  synced = is.same_synced i;
-  written = is.same_written i;
-  moment = is.same_moment i;
-  syncs = is.same_syncs i;
-}
 
 -- ---- the streams that have ended
 

@@ -13,9 +13,9 @@ use Rattle.ps_workers.specs.Headline.{Serves, Worked}
 use Rattle.ps_workers.specs.declared.serving.Ended.{Ended}
 use Rattle.ps_serve.specs.Ends.{worst_in}
 use Rattle.ps_serve.specs.Headline.{Headline, Idle}
-use Rattle.ps_serve.specs.Outside.{held_as}
-use Rattle.ps_serve.specs.declared.status.Status.{Status}
-use Rattle.ps_serve.specs.declared.status.Status.TheVariants.{StoreDamaged, StoreFault, StoreFull, Memory}
+use Rattle.ps_status.specs.Outside.{held_as}
+use Rattle.ps_status.specs.declared.status.Status.{Status}
+use Rattle.ps_status.specs.declared.status.Status.TheVariants.{StoreDamaged, StoreFault, StoreFull, Memory}
 use Rattle.ps_serve.specs.declared.storing.Run.{Run}
 
 -- the status of a run whose store was not opened

@@ -9,11 +9,11 @@ use Rattle.ps_disk.specs.declared.device.Disk.{Ghosts}
 use Rattle.ps_journal.specs.Opened.{IsShortIfUnbegun}
 use Rattle.ps_model.specs.At.{IsDamagedAt}
 use Rattle.ps_io.specs.Held.{HeldStore, SameLeft}
-use Rattle.ps_args.specs.declared.command.Command.{Command}
-use Rattle.ps_args.specs.declared.command.Command.TheVariants.{Serve, Rehearse, Compact}
-use Rattle.ps_serve.specs.Outside.{Outside, SameStreams, Untouched, held_as}
-use Rattle.ps_serve.specs.declared.status.Status.{Status}
-use Rattle.ps_serve.specs.declared.status.Status.TheVariants.{Done, StoreDamaged, StoreFault, StoreFull, Occupied, Memory}
+use Rattle.ps_commands.specs.declared.command.Command.{Command}
+use Rattle.ps_commands.specs.declared.command.Command.TheVariants.{Compact}
+use Rattle.ps_status.specs.Outside.{Outside, SameStreams, Untouched, held_as}
+use Rattle.ps_status.specs.declared.status.Status.{Status}
+use Rattle.ps_status.specs.declared.status.Status.TheVariants.{Done, StoreDamaged, StoreFault, StoreFull, Occupied, Memory}
 
 -- the names of a store and of the one that is written
 pub record Pair : Type 0 where
@@ -21,10 +21,8 @@ pub record Pair : Type 0 where
   pub new : List ℕ
 
 abbrev pub compacted_by : Option Command → Option Pair
-compacted_by None = None
-compacted_by (Some (Serve service store streams)) = None
-compacted_by (Some (Rehearse seed count)) = None
 compacted_by (Some (Compact store new)) = Some (record { store = store; new = new })
+compacted_by command = None
 
 abbrev pub status_by : CompactOutcome → Status
 status_by how.Done = Done

@@ -5,8 +5,8 @@ use Rattle.ps_workers.specs.EndCause.TheVariants as writer
 use Rattle.ps_workers.specs.ReadEnd.{ReadEnd}
 use Rattle.ps_workers.specs.ReadEnd.TheVariants as reader
 use Rattle.ps_workers.specs.Headline.{Worked}
-use Rattle.ps_serve.specs.declared.status.Status.{Status}
-use Rattle.ps_serve.specs.declared.status.Status.TheVariants.{Done, Usage, OpenFault, StoreDamaged, StoreFault, StoreFull, Occupied, Memory, StreamFault, StreamLong}
+use Rattle.ps_status.specs.declared.status.Status.{Status}
+use Rattle.ps_status.specs.declared.status.Status.TheVariants.{Done, Usage, OpenFault, FeedBad, StoreDamaged, StoreFault, StoreFull, Occupied, Memory, StreamFault, StreamLong}
 
 -- where a status stands among the causes of a run: the greatest decides
 abbrev pub rank : Status → ℕ
@@ -17,9 +17,10 @@ rank Memory = 3
 rank StoreFull = 4
 rank StoreFault = 5
 rank (StoreDamaged at) = 6
-rank OpenFault = 7
-rank Usage = 8
-rank Occupied = 9
+rank (FeedBad at) = 7
+rank OpenFault = 8
+rank Usage = 9
+rank Occupied = 10
 
 abbrev pub worst : Status → Status → Status
 worst one other = if nat_lt (rank one) (rank other) then other else one
@@ -67,6 +68,7 @@ IsServing Memory = Unit {0}
 IsServing StoreFull = Unit {0}
 IsServing StoreFault = Unit {0}
 IsServing (StoreDamaged at) = ⊥
+IsServing (FeedBad at) = ⊥
 IsServing OpenFault = ⊥
 IsServing Usage = ⊥
 IsServing Occupied = ⊥

@@ -24,8 +24,8 @@ use Rattle.ps_workers.specs.Headline.{IsAllSaid, ServesStream, Worked, base_of}
 use Rattle.ps_serve.specs.Crashes.{FrontsSince, HasWhole, IsTidy, LeftSince}
 use Rattle.ps_serve.specs.Ends.{IsServing, worst_of}
 use Rattle.ps_serve.specs.Room.{LacksRoom, max_whole}
-use Rattle.ps_serve.specs.declared.status.Status.{Status}
-use Rattle.ps_serve.specs.declared.status.Status.TheVariants.{Done, Usage, OpenFault, StoreDamaged, StoreFault, StoreFull, Occupied, Memory, StreamFault, StreamLong}
+use Rattle.ps_status.specs.declared.status.Status.{Status}
+use Rattle.ps_status.specs.declared.status.Status.TheVariants.{Done, Usage, OpenFault, FeedBad, StoreDamaged, StoreFault, StoreFull, Occupied, Memory, StreamFault, StreamLong}
 
 -- at most this many bytes are written for changes
 abbrev pub max_changes : ℕ
@@ -39,6 +39,7 @@ the_limits = record { changes = max_changes; whole = max_whole }
 -- why, by the bytes of the store and the count of its faults
 abbrev pub IdleCause : Type 0 → List ℕ → HeldStore → HeldStore → Status → Type 0
 IdleCause tells service old new (StoreDamaged at) = tells → IsDamagedAt old.seen at
+IdleCause tells service old new (FeedBad at) = ⊥
 IdleCause tells service old new StoreFault = Rose old.faults new.faults
 IdleCause tells service old new StoreFull = tells → PassesBy old.seen service max_whole
 IdleCause tells service old new Occupied = ⊥

@@ -1,7 +1,6 @@
-pub mod Statuses
 pub mod Ends
 pub mod Room
-pub mod Outside
+pub mod Worked
 pub mod Crashes
 pub mod Starts
 pub mod Headline
@@ -9,4 +8,5 @@ pub mod Comes
 pub mod Compacting
 pub mod Runs
 pub mod Numbers
+pub mod Did
 pub mod Came

@@ -1,23 +1,23 @@
 -- What a run does to the world.
-use Rattle.std.specs.Prelude.{◌≡◌, ◌⊎◌, ℕ, List, [], ◌∷◌, ◌++◌, length, take, Option, Some, None, slice_get}
-use Rattle.std.specs.Io.KnownBytes.{Appends}
-use Rattle.ps_base.specs.Causes.{Rose}
+use Rattle.std.specs.Prelude.{◌≡◌, ◌⊎◌, ℕ, List, [], ◌∷◌, length, Option, Some, None, slice_get}
 use Rattle.ps_disk.specs.declared.device.Disk.{Ghosts as DiskGhosts}
 use Rattle.ps_io.specs.Held.{HeldStore, Same, SameBut, SameLefts, SameLeftsBut}
-use Rattle.ps_io.specs.World.{ReportsFront}
 use Rattle.ps_io.specs.declared.world.Kind.TheVariants.{Source, Sink, Clock, Store}
 use Rattle.ps_io.specs.declared.world.Opening.{Opening}
 use Rattle.ps_endpoints.specs.Ports.{SameOthers, port_openings}
-use Rattle.ps_args.specs.declared.command.Command.{Command}
-use Rattle.ps_args.specs.declared.command.Command.TheVariants.{Serve, Rehearse, Compact}
+use Rattle.ps_commands.specs.declared.command.Command.{Command}
+use Rattle.ps_commands.specs.declared.command.Command.TheVariants.{Serve, Rehearse, Compact, Mirror}
 use Rattle.ps_args.specs.declared.command.Stream.{Stream}
 use Rattle.ps_args.specs.Words.{hosts_of}
 use Rattle.ps_workers.specs.Headline.{Worked}
 use Rattle.ps_serve.specs.Headline.{Headline, Idle}
 use Rattle.ps_serve.specs.Compacting.{LeavesOtherStores, Pair}
-use Rattle.ps_serve.specs.Outside.{IsWorkedIn, Outside, SameStreams, Untouched, held_as}
-use Rattle.ps_serve.specs.declared.status.Status.{Status}
-use Rattle.ps_serve.specs.declared.status.Status.TheVariants as status
+use Rattle.ps_mirror_command.specs.Mirroring.{mirror_openings, mirror_touches}
+use Rattle.ps_status.specs.Leaving.{LeavesBut}
+use Rattle.ps_serve.specs.Worked.{IsWorkedIn}
+use Rattle.ps_status.specs.Outside.{Outside, SameStreams, Untouched, held_as}
+use Rattle.ps_status.specs.declared.status.Status.{Status}
+use Rattle.ps_status.specs.declared.status.Status.TheVariants as status
 
 -- the service host, the name of its store, and the streams that are served
 pub record Served : Type 0 where
@@ -26,11 +26,9 @@ pub record Served : Type 0 where
   pub streams : List Stream
 
 abbrev pub served_by : Option Command → Option Served
-served_by None = None
 served_by (Some (Serve service store streams)) =
     Some (record { service = service; store = store; streams = streams })
-served_by (Some (Rehearse seed count)) = None
-served_by (Some (Compact store new)) = None
+served_by command = None
 
 -- ---- openings
 
@@ -41,10 +39,7 @@ openings_of (Some (Serve service store streams)) = record { kind = Store; name =
 openings_of (Some (Rehearse seed count)) = []
 openings_of (Some (Compact store new)) =
     record { kind = Store; name = store } ∷ record { kind = Store; name = new } ∷ []
-
--- what was asked for is a front of these openings
-abbrev pub AsksInOrder : List Opening → List Opening → List Opening → Type 0
-AsksInOrder openings old new = (n : ℕ) × (new ≡ old ++ take n openings)
+openings_of (Some (Mirror words)) = mirror_openings words
 
 -- ---- what comes of it
 
@@ -114,22 +109,4 @@ Leaves (Some (Serve service store streams)) old new lefts lefts_now =
 Leaves (Some (Rehearse seed count)) old new lefts lefts_now = LeavesAll old new lefts lefts_now
 Leaves (Some (Compact store new_store)) old new lefts lefts_now =
     LeavesOtherStores (record { store = store; new = new_store }) old new lefts lefts_now
-
--- ---- reports
-
--- the world's count of faults before the report, as far as a status tells it: once an opening was done, the count after the last one
-abbrev pub reported_from : Status → ℕ → ℕ × ℕ → ℕ
-reported_from status.OpenFault before last = last.1
-reported_from (status.StoreDamaged at) before last = last.1
-reported_from status.StoreFault before last = last.1
-reported_from status.StoreFull before last = last.1
-reported_from status.Occupied before last = last.1
-reported_from status.StreamFault before last = last.1
-reported_from status.StreamLong before last = last.1
-reported_from status.Done before last = before
-reported_from status.Usage before last = before
-reported_from status.Memory before last = before
-
--- the line is reported, or a front of it where the count has risen since
-abbrev pub IsReported : Option (List ℕ) → Option (List ℕ) → List ℕ → ℕ → ℕ → Type 0
-IsReported old new line before now = Appends old new line ⊎ (ReportsFront old new line × Rose before now)
+Leaves (Some (Mirror words)) old new lefts lefts_now = LeavesBut (mirror_touches words) old new lefts lefts_now

@@ -3,9 +3,9 @@ ghost use Rattle.std.specs.Prelude.{◌≡◌, true, is_some, None};
 ghost use Rattle.ps_hall_store.specs.Stand.{broken_in};
 ghost use Rattle.ps_serve.specs.Ends.{closed_status, rank as rank_of, stream_status, worst, worst_in, write_status};
 
-use crate::status::Status;
 use ps_disk::Disk;
 use ps_hall_store::Store;
+use ps_status::Status;
 use ps_workers::{EndCause, Ended, ReadEnd};
 
 fn rank(status: Status) -> u8
@@ -19,9 +19,10 @@ fn rank(status: Status) -> u8
         Status::StoreFull => 4,
         Status::StoreFault => 5,
         Status::StoreDamaged { at: _ } => 6,
-        Status::OpenFault => 7,
-        Status::Usage => 8,
-        Status::Occupied => 9,
+        Status::FeedBad { at: _ } => 7,
+        Status::OpenFault => 8,
+        Status::Usage => 9,
+        Status::Occupied => 10,
     }
 }
 

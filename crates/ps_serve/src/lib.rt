@@ -22,11 +22,12 @@
 
 mod compacting;
 mod ends;
-mod status;
+mod serving;
 mod storing;
 mod telling;
 mod whole;
 
-pub use ps_args::{Command, Stream, WordsRefusal, read_words};
-pub use status::{Report, Status};
+pub use ps_args::{Stream, WordsRefusal};
+pub use ps_commands::{Command, read_command};
+pub use ps_status::{Report, Status};
 pub use whole::run;

@@ -13,13 +13,13 @@ ghost use Rattle.ps_serve.specs.Comes.{Comes, Lives, not_opened as status_if_not
 ghost use Rattle.ps_serve.specs.Starts.{Start, start_of};
 
 use crate::ends::status_of;
-use crate::status::Status;
 use ps_disk::Disk;
 use ps_endpoints::Port;
 use ps_hall_open::{OpenRefusal, OpenWhy, Opened, open};
 use ps_hall_store::Store;
 use ps_io::Clock;
 use ps_journal::Placed;
+use ps_status::Status;
 use ps_types::Text;
 use ps_wire::{Lines, Sink, Source};
 use ps_workers::{Ended, Hall, Limits, NoHall, Opening, Room, State, serve};

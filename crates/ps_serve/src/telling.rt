@@ -3,14 +3,15 @@ ghost use Rattle.std.specs.Prelude.{◌≡◌, ◌≤◌, length, OnOk};
 ghost use Rattle.std.specs.Io.KnownBytes.{Appends};
 ghost use Rattle.ps_base.specs.Causes.{HasCause};
 ghost use Rattle.ps_io.specs.World.{Reports, ReportsFront};
-ghost use Rattle.ps_serve.specs.Numbers.{OnlyTells, TellsNumbers, number_line as line_by, numbers_report};
+ghost use Rattle.ps_status.specs.Telling.{OnlyTells};
+ghost use Rattle.ps_serve.specs.Numbers.{TellsNumbers, number_line as line_by, numbers_report};
 
-use crate::status::Status;
 use arrayvec::ArrayString;
 use itoa::Buffer;
 use ps_base::Failed;
 use ps_io::World;
 use ps_rehearse::Numbers;
+use ps_status::Status;
 
 fn number_line(name: &str, number: u64) -> ArrayString<32>
     requires { length name.now ≤ 8 }

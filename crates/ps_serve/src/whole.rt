@@ -1,141 +1,39 @@
 // The whole run of a command.
-ghost use Rattle.std.specs.Prelude.{◌≡◌, ◌≢◌, ◌⊎◌, ◌≤◌, [], List, ℕ, Some, None, IfOk, IfSome, length};
-ghost use Rattle.std.specs.Vec.{vec_capacity};
-ghost use Rattle.ps_io.specs.Held.{Same, SameLefts};
-ghost use Rattle.ps_io.specs.declared.world.Kind.{Kind};
-ghost use Rattle.ps_endpoints.specs.Ports.{FailedToOpen, LeavesOthers as LeavesOtherPorts, port_openings};
-ghost use Rattle.ps_args.specs.Well.{IsWellServed};
-ghost use Rattle.ps_args.specs.Words.{command_of, hosts_of};
-ghost use Rattle.ps_args.specs.declared.command.Command.{Command};
-ghost use Rattle.ps_serve.specs.Came.{IsCame, IsTold, status_in};
+ghost use Rattle.std.specs.Prelude.{◌≡◌, ◌≢◌, ◌⊎◌, ◌≤◌, Some, None, IfSome};
+ghost use Rattle.ps_endpoints.specs.Ports.{FailedToOpen};
+ghost use Rattle.ps_commands.specs.Well.{IsWell};
+ghost use Rattle.ps_commands.specs.Words.{command_of};
+ghost use Rattle.ps_commands.specs.declared.command.Command.{Command};
+ghost use Rattle.ps_status.specs.Asking.{AsksInOrder};
+ghost use Rattle.ps_status.specs.Outside.{outside};
+ghost use Rattle.ps_status.specs.Telling.{told_from};
+ghost use Rattle.ps_serve.specs.Came.{IsCame, IsTold, MayRehearse, came_by, outcome_in, status_in};
 ghost use Rattle.ps_serve.specs.Compacting.{Compacts, compacted_by};
-ghost use Rattle.ps_serve.specs.Outside.{outside};
-ghost use Rattle.ps_serve.specs.Runs.{AsksInOrder, IsReported, Leaves, LeavesOthers, RanOver, Runs, openings_of, reported_from, served_by};
-ghost use Rattle.ps_serve.specs.Statuses.{report_of};
+ghost use Rattle.ps_serve.specs.Did.{Did};
+ghost use Rattle.ps_serve.specs.Runs.{Leaves, Runs, openings_of, served_by};
 
 use crate::compacting::compact_stores;
-use crate::status::Status;
-use crate::storing::{Run, serve_store};
+use crate::serving::serve;
 use crate::telling::tell_numbers;
-use ps_args::{Command, Stream, WordsRefusal, read_words};
-use ps_base::Memory;
-use ps_endpoints::{give_back_ports, open_ports};
-use ps_io::{Missing, World, WorldRefusal};
+use ps_args::WordsRefusal;
+use ps_base::{Bytes, Listed, Memory};
+use ps_commands::{Command, read_command};
+use ps_io::World;
+use ps_mirror_command::mirror_source;
 use ps_rehearse::{Numbers, rehearse};
+use ps_status::{Status, tell, tell_lines};
 use ps_types::Text;
 use std::alloc::Global;
 use std::random::RandomSource;
 use std::sync::Wait;
 use std::thread::Threads;
 
-pub(crate) fn refused(why: WorldRefusal) -> Status
-    ensures open { result ≡ Status.OpenFault → why ≡ WorldRefusal.Failed }
-    ensures only { (result ≡ Status.OpenFault) ⊎ (result ≡ Status.Memory) }
-{
-    match why {
-        WorldRefusal::Failed => Status::OpenFault,
-        WorldRefusal::Memory => Status::Memory,
-    }
-}
-
-// The hosts of the streams, and room for these.
-struct Ready<P> {
-    hosts: Vec<Text>,
-    back: Vec<P>,
-}
-
-fn names_of(alloc: Global, streams: &[Stream]) -> Result<Vec<Text>, Memory>
-    ensures { IfOk result (λ hosts. hosts.items ≡ hosts_of streams.now) }
-{
-    let mut hosts = Vec::new(alloc);
-    for stream in streams {
-        hosts.push(stream.host.clone()?)?;
-    }
-    Ok(hosts)
-}
-
-fn make_ready<P: Drop>(alloc: Global, streams: &[Stream]) -> Result<Ready<P>, Memory>
-    ensures hosts { IfOk result (λ ready. ready.hosts.items ≡ hosts_of streams.now) }
-    ensures empty { IfOk result (λ ready. ready.back.items ≡ []) }
-    ensures room { IfOk result (λ ready. length streams.now ≤ vec_capacity ready.back) }
-{
-    Ok(Ready {
-        hosts: names_of(alloc, streams)?,
-        back: Vec::with_capacity(alloc, streams.len())?,
-    })
-}
-
-// Opens the streams, serves them over the store on a disk, and gives them back; the disk is handed back.
-fn serve_over<R: RandomSource + Wait + Threads + Sync, W: World>(
-    rt: &R,
-    alloc: Global,
-    service: &Text,
-    streams: &[Stream],
-    disk: W::Store,
-    world: &mut W,
-) -> (Status, W::Store)
-    requires well { (over : List ℕ) × IsWellServed service.now over streams.now }
-    requires since { (W.last_opening world.old).1 ≤ W.faults world.old }
-    ensures ran { RanOver W.Store.Disk service.now streams.now (outside W.World world.old)
-        (outside W.World world.new) disk result.1 result.0 }
-    ensures open { result.0 ≡ Status.OpenFault → FailedToOpen W.World world.old world.new }
-    ensures asked { AsksInOrder (port_openings streams.now) (W.asked world.old) (W.asked world.new) }
-    ensures others { LeavesOtherPorts W.World streams.now world.old world.new }
-    ensures stay { (n : List ℕ) → W.is_open world.old Kind.Store n → W.is_open world.new Kind.Store n }
-    ensures since { (W.last_opening world.new).1 ≤ W.faults world.new }
-{
-    let Ok(Ready { hosts, back }) = make_ready(alloc, streams) else {
-        return (Status::Memory, disk);
-    };
-    match open_ports(alloc, streams, world) {
-        Err(why) => (refused(why), disk),
-        Ok(ports) => {
-            let Run {
-                status,
-                disk,
-                ports,
-            } = serve_store(rt, alloc, service, &hosts, disk, ports, back);
-            give_back_ports(streams, ports, world);
-            (status, disk)
-        }
-    }
-}
-
-// Opens the store and the streams, serves them, and gives all back.
-fn serve<R: RandomSource + Wait + Threads + Sync, W: World>(
-    rt: &R,
-    alloc: Global,
-    service: &Text,
-    store: &Text,
-    streams: &[Stream],
-    world: &mut W,
-) -> Status
-    requires well { IsWellServed service.now store.now streams.now }
-    ensures runs { Runs W.Store.tells (outside W.World world.old) (outside W.World world.new)
-        (W.lefts world.old) (W.lefts world.new) result
-        (record { service = service.now; store = store.now; streams = streams.now }) }
-    ensures open { result ≡ Status.OpenFault → FailedToOpen W.World world.old world.new }
-    ensures asked { AsksInOrder (openings_of (Some (Command.Serve service.now store.now streams.now)))
-        (W.asked world.old) (W.asked world.new) }
-    ensures others { LeavesOthers (record { service = service.now; store = store.now; streams = streams.now })
-        (outside W.World world.old) (outside W.World world.new) (W.lefts world.old) (W.lefts world.new) }
-    ensures reported { W.reported world.new ≡ W.reported world.old }
-    ensures since { reported_from result (W.faults world.old) (W.last_opening world.new) ≤ W.faults world.new }
-{
-    let disk = match world.open_disk(store, Missing::Make) {
-        Ok(disk) => disk,
-        Err(why) => return refused(why),
-    };
-    let (status, disk) = serve_over(rt, alloc, service, streams, disk, world);
-    world.give_back_disk(store, disk);
-    status
-}
-
-// What came of a command, before it is told: how it ended, or the numbers of a rehearsal.
-#[derive(Clone, Copy)]
+// What came of a command, before it is told: how it ended, the numbers of a rehearsal, or lines.
+#[derive(Drop)]
 pub(crate) enum Came {
     Ended(Status),
     Rehearsed(Numbers),
+    Lines(Listed<Bytes>),
 }
 
 fn rehearsed<R: RandomSource + Wait + Threads + Sync>(
@@ -145,11 +43,57 @@ fn rehearsed<R: RandomSource + Wait + Threads + Sync>(
     count: u64,
 ) -> Came
     requires { count ≤ 100000 }
-    ensures { IsCame (Some (Command.Rehearse seed count)) result }
+    ensures { MayRehearse seed count result }
 {
     match rehearse(rt, alloc, seed, count) {
         Ok(numbers) => Came::Rehearsed(numbers),
         Err(Memory) => Came::Ended(Status::Memory),
+    }
+}
+
+fn came_of(came: Result<Listed<Bytes>, Status>) -> Came
+    ensures { result ≡ came_by came }
+{
+    match came {
+        Ok(lines) => Came::Lines(lines),
+        Err(status) => Came::Ended(status),
+    }
+}
+
+// Does what a command asks for.
+fn run_command<R: RandomSource + Wait + Threads + Sync, W: World>(
+    rt: &R,
+    alloc: Global,
+    command: Command,
+    world: &mut W,
+) -> Came
+    requires well { IsWell command }
+    ensures usage { status_in result ≢ Status.Usage }
+    ensures runs { IfSome (served_by (Some command)) (Runs W.Store.tells (outside W.World world.old)
+        (outside W.World world.new) (W.lefts world.old) (W.lefts world.new) (status_in result)) }
+    ensures compacts { IfSome (compacted_by (Some command)) (Compacts W.Store.tells (outside W.World world.old)
+        (outside W.World world.new) (W.lefts world.old) (W.lefts world.new) (status_in result)) }
+    ensures came { IsCame W.Store.tells (Some command) (outside W.World world.old) (outside W.World world.new)
+        (W.lefts world.old) (W.lefts world.new) result }
+    ensures open { status_in result ≡ Status.OpenFault → FailedToOpen W.World world.old world.new }
+    ensures asked { AsksInOrder (openings_of (Some command)) (W.asked world.old) (W.asked world.new) }
+    ensures others { Leaves (Some command) (outside W.World world.old)
+        (outside W.World world.new) (W.lefts world.old) (W.lefts world.new) }
+    ensures reported { W.reported world.new ≡ W.reported world.old }
+    ensures since { told_from (outcome_in result) (W.faults world.old) (W.last_opening world.new)
+        ≤ W.faults world.new }
+{
+    match command {
+        Command::Serve {
+            service,
+            store,
+            streams,
+        } => Came::Ended(serve(rt, alloc, &service, &store, streams.as_slice(), world)),
+        Command::Rehearse { seed, count } => rehearsed(rt, alloc, seed, count),
+        Command::Compact { store, new } => {
+            Came::Ended(compact_stores(rt, alloc, &store, &new, world))
+        }
+        Command::Mirror(words) => came_of(mirror_source(alloc, &words, world)),
     }
 }
 
@@ -164,53 +108,23 @@ fn run_words<R: RandomSource + Wait + Threads + Sync, W: World>(
         → (status_in result ≡ Status.Usage) ⊎ (status_in result ≡ Status.Memory) }
     ensures runs { IfSome (served_by (command_of words.now)) (Runs W.Store.tells (outside W.World world.old)
         (outside W.World world.new) (W.lefts world.old) (W.lefts world.new) (status_in result)) }
-    ensures compacts { IfSome (compacted_by (command_of words.now)) (Compacts W.Store.tells
-        (outside W.World world.old) (outside W.World world.new) (W.lefts world.old) (W.lefts world.new)
-        (status_in result)) }
-    ensures came { IsCame (command_of words.now) result }
+    ensures compacts { IfSome (compacted_by (command_of words.now)) (Compacts W.Store.tells (outside W.World world.old)
+        (outside W.World world.new) (W.lefts world.old) (W.lefts world.new) (status_in result)) }
+    ensures came { IsCame W.Store.tells (command_of words.now) (outside W.World world.old) (outside W.World world.new)
+        (W.lefts world.old) (W.lefts world.new) result }
     ensures open { status_in result ≡ Status.OpenFault → FailedToOpen W.World world.old world.new }
     ensures asked { AsksInOrder (openings_of (command_of words.now)) (W.asked world.old) (W.asked world.new) }
     ensures others { Leaves (command_of words.now) (outside W.World world.old)
         (outside W.World world.new) (W.lefts world.old) (W.lefts world.new) }
     ensures reported { W.reported world.new ≡ W.reported world.old }
-    ensures since { reported_from (status_in result) (W.faults world.old) (W.last_opening world.new)
+    ensures since { told_from (outcome_in result) (W.faults world.old) (W.last_opening world.new)
         ≤ W.faults world.new }
 {
-    match read_words(alloc, words) {
-        Ok(
-            Command::Serve {
-                service,
-                store,
-                streams,
-            },
-        ) => Came::Ended(serve(rt, alloc, &service, &store, streams.as_slice(), world)),
-        Ok(Command::Rehearse { seed, count }) => rehearsed(rt, alloc, seed, count),
-        Ok(Command::Compact { store, new }) => {
-            Came::Ended(compact_stores(rt, alloc, &store, &new, world))
-        }
+    match read_command(alloc, words) {
+        Ok(command) => run_command(rt, alloc, command, world),
         Err(WordsRefusal::Usage) => Came::Ended(Status::Usage),
         Err(WordsRefusal::Memory) => Came::Ended(Status::Memory),
     }
-}
-
-// Reports how the run ended. A report that fails changes nothing of that.
-fn tell<W: World>(status: Status, world: &mut W)
-    ensures reported { IsReported (W.reported world.old) (W.reported world.new) (report_of status)
-        (W.faults world.old) (W.faults world.new) }
-    ensures sources { Same (W.sources world.old) (W.sources world.new) }
-    ensures sinks { Same (W.sinks world.old) (W.sinks world.new) }
-    ensures stores { Same (W.stores world.old) (W.stores world.new) }
-    ensures lefts { SameLefts (W.lefts world.old) (W.lefts world.new) }
-    ensures clocks { Same (W.clocks world.old) (W.clocks world.new) }
-    ensures asked { W.asked world.new ≡ W.asked world.old }
-    ensures last { W.last_opening world.new ≡ W.last_opening world.old }
-    ensures later { W.faults world.old ≤ W.faults world.new }
-{
-    let line = status.report();
-    if line.is_empty() {
-        return;
-    }
-    let _ = world.report(line.as_str().as_bytes());
 }
 
 /// Runs the command that the words after the program's name are, and reports how it ended.
@@ -226,7 +140,11 @@ fn tell<W: World>(status: Status, world: &mut W)
 /// list, which serve on as the list would, and a crash leaves of it no entries or all (`Compacts`, `ComesOf`). The store's own list stays.
 ///
 /// A rehearsal touches nothing of the world but its reports: the five lines of its numbers, which are those of a run of two streams in memory (`IsTold`,
-/// `Rehearsed` of ps_rehearse). Where one of these reports fails nothing is reported after it, and the answer is [`Status::StreamFault`].
+/// `Rehearsed` of ps_rehearse).
+///
+/// A mirror reports the items that an address has of a node by the notices in a source (`Did`: `Mirrors` of ps_mirror_command).
+///
+/// Where a report of numbers or lines fails nothing is reported after it, and the answer is [`Status::StreamFault`].
 pub fn run<R: RandomSource + Wait + Threads + Sync, W: World>(
     rt: &R,
     alloc: Global,
@@ -237,14 +155,16 @@ pub fn run<R: RandomSource + Wait + Threads + Sync, W: World>(
     ensures usage { command_of words.now ≡ None → (result ≡ Status.Usage) ⊎ (result ≡ Status.Memory) }
     ensures runs { IfSome (served_by (command_of words.now)) (Runs W.Store.tells (outside W.World world.old)
         (outside W.World world.new) (W.lefts world.old) (W.lefts world.new) result) }
-    ensures compacts { IfSome (compacted_by (command_of words.now)) (Compacts W.Store.tells
-        (outside W.World world.old) (outside W.World world.new) (W.lefts world.old) (W.lefts world.new) result) }
+    ensures compacts { IfSome (compacted_by (command_of words.now)) (Compacts W.Store.tells (outside W.World world.old)
+        (outside W.World world.new) (W.lefts world.old) (W.lefts world.new) result) }
     ensures open { result ≡ Status.OpenFault → FailedToOpen W.World world.old world.new }
     ensures asked { AsksInOrder (openings_of (command_of words.now)) (W.asked world.old) (W.asked world.new) }
     ensures others { Leaves (command_of words.now) (outside W.World world.old)
         (outside W.World world.new) (W.lefts world.old) (W.lefts world.new) }
-    ensures reported { IsTold (command_of words.now) (W.reported world.old) (W.reported world.new) (W.faults world.old)
-        (reported_from result (W.faults world.old) (W.last_opening world.new)) (W.faults world.new) result }
+    ensures reported { IsTold (Did W.Store.tells (command_of words.now) (outside W.World world.old)
+        (outside W.World world.new) (W.lefts world.old) (W.lefts world.new)) (command_of words.now)
+        (W.reported world.old) (W.reported world.new) (W.faults world.old) (W.last_opening world.new)
+        (W.faults world.new) result }
 {
     match run_words(rt, alloc, words, world) {
         Came::Ended(status) => {
@@ -252,5 +172,6 @@ pub fn run<R: RandomSource + Wait + Threads + Sync, W: World>(
             status
         }
         Came::Rehearsed(numbers) => tell_numbers(&numbers, world),
+        Came::Lines(lines) => tell_lines(lines.as_slice(), world),
     }
 }

@@ -16,7 +16,7 @@ use std::test::Fail;
 use std::thread::Threads;
 
 const USAGE: &str =
-    "usage: pubsubd serve --service HOST --store PATH HOST IN OUT [HOST IN OUT].. | rehearse SEED COUNT | compact PATH NEW\n2";
+    "usage: pubsubd serve --service HOST --store PATH HOST IN OUT [HOST IN OUT].. | rehearse SEED COUNT | compact PATH NEW | mirror SERVICE NODE ADDRESS MAX IN\n2";
 
 #[test]
 fn other_words_are_no_command(rt: HostRuntime) -> Result<(), Fail> {
@@ -33,6 +33,8 @@ fn other_words_are_no_command(rt: HostRuntime) -> Result<(), Fail> {
         "serve --service pubsub.example --store s a.example i1 o1 b.example i2 i1",
         "serve --service pubsub.example --store s a.example i1 o1 A.example i2 o2",
         "serve --service pubsub.example --store s a.example i1 o1 b.example i2",
+        "mirror pubsub.example news bob@b.example 0 i",
+        "mirror pubsub.example news bob@b.example 1001 i",
     ] {
         let mut world = world_of(alloc, MemDisk::new(alloc, b"", &[])?, FIRST, SECOND)?;
         let code = code_of(&rt, alloc, words, &mut world)?;

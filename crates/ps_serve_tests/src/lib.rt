@@ -16,6 +16,10 @@ mod lines;
 #[cfg(test)]
 mod many;
 #[cfg(test)]
+mod mirror_lines;
+#[cfg(test)]
+mod mirrored;
+#[cfg(test)]
 mod runs;
 #[cfg(test)]
 mod stores;

@@ -1,8 +1,8 @@
 use Rattle.std.proofs.Common.{◌∙◌, sym, subst}
 use Rattle.ps_serve.specs.Compacting.{CompactsOver}
-use Rattle.ps_serve.specs.Outside.{outside}
-use Rattle.ps_serve.specs.declared.status.Status.{Status}
-use Rattle.ps_serve.proofs.Asking.{asked-first}
+use Rattle.ps_status.specs.Outside.{outside}
+use Rattle.ps_status.specs.declared.status.Status.{Status}
+use Rattle.ps_status.proofs.Asking.{asked-first}
 use Rattle.ps_serve.proofs.Pairs.{over-disk}
 use Rattle.ps_serve.proofs.compacting.compact_into.Goals as goal
 

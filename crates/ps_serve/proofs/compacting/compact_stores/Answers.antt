@@ -1,6 +1,7 @@
 use Rattle.std.proofs.Common.{◌≤◌, ◌∙◌, ℕ, sym, subst, arith}
-use Rattle.ps_serve.proofs.Asking.{asked-before, asked-first}
-use Rattle.ps_serve.proofs.Pairs.{both, others, since-then}
+use Rattle.ps_status.proofs.Asking.{asked-before, asked-first}
+use Rattle.ps_serve.proofs.Pairs.{both, others}
+use Rattle.ps_status.proofs.Counts.{since-then}
 use Rattle.ps_serve.proofs.compacting.compact_stores.Goals as goal
 
 pub returns-in-Err-clause-asked : goal.returns-in-Err-clause-asked

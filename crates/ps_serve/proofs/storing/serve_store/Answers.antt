@@ -1,8 +1,8 @@
 use Rattle.std.proofs.Common.{inl, refl, sym, subst}
 use Rattle.ps_journal.specs.Places.{entries_in}
 use Rattle.ps_serve.specs.Headline.{Idle, the_limits}
-use Rattle.ps_serve.specs.Outside.{held_as}
-use Rattle.ps_serve.specs.declared.status.Status.{Status}
+use Rattle.ps_status.specs.Outside.{held_as}
+use Rattle.ps_status.specs.declared.status.Status.{Status}
 use Rattle.ps_serve.proofs.Headlines.{idle-refused}
 use Rattle.ps_serve.proofs.Opened.{comes, may-start}
 use Rattle.ps_serve.proofs.Works.{clock_by, length-same, sink_by, worst-same}

@@ -1,0 +1,4 @@
+pub mod Asking
+pub mod Fronts
+pub mod Moved
+pub mod Counts

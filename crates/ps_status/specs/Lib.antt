@@ -1,0 +1,5 @@
+pub mod Statuses
+pub mod Outside
+pub mod Asking
+pub mod Leaving
+pub mod Telling
