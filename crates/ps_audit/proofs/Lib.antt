@@ -1,0 +1,4 @@
+mod Decoded
+mod Going
+mod Walks
+mod Adding
