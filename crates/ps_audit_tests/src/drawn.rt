@@ -67,13 +67,19 @@ fn drawn_step(draws: &mut Draws, who: &'static str, seen: &mut Seen) -> Option<S
     match draws.below(5) {
         0 => {
             seen.access = one_of(draws, &MODELS);
-            (seen.access != before.access)
-                .then_some(Step::Configure("w", "access_model", seen.access))
+            (seen.access != before.access).then_some(Step::Configure(
+                "w",
+                "access_model",
+                seen.access,
+            ))
         }
         1 => {
             seen.publish = one_of(draws, &PUBLISHING);
-            (seen.publish != before.publish)
-                .then_some(Step::Configure("w", "publish_model", seen.publish))
+            (seen.publish != before.publish).then_some(Step::Configure(
+                "w",
+                "publish_model",
+                seen.publish,
+            ))
         }
         2 => {
             seen.affil = one_of(draws, &AFFILIATIONS);
@@ -81,14 +87,21 @@ fn drawn_step(draws: &mut Draws, who: &'static str, seen: &mut Seen) -> Option<S
         }
         3 => {
             seen.subscribed = !before.subscribed;
-            let state = if seen.subscribed { "subscribed" } else { "none" };
+            let state = if seen.subscribed {
+                "subscribed"
+            } else {
+                "none"
+            };
             Some(Step::Subscribe("w", who, state))
         }
         _ => {
             seen.contact = one_of(draws, &STATES);
             seen.group = one_of(draws, &GROUPS);
-            (seen.contact != before.contact || seen.group != before.group)
-                .then_some(Step::Contact(who, seen.contact, seen.group))
+            (seen.contact != before.contact || seen.group != before.group).then_some(Step::Contact(
+                who,
+                seen.contact,
+                seen.group,
+            ))
         }
     }
 }
@@ -148,7 +161,13 @@ fn own_word(seen: &Seen) -> &'static str {
 }
 
 fn line_of(alloc: Global, after: u64, seen: &Seen) -> Result<String, Fail> {
-    Ok(format!(in alloc; "{after} read {}, subscribe {}, publish {}, own {}\n", read_word(seen), subscribe_word(seen), publish_word(seen), own_word(seen))?)
+    Ok(format!(in alloc;
+        "{after} read {}, subscribe {}, publish {}, own {}\n",
+        read_word(seen),
+        subscribe_word(seen),
+        publish_word(seen),
+        own_word(seen)
+    )?)
 }
 
 // ---- the two beside each other
@@ -233,6 +252,11 @@ fn drawn_requests_are_told_as_another_reckoning_says(rt: HostRuntime) -> Result<
         return Err(Fail::new("no report"));
     };
     let bob = format!(in alloc; "bob@b.example {}\n", read_word(&run.seen))?;
-    assert!(rt; known.as_slice().iter().any(|line| line.as_slice() == bob.as_bytes()));
+    assert!(rt;
+        known
+            .as_slice()
+            .iter()
+            .any(|line| line.as_slice() == bob.as_bytes())
+    );
     Ok(())
 }

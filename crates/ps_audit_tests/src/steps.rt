@@ -31,18 +31,28 @@ fn add(text: &mut String, parts: &[&str]) -> Result<(), Fail> {
 }
 
 fn add_form(text: &mut String, field: &str, value: &str) -> Result<(), Fail> {
-    add(text, &[
-        r#"{"a":{"type":"submit"},"c":[{"a":{"var":"FORM_TYPE"},"c":[{"c":["http://jabber.org/protocol/pubsub#node_config"],"n":"value"}],"n":"field"},"#,
-        r#"{"a":{"var":"pubsub#"#,
-        field,
-        r#""},"c":[{"c":[""#,
-        value,
-        r#""],"n":"value"}],"n":"field"}],"n":"x","ns":"jabber:x:data"}"#,
-    ])
+    add(
+        text,
+        &[
+            r#"{"a":{"type":"submit"},"c":[{"a":{"var":"FORM_TYPE"},"c":[{"c":["http://jabber.org/protocol/pubsub#node_config"],"n":"value"}],"n":"field"},"#,
+            r#"{"a":{"var":"pubsub#"#,
+            field,
+            r#""},"c":[{"c":[""#,
+            value,
+            r#""],"n":"value"}],"n":"field"}],"n":"x","ns":"jabber:x:data"}"#,
+        ],
+    )
 }
 
 fn add_create(text: &mut String, node: &str, field: &str, value: &str) -> Result<(), Fail> {
-    add(text, &[r#"{"c":[{"a":{"node":""#, node, r#""},"n":"create"},{"c":["#])?;
+    add(
+        text,
+        &[
+            r#"{"c":[{"a":{"node":""#,
+            node,
+            r#""},"n":"create"},{"c":["#,
+        ],
+    )?;
     add_form(text, field, value)?;
     add(text, &[r#"],"n":"configure"}"#, PUBSUB])
 }
@@ -54,50 +64,62 @@ fn add_configure(text: &mut String, node: &str, field: &str, value: &str) -> Res
 }
 
 fn add_affiliate(text: &mut String, node: &str, who: &str, affil: &str) -> Result<(), Fail> {
-    add(text, &[
-        r#"{"c":[{"a":{"node":""#,
-        node,
-        r#""},"c":[{"a":{"affiliation":""#,
-        affil,
-        r#"","jid":""#,
-        who,
-        r#""},"n":"affiliation"}],"n":"affiliations"}"#,
-        OWNER,
-    ])
+    add(
+        text,
+        &[
+            r#"{"c":[{"a":{"node":""#,
+            node,
+            r#""},"c":[{"a":{"affiliation":""#,
+            affil,
+            r#"","jid":""#,
+            who,
+            r#""},"n":"affiliation"}],"n":"affiliations"}"#,
+            OWNER,
+        ],
+    )
 }
 
 fn add_subscribe(text: &mut String, node: &str, who: &str, state: &str) -> Result<(), Fail> {
-    add(text, &[
-        r#"{"c":[{"a":{"node":""#,
-        node,
-        r#""},"c":[{"a":{"jid":""#,
-        who,
-        r#"","subscription":""#,
-        state,
-        r#""},"n":"subscription"}],"n":"subscriptions"}"#,
-        OWNER,
-    ])
+    add(
+        text,
+        &[
+            r#"{"c":[{"a":{"node":""#,
+            node,
+            r#""},"c":[{"a":{"jid":""#,
+            who,
+            r#"","subscription":""#,
+            state,
+            r#""},"n":"subscription"}],"n":"subscriptions"}"#,
+            OWNER,
+        ],
+    )
 }
 
 fn add_contact(text: &mut String, who: &str, state: &str, group: &str) -> Result<(), Fail> {
-    add(text, &[
-        r#"{"c":[{"a":{"jid":""#,
-        who,
-        r#"","subscription":""#,
-        state,
-        r#""},"c":[{"c":[""#,
-        group,
-        r#""],"n":"group"}],"n":"item"}],"n":"query","ns":"jabber:iq:roster"}"#,
-    ])
+    add(
+        text,
+        &[
+            r#"{"c":[{"a":{"jid":""#,
+            who,
+            r#"","subscription":""#,
+            state,
+            r#""},"c":[{"c":[""#,
+            group,
+            r#""],"n":"group"}],"n":"item"}],"n":"query","ns":"jabber:iq:roster"}"#,
+        ],
+    )
 }
 
 fn add_publish(text: &mut String, node: &str) -> Result<(), Fail> {
-    add(text, &[
-        r#"{"c":[{"a":{"node":""#,
-        node,
-        r#""},"c":[{"a":{"id":"m"},"c":[{"n":"entry","ns":"urn:t"}],"n":"item"}],"n":"publish"}"#,
-        PUBSUB,
-    ])
+    add(
+        text,
+        &[
+            r#"{"c":[{"a":{"node":""#,
+            node,
+            r#""},"c":[{"a":{"id":"m"},"c":[{"n":"entry","ns":"urn:t"}],"n":"item"}],"n":"publish"}"#,
+            PUBSUB,
+        ],
+    )
 }
 
 fn add_asked(text: &mut String, step: Step) -> Result<(), Fail> {
@@ -105,7 +127,15 @@ fn add_asked(text: &mut String, step: Step) -> Result<(), Fail> {
         Step::Create(node, field, value) => add_create(text, node, field, value),
         Step::Configure(node, field, value) => add_configure(text, node, field, value),
         Step::Delete(node) => {
-            add(text, &[r#"{"c":[{"a":{"node":""#, node, r#""},"n":"delete"}"#, OWNER])
+            add(
+                text,
+                &[
+                    r#"{"c":[{"a":{"node":""#,
+                    node,
+                    r#""},"n":"delete"}"#,
+                    OWNER,
+                ],
+            )
         }
         Step::Affiliate(node, who, affil) => add_affiliate(text, node, who, affil),
         Step::Subscribe(node, who, state) => add_subscribe(text, node, who, state),
@@ -126,11 +156,14 @@ fn target(step: Step) -> &'static str {
 /// The stanza of a request.
 pub fn stanza(alloc: Global, step: Step) -> Result<String, Fail> {
     let mut text = String::new(alloc);
-    add(&mut text, &[
-        r#"{"a":{"from":"ann@a.example/1","id":"1","to":""#,
-        target(step),
-        r#"","type":"set"},"c":["#,
-    ])?;
+    add(
+        &mut text,
+        &[
+            r#"{"a":{"from":"ann@a.example/1","id":"1","to":""#,
+            target(step),
+            r#"","type":"set"},"c":["#,
+        ],
+    )?;
     add_asked(&mut text, step)?;
     add(&mut text, &[r#"],"n":"iq"}"#])?;
     Ok(text)

@@ -102,7 +102,10 @@ fn is_line(line: &Bytes, wanted: &str) -> bool {
 fn are_lines(lines: &Listed<Bytes>, wanted: &[&str]) -> bool {
     let lines = lines.as_slice();
     lines.len() == wanted.len()
-        && lines.iter().zip(wanted).all(|(line, text)| is_line(line, *text))
+        && lines
+            .iter()
+            .zip(wanted)
+            .all(|(line, text)| is_line(line, *text))
 }
 
 /// Whether the report has these lines.
