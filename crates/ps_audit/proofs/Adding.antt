@@ -6,10 +6,16 @@ use Rattle.std.proofs.lemmas.List.Elements.{filter-append}
 use Rattle.ps_types.specs.Address.{bare}
 use Rattle.ps_types.specs.Rosters.{is_contact_at}
 use Rattle.ps_types.specs.declared.jid.Jid.{Jid}
+use Rattle.ps_types.specs.Affils.{affils_of}
+use Rattle.ps_types.specs.Subs.{subs_of}
 use Rattle.ps_types.specs.declared.rows.AffilRow.{AffilRow}
+use Rattle.ps_types.specs.declared.rows.NodeRow.{NodeRow}
 use Rattle.ps_types.specs.declared.rows.RosterRow.{RosterRow}
 use Rattle.ps_types.specs.declared.rows.SubRow.{SubRow}
+use Rattle.ps_model.specs.Access.{account_of, is_account}
+use Rattle.ps_model.specs.Book.{Book}
 use Rattle.ps_rows.specs.Standing.{standing}
+use Rattle.ps_audit_laws.specs.Readers.{known, own_account}
 use Rattle.ps_audit.specs.Listed.{affil_whos, contact_whos, sub_whos}
 
 -- what is told of a list is what is told of its parts
@@ -48,3 +54,20 @@ slots-split account xs ys =
 pub slot-one : (account : Jid) (s : Option RosterRow) → contact_whos account (option_to_list s) ≡ slot_whos account (s ∷ [])
 slot-one account None = refl
 slot-one account (Some r) = refl
+
+-- ---- all who are known
+
+pub own-some : (row : NodeRow) → is_account row.key.service ≡ true → own_account row ≡ row.key.service ∷ []
+own-some row h = ap (λ (b : Bool). cond b (row.key.service ∷ []) []) h
+
+pub own-none : (row : NodeRow) → is_account row.key.service ≡ false → own_account row ≡ []
+own-none row h = ap (λ (b : Bool). cond b (row.key.service ∷ []) []) h
+
+pub known-is : (book : Book) (row : NodeRow) (own one two all : List Jid) (rows : List AffilRow) (subs : List SubRow) (account : Jid) → own ≡ own_account row → rows ≡ affils_of row.key book.affils → subs ≡ subs_of row.key book.subs → account ≡ account_of row
+    → one ≡ own ++ affil_whos rows → two ≡ one ++ sub_whos subs → all ≡ two ++ contact_whos account book.rosters → all ≡ known book row
+known-is book row own one two all rows subs account o r s k e f g =
+    let C = contact_whos account book.rosters in
+    let step : all ≡ ((own ++ affil_whos rows) ++ sub_whos subs) ++ C = g ∙ ap (λ (js : List Jid). js ++ C) (f ∙ ap (λ (js : List Jid). js ++ sub_whos subs) e) in
+    let turned : ((own ++ affil_whos rows) ++ sub_whos subs) ++ C ≡ own ++ (affil_whos rows ++ (sub_whos subs ++ C)) = append_assoc (own ++ affil_whos rows) (sub_whos subs) C ∙ append_assoc own (affil_whos rows) (sub_whos subs ++ C) in
+    let parts : own ++ (affil_whos rows ++ (sub_whos subs ++ C)) ≡ known book row = (λ i. o i ++ (affil_whos (r i) ++ (sub_whos (s i) ++ contact_whos (k i) book.rosters))) in
+    step ∙ turned ∙ parts

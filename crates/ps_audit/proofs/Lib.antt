@@ -2,4 +2,3 @@ mod Decoded
 mod Going
 mod Walks
 mod Adding
-mod Rows

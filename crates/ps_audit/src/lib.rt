@@ -13,10 +13,12 @@ mod codes;
 mod explaining;
 mod knowing;
 mod listing;
+mod reading;
 mod replaying;
 
 pub use codes::condition_number;
 pub use explaining::explain;
-pub use listing::{ReaderList, readers};
+pub use listing::ReaderList;
 pub use ps_audit_laws::{ExplainLine, Four};
 pub use ps_hall_open::{ReadOnly, ReadOnlyRefusal, ReadWhy, open_read};
+pub use reading::readers;

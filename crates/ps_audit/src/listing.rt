@@ -1,26 +1,21 @@
-// Who may read a node.
-ghost use Rattle.std.specs.Prelude.{◌≡◌, ◌<◌, ◌^◌, true, IfOk, length, map};
+// The list of those who may read a node.
+ghost use Rattle.std.specs.Prelude.{◌≡◌, true, IfOk, map};
 ghost use Rattle.std.specs.List.{AllByRecursion};
 ghost use Rattle.ps_access.specs.Tables.{book_of};
-ghost use Rattle.ps_audit.specs.Listed.{AreReaders, IsListOf};
+ghost use Rattle.ps_audit.specs.Listed.{IsListOf};
 ghost use Rattle.ps_audit_laws.specs.Readers.{by_model, known};
 ghost use Rattle.ps_model.specs.Access.{read};
-ghost use Rattle.ps_model.specs.Entries.{AreEntries};
-ghost use Rattle.ps_model.specs.Replay.{lawful, replay};
 ghost use Rattle.ps_nodes.specs.NodeRows.{row_seen};
 ghost use Rattle.ps_types.specs.Address.{IsAddress};
 ghost use Rattle.ps_types.specs.Nodes.{stands};
 
 use crate::knowing::known_at;
-use crate::replaying::replayed;
 use ps_access::{Tables, verdict_read};
 use ps_base::Memory;
 use ps_fanout::in_order;
 use ps_nodes::NodeRef;
-use ps_types::{Access, Condition, Entry, Jid, NodeKey, Rule, Verdict};
+use ps_types::{Access, Condition, Jid, NodeKey, Rule, Verdict};
 use std::alloc::Global;
-use std::random::RandomSource;
-use std::thread::Threads;
 
 /// Who may read a node.
 #[derive(Drop)]
@@ -63,7 +58,12 @@ fn with_verdicts(
     Ok(lines)
 }
 
-fn reader_list(alloc: Global, tables: &Tables, row: &NodeRef<'_>) -> Result<ReaderList, Memory>
+/// The list of a node that stands: its known addresses, and what holds of all others.
+pub(crate) fn reader_list(
+    alloc: Global,
+    tables: &Tables,
+    row: &NodeRef<'_>,
+) -> Result<ReaderList, Memory>
     requires stands { stands row.now.key.now tables.now.nodes.rows ≡ true }
     requires addresses { AllByRecursion IsAddress (known (book_of tables.now) (row_seen row.now)) }
     ensures { IfOk result (λ list. IsListOf (book_of tables.now) (row_seen row.now) list) }
@@ -72,24 +72,4 @@ fn reader_list(alloc: Global, tables: &Tables, row: &NodeRef<'_>) -> Result<Read
     let known = with_verdicts(alloc, tables, row.key, whos)?;
     let others = verdict_of_others(row.config.access_model);
     Ok(ReaderList { known, others })
-}
-
-/// Who may read a node after all entries, or None where the node doesn't stand. The runtime gives the secret by which rows are found; no answer rests on it.
-pub fn readers<R: RandomSource + Threads + Sync>(
-    rt: &R,
-    alloc: Global,
-    entries: &[Entry],
-    node: &NodeKey,
-) -> Result<Option<ReaderList>, Memory>
-    requires lawful { lawful entries.now }
-    requires entries { AreEntries entries.now }
-    requires few { length entries.now < 2 ^ 62 }
-    ensures { IfOk result (λ list. AreReaders (replay entries.now).book node.now list) }
-{
-    let service = replayed(rt, alloc, entries)?;
-    let tables = service.tables();
-    match tables.nodes.get(node) {
-        None => Ok(None),
-        Some(row) => Ok(Some(reader_list(alloc, tables, &row)?)),
-    }
 }
