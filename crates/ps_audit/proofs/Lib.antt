@@ -2,3 +2,4 @@ mod Decoded
 mod Going
 mod Walks
 mod Adding
+mod Rows

@@ -1,5 +1,5 @@
 -- What comes of an audit of a store, by what its disk told before and tells now.
-use Rattle.std.specs.Prelude.{◌≡◌, ◌≤◌, ℕ, List, Result, IfErr, IfOk, OnOk}
+use Rattle.std.specs.Prelude.{◌≡◌, ◌≤◌, ℕ, List, Result, Ok, Err, IfErr, IfOk, OnOk}
 use Rattle.ps_disk.specs.declared.device.Disk.{Ghosts}
 use Rattle.ps_types.specs.declared.entry.Entry.{Entry}
 use Rattle.ps_io.specs.Held.{HeldStore}
@@ -7,9 +7,10 @@ use Rattle.ps_model.specs.At.{IsStore}
 use Rattle.ps_model.specs.Store.{spelled}
 use Rattle.ps_journal.specs.Left.{LeavesList}
 use Rattle.ps_journal.specs.Opened.{HasHeader, IsShortIfUnbegun, LeftOrHas, Upgrades}
-use Rattle.ps_hall_open.specs.ReadOnly.{IfFoundDamaged, StaysOrUpgrades}
+use Rattle.ps_hall_open.specs.OpenRead.{IfFoundDamaged, StaysOrUpgrades}
 use Rattle.ps_hall_open.specs.Reads.{ReadNot}
 use Rattle.ps_hall_open.specs.declared.opened.ReadWhy.{ReadWhy}
+use Rattle.ps_hall_open.specs.declared.opened.ReadWhy.TheVariants.{Memory}
 
 -- what a disk tells, as a world holds it
 abbrev pub held_on : {D : Type 0} → Ghosts D → D → HeldStore
@@ -22,6 +23,11 @@ held_on g d =
       moment = g.moment d;
       syncs = g.syncs d;
     }
+
+-- lines that weren't made were refused memory
+abbrev pub told_by : {E : Type 0} → Result (List (List ℕ)) E → Result (List (List ℕ)) ReadWhy
+told_by (Ok lines) = Ok lines
+told_by (Err why) = Err Memory
 
 -- the lines are those of the entries of the bytes
 pub record IsToldOf (report : List Entry → List (List ℕ)) (bytes : List ℕ) (lines : List (List ℕ)) : Type 0 where

@@ -1,8 +1,8 @@
 // The store is opened, and its entries are audited.
-ghost use Rattle.std.specs.Prelude.{◌≡◌, ◌<◌, ◌^◌, IfOk, length};
+ghost use Rattle.std.specs.Prelude.{◌≡◌, ◌<◌, ◌^◌, Err, IfOk, length};
 ghost use Rattle.ps_model.specs.Entries.{AreEntries};
 ghost use Rattle.ps_model.specs.Replay.{lawful};
-ghost use Rattle.ps_audit_run.specs.Audited.{Audited, held_on};
+ghost use Rattle.ps_audit_run.specs.Audited.{Audited, held_on, told_by};
 ghost use Rattle.ps_audit_run.specs.Report.{explain_report, readers_report};
 
 use crate::lines::{explain_line, known_line, no_node_line, others_line};
@@ -66,6 +66,35 @@ fn read_by<R: RandomSource + Threads + Sync>(
     Ok(lines)
 }
 
+// The report of a store whose disk this is.
+fn told<D: Disk>(disk: D, lines: Result<Listed<Bytes>, Memory>) -> AuditRun<D>
+    ensures disk { result.disk ≡ disk }
+    ensures report { result.report ≡ told_by lines }
+{
+    match lines {
+        Ok(lines) => AuditRun {
+            disk,
+            report: Ok(lines),
+        },
+        Err(Memory) => AuditRun {
+            disk,
+            report: Err(ReadWhy::Memory),
+        },
+    }
+}
+
+// There is no report of a store that wasn't opened.
+fn refused<D: Disk>(refusal: ReadOnlyRefusal<D>) -> AuditRun<D>
+    ensures disk { result.disk ≡ refusal.disk }
+    ensures report { result.report ≡ Err refusal.why }
+{
+    let ReadOnlyRefusal { disk, why } = refusal;
+    AuditRun {
+        disk,
+        report: Err(why),
+    }
+}
+
 /// Reports how the verdicts for an address at a node of the store on a disk came about. The runtime gives the secret by which rows are found; no answer rests
 /// on it.
 pub fn run_explain<R: RandomSource + Threads + Sync, D: Disk>(
@@ -79,20 +108,11 @@ pub fn run_explain<R: RandomSource + Threads + Sync, D: Disk>(
         (D.left_since result.disk) result.report }
 {
     match open_read(rt, alloc, disk) {
-        Err(refusal) => {
-            let ReadOnlyRefusal { disk, why } = refusal;
-            AuditRun {
-                disk,
-                report: Err(why),
-            }
-        }
+        Err(refusal) => refused(refusal),
         Ok(store) => {
             let ReadOnly { disk, entries } = store;
-            let report = match explained(rt, alloc, &entries, who, node) {
-                Ok(lines) => Ok(lines),
-                Err(Memory) => Err(ReadWhy::Memory),
-            };
-            AuditRun { disk, report }
+            let lines = explained(rt, alloc, &entries, who, node);
+            told(disk, lines)
         }
     }
 }
@@ -108,20 +128,11 @@ pub fn run_readers<R: RandomSource + Threads + Sync, D: Disk>(
         (D.left_since result.disk) result.report }
 {
     match open_read(rt, alloc, disk) {
-        Err(refusal) => {
-            let ReadOnlyRefusal { disk, why } = refusal;
-            AuditRun {
-                disk,
-                report: Err(why),
-            }
-        }
+        Err(refusal) => refused(refusal),
         Ok(store) => {
             let ReadOnly { disk, entries } = store;
-            let report = match read_by(rt, alloc, &entries, node) {
-                Ok(lines) => Ok(lines),
-                Err(Memory) => Err(ReadWhy::Memory),
-            };
-            AuditRun { disk, report }
+            let lines = read_by(rt, alloc, &entries, node);
+            told(disk, lines)
         }
     }
 }

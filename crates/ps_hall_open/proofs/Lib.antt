@@ -5,4 +5,4 @@ pub mod Replays
 pub mod Readies
 pub mod Openings
 pub mod Refusals
-mod ReadOnly
+mod OpenRead

@@ -5,4 +5,4 @@ pub mod Refused
 pub mod Fresh
 pub mod Opens
 pub mod Reads
-pub mod ReadOnly
+pub mod OpenRead

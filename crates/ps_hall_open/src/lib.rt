@@ -13,7 +13,7 @@
 //! the entries (`specs/Reads.antt`, `IsKept`).
 //!
 //! [`open_read`] opens a store as [`open`] does, header and all, takes its entries, and adds none: it answers the entries and the disk
-//! (`specs/ReadOnly.antt`). Whoever replays them begins with [`fresh_service`].
+//! (`specs/OpenRead.antt`). Whoever replays them begins with [`fresh_service`].
 #![tactic(auto)]
 
 mod beginning;

@@ -9,7 +9,7 @@ ghost use Rattle.ps_model.specs.Entries.{AreEntries};
 ghost use Rattle.ps_model.specs.Replay.{lawful};
 ghost use Rattle.ps_model.specs.Store.{is_second, spelled};
 ghost use Rattle.ps_types.specs.declared.entry.Entry.{Entry};
-ghost use Rattle.ps_hall_open.specs.ReadOnly.{AreShort, IfFoundDamaged, IsBegunEmpty, StaysOrUpgrades};
+ghost use Rattle.ps_hall_open.specs.OpenRead.{AreShort, IfFoundDamaged, IsBegunEmpty, StaysOrUpgrades};
 ghost use Rattle.ps_hall_open.specs.Reads.{ReadNot};
 ghost use Rattle.ps_hall_open.specs.Refused.{IfDamaged};
 ghost use Rattle.ps_hall_open.specs.Replayed.{IsFresh, StopsAt};

@@ -4,23 +4,23 @@ use Rattle.ps_audit.proofs.Going.{going-accepted, going-as, going-begins, going-
 use Rattle.ps_audit.proofs.replaying.replayed.Goals as goal
 
 pub entries-init : goal.entries-init
-entries-init c = going-begins c.args.entries.now c.in_ok-service.service.state c.in_ok-service.ensures.empty
+entries-init g c = going-begins c.args.entries.now c.in_ok-service.service.state c.in_ok-service.ensures.empty
 
 pub take-requires-clause-accepted : goal.take-requires-clause-accepted
-take-requires-clause-accepted c =
+take-requires-clause-accepted g c κs within =
     let E = c.args.entries.now in
     let here = slice_get_read E (length E) c.entries.entry-index c.entry-item.result refl c.entries-test.true c.entry-item.is in
     going-accepted E c.entries.entry-index c.entries.service.state c.entries.invariant c.requires.lawful c.entry-item.result here
 
 pub take-requires-clause-few : goal.take-requires-clause-few
-take-requires-clause-few c =
+take-requires-clause-few g c =
     let n = going-count c.args.entries.now c.entries.entry-index c.entries.service.state c.entries.invariant in
     let i = c.entries-test.true in
     let f = c.requires.few in
     omega (arith, n, i, f)
 
 pub entries-preserved : goal.entries-preserved
-entries-preserved c =
+entries-preserved g c =
     let E = c.args.entries.now in
     let i = c.entries.entry-index in
     let here = slice_get_read E (length E) i c.entry-item.result refl c.entries-test.true c.entry-item.is in
@@ -28,4 +28,4 @@ entries-preserved c =
     going-as E c.take.new.service.state (suc i) (i + 1) next (going-on E i c.entries.service.state c.entries.invariant c.entry-item.result here c.entries-test.true c.take.new.service.state c.in_ok-take.ensures.ok)
 
 pub returns : goal.returns
-returns c = going-ends c.args.entries.now c.entries.entry-index c.entries.service.state c.entries.invariant (omega arith)
+returns g c = going-ends c.args.entries.now c.entries.entry-index c.entries.service.state c.entries.invariant (omega arith)

@@ -7,7 +7,7 @@ use Rattle.ps_journal.specs.Places.{entries_in}
 use Rattle.ps_journal.specs.declared.judging.Placed.{Placed}
 use Rattle.ps_journal.specs.declared.opening.JournalWhy.{JournalWhy}
 use Rattle.ps_journal.specs.declared.opening.JournalWhy.TheVariants as journal
-use Rattle.ps_hall_open.specs.ReadOnly.{AreShort, IfFoundDamaged, StaysOrUpgrades}
+use Rattle.ps_hall_open.specs.OpenRead.{AreShort, IfFoundDamaged, StaysOrUpgrades}
 use Rattle.ps_hall_open.specs.Refused.{IfDamaged, IsWhy}
 use Rattle.ps_hall_open.specs.Replayed.{StopsAt}
 use Rattle.ps_hall_open.specs.declared.opened.ReadWhy.{ReadWhy}
