@@ -4,7 +4,8 @@
 Usage: run.py PROGRAM [NAME..]
 
 An example is a folder of examples/ with a.in and a.out, and b.in and b.out where it needs a second stream: the lines that are written to the streams of
-a.example and b.example, and those that come. Over both streams the lines are written in the order of their ids, each once those before it are
+a.example and b.example, and those that come. Where it has a file commands, each line there that begins with `$ ` is the words of a command over the
+store that this leaves, which they name STORE, and the lines behind it are what the command reports. Over both streams the lines are written in the order of their ids, each once those before it are
 answered; one whose id is no number is written behind the line above it. Replies are compared in their order, and of each address the notices; whether a
 notice comes before a reply or behind it is free. What examples/nodes.txt gives stands in README.md.
 
@@ -60,6 +61,25 @@ def compare(what, got, wanted):
         raise Wrong(f"{what}: notices that differ: {sorted(set(got) ^ set(wanted))}")
 
 
+def commands(path):
+    """The words of each command, and what it reports."""
+    found = []
+    for line in path.read_text(encoding="utf-8").splitlines():
+        if line.startswith("$ "):
+            found.append((line[2:].split(), []))
+        else:
+            found[-1][1].append(line)
+    return found
+
+
+def run_commands(program, path, folder):
+    for words, wanted in commands(path):
+        words = [f"{folder}/store" if word == "STORE" else word for word in words]
+        done = subprocess.run([program, *words], stdin=subprocess.DEVNULL, capture_output=True, text=True, timeout=60)
+        if (done.returncode, done.stdout.splitlines()) != (0, wanted):
+            raise Wrong(f"{' '.join(words)} ended with {done.returncode}, and reported {done.stdout!r}")
+
+
 def run(program, name, folder):
     here = TOP / "examples" / name
     hosts = [letter for letter in "ab" if (here / f"{letter}.in").is_file()]
@@ -77,6 +97,8 @@ def run(program, name, folder):
             raise Wrong(f"the program ended with {status}, and reported {report!r}")
         for at, stream in enumerate(service.streams):
             compare(stream.host, stream.lines(), wanted[at])
+    if (here / "commands").is_file():
+        run_commands(program, here / "commands", folder)
 
 
 def run_mirror(program, name):
