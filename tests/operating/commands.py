@@ -1,5 +1,5 @@
 #!/usr/bin/env python3
-"""What an operator meets at the commands that read a store or mirror a node: the usage line, what isn't there, a damaged store, one of version 1, and one that is held.
+"""What an operator meets at the commands that read a store, follow a feed and mirror a node: the usage line, what isn't there, a damaged store, one of version 1, and one that is held.
 
 Usage: commands.py PROGRAM
 """
@@ -13,6 +13,7 @@ from operating import LINE, Wrong, refuses, reply_in, words
 
 USAGE = (
     b"usage: pubsubd serve --service HOST --store PATH HOST IN OUT [HOST IN OUT].. | rehearse SEED COUNT | compact PATH NEW"
+    b" | explain PATH ADDRESS SERVICE NODE | readers PATH SERVICE NODE | feed PATH FROM OUT | follow HOST FEED IN OUT"
     b" | mirror SERVICE NODE ADDRESS MAX IN\n"
 )
 
@@ -25,6 +26,9 @@ def command(program, *told):
 def reads_of(store, sink):
     """The commands that read a store and don't serve it."""
     return [
+        ("explain", store, "ann@a.example", "pubsub.example", "news"),
+        ("readers", store, "pubsub.example", "news"),
+        ("feed", store, "0", sink),
         ("compact", store, sink.parent / "new"),
     ]
 
@@ -39,6 +43,10 @@ def usage(program, folder):
     i = folder / "in"
     for told in (
         (),
+        ("explain", "s", "ann@a.example", "pubsub.example"),
+        ("readers", "s", "pubsub.example/1", "news"),
+        ("feed", "s", "18446744073709551616", "o"),
+        ("follow", "a.example", "f", "f", "o"),
         ("mirror", "pubsub.example", "news", "bob@b.example", "0", i),
         ("mirror", "pubsub.example", "news", "bob@b.example", "1001", i),
     ):
@@ -52,6 +60,7 @@ def missing(program, folder):
     why = b"No such file or directory"
     for told in reads_of(store, sink):
         refuses(told[0], command(program, *told), "store", store, why)
+    refuses("follow", command(program, "follow", "a.example", store, there, sink), "source", store, why)
     refuses("mirror", command(program, "mirror", "pubsub.example", "news", "bob@b.example", "10", store), "source", store, why)
     left = sorted(path.name for path in folder.iterdir())
     expect("what is there", left, ["empty"])
@@ -71,7 +80,7 @@ def damaged(program, folder):
 
 
 def reads_beside(program, folder):
-    """A store that is served can't be read by another program."""
+    """A store that is served can't be read by another program; once it is free it can, and its records lead a follower to the same answers."""
     store, pipe, sink = folder / "store", folder / "pipe", folder / "out"
     os.mkfifo(pipe)
     with subprocess.Popen(words(program, store, pipe, folder / "served")) as first:
@@ -85,6 +94,19 @@ def reads_beside(program, folder):
                 raise Wrong(f"the first program ended with {first.returncode}")
         finally:
             first.kill()
+    none = "0 no node\n2 read granted affiliation, subscribe granted affiliation, publish granted affiliation, own granted affiliation\n"
+    told = reads_of(store, sink)
+    expect("explain", command(program, *told[0]), (0, none.encode(), b""))
+    expect("readers", command(program, *told[1]), (0, b"ann@a.example granted affiliation\nothers granted open\n", b""))
+    expect("feed", command(program, *told[2]), (0, b"", b""))
+    (folder / "in").write_bytes(LINE)
+    expect("follow", command(program, "follow", "a.example", sink, folder / "in", folder / "answers"), (0, b"", b""))
+    if b'"conflict"' not in (folder / "answers").read_bytes():
+        raise Wrong(f"the follower's answer: {(folder / 'answers').read_bytes()!r}")
+    sink.write_bytes(sink.read_bytes() + bytes(7) + b"\x63" + b"\0\0\0\x01\x04")
+    at = sink.stat().st_size - 13
+    bad = command(program, "follow", "a.example", sink, folder / "in", folder / "answers")
+    expect("a feed with a gap", bad, (11, f"feed bad at {at}\n".encode(), b""))
 
 
 def main():

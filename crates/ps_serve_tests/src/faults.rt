@@ -16,7 +16,7 @@ use std::test::Fail;
 use std::thread::Threads;
 
 const USAGE: &str =
-    "usage: pubsubd serve --service HOST --store PATH HOST IN OUT [HOST IN OUT].. | rehearse SEED COUNT | compact PATH NEW | mirror SERVICE NODE ADDRESS MAX IN\n2";
+    "usage: pubsubd serve --service HOST --store PATH HOST IN OUT [HOST IN OUT].. | rehearse SEED COUNT | compact PATH NEW | explain PATH ADDRESS SERVICE NODE | readers PATH SERVICE NODE | feed PATH FROM OUT | follow HOST FEED IN OUT | mirror SERVICE NODE ADDRESS MAX IN\n2";
 
 #[test]
 fn other_words_are_no_command(rt: HostRuntime) -> Result<(), Fail> {
@@ -33,6 +33,10 @@ fn other_words_are_no_command(rt: HostRuntime) -> Result<(), Fail> {
         "serve --service pubsub.example --store s a.example i1 o1 b.example i2 i1",
         "serve --service pubsub.example --store s a.example i1 o1 A.example i2 o2",
         "serve --service pubsub.example --store s a.example i1 o1 b.example i2",
+        "explain s bob@b.example pubsub.example",
+        "readers s pubsub.example/1 w",
+        "feed s 0 s",
+        "follow a.example f f o",
         "mirror pubsub.example news bob@b.example 0 i",
         "mirror pubsub.example news bob@b.example 1001 i",
     ] {

@@ -8,17 +8,19 @@
 #[cfg(test)]
 mod alone;
 #[cfg(test)]
+mod audited;
+#[cfg(test)]
 mod compacted;
 #[cfg(test)]
 mod faults;
+#[cfg(test)]
+mod followed;
 #[cfg(test)]
 mod lines;
 #[cfg(test)]
 mod many;
 #[cfg(test)]
-mod mirror_lines;
-#[cfg(test)]
-mod mirrored;
+mod reach_lines;
 #[cfg(test)]
 mod runs;
 #[cfg(test)]
