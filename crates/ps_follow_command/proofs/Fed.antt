@@ -1,15 +1,23 @@
 -- A store and a sink that were opened in a world, fed the one to the other, and given back; and then a report.
-use Rattle.std.proofs.Common.{◌≡◌, inl, inr, ℕ, List, refl, sym, subst}
+use Rattle.std.proofs.Common.{◌≡◌, inl, inr, ℕ, List, [], ◌∷◌, refl, sym, subst}
 use Rattle.std.specs.Prelude.{Result}
 use Rattle.ps_disk.specs.declared.device.Disk.{Ghosts as DiskGhosts}
 use Rattle.ps_types.specs.declared.entry.Entry.{Entry}
 use Rattle.ps_io.specs.Held.{Held, HeldStore, Same, SameLeft, SameLefts}
 use Rattle.ps_commands.specs.declared.command.FeedWords.{FeedWords}
+use Rattle.ps_model.specs.Entries.{AreEntries}
+use Rattle.ps_hall_open.specs.ReadOnly.{AreShort}
 use Rattle.ps_hall_open.specs.declared.opened.ReadWhy.{ReadWhy}
+use Rattle.ps_follow_run.specs.Feeding.{AreFeedable}
 use Rattle.ps_status.specs.Outside.{Outside, SameStreams}
 use Rattle.ps_status.specs.declared.status.Status.{Status}
 use Rattle.ps_status.proofs.Moved.{untouched-told}
 use Rattle.ps_follow_command.specs.Feeding.{FedFrom, Feeds, HasRead}
+
+-- what is read can be fed
+pub feedable : (E : List Entry) → AreEntries E → AreShort E → AreFeedable E
+feedable [] each short = tt
+feedable (e ∷ E) each short = ((each.0, short.0), feedable E each.1 short.1)
 
 module _ (tells : Type 0) (left left1 : ℕ → List ℕ → Type 0) (less : (t : ℕ) (c : List ℕ) → left1 t c → left t c) where
   read-less : (a b : HeldStore) (o : Result (List Entry) ReadWhy) → HasRead tells a b left o → HasRead tells a b left1 o
