@@ -17,7 +17,7 @@ from .stream import Stream
 
 
 async def wait_for_store(store: Path, seconds: float) -> bool:
-    """Waits until no program holds the store. A service whose adapter was killed ends by itself, since its inputs have ended."""
+    """Waits until no program holds the store. A service whose adapter was killed is killed with it, and takes a moment to go."""
     until = asyncio.get_running_loop().time() + seconds
     while True:
         try:

@@ -3,6 +3,7 @@
 from __future__ import annotations
 
 import asyncio
+import ctypes
 import errno
 import os
 import signal
@@ -16,6 +17,7 @@ from .log import say
 from .spool import Spool, Watch
 from .stream import Stream
 
+_LIBC = ctypes.CDLL(None)
 USAGE, STREAM_FAULT, STORE_FAULT, DAMAGED, FULL, MEMORY, LONG, OPEN_FAULT, OCCUPIED = range(2, 11)
 # After these a start can't help: a person has to look.
 FOR_A_PERSON = (USAGE, DAMAGED, FULL, OPEN_FAULT, OCCUPIED)
@@ -39,6 +41,20 @@ def meaning(status: int) -> str:
     return MEANINGS.get(status, "no status of this program")
 
 
+def die_with(parent: int) -> Callable[[], None]:
+    """For a child before it begins: it is killed when its parent ends, however that ends (PR_SET_PDEATHSIG).
+
+    The service bears that as it bears any crash. Left alone, one that still waits for its pipes would hold the store for ever.
+    """
+
+    def arrange() -> None:
+        _LIBC.prctl(1, signal.SIGKILL)
+        if os.getppid() != parent:  # it has ended already
+            os._exit(1)
+
+    return arrange
+
+
 class Process:
     """A child whose end is seen without waiting, and whose words go to the log."""
 
@@ -47,7 +63,12 @@ class Process:
         self._name = name
         self.ended: asyncio.Future[int] = self._loop.create_future()
         self._child = subprocess.Popen(
-            words, stdin=subprocess.DEVNULL, stdout=subprocess.PIPE, stderr=subprocess.PIPE, process_group=0
+            words,
+            stdin=subprocess.DEVNULL,
+            stdout=subprocess.PIPE,
+            stderr=subprocess.PIPE,
+            process_group=0,
+            preexec_fn=die_with(os.getpid()),
         )
         self.pid = self._child.pid
         self._rests: dict[int, bytes] = {}

@@ -10,7 +10,7 @@ import sys
 import tempfile
 import time
 
-from servers import HOSTS, SECRET, SERVERS, SERVICE, die_with_parent
+from servers import HOSTS, SECRET, SERVERS, SERVICE, die_with
 
 ADAPTER = pathlib.Path(__file__).resolve().parent.parent.parent
 
@@ -57,7 +57,7 @@ class Plant:
         before = [self.said().count(one) for one in words]
         with open(self.log, "ab") as log:
             command = [sys.executable, str(ADAPTER / "pubsubd-xmpp"), "--config", str(self.folder / "conf")]
-            self.adapter = subprocess.Popen(command, stdout=log, stderr=log, stdin=subprocess.DEVNULL, preexec_fn=die_with_parent)
+            self.adapter = subprocess.Popen(command, stdout=log, stderr=log, stdin=subprocess.DEVNULL, preexec_fn=die_with(os.getpid()))
         for one, count, more in zip(words, before, (1, len(HOSTS), len(HOSTS)), strict=True):
             self.wait_said(one, count + more)
 

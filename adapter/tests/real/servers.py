@@ -2,24 +2,23 @@
 
 from __future__ import annotations
 
-import ctypes
 import os
 import pathlib
 import shutil
 import signal
 import socket
 import subprocess
+import sys
 import time
+
+sys.path.insert(0, str(pathlib.Path(__file__).resolve().parent.parent.parent))
+
+from pubsubd_xmpp.service import die_with
 
 SECRET = "only-for-tests"
 HOSTS = ("a.localhost", "b.localhost")
 SERVICE = "pubsub.localhost"
 PASSWORD = "pass"
-
-
-def die_with_parent() -> None:
-    """What a test starts ends with it, however that ends (prctl, PR_SET_PDEATHSIG)."""
-    ctypes.CDLL(None).prctl(1, signal.SIGKILL)
 
 
 def free_port() -> int:
@@ -65,7 +64,7 @@ class Server:
     def start(self) -> None:
         log = open(self.folder / "out", "ab")
         self.child = subprocess.Popen(
-            self.words(), stdout=log, stderr=log, stdin=subprocess.DEVNULL, env=self.environment(), process_group=0, cwd=self.folder, preexec_fn=die_with_parent
+            self.words(), stdout=log, stderr=log, stdin=subprocess.DEVNULL, env=self.environment(), process_group=0, cwd=self.folder, preexec_fn=die_with(os.getpid())
         )
         wait_for_port(self.client_port, self.start_seconds, self.child)
         wait_for_port(self.component_port, self.start_seconds, self.child)

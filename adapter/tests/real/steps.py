@@ -2,6 +2,7 @@
 
 from __future__ import annotations
 
+import concurrent.futures
 import os
 import pathlib
 import signal
@@ -39,12 +40,19 @@ def step(name: str, words: list[str], seconds: float) -> bool:
 
 
 def units(seconds: float) -> bool:
-    return step("the parts and the duties", [sys.executable, "-W", "ignore", "-m", "unittest", "discover", "-s", "adapter", "-t", "adapter"], seconds)
+    """The tests that need no server, two modules beside one another, since they wait most of their time."""
+    names = {"test_parts": "the parts", "test_duties": "the duties of a router", "test_events": "what an operator meets"}
+
+    def one(module: str) -> bool:
+        return step(names[module], [sys.executable, "-W", "ignore", "-m", "unittest", f"adapter.tests.unit.{module}"], seconds)
+
+    with concurrent.futures.ThreadPoolExecutor(2) as pool:
+        return all(list(pool.map(one, names)))
 
 
 def real(server: str, program: str, kills: int, scale: float = 1.0) -> bool:
     """Both libraries, and the kills."""
-    programs = [("slix.py", 90, []), ("aiox.py", 60, []), ("endure.py", 60 + 8 * kills, [str(kills)])]
+    programs = [("slix.py", 120, []), ("aiox.py", 90, []), ("endure.py", 150 + 8 * kills, [str(kills)])]
     passed = True
     for script, seconds, more in programs:
         words = [DEBIANS, "-W", "ignore", str(REAL / script), server, program, *more]

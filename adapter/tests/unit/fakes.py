@@ -16,6 +16,7 @@ ADAPTER = HERE.parent.parent
 sys.path.insert(0, str(ADAPTER))
 
 from pubsubd_xmpp.names import ROSTER
+from pubsubd_xmpp.service import die_with
 from pubsubd_xmpp.trees import Elem, elem
 from pubsubd_xmpp.xmltext import StreamParser, to_xml
 
@@ -181,7 +182,8 @@ class AdapterCase(unittest.IsolatedAsyncioTestCase):
     settings = ""
 
     async def asyncSetUp(self):
-        self.folder = tempfile.TemporaryDirectory(prefix="adapter-")
+        # The service of an adapter that was killed may still be writing when the folder goes.
+        self.folder = tempfile.TemporaryDirectory(prefix="adapter-", ignore_cleanup_errors=True)
         self.root = pathlib.Path(self.folder.name)
         self.server = FakeServer()
         await self.server.start()
@@ -230,7 +232,7 @@ class AdapterCase(unittest.IsolatedAsyncioTestCase):
         before = self.said().count("service started")
         with open(self.log, "ab") as log:
             words = [sys.executable, str(ADAPTER / "pubsubd-xmpp"), "--config", str(self.root / "conf")]
-            self.adapter = await asyncio.create_subprocess_exec(*words, stderr=log, stdout=log)
+            self.adapter = await asyncio.create_subprocess_exec(*words, stderr=log, stdout=log, preexec_fn=die_with(os.getpid()))
         if wait:
             await self.server.until(lambda: self.server.is_up, "the component")
             await self.until_said("service started", before + 1)
@@ -239,7 +241,14 @@ class AdapterCase(unittest.IsolatedAsyncioTestCase):
         self.adapter.send_signal(signal.SIGTERM)
         return await asyncio.wait_for(self.adapter.wait(), SECONDS)
 
+    def is_all_given(self):
+        """Whether the adapter noted that the server has all that the service wrote."""
+        cells = (self.root / "run").glob("run-*/*.at")
+        return all(int.from_bytes(cell.read_bytes(), "little") == cell.with_suffix(".out").stat().st_size for cell in cells)
+
     async def kill(self):
+        """Kills the adapter, but not between a write and its note: what it was about to note would come again."""
+        await self.server.until(self.is_all_given, "the note of what was given")
         self.adapter.kill()
         await self.adapter.wait()
         await self.server.until(lambda: not self.server.is_up, "the end of the component")

@@ -2,6 +2,7 @@
 
 import asyncio
 import os
+import pathlib
 import signal
 import socket
 import subprocess
@@ -100,6 +101,24 @@ class Killed(AdapterCase):
         self.server.send(request("2"))
         await self.server.reply("2")
         self.assertEqual(self.runs(), 2)
+
+
+class KilledEarly(AdapterCase):
+    def configure(self, *_):
+        program = self.root / "sleeper"
+        program.write_text("#!/bin/sh\nexec sleep 1000\n")
+        program.chmod(0o755)
+        super().configure(program=program)
+
+    async def test_a_service_that_still_waits_for_its_pipes_goes_with_its_adapter(self):
+        """It would hold the store, and no adapter could start another."""
+        await self.start(wait=False)
+        children = pathlib.Path(f"/proc/{self.adapter.pid}/task/{self.adapter.pid}/children")
+        child = (await self.server.until(lambda: children.read_text().split()))[0]
+        await asyncio.sleep(0.3)
+        self.adapter.kill()
+        await self.adapter.wait()
+        await self.server.until(lambda: not pathlib.Path(f"/proc/{child}/cmdline").exists() or not pathlib.Path(f"/proc/{child}/cmdline").read_bytes())
 
 
 class Limits(AdapterCase):
