@@ -1,1 +1,3 @@
 mod Audits
+mod Mapped
+mod Readers

@@ -30,9 +30,12 @@ known_text line = jid_text line.0 ++ (codes " " ++ verdict_text line.1)
 abbrev pub others_text : Verdict → List ℕ
 others_text verdict = codes "others " ++ verdict_text verdict
 
+abbrev pub list_report : List (Jid × Verdict) → Verdict → List (List ℕ)
+list_report known rest = map (λ line. ended (known_text line)) known ++ ended (others_text rest) ∷ []
+
 abbrev pub readers_at : Option NodeRow → Book → List (List ℕ)
 readers_at None book = ended (codes "no node") ∷ []
-readers_at (Some row) book = map (λ line. ended (known_text line)) (readers book row) ++ ended (others_text (others row)) ∷ []
+readers_at (Some row) book = list_report (readers book row) (others row)
 
 abbrev pub readers_in : Book → NodeKey → List (List ℕ)
 readers_in book node = readers_at (node_at node book.nodes) book

@@ -3,13 +3,13 @@ ghost use Rattle.std.specs.Prelude.{◌≡◌, ◌<◌, ◌^◌, Err, IfOk, leng
 ghost use Rattle.ps_model.specs.Entries.{AreEntries};
 ghost use Rattle.ps_model.specs.Replay.{lawful};
 ghost use Rattle.ps_audit_run.specs.Audited.{Audited, held_on, told_by};
-ghost use Rattle.ps_audit_run.specs.Report.{explain_report, readers_report};
+ghost use Rattle.ps_audit_run.specs.Report.{explain_report, list_report, readers_report};
 
 use crate::lines::{explain_line, known_line, no_node_line, others_line};
 use ps_audit::{ReadOnly, ReadOnlyRefusal, ReadWhy, explain, open_read, readers};
 use ps_base::{Bytes, Listed, Memory};
 use ps_disk::Disk;
-use ps_types::{Entry, Jid, NodeKey};
+use ps_types::{Entry, Jid, NodeKey, Verdict};
 use std::alloc::Global;
 use std::random::RandomSource;
 use std::thread::Threads;
@@ -41,6 +41,18 @@ fn explained<R: RandomSource + Threads + Sync>(
     Ok(lines)
 }
 
+// The lines of a list of readers.
+fn listed(alloc: Global, known: &[(Jid, Verdict)], others: Verdict) -> Result<Listed<Bytes>, Memory>
+    ensures { IfOk result (λ lines. lines ≡ list_report known.now others) }
+{
+    let mut lines = Listed::new(alloc);
+    'known: for line in known {
+        lines.push(known_line(alloc, &line.0, line.1)?)?;
+    }
+    lines.push(others_line(alloc, others)?)?;
+    Ok(lines)
+}
+
 // The lines of those who may read a node.
 fn read_by<R: RandomSource + Threads + Sync>(
     rt: &R,
@@ -53,17 +65,14 @@ fn read_by<R: RandomSource + Threads + Sync>(
     requires few { length entries.now < 2 ^ 62 }
     ensures { IfOk result (λ lines. lines ≡ readers_report node.now entries.now) }
 {
-    let mut lines = Listed::new(alloc);
     match readers(rt, alloc, entries, node)? {
-        None => lines.push(no_node_line(alloc)?)?,
-        Some(list) => {
-            'known: for line in &list.known {
-                lines.push(known_line(alloc, &line.0, line.1)?)?;
-            }
-            lines.push(others_line(alloc, list.others)?)?;
+        None => {
+            let mut lines = Listed::new(alloc);
+            lines.push(no_node_line(alloc)?)?;
+            Ok(lines)
         }
+        Some(list) => listed(alloc, &list.known, list.others),
     }
-    Ok(lines)
 }
 
 // The report of a store whose disk this is.

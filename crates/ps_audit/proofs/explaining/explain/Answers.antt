@@ -13,8 +13,8 @@ pub entries-init : goal.entries-init
 entries-init g c =
     let four = c.four_verdicts-last.result in
     let line : ExplainLine = record { after = 0; four = four } in
-    let asked = c.four_verdicts-last.ensures ∙ ap (λ (b : Book). four_at b c.args.node.now c.args.who.now) c.tables.ensures.book in
-    let pushed = c.in_ok-push.ensures.items ∙ ap (λ (ls : List ExplainLine). ls ++ line ∷ []) c.new-lines.ensures.items in
+    let asked : four ≡ four_at c.in_ok-service.service.state.book c.args.node.now c.args.who.now = c.four_verdicts-last.ensures ∙ ap (λ (b : Book). four_at b c.args.node.now c.args.who.now) c.tables.ensures.book in
+    let pushed : c.push.new.self.items ≡ line ∷ [] = c.in_ok-push.ensures.items ∙ ap (λ (ls : List ExplainLine). ls ++ line ∷ []) c.new-lines.ensures.items in
     subst (λ (ls : List ExplainLine). Walk c.args.entries.now c.args.who.now c.args.node.now 0 c.in_ok-service.service.state 0 four ls) (sym pushed)
     (walk-begins c.args.entries.now c.args.who.now c.args.node.now c.in_ok-service.service.state four c.in_ok-service.ensures.empty asked)
 
