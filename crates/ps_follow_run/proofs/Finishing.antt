@@ -75,7 +75,7 @@ module _ (host : List ℕ) (w : Worked) (now : Told) (feed-is : now.feed ≡ w.f
   pub finish : {T : Type 0} (r : Result T FollowEnd) (t : Taking) → w.feed.faults ≤ w.feed_now.faults → w.input.faults ≤ w.input_now.faults → w.sink.faults ≤ w.sink_now.faults
       → (r ≡ Err end.Fault → Rose w.feed.faults w.feed_now.faults ⊎ (Rose w.input.faults w.input_now.faults ⊎ Rose w.sink.faults w.sink_now.faults))
       → OnOk r (IsTrue t.ended × (IsReadToEnd w.input_now × (given < 2 ^ 40))) → AllSo host (told_at w) now t given r → Follows host w (end_in r)
-  finish (Ok x) t a b c fault ended so = finish-ok t so.0 (record { feed = a; input = b; sink = c; fault = λ e. absurd (let no : end.Done ≡ end.Fault = e in cc no) }) ended.0 ended.1 ended.2 so.1 so.2
+  finish (Ok x) t a b c fault ended so = finish-ok t so.0 (record { feed = a; input = b; sink = c; fault = λ e. absurd (let no : end.Done ≡ end.Fault = e in cc no) }) ended.0 ended.1.0 ended.1.1 so.1.0 so.1.1
   finish (Err why) t a b c fault ended so = finish-err why (record { feed = a; input = b; sink = c; fault = λ e. fault (ap Err e) }) so
 
 -- nothing was done, for want of memory

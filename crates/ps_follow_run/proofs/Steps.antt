@@ -46,7 +46,7 @@ module _ (host : List ℕ) (b n : Told) (t : Taking) (line : ℕ) (s : SoFar hos
     longer : length (s.feed ++ p.piece) ≡ length s.feed + length p.piece
     longer = length-append s.feed p.piece
 
-    behind-on : (line ≤ length s.feed) ⊎ IsTrue t.ended → (line ≤ length (s.feed ++ p.piece)) ⊎ IsTrue u.ended
+    pub behind-on : (line ≤ length s.feed) ⊎ IsTrue t.ended → (line ≤ length (s.feed ++ p.piece)) ⊎ IsTrue u.ended
     behind-on (inl le) = let l = longer in inl (omega (arith, le, l))
     behind-on (inr e) = inr (p.still e).1
 
@@ -59,7 +59,7 @@ module _ (host : List ℕ) (b n : Told) (t : Taking) (line : ℕ) (s : SoFar hos
     pub ready : (line + 1 ≤ length (s.feed ++ p.piece)) ⊎ IsTrue u.ended
     ready = ready-by s.behind p.some
 
-    pub so-piece : SoFar host b (to_feed n left) u line
+    abbrev pub so-piece : SoFar host b (to_feed n left) u line
     so-piece = record {
       feed = s.feed ++ p.piece;
       gave = consumed-more b.feed n.feed left s.feed p.piece s.gave p.gave;

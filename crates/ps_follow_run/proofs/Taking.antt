@@ -163,15 +163,15 @@ piece-falls old new feed before now h p going = by p.some
         let a = h.counted in
         let b = p.taken.counted in
         let l = length-append feed p.piece in
-        let one : cond old.ended 0 1 ≡ 1 = ap (λ (x : Bool). cond x 0 1) going in
-        let none : cond new.ended 0 1 ≡ 0 = ap (λ (x : Bool). cond x 0 1) e in
+        let one : ◌≡◌ {A = ℕ} (cond old.ended 0 1) 1 = ap (λ (x : Bool). cond {A = ℕ} x 0 1) going in
+        let none : ◌≡◌ {A = ℕ} (cond new.ended 0 1) 0 = ap (λ (x : Bool). cond {A = ℕ} x 0 1) e in
         omega (arith, a, b, l, one, none)
     by (inl some) =
         let a = h.counted in
         let b = p.taken.counted in
         let m = p.taken.most in
         let l = length-append feed p.piece in
-        let one : cond old.ended 0 1 ≡ 1 = ap (λ (x : Bool). cond x 0 1) going in
+        let one : ◌≡◌ {A = ℕ} (cond old.ended 0 1) 1 = ap (λ (x : Bool). cond {A = ℕ} x 0 1) going in
         let most = at-most new.ended in
         omega (arith, a, b, l, m, one, most, some)
       where

@@ -43,7 +43,15 @@ returns-in-Ok-false-clause-so g c = λ before s.
     let n = c.follow_line.new in
     let r = subst (λ (b : Bool). NextSo c.args.host.now before (told g.F.Source g.S.Source g.K.Sink n.feed n.lines n.sink) n.taking c.lines.line (given_of n.lines) (Ok b)) c.in-Ok-false.field-0-test
     (c.in-Ok-false.ensures.so before (c.lines.invariant.so before s)) in
-    (c.lines.line, r.0, r.1)
+    (c.lines.line, r)
 
 pub returns-in-Err-clause-so : goal.returns-in-Err-clause-so
 returns-in-Err-clause-so g c = λ before s. c.in-Err.ensures.so before (c.lines.invariant.so before s)
+
+pub returns-in-Ok-false-clause-gave : goal.returns-in-Ok-false-clause-gave
+returns-in-Ok-false-clause-gave g c =
+    gave-on (g.S.Source.left (source_of c.args.lines.now)) (g.S.Source.left (source_of c.lines.lines)) (g.S.Source.left (source_of c.follow_line.new.lines)) (given_of c.args.lines.now) (given_of c.lines.lines) (given_of c.follow_line.new.lines) c.lines.invariant.gave c.follow_line.ensures.gave
+
+pub returns-in-Err-clause-gave : goal.returns-in-Err-clause-gave
+returns-in-Err-clause-gave g c =
+    gave-on (g.S.Source.left (source_of c.args.lines.now)) (g.S.Source.left (source_of c.lines.lines)) (g.S.Source.left (source_of c.follow_line.new.lines)) (given_of c.args.lines.now) (given_of c.lines.lines) (given_of c.follow_line.new.lines) c.lines.invariant.gave c.follow_line.ensures.gave
