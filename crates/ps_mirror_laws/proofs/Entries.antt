@@ -42,7 +42,7 @@ use Rattle.ps_compact_laws.proofs.Drafts.{IsDraft}
 use Rattle.ps_compact_laws.proofs.Fitting.{is-tree}
 use Rattle.ps_compact_laws.proofs.NoticeLines.{DueIs, StateIs, given-out}
 use Rattle.ps_compact_laws.proofs.Printable.{IsPrintable}
-use Rattle.ps_compact_laws.proofs.Sorting.{unsorted}
+use Rattle.ps_model.proofs.Ordered.{unsorted}
 use Rattle.ps_compact_laws.proofs.Stored.{all-asked, for-is, printable-after}
 use Rattle.ps_mirror.specs.declared.copied.Copied.{Copied}
 use Rattle.ps_mirror.specs.Copy.{event_said, items_after, said_of}

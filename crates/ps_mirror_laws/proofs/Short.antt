@@ -1,5 +1,5 @@
 -- Each notice of a list whose entries have a spelling is short, or tells a copy nothing: so a copy loses nothing where longer lines are passed over.
-use Rattle.std.proofs.Common.{◌≡◌, ◌⊎◌, inl, inr, ℕ, suc, ◌+◌, ◌<◌, ◌≤◌, ◌^◌, Bool, true, false, cond, ◌&&◌, not, List, [], ◌∷◌, ◌++◌, length, map, filter, Option, Some, None, option_map, refl, sym, ap, subst, ◌∙◌, arith}
+use Rattle.std.proofs.Common.{◌≡◌, ◌⊎◌, inl, inr, ℕ, zero, suc, ◌+◌, ◌<◌, ◌≤◌, ◌^◌, Bool, true, false, cond, ◌&&◌, not, List, [], ◌∷◌, ◌++◌, length, map, filter, Option, Some, None, option_map, refl, sym, ap, subst, ◌∙◌, arith}
 use Rattle.std.specs.Prelude.{Result, Ok, Err, nat_le, slice_get}
 use Rattle.std.specs.List.{AllByRecursion as Each, cons_option, filter_map, flat_map}
 use Rattle.std.proofs.lemmas.Bool.Decides.{nat_tests}
@@ -42,10 +42,11 @@ use Rattle.ps_compact_laws.proofs.Fitting.{is-tree}
 use Rattle.ps_compact_laws.proofs.NoticeLines.{DueIs, StateIs, empty-is, given-out, state-after}
 use Rattle.ps_compact_laws.proofs.Printable.{IsPrintable, NodeIs}
 use Rattle.ps_compact_laws.proofs.Stored.{all-asked, for-is, printable-after}
-use Rattle.ps_mirror.specs.Copy.{Copy, copy_after, copy_from, news_by, news_in, news_of, said_of}
+use Rattle.ps_mirror.specs.Copy.{Copy, copy_after, copy_from, is_numbered, news_by, news_in, news_of, said_of}
 use Rattle.ps_mirror.specs.Filled.{is_short}
 use Rattle.ps_mirror.specs.Report.{copied_of}
 use Rattle.ps_mirror.specs.declared.copied.Copied.{Copied}
+use Rattle.ps_mirror.specs.declared.said.News.{News}
 use Rattle.ps_mirror.specs.declared.said.Said.{Said}
 use Rattle.ps_mirror_laws.specs.Laws.{EachMirroredSourceIsExact, HasInOrder, IsNoBase, IsBriefTo, EachNoticeIsBrief, notices_to}
 use Rattle.ps_mirror_laws.proofs.SmallDrafts.{Briefly, IsBrief, IsSmallEvent, given-brief}
@@ -83,12 +84,12 @@ module _ (before after : Book) (is : IsPrintable before) (then_is : IsPrintable 
 
 -- ---- notices
 
+none-either : (b : Bool) (o : Option News) → o ≡ None → cond b o None ≡ None
+none-either true o e = e
+none-either false o e = refl
+
 silent-news : (id : List ℕ) (said : Option Said) → said ≡ None → news_by id said ≡ None
-silent-news id None e = none-by _
-  where
-    none-by : (b : Bool) → cond b None None ≡ None
-    none-by true = refl
-    none-by false = refl
+silent-news id None e = none-either (is_numbered id) None refl
 silent-news id (Some said) e = absurd (cc e)
 
 -- where its number is one that a copy takes
@@ -204,19 +205,18 @@ notices-are-brief E a node who ok own plain few fits =
 -- ---- a copy that passes over long lines
 
 module _ (node : NodeKey) (who : Jid) where
-  Brief : List ℕ → Type 0
+  abbrev pub Brief : List ℕ → Type 0
   Brief line = IsBriefTo node who line
 
-  BriefOf : Notice → Type 0
+  abbrev pub BriefOf : Notice → Type 0
   BriefOf n = IsBriefTo node who n.line
 
   each-at : (xs : List Notice) (k : ℕ) (x : Notice) → Each BriefOf xs → slice_get xs k ≡ Some x → BriefOf x
   each-at [] k x ps e = absurd (cc e)
-  each-at (y ∷ xs) 0 x ps e = let same : y ≡ x = cc e in subst BriefOf same ps.0
+  each-at (y ∷ xs) zero x ps e = let same : y ≡ x = cc e in subst BriefOf same ps.0
   each-at (y ∷ xs) (suc k) x ps e = each-at xs k x ps.1 e
 
   lines-brief : (lines : List (List ℕ)) (had ns : List Notice) → Each BriefOf had → Each BriefOf ns → HasInOrder node who had ns lines → Each Brief lines
-  unfolding Brief BriefOf
   lines-brief [] had ns olds news order = tt
   lines-brief (line ∷ lines) had ns olds news (inl (other, more)) = (inr other, lines-brief lines had ns olds news more)
   lines-brief (line ∷ lines) had ns olds news (inr (inl ((k, n, at, is), more))) = (subst (IsBriefTo node who) (sym is) (each-at had k n olds at), lines-brief lines had ns olds news more)
@@ -227,16 +227,16 @@ module _ (node : NodeKey) (who : Jid) where
   short-line : (line : List ℕ) → length line ≤ 262144 → is_short line ≡ true
   short-line line few = grind (arith, nat_tests, few)
 
+  passes-at : (max : ℕ) (line : List ℕ) (lines : List (List ℕ)) (c : Copy) (b : Bool) → is_short line ≡ b → IsBriefTo node who line
+      → ((d : Copy) → copy_from node who max d (filter is_short lines) ≡ copy_from node who max d lines)
+      → copy_from node who max c (cond b (line ∷ filter is_short lines) (filter is_short lines)) ≡ copy_from node who max (copy_after max (news_in node who line) c) lines
+  passes-at max line lines c true e brief more = more (copy_after max (news_in node who line) c)
+  passes-at max line lines c false e (inl few) more = absurd (let yes = short-line line few in cc (e, yes))
+  passes-at max line lines c false e (inr none) more = more c ∙ ap (λ o. copy_from node who max (copy_after max o c) lines) (sym none)
+
   pub passes-over : (max : ℕ) (lines : List (List ℕ)) (c : Copy) → Each Brief lines → copy_from node who max c (filter is_short lines) ≡ copy_from node who max c lines
-  unfolding Brief
   passes-over max [] c are = refl
-  passes-over max (line ∷ lines) c are = at (is_short line) refl are.0
-    where
-      at : (b : Bool) → is_short line ≡ b → IsBriefTo node who line → copy_from node who max c (cond b (line ∷ filter is_short lines) (filter is_short lines)) ≡ copy_from node who max
-          (copy_after max (news_in node who line) c) lines
-      at true e brief = passes-over max lines (copy_after max (news_in node who line) c) are.1
-      at false e (inl few) = absurd (let yes = short-line line few in cc (e, yes))
-      at false e (inr none) = passes-over max lines c are.1 ∙ ap (λ o. copy_from node who max (copy_after max o c) lines) (sym none)
+  passes-over max (line ∷ lines) c are = passes-at max line lines c (is_short line) refl are.0 (λ d. passes-over max lines d are.1)
 
 pub source-exact : EachMirroredSourceIsExact
 source-exact node who config E bytes h few order =

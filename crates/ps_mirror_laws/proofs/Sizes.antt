@@ -41,11 +41,11 @@ comma-size true = omega arith
 comma-size false = omega arith
 
 -- the most that members take, and items
-pub members_size : Members → ℕ
+abbrev pub members_size : Members → ℕ
 members_size no_members = 1
 members_size (member k d ms) = 2 + length (quoted k) + length (compact_text d) + members_size ms
 
-pub items_size : Items → ℕ
+abbrev pub items_size : Items → ℕ
 items_size no_items = 1
 items_size (item d ds) = 1 + length (compact_text d) + items_size ds
 
@@ -68,7 +68,7 @@ items-fit later (item d ds) =
     let b = length-append (compact_text d) (items_text true ds) in
     omega (arith, comma, more, a, b)
 
-attrs-part : (as ms : Members) → members_size (with_attrs as ms) ≤ 11 + members_size as + members_size ms
+attrs-part : (own ms : Members) → members_size (with_attrs own ms) ≤ 11 + members_size own + members_size ms
 attrs-part no_members ms = omega arith
 attrs-part (member k d rest) ms =
     let q : length (quoted (codes "a")) ≤ 8 = quoted-size (codes "a") in
@@ -153,27 +153,27 @@ front-size b k d ms =
     omega (arith, x, y, z)
 
 -- with other last members it is longer by those at most
-grows : (as : Members) (is : Items) (k : List ℕ) (d : Data) (ms before : Members)
-    → length (members_text false (with_attrs as (with_kids is (member k d ms)))) ≤ length (members_text false (with_attrs as (with_kids is (member k d before)))) + length (members_text true ms)
+grows : (own : Members) (is : Items) (k : List ℕ) (d : Data) (ms before : Members)
+    → length (members_text false (with_attrs own (with_kids is (member k d ms)))) ≤ length (members_text false (with_attrs own (with_kids is (member k d before)))) + length (members_text true ms)
 grows no_members no_items k d ms before = let x = front-size false k d ms in let y = front-size false k d before in omega (arith, x, y)
 grows no_members (item c cs) k d ms before =
     let x = front-size true k d ms in let y = front-size true k d before in
     let u = front-size false (codes "c") (array (item c cs)) (member k d ms) in let v = front-size false (codes "c") (array (item c cs)) (member k d before) in
     omega (arith, x, y, u, v)
-grows (member a v as) no_items k d ms before =
+grows (member a v own) no_items k d ms before =
     let x = front-size true k d ms in let y = front-size true k d before in
-    let p = front-size false (codes "a") (object (member a v as)) (member k d ms) in let q = front-size false (codes "a") (object (member a v as)) (member k d before) in
+    let p = front-size false (codes "a") (object (member a v own)) (member k d ms) in let q = front-size false (codes "a") (object (member a v own)) (member k d before) in
     omega (arith, x, y, p, q)
-grows (member a v as) (item c cs) k d ms before =
+grows (member a v own) (item c cs) k d ms before =
     let x = front-size true k d ms in let y = front-size true k d before in
     let u = front-size true (codes "c") (array (item c cs)) (member k d ms) in let w = front-size true (codes "c") (array (item c cs)) (member k d before) in
-    let p = front-size false (codes "a") (object (member a v as)) (member (codes "c") (array (item c cs)) (member k d ms)) in
-    let q = front-size false (codes "a") (object (member a v as)) (member (codes "c") (array (item c cs)) (member k d before)) in
+    let p = front-size false (codes "a") (object (member a v own)) (member (codes "c") (array (item c cs)) (member k d ms)) in
+    let q = front-size false (codes "a") (object (member a v own)) (member (codes "c") (array (item c cs)) (member k d before)) in
     omega (arith, x, y, u, w, p, q)
 
 -- the namespace may have to be said
 module _ (name ns : List ℕ) (attrs : List Attr) (kids : Nodes) where
-  below-size : List ℕ → ℕ
+  abbrev below-size : List ℕ → ℕ
   below-size parent = length (compact_text (data_of parent (tree name ns attrs kids)))
 
   longer : (parent : List ℕ) → below-size parent ≤ below-size client + length (members_text true (ns_member parent ns))

@@ -1,5 +1,5 @@
 -- Each stanza that tells of an event is short, or says nothing of a node's items.
-use Rattle.std.proofs.Common.{◌≡◌, ℕ, ◌<◌, ◌≤◌, ◌^◌, ◌⊎◌, inl, inr, Bool, true, false, cond, ◌&&◌, List, [], ◌∷◌, length, reverse, Option, Some, None, option_map, refl, sym, ap, subst, ◌∙◌, arith}
+use Rattle.std.proofs.Common.{◌≡◌, ℕ, ◌+◌, ◌*◌, ◌<◌, ◌≤◌, ◌^◌, ◌⊎◌, inl, inr, Bool, true, false, cond, ◌&&◌, List, [], ◌∷◌, length, reverse, Option, Some, None, option_map, refl, sym, ap, subst, ◌∙◌, arith}
 use Rattle.std.specs.Prelude.{codes, find, nat_le}
 use Rattle.std.specs.List.{AllByRecursion as Each}
 use Rattle.std.proofs.lemmas.Bool.{and_parts, leb-true}
@@ -15,6 +15,7 @@ use Rattle.ps_types.specs.declared.node.NodeKey.{NodeKey}
 use Rattle.ps_types.specs.declared.rows.ItemRow.{ItemRow}
 use Rattle.ps_types.specs.declared.rows.NodeRow.{NodeRow}
 use Rattle.ps_types.specs.Address.{IsAddress, jid_text}
+use Rattle.ps_types.specs.Attrs.{attr}
 use Rattle.ps_types.specs.Forms.{form_tree}
 use Rattle.ps_types.specs.Items.{is_item_at, last_item}
 use Rattle.ps_types.specs.Namespaces.{event_ns, headers_ns}
@@ -27,7 +28,7 @@ use Rattle.ps_model.specs.Book.{Book}
 use Rattle.ps_model.specs.Due.{About, about_new, about_node, always, delivered, delivers, items_inside, may_pass, may_read, node_message, node_notice, one_way, told_about}
 use Rattle.ps_model.specs.Given.{given, to_one}
 use Rattle.ps_model.specs.Last.{is_leaf, last_notice, sends_last}
-use Rattle.ps_model.specs.NoticeTrees.{approval_form, associate_tree, delay_nodes, event_nodes, header_nodes, headers, item_nodes, items_tree, kind_attr, message, named_tree, one, only, payload_nodes, question, retract_tree, told_tree, with_id}
+use Rattle.ps_model.specs.NoticeTrees.{approval_form, associate_tree, delay_nodes, event_nodes, header_nodes, headers, item_nodes, items_tree, kind_attr, message, named_tree, notice_id, one, only, payload_nodes, question, retract_tree, told_tree, with_id}
 use Rattle.ps_model.specs.Stanza.{host_jid}
 use Rattle.ps_model.specs.Stamp.{stamp}
 use Rattle.ps_model.specs.Ways.{Way, NoWay, OwnRow, Through, is_interested}
@@ -64,18 +65,25 @@ few s k e = leb-true (length s) k e
 
 pub message-brief : (from to : Jid) (kind : NoticeKind) (kids : Nodes) → IsAddress from → IsAddress to → WeighIn 200000 client kids → IsBrief (message from to (kind_attr kind) kids)
 message-brief from to Normal kids own address weigh = inl (λ n small.
-    let w = weigh-tree 20 37165 200000 (codes "message") client _ kids (omega arith)
-    (more-attrs 4 3071 18709 _ _ (few (codes "from") 4 refl) (jid-size from own)
-    (more-attrs 2 41 18445 _ _ (few (codes "id") 2 refl) (id-size n small)
-    (more-attrs 2 3071 1 _ _ (few (codes "to") 2 refl) (jid-size to address) no-attrs))) weigh in
+    let f = attr (codes "from") (jid_text from) in
+    let i = attr (codes "id") (notice_id n) in
+    let t = attr (codes "to") (jid_text to) in
+    let last = more-attrs 2 3071 1 t [] (few (codes "to") 2 refl) (jid-size to address) no-attrs in
+    let mid = more-attrs 2 41 18445 i (t ∷ []) (few (codes "id") 2 refl) (id-size n small) last in
+    let all = more-attrs 4 3071 18709 f (i ∷ t ∷ []) (few (codes "from") 4 refl) (jid-size from own) mid in
+    let w = weigh-tree 20 37165 200000 (codes "message") client (f ∷ i ∷ t ∷ []) kids (omega arith) all weigh in
     let most = w.most client in
     omega (arith, most))
 message-brief from to Headline kids own address weigh = inl (λ n small.
-    let w = weigh-tree 20 37243 200000 (codes "message") client _ kids (omega arith)
-    (more-attrs 4 3071 18787 _ _ (few (codes "from") 4 refl) (jid-size from own)
-    (more-attrs 2 41 18523 _ _ (few (codes "id") 2 refl) (id-size n small)
-    (more-attrs 2 3071 79 _ _ (few (codes "to") 2 refl) (jid-size to address)
-    (more-attrs 4 8 1 _ _ (few (codes "type") 4 refl) (few (codes "headline") 8 refl) no-attrs)))) weigh in
+    let f = attr (codes "from") (jid_text from) in
+    let i = attr (codes "id") (notice_id n) in
+    let t = attr (codes "to") (jid_text to) in
+    let k = attr (codes "type") (codes "headline") in
+    let kind = more-attrs 4 8 1 k [] (few (codes "type") 4 refl) (few (codes "headline") 8 refl) no-attrs in
+    let last = more-attrs 2 3071 79 t (k ∷ []) (few (codes "to") 2 refl) (jid-size to address) kind in
+    let mid = more-attrs 2 41 18523 i (t ∷ k ∷ []) (few (codes "id") 2 refl) (id-size n small) last in
+    let all = more-attrs 4 3071 18787 f (i ∷ t ∷ k ∷ []) (few (codes "from") 4 refl) (jid-size from own) mid in
+    let w = weigh-tree 20 37243 200000 (codes "message") client (f ∷ i ∷ t ∷ k ∷ []) kids (omega arith) all weigh in
     let most = w.most client in
     omega (arith, most))
 

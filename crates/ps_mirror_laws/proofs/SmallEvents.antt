@@ -1,10 +1,12 @@
 -- Kind by kind: what a request gives rise to has short ids and payloads of its own.
 use Rattle.std.proofs.Common.{◌≡◌, ℕ, ◌+◌, ◌<◌, ◌≤◌, ◌^◌, arith, Bool, true, false, cond, ◌&&◌, not, List, [], ◌∷◌, ◌++◌, length, map, filter, Option, Some, None, refl, sym, ap, subst}
-use Rattle.std.specs.Prelude.{find, is_some}
-use Rattle.std.specs.List.{AllByRecursion as Each}
+use Rattle.std.specs.Prelude.{is_some, nat_le}
+use Rattle.std.specs.List.{AllByRecursion as Each, list_all}
 use Rattle.std.specs.Str.{bytes_eq}
 use Rattle.std.proofs.lemmas.Bool.{and_parts}
 use Rattle.std.proofs.lemmas.Slice.Eq.{bytes_eq-Decides}
+use Rattle.ps_types.specs.declared.denial.Condition.{Condition}
+use Rattle.ps_types.specs.declared.denial.Condition.TheVariants.{C1, C4, C11, C12}
 use Rattle.ps_types.specs.declared.event.Event.TheVariants as event
 use Rattle.ps_types.specs.declared.jid.Jid.{Jid}
 use Rattle.ps_types.specs.declared.node.NodeKey.{NodeKey}
@@ -29,12 +31,14 @@ use Rattle.ps_model.specs.Book.{Book}
 use Rattle.ps_model.specs.ChangeOwner.{approved, sub_with}
 use Rattle.ps_model.specs.Check.{steps_of}
 use Rattle.ps_model.specs.CheckForms.{node_of}
-use Rattle.ps_model.specs.CheckPublish.{retract_steps, retracted_step}
+use Rattle.ps_model.specs.Access.{affiliation}
+use Rattle.ps_model.specs.CheckNode.{leaf_step, stands_step}
+use Rattle.ps_model.specs.CheckPublish.{has_length, may_retract, retract_steps, retracted_step}
 use Rattle.ps_model.specs.EventNodes.{associated, item_asked, made_events, retract_events}
 use Rattle.ps_model.specs.EventPresence.{is_newly_wanted, question_events, wanted_events}
 use Rattle.ps_model.specs.EventSubs.{is_same, last_event, owners, row_asked, rows_events, subscribe_events, told_events}
 use Rattle.ps_model.specs.Events.{events_by}
-use Rattle.ps_model.specs.Steps.{first_denial}
+use Rattle.ps_model.specs.Steps.{first_denial, unless}
 use Rattle.ps_book_laws.proofs.KeyedKinds.{step-parts, unless-holds}
 use Rattle.ps_book_laws.proofs.Keys.{each-both, each-cond}
 use Rattle.ps_compact_laws.proofs.Printable.{NodeIs}
@@ -48,17 +52,18 @@ made-small false node None = tt
 made-small false node (Some collection) = (tt, tt)
 
 -- an item that is there has a short id
+held-at : (node : NodeKey) (id : List ℕ) (x : ItemRow) (rows : List ItemRow) (b : Bool) → is_item_of node id x ≡ b → IsSmall x → (is_some (item_at node id rows) ≡ true → length id ≤ 3200)
+    → is_some (cond b (Some x) (item_at node id rows)) ≡ true → length id ≤ 3200
+held-at node id x rows true e is more there =
+    let same : id ≡ x.id = (bytes_eq-Decides id x.id).0 (and_parts (same_node node x.node) (bytes_eq id x.id) e).1 in
+    let long : length id ≡ length x.id = ap length same in
+    let own = is.id in
+    omega (arith, long, own)
+held-at node id x rows false e is more there = more there
+
 held-small : (node : NodeKey) (id : List ℕ) (rows : List ItemRow) → Each IsSmall rows → is_some (item_at node id rows) ≡ true → length id ≤ 3200
 held-small node id [] is there = absurd (cc there)
-held-small node id (x ∷ rows) is there = at (is_item_of node id x) refl there
-  where
-    at : (b : Bool) → is_item_of node id x ≡ b → is_some (cond b (Some x) (item_at node id rows)) ≡ true → length id ≤ 3200
-    at true e h =
-        let same : id ≡ x.id = (bytes_eq-Decides id x.id).0 (and_parts (same_node node x.node) (bytes_eq id x.id) e).1 in
-        let long : length id ≡ length x.id = ap length same in
-        let own = is.0.id in
-        omega (arith, long, own)
-    at false e h = held-small node id rows is.1 h
+held-small node id (x ∷ rows) is there = held-at node id x rows (is_item_of node id x) refl is.0 (held-small node id rows is.1) there
 
 retract-small : (node : NodeKey) (ids : List (List ℕ)) (notify : Bool) (b : Book) → Each IsSmall b.items
     → ((id : List ℕ) (more : List (List ℕ)) → ids ≡ id ∷ more → is_some (item_at node id b.items) ≡ true) → Each IsSmallEvent (retract_events node ids notify b)
@@ -112,19 +117,25 @@ item-small k node who moment (item ∷ items) b own few is counts = row-small k 
 first-of : (x y : List ℕ) (xs ys : List (List ℕ)) → x ∷ xs ≡ y ∷ ys → x ≡ y
 first-of x y xs ys e = cc e
 
+sixth : (a b c d e f : Option Condition) → first_denial (a ∷ b ∷ c ∷ d ∷ e ∷ f ∷ []) ≡ None → f ≡ None
+sixth a b c d e f ok =
+    let p = step-parts a (b ∷ c ∷ d ∷ e ∷ f ∷ []) ok in
+    let q = step-parts b (c ∷ d ∷ e ∷ f ∷ []) p.1 in
+    let r = step-parts c (d ∷ e ∷ f ∷ []) q.1 in
+    let s = step-parts d (e ∷ f ∷ []) r.1 in
+    let t = step-parts e (f ∷ []) s.1 in
+    (step-parts f [] t.1).0
+
 -- the item that a retract names is there
 retract-there : (b : Book) (r : Request) (node : List ℕ) (ids : List (List ℕ)) → first_denial (retract_steps b r node ids) ≡ None → (id : List ℕ) (more : List (List ℕ)) → ids ≡ id ∷ more
     → is_some (item_at (node_of r node) id b.items) ≡ true
 retract-there b r node [] ok id more e = absurd (cc e)
 retract-there b r node (x ∷ ids) ok id more e =
-    let p = step-parts _ _ ok in
-    let q = step-parts _ _ p.1 in
-    let s = step-parts _ _ q.1 in
-    let t = step-parts _ _ s.1 in
-    let u = step-parts _ _ t.1 in
-    let v = step-parts (retracted_step b r node (x ∷ ids)) [] u.1 in
+    let last =
+        sixth (stands_step b r node) (leaf_step b r node) (unless (may_retract (affiliation b (node_of r node) r.from)) C11) (unless (nat_le 1 (length (x ∷ ids)) && list_all has_length (x ∷ ids)) C4)
+        (unless (nat_le (length (x ∷ ids)) 1) C1) (retracted_step b r node (x ∷ ids)) ok in
     let same : x ≡ id = first-of x id ids more e in
-    subst (λ (i : List ℕ). is_some (item_at (node_of r node) i b.items) ≡ true) same (unless-holds (is_some (item_at (node_of r node) x b.items)) _ v.0)
+    subst (λ (i : List ℕ). is_some (item_at (node_of r node) i b.items) ≡ true) same (unless-holds (is_some (item_at (node_of r node) x b.items)) C12 last)
 
 module _ (k : ℕ) (few : k + 1 < 2 ^ 127) (r : Request) (moment : Option ℕ) (from : IsAddress r.from) where
   pub events-small : (a : Ask) (before after : Book) → first_denial (steps_of a before r) ≡ None → Each NodeIs before.nodes → IsSmallBook k before

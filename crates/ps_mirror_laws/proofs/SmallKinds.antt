@@ -1,6 +1,6 @@
 -- Kind by kind: a request leaves items whose ids and payloads are short, and counts of made ids that rise by one at most.
 use Rattle.std.proofs.Common.{◌≡◌, ℕ, ◌+◌, ◌<◌, ◌≤◌, ◌^◌, arith, Bool, true, false, cond, ◌&&◌, ◌||◌, not, List, [], ◌∷◌, ◌++◌, length, length-append, Option, Some, None, refl, sym, ap, subst}
-use Rattle.std.specs.Prelude.{Result, Ok, Err, codes, decimal, find, is_some, nat_le}
+use Rattle.std.specs.Prelude.{Result, Ok, Err, codes, decimal, find, is_some, nat_le, ◌==◌}
 use Rattle.std.specs.List.{AllByRecursion as Each, list_all}
 use Rattle.std.proofs.lemmas.Bool.{leb-true}
 use Rattle.std.proofs.lemmas.List.{append-nil}
@@ -141,28 +141,36 @@ small-payload config (p ∷ payloads) is ok =
     let most = is.most_bytes in
     let l : length (print p) ≤ 131072 = omega (arith, few, most) in l
 
+fourth-and-last : (a b c d e f g : Option Condition) (more : List (Option Condition)) → first_denial (a ∷ b ∷ c ∷ d ∷ e ∷ f ∷ g ∷ more) ≡ None → (d ≡ None) × (g ≡ None)
+fourth-and-last a b c d e f g more ok =
+    let p = step-parts a (b ∷ c ∷ d ∷ e ∷ f ∷ g ∷ more) ok in
+    let q = step-parts b (c ∷ d ∷ e ∷ f ∷ g ∷ more) p.1 in
+    let r = step-parts c (d ∷ e ∷ f ∷ g ∷ more) q.1 in
+    let s = step-parts d (e ∷ f ∷ g ∷ more) r.1 in
+    let t = step-parts e (f ∷ g ∷ more) s.1 in
+    let u = step-parts f (g ∷ more) t.1 in
+    let v = step-parts g more u.1 in
+    (s.0, v.0)
+
 items-small : (config : NodeConfig) (items : List AskItem) (more : List (Option Condition)) → IsConfig config → first_denial (item_steps config items ++ more) ≡ None → FirstSmall items
 items-small config [] more is ok = tt
 items-small config (item ∷ items) more is ok =
-    let a = step-parts _ _ ok in
-    let b = step-parts _ _ a.1 in
-    let c = step-parts _ _ b.1 in
-    let d = step-parts (unless (is_short item.id) C14) _ c.1 in
-    let e = step-parts (unless (nat_le (length item.payloads) 1) C6) _ d.1 in
-    let f = step-parts (unless (not config.deliver_payloads || nat_le 1 (length item.payloads)) C5) _ e.1 in
-    let g = step-parts (payload_step config item.payloads) more f.1 in
-    record { id = leb-true (length item.id) 512 (unless-holds (is_short item.id) C14 d.0); payload = small-payload config item.payloads is g.0 }
+    let p =
+        fourth-and-last (unless (nat_le (length (item ∷ items)) 1) C1) (unless (takes_item config || (length (item ∷ items) == 0)) C7)
+        (unless (not (takes_item config) || nat_le 1 (length (item ∷ items))) C4) (unless (is_short item.id) C14) (unless (nat_le (length item.payloads) 1) C6)
+        (unless (not config.deliver_payloads || nat_le 1 (length item.payloads)) C5) (payload_step config item.payloads) more ok in
+    record { id = leb-true (length item.id) 512 (unless-holds (is_short item.id) C14 p.0); payload = small-payload config item.payloads is p.1 }
 
 new-small : (given : Result NodeConfig Condition) (b : Book) (r : Request) (items : List AskItem) → Gives IsConfig given → first_denial (publish_new_steps b r items given) ≡ None → FirstSmall items
-new-small (Err why) b r items is ok = absurd (let no = (step-parts (Some why) _ ok).0 in cc no)
-new-small (Ok config) b r items is ok = items-small config items (node_limit_step b r ∷ []) (is.config config refl) (step-parts (made_step (Ok config) b r) _ ok).1
+new-small (Err why) b r items is ok = absurd (let no = (step-parts (Some why) (node_limit_step b r ∷ []) ok).0 in cc no)
+new-small (Ok config) b r items is ok = items-small config items (node_limit_step b r ∷ []) (is.config config refl) (step-parts (made_step (Ok config) b r) (item_steps config items ++ node_limit_step b r ∷ []) ok).1
 
 pub publish-small : (o : Option NodeRow) (b : Book) (r : Request) (node : List ℕ) (items : List AskItem) (options : Option Tree) → FoundNode o
     → first_denial (publish_by o b r node items options) ≡ None → FirstSmall items
 publish-small (Some row) b r node items options found ok =
-    let x = step-parts (leaf_by (Some row)) _ ok in
-    let y = step-parts (denied_by (publish b (node_of r node) r.from)) _ x.1 in
-    let z = step-parts (options_step options row.config) _ y.1 in
+    let x = step-parts (leaf_by (Some row)) (denied_by (publish b (node_of r node) r.from) ∷ options_step options row.config ∷ item_steps row.config items) ok in
+    let y = step-parts (denied_by (publish b (node_of r node) r.from)) (options_step options row.config ∷ item_steps row.config items) x.1 in
+    let z = step-parts (options_step options row.config) (item_steps row.config items) y.1 in
     items-small row.config items [] (found.found row refl).config (subst (λ (ds : List (Option Condition)). first_denial ds ≡ None) (sym (append-nil (item_steps row.config items))) z.1)
 publish-small None b r node items options found ok = own (is_own_account r.target r.from) ok
   where
