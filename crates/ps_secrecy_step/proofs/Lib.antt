@@ -1,2 +1,3 @@
 pub mod DeedLaws
 pub mod DueLaws
+pub mod RunLaws

@@ -36,6 +36,8 @@ module _ (tells : Type 0) (service : List ℕ) (st : Status) (left left1 : ℕ �
   idle-left b n i = record {
     crash = λ told tidy E is c l. i.crash told tidy E is c (less b.moment c l);
     fronts = λ told tidy E is pending c l. i.fronts told tidy E is pending c (less b.moment c l);
+    still = i.still;
+    damaged = i.damaged;
     cause = i.cause;
   }
 
@@ -56,6 +58,7 @@ module _ (tells : Type 0) (service : List ℕ) (st : Status) (left left1 : ℕ �
       lawful = h.list.lawful;
       since = h.list.since;
       begins = h.list.begins;
+      made = h.list.made;
       enough = h.list.enough;
       are_entries = h.list.are_entries;
       lasts = h.list.lasts;

@@ -30,6 +30,7 @@ use std::thread::Threads;
 
 pub(crate) fn refused(why: WorldRefusal) -> Status
     ensures open { result ≡ Status.OpenFault → why ≡ WorldRefusal.Failed }
+    ensures failed { why ≡ WorldRefusal.Failed → result ≡ Status.OpenFault }
     ensures only { (result ≡ Status.OpenFault) ⊎ (result ≡ Status.Memory) }
 {
     match why {

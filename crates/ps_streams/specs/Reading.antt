@@ -1,10 +1,12 @@
 -- What a reader did.
-use Rattle.std.specs.Prelude.{◌≡◌, ◌≢◌, ◌⊎◌, ℕ, ◌<◌, ◌≤◌, ◌++◌, ◌∷◌, [], Bool, true, false, List, Option, Some, None, Result, Ok, Err, length, nat_lt, if◌then◌else◌}
+use Rattle.std.specs.Prelude.{◌≡◌, ◌≢◌, ◌⊎◌, ℕ, ◌<◌, ◌≤◌, ◌++◌, ◌∷◌, [], Contains, Bool, true, false, List, Option, Some, None, Result, Ok, Err, length, nat_lt, if◌then◌else◌}
 use Rattle.ps_types.specs.Lines.{lines_of}
 use Rattle.ps_types.specs.declared.entry.Arrival.{Arrival}
 use Rattle.ps_types.specs.declared.entry.Arrival.TheVariants.{Line, TooLong}
 use Rattle.ps_io.specs.Clock.{noted}
-use Rattle.ps_wire.specs.Reading.{IsWithoutLine}
+use Rattle.ps_wire.specs.Reading.{IsWithoutLine, held_of}
+use Rattle.ps_wire.specs.declared.lines.Lines.{Lines}
+use Rattle.ps_wire.specs.declared.streams.Source.{Ghosts as SourceGhosts}
 use Rattle.ps_model.specs.TheCore.{the_core}
 use Rattle.ps_model.specs.declared.steps.Step.{Step}
 use Rattle.ps_model.specs.declared.steps.Step.TheVariants.{Gone}
@@ -55,6 +57,10 @@ CameOf None left arrivals = Unit {0}
 CameOf (Some all) None arrivals = ⊥
 CameOf (Some all) (Some left) arrivals =
     (given : List (List ℕ)) × (lines_of all ≡ given ++ lines_of left) × AreLinesOf arrivals given
+
+-- a whole line is held, so that the next one is at hand
+abbrev pub HoldsLine : {S : Type 0} {g : SourceGhosts S} → Lines S g → Type 0
+HoldsLine lines = Contains (held_of lines) 10
 
 -- nothing is left of the bytes that there were
 abbrev pub IsEnd : Option (List ℕ) → Option (List ℕ) → Type 0

@@ -138,7 +138,7 @@ module _ (o : Origin) (log : List Deed) (lawful : IsLawful the_core o.list) (nam
           gone = λ says. (
               let g = r.gone says in
               has-gone the_core the-laws o.boot o.list h (i + i) log g.front g.rest quiet (own_seen (i + i) seen log kept ∙ g.is));
-          causes = record { read_later = r.later; read_fault = r.fault; long = r.long; early = r.early; write_later = w.later; write_fault = w.fault };
+          causes = record { read_later = r.later; read_fault = r.fault; long = r.long; early = r.early; spent = r.spent; write_later = w.later; write_fault = w.fault };
         },
         λ all finished. (
             let d = (w.done finished).done in

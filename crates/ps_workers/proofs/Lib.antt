@@ -3,6 +3,7 @@ pub mod Leaving
 pub mod Filling
 pub mod Heading
 pub mod Finishing
+pub mod Made
 pub mod Reasons
 pub mod Spelled
 pub mod Given

@@ -1,12 +1,14 @@
 -- What is told of a host's lines, and of what was written for it.
 use Rattle.std.specs.Prelude.{◌≡◌, ℕ, ◌+◌, ◌<◌, ◌≤◌, ◌++◌, ◌∷◌, [], true, false, List, Option, Some, None, length, take, slice_get}
+use Rattle.std.specs.List.{AllByRecursion}
 use Rattle.ps_types.specs.declared.jid.Jid.{Jid}
 use Rattle.ps_types.specs.declared.entry.Entry.{Entry}
-use Rattle.ps_types.specs.declared.entry.Entry.TheVariants.{Gone}
+use Rattle.ps_types.specs.declared.entry.Entry.TheVariants.{Boot, Change, Handed, Gone, Base}
 use Rattle.ps_types.specs.declared.entry.Notice.{Notice}
 use Rattle.ps_model.specs.Entries.{spelling}
 use Rattle.ps_model.specs.TheCore.{the_core}
 use Rattle.ps_trace.specs.Lines.{Came}
+use Rattle.ps_trace.specs.Own.{IsServed}
 use Rattle.ps_trace.specs.Words.{Note, Reply, Word, notes_in, replies_in}
 
 -- the entry that the line would have made passes the limit behind so many bytes
@@ -47,6 +49,18 @@ rests_on c = c.place + made_by c.entry
 pub record IsAcknowledged (firm : ℕ) (h : List ℕ) (lines : List Came) (words : List Word) : Type 0 where
   pub replies : (k : ℕ) (c : Came) → slice_get (take (length (replies_in words)) (replied lines)) k ≡ Some c → rests_on c ≤ firm
   pub notices : (a : Jid) (k : ℕ) (n : Notice) → a.host ≡ h → slice_get (notes_in a words) k ≡ Some n → n.place < firm
+
+-- What a line of one of these hosts made, the record of a notice to one of their addresses, or that the callers of one are gone. Neither a Boot nor a row of a
+-- compacted store is such an entry.
+abbrev pub IsMadeFor : List (List ℕ) → Entry → Type 0
+IsMadeFor hosts (Boot service) = ⊥
+IsMadeFor hosts (Change host line moment t) = IsServed hosts host
+IsMadeFor hosts (Handed to) = IsServed hosts to.host
+IsMadeFor hosts (Gone host) = IsServed hosts host
+IsMadeFor hosts (Base row) = ⊥
+
+abbrev pub AreMadeFor : List (List ℕ) → List Entry → Type 0
+AreMadeFor hosts es = AllByRecursion (IsMadeFor hosts) es
 
 -- the end of the host's callers stands behind these entries
 pub record HasGoneBehind (base E : List Entry) (h : List ℕ) : Type 0 where
