@@ -31,7 +31,7 @@ use Rattle.ps_streams.specs.Speaking.{IsFew, Written}
 use Rattle.ps_streams.specs.declared.read.ReadEnd.{ReadEnd}
 use Rattle.ps_streams.specs.declared.read.ReadEnd.TheVariants.{Ended, Long, ReadFault, Closed, Store as ReaderStore, Full as ReaderFull}
 use Rattle.ps_workers.specs.Sinks.{OfGained, ReadsBack, ReadsWhole}
-use Rattle.ps_workers.specs.Told.{AreFull, AreMadeFor, AreOurs, HasGoneBehind, IsAcknowledged}
+use Rattle.ps_workers.specs.Told.{AreFull, AreMadeFor, AreOurs, GoneIsLast, HasGoneBehind, IsAcknowledged}
 
 -- ---- a stream
 
@@ -105,6 +105,7 @@ module _ (o : Origin) (tells : Type 0) where
     pub one_line : AllByRecursion IsOneLine (whole ++ last)
     pub reads_back : tells → OfGained t.sink.bytes t.sink_now.bytes (ReadsBack (base_of o) w.entries h lines)
     pub gone : says_gone t.read ≡ true → HasGoneBehind (base_of o) w.entries h
+    pub gone_last : GoneIsLast h stand.since
     pub causes : HasCauses t
 
   -- nothing is left to say or to record for it, and all of it is read back

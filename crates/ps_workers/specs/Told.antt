@@ -1,5 +1,5 @@
 -- What is told of a host's lines, and of what was written for it.
-use Rattle.std.specs.Prelude.{◌≡◌, ℕ, ◌+◌, ◌<◌, ◌≤◌, ◌++◌, ◌∷◌, [], true, false, List, Option, Some, None, length, take, slice_get}
+use Rattle.std.specs.Prelude.{◌≡◌, ◌≢◌, ℕ, ◌+◌, ◌<◌, ◌≤◌, ◌++◌, ◌∷◌, [], true, false, List, Option, Some, None, length, take, slice_get}
 use Rattle.std.specs.List.{AllByRecursion}
 use Rattle.ps_types.specs.declared.jid.Jid.{Jid}
 use Rattle.ps_types.specs.declared.entry.Entry.{Entry}
@@ -61,6 +61,18 @@ IsMadeFor hosts (Base row) = ⊥
 
 abbrev pub AreMadeFor : List (List ℕ) → List Entry → Type 0
 AreMadeFor hosts es = AllByRecursion (IsMadeFor hosts) es
+
+-- the entry is neither of a line of the host nor the end of its callers
+abbrev pub IsNoneOf : List ℕ → Entry → Type 0
+IsNoneOf h (Boot service) = Unit {0}
+IsNoneOf h (Change host line moment t) = host ≢ h
+IsNoneOf h (Handed to) = Unit {0}
+IsNoneOf h (Gone host) = host ≢ h
+IsNoneOf h (Base row) = Unit {0}
+
+-- behind the end of the host's callers stands no Change of its lines, nor that end again
+abbrev pub GoneIsLast : List ℕ → List Entry → Type 0
+GoneIsLast h es = (front rest : List Entry) → es ≡ front ++ Gone h ∷ rest → AllByRecursion (IsNoneOf h) rest
 
 -- the end of the host's callers stands behind these entries
 pub record HasGoneBehind (base E : List Entry) (h : List ℕ) : Type 0 where
