@@ -1,6 +1,6 @@
 //! What the service means: definitions that every contract above cites, with laws that are proved of them.
 //!
-//! `docs/MODEL.md` walks through `specs/` in an order in which one can check them against the XEPs. The words that contracts
+//! `docs/model.md` walks through `specs/` in an order in which one can check them against the XEPs. The words that contracts
 //! above use most: `Book` and `State` (what the service holds), `taken` (what a line is), `check` (whether a request is accepted), `changed` (what it does
 //! to the Book), `commits` (whether it makes an entry), `reply_to` and `entry_of` (what a line comes to), `after` and `replay` (what entries leave),
 //! `notices` (who is told), and `world` (the machine of steps).
