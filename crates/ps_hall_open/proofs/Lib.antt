@@ -5,3 +5,4 @@ pub mod Replays
 pub mod Readies
 pub mod Openings
 pub mod Refusals
+mod OpenRead

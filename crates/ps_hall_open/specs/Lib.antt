@@ -5,3 +5,4 @@ pub mod Refused
 pub mod Fresh
 pub mod Opens
 pub mod Reads
+pub mod OpenRead

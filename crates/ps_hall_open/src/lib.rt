@@ -11,16 +11,24 @@
 //!
 //! [`read_store`] reads and replays likewise, and writes nothing: no header, no Boot. It answers what the entries leave, the service and the queues, and
 //! the entries (`specs/Reads.antt`, `IsKept`).
+//!
+//! [`open_read`] opens a store as [`open`] does, header and all, takes its entries, and adds none: it answers the entries and the disk
+//! (`specs/OpenRead.antt`). Whoever replays them begins with [`fresh_service`].
 #![tactic(auto)]
 
 mod beginning;
 mod opened;
 mod opening;
+mod read_only;
 mod reading;
 mod readying;
 mod replaying;
 mod restoring;
 
-pub use opened::{Kept, OpenRefusal, OpenWhy, Opened, ReadWhy, Rebuilt, StoreRead};
+pub use opened::{
+    Kept, OpenRefusal, OpenWhy, Opened, ReadOnly, ReadOnlyRefusal, ReadWhy, Rebuilt, StoreRead,
+};
 pub use opening::open;
+pub use read_only::open_read;
 pub use reading::read_store;
+pub use readying::fresh_service;

@@ -5,6 +5,7 @@ use ps_hall_state::{Service, State};
 use ps_hall_store::Store;
 use ps_journal::Placed;
 use ps_outbox::Outboxes;
+use ps_types::Entry;
 
 /// The state and the store, before the first step, and the entries that the store had, each with its offset.
 pub struct Opened<D: Disk> {
@@ -35,6 +36,18 @@ pub enum ReadWhy {
     /// The disk failed.
     Store,
     Memory,
+}
+
+/// The disk of a store that was opened to read it, and its entries.
+pub struct ReadOnly<D: Disk> {
+    pub disk: D,
+    pub entries: Vec<Entry>,
+}
+
+/// The disk of a store that was not opened to read it, and why.
+pub struct ReadOnlyRefusal<D: Disk> {
+    pub disk: D,
+    pub why: ReadWhy,
 }
 
 /// The disk of a store that was read, and what the store keeps, or why it was not read.

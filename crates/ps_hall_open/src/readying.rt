@@ -2,6 +2,7 @@
 ghost use Rattle.std.specs.Prelude.{◌≡◌, IfOk, None};
 ghost use Rattle.ps_hall_open.specs.Fresh.{AreFreshRows, IsFreshRow};
 ghost use Rattle.ps_hall_open.specs.Replayed.{IsFresh};
+ghost use Rattle.ps_model.specs.Book.{empty_state};
 ghost use Rattle.ps_types.specs.declared.entry.Entry.{Entry};
 
 use crate::opened::Rebuilt;
@@ -54,6 +55,13 @@ fn secret<R: RandomSource>(rt: &R) -> u64 {
         Ok(()) => u64::from_le_bytes(bytes),
         Err(_) => 0,
     }
+}
+
+/// A service before the first entry. The runtime gives the secret by which rows are found; no answer rests on it.
+pub fn fresh_service<R: RandomSource>(rt: &R, alloc: Global) -> Result<Service, Memory>
+    ensures empty { IfOk result (λ s. s.state ≡ empty_state) }
+{
+    Service::seeded(alloc, secret(rt))
 }
 
 /// What is there before the first entry.

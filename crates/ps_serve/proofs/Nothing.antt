@@ -2,7 +2,10 @@
 use Rattle.std.proofs.Common.{◌≡◌, inl, ℕ, List, Option, Some, None, refl}
 use Rattle.std.specs.Prelude.{IfSome, Err}
 use Rattle.ps_commands.specs.declared.command.Command.{Command}
-use Rattle.ps_commands.specs.declared.command.Command.TheVariants.{Serve, Rehearse, Compact, Mirror}
+use Rattle.ps_commands.specs.declared.command.Command.TheVariants.{Serve, Rehearse, Compact, Explain, Readers, Feed, Follow, Mirror}
+use Rattle.ps_audit_command.specs.Auditing.{store_touches}
+use Rattle.ps_follow_command.specs.Feeding.{feed_touches}
+use Rattle.ps_follow_command.specs.Following.{follow_touches}
 use Rattle.ps_mirror_command.specs.Mirroring.{mirror_touches}
 use Rattle.ps_status.specs.Outside.{Outside}
 use Rattle.ps_status.specs.declared.status.Status.TheVariants.{Memory}
@@ -24,6 +27,10 @@ did-nothing tells None o lefts = tt
 did-nothing tells (Some (Serve service store streams)) o lefts = tt
 did-nothing tells (Some (Rehearse seed count)) o lefts = refl
 did-nothing tells (Some (Compact store new)) o lefts = tt
+did-nothing tells (Some (Explain words)) o lefts = inl (Memory, refl, untouched-none o lefts)
+did-nothing tells (Some (Readers words)) o lefts = inl (Memory, refl, untouched-none o lefts)
+did-nothing tells (Some (Feed words)) o lefts = inl (untouched-none o lefts)
+did-nothing tells (Some (Follow words)) o lefts = inl (untouched-none o lefts)
 did-nothing tells (Some (Mirror words)) o lefts = inl (Memory, refl, untouched-none o lefts)
 
 all-left : (o : Outside) (lefts : List ℕ → ℕ → List ℕ → Type 0) → LeavesAll o o lefts lefts
@@ -44,4 +51,8 @@ left-all (Some (Compact store new)) o lefts = record {
   other_stores = λ n one two. refl;
   other_lefts = λ n one two. lefts-refl (lefts n);
 }
+left-all (Some (Explain words)) o lefts = but-none (store_touches words.store) o lefts
+left-all (Some (Readers words)) o lefts = but-none (store_touches words.store) o lefts
+left-all (Some (Feed words)) o lefts = but-none (feed_touches words) o lefts
+left-all (Some (Follow words)) o lefts = but-none (follow_touches words) o lefts
 left-all (Some (Mirror words)) o lefts = but-none (mirror_touches words) o lefts

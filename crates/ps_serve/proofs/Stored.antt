@@ -6,8 +6,11 @@ use Rattle.ps_io.specs.Held.{IsHeldStore, Same, SameBut, SameLeft, SameLefts, Sa
 use Rattle.ps_io.specs.declared.world.World.{Ghosts}
 use Rattle.ps_endpoints.proofs.Back.{returned}
 use Rattle.ps_commands.specs.declared.command.Command.{Command}
+use Rattle.ps_audit_command.specs.Auditing.{store_touches}
+use Rattle.ps_follow_command.specs.Feeding.{feed_touches}
+use Rattle.ps_follow_command.specs.Following.{follow_touches}
 use Rattle.ps_mirror_command.specs.Mirroring.{mirror_touches}
-use Rattle.ps_commands.specs.declared.command.Command.TheVariants.{Serve, Rehearse, Compact, Mirror}
+use Rattle.ps_commands.specs.declared.command.Command.TheVariants.{Serve, Rehearse, Compact, Explain, Readers, Feed, Follow, Mirror}
 use Rattle.ps_status.specs.Outside.{Outside, SameStreams, held_as, outside}
 use Rattle.ps_serve.specs.Runs.{Leaves, LeavesAll, RanOver, Runs, Served}
 use Rattle.ps_status.specs.declared.status.Status.{Status}
@@ -82,4 +85,8 @@ module _ (old new new1 : Outside) (lefts lefts_now lefts_told : List ℕ → ℕ
     other_stores = λ n one two. stores n ∙ others.other_stores n one two;
     other_lefts = λ n one two. lefts-trans (lefts n) (lefts_now n) (lefts_told n) (others.other_lefts n one two) (same_lefts n);
   }
+  leaves-told (Some (Explain words)) others = but-told old new new1 lefts lefts_now lefts_told after stores same_lefts (store_touches words.store) others
+  leaves-told (Some (Readers words)) others = but-told old new new1 lefts lefts_now lefts_told after stores same_lefts (store_touches words.store) others
+  leaves-told (Some (Feed words)) others = but-told old new new1 lefts lefts_now lefts_told after stores same_lefts (feed_touches words) others
+  leaves-told (Some (Follow words)) others = but-told old new new1 lefts lefts_now lefts_told after stores same_lefts (follow_touches words) others
   leaves-told (Some (Mirror words)) others = but-told old new new1 lefts lefts_now lefts_told after stores same_lefts (mirror_touches words) others

@@ -3,8 +3,11 @@ use Rattle.std.proofs.Common.{◌≡◌, ◌≢◌, ℕ, ◌≤◌, List, Option
 use Rattle.std.specs.Prelude.{IfSome, Result, Ok, Err}
 use Rattle.ps_io.specs.Held.{Same, SameLefts}
 use Rattle.ps_commands.specs.declared.command.Command.{Command}
-use Rattle.ps_commands.specs.declared.command.Command.TheVariants.{Serve, Rehearse, Compact, Mirror}
+use Rattle.ps_commands.specs.declared.command.Command.TheVariants.{Serve, Rehearse, Compact, Explain, Readers, Feed, Follow, Mirror}
 use Rattle.ps_rehearse.specs.declared.numbers.Numbers.{Numbers}
+use Rattle.ps_audit_command.proofs.Audits.{explains-told, lists-told}
+use Rattle.ps_follow_command.proofs.Fed.{feeds-told}
+use Rattle.ps_follow_command.proofs.Followed.{follows-told}
 use Rattle.ps_mirror_command.proofs.Mirrored.{mirrors-told}
 use Rattle.ps_io.specs.declared.world.World.{Ghosts}
 use Rattle.ps_status.specs.Outside.{Outside, SameStreams, outside}
@@ -48,6 +51,10 @@ module _ (tells : Type 0) (old new : Outside) (lefts lefts_now : List ℕ → �
   lines-serve-nothing (Some (Serve service store streams)) did = absurd did
   lines-serve-nothing (Some (Rehearse seed count)) did = refl
   lines-serve-nothing (Some (Compact store new_store)) did = absurd did
+  lines-serve-nothing (Some (Explain words)) did = refl
+  lines-serve-nothing (Some (Readers words)) did = refl
+  lines-serve-nothing (Some (Feed words)) did = refl
+  lines-serve-nothing (Some (Follow words)) did = refl
   lines-serve-nothing (Some (Mirror words)) did = refl
 
   pub lines-compact-nothing : (o : Option Command) → Did tells o old new lefts lefts_now (Ok lines) → compacted_by o ≡ None
@@ -55,6 +62,10 @@ module _ (tells : Type 0) (old new : Outside) (lefts lefts_now : List ℕ → �
   lines-compact-nothing (Some (Serve service store streams)) did = absurd did
   lines-compact-nothing (Some (Rehearse seed count)) did = refl
   lines-compact-nothing (Some (Compact store new_store)) did = absurd did
+  lines-compact-nothing (Some (Explain words)) did = refl
+  lines-compact-nothing (Some (Readers words)) did = refl
+  lines-compact-nothing (Some (Feed words)) did = refl
+  lines-compact-nothing (Some (Follow words)) did = refl
   lines-compact-nothing (Some (Mirror words)) did = refl
 
   pub lines-of-some : (o : Option Command) → Did tells o old new lefts lefts_now (Ok lines) → o ≡ None → ⊥
@@ -105,6 +116,12 @@ module _ (old new new1 : Outside) (lefts lefts_now lefts_told : List ℕ → ℕ
   did-told tells (Some (Serve service store streams)) r did = did
   did-told tells (Some (Rehearse seed count)) r did = did
   did-told tells (Some (Compact store new_store)) r did = did
+  did-told tells (Some (Explain words)) r did = explains-told old new new1 lefts lefts_now lefts_told after stores same_lefts tells words r did
+  did-told tells (Some (Readers words)) r did = lists-told old new new1 lefts lefts_now lefts_told after stores same_lefts tells words r did
+  did-told tells (Some (Feed words)) (Ok lines) did = did
+  did-told tells (Some (Feed words)) (Err status) did = feeds-told old new new1 lefts lefts_now lefts_told after stores same_lefts tells words status did
+  did-told tells (Some (Follow words)) (Ok lines) did = did
+  did-told tells (Some (Follow words)) (Err status) did = follows-told old new new1 lefts lefts_now lefts_told after stores same_lefts words status did
   did-told tells (Some (Mirror words)) r did = mirrors-told old new new1 lefts lefts_now lefts_told after stores same_lefts words r did
 
 pub none-some : {A : Type 0} (o : Option A) (P : A → Type 0) → o ≡ None → IfSome o P

@@ -6,12 +6,15 @@ use Rattle.ps_io.specs.declared.world.Kind.TheVariants.{Source, Sink, Clock, Sto
 use Rattle.ps_io.specs.declared.world.Opening.{Opening}
 use Rattle.ps_endpoints.specs.Ports.{SameOthers, port_openings}
 use Rattle.ps_commands.specs.declared.command.Command.{Command}
-use Rattle.ps_commands.specs.declared.command.Command.TheVariants.{Serve, Rehearse, Compact, Mirror}
+use Rattle.ps_commands.specs.declared.command.Command.TheVariants.{Serve, Rehearse, Compact, Explain, Readers, Feed, Follow, Mirror}
 use Rattle.ps_args.specs.declared.command.Stream.{Stream}
 use Rattle.ps_args.specs.Words.{hosts_of}
 use Rattle.ps_workers.specs.Headline.{Worked}
 use Rattle.ps_serve.specs.Headline.{Headline, Idle}
 use Rattle.ps_serve.specs.Compacting.{LeavesOtherStores, Pair}
+use Rattle.ps_audit_command.specs.Auditing.{store_openings, store_touches}
+use Rattle.ps_follow_command.specs.Feeding.{feed_openings, feed_touches}
+use Rattle.ps_follow_command.specs.Following.{follow_openings, follow_touches}
 use Rattle.ps_mirror_command.specs.Mirroring.{mirror_openings, mirror_touches}
 use Rattle.ps_status.specs.Leaving.{LeavesBut}
 use Rattle.ps_serve.specs.Worked.{IsWorkedIn}
@@ -39,6 +42,10 @@ openings_of (Some (Serve service store streams)) = record { kind = Store; name =
 openings_of (Some (Rehearse seed count)) = []
 openings_of (Some (Compact store new)) =
     record { kind = Store; name = store } ∷ record { kind = Store; name = new } ∷ []
+openings_of (Some (Explain words)) = store_openings words.store
+openings_of (Some (Readers words)) = store_openings words.store
+openings_of (Some (Feed words)) = feed_openings words
+openings_of (Some (Follow words)) = follow_openings words
 openings_of (Some (Mirror words)) = mirror_openings words
 
 -- ---- what comes of it
@@ -109,4 +116,8 @@ Leaves (Some (Serve service store streams)) old new lefts lefts_now =
 Leaves (Some (Rehearse seed count)) old new lefts lefts_now = LeavesAll old new lefts lefts_now
 Leaves (Some (Compact store new_store)) old new lefts lefts_now =
     LeavesOtherStores (record { store = store; new = new_store }) old new lefts lefts_now
+Leaves (Some (Explain words)) old new lefts lefts_now = LeavesBut (store_touches words.store) old new lefts lefts_now
+Leaves (Some (Readers words)) old new lefts lefts_now = LeavesBut (store_touches words.store) old new lefts lefts_now
+Leaves (Some (Feed words)) old new lefts lefts_now = LeavesBut (feed_touches words) old new lefts lefts_now
+Leaves (Some (Follow words)) old new lefts lefts_now = LeavesBut (follow_touches words) old new lefts lefts_now
 Leaves (Some (Mirror words)) old new lefts lefts_now = LeavesBut (mirror_touches words) old new lefts lefts_now

@@ -16,8 +16,10 @@ use crate::compacting::compact_stores;
 use crate::serving::serve;
 use crate::telling::tell_numbers;
 use ps_args::WordsRefusal;
+use ps_audit_command::{explain_store, list_readers};
 use ps_base::{Bytes, Listed, Memory};
 use ps_commands::{Command, read_command};
+use ps_follow_command::{feed_store, follow_feed};
 use ps_io::World;
 use ps_mirror_command::mirror_source;
 use ps_rehearse::{Numbers, rehearse};
@@ -93,6 +95,10 @@ fn run_command<R: RandomSource + Wait + Threads + Sync, W: World>(
         Command::Compact { store, new } => {
             Came::Ended(compact_stores(rt, alloc, &store, &new, world))
         }
+        Command::Explain(words) => came_of(explain_store(rt, alloc, &words, world)),
+        Command::Readers(words) => came_of(list_readers(rt, alloc, &words, world)),
+        Command::Feed(words) => Came::Ended(feed_store(rt, alloc, &words, world)),
+        Command::Follow(words) => Came::Ended(follow_feed(rt, alloc, &words, world)),
         Command::Mirror(words) => came_of(mirror_source(alloc, &words, world)),
     }
 }
@@ -142,7 +148,10 @@ fn run_words<R: RandomSource + Wait + Threads + Sync, W: World>(
 /// A rehearsal touches nothing of the world but its reports: the five lines of its numbers, which are those of a run of two streams in memory (`IsTold`,
 /// `Rehearsed` of ps_rehearse).
 ///
-/// A mirror reports the items that an address has of a node by the notices in a source (`Did`: `Mirrors` of ps_mirror_command).
+/// An audit reports which verdicts an address had on a node after each entry of a store, or who may read the node at its end; the store keeps its entries
+/// (`Did`: `Explains` and `Lists` of ps_audit_command). A feed writes the records of a store's entries to a sink (`Feeds` of ps_follow_command). A follower
+/// takes such records, and answers each line at the entries that it has taken (`FollowsIn` of ps_follow_command). A mirror reports the items that an
+/// address has of a node by the notices in a source (`Mirrors` of ps_mirror_command).
 ///
 /// Where a report of numbers or lines fails nothing is reported after it, and the answer is [`Status::StreamFault`].
 pub fn run<R: RandomSource + Wait + Threads + Sync, W: World>(

@@ -16,7 +16,7 @@ use std::test::Fail;
 use std::thread::Threads;
 
 const USAGE: &str =
-    "usage: pubsubd serve --service HOST --store PATH HOST IN OUT [HOST IN OUT].. | rehearse SEED COUNT | compact PATH NEW | mirror SERVICE NODE ADDRESS MAX IN\n2";
+    "usage: pubsubd serve --service HOST --store PATH HOST IN OUT [HOST IN OUT].. | rehearse SEED COUNT | compact PATH NEW | explain PATH ADDRESS SERVICE NODE | readers PATH SERVICE NODE | feed PATH FROM OUT | follow HOST FEED IN OUT | mirror SERVICE NODE ADDRESS MAX IN\n2";
 
 #[test]
 fn other_words_are_no_command(rt: HostRuntime) -> Result<(), Fail> {

@@ -17,7 +17,7 @@ code_of Occupied = 10
 code_of (FeedBad at) = 11
 
 abbrev pub usage_line : List ℕ
-usage_line = codes "usage: pubsubd serve --service HOST --store PATH HOST IN OUT [HOST IN OUT].. | rehearse SEED COUNT | compact PATH NEW | mirror SERVICE NODE ADDRESS MAX IN"
+usage_line = codes "usage: pubsubd serve --service HOST --store PATH HOST IN OUT [HOST IN OUT].. | rehearse SEED COUNT | compact PATH NEW | explain PATH ADDRESS SERVICE NODE | readers PATH SERVICE NODE | feed PATH FROM OUT | follow HOST FEED IN OUT | mirror SERVICE NODE ADDRESS MAX IN"
 
 -- the words of what is reported; where all was done, nothing is
 abbrev pub words_of : Status → List ℕ

@@ -33,7 +33,7 @@ pub enum Status {
 }
 
 /// A line that is reported; the longest is the one of usage.
-pub type Report = ArrayString<192>;
+pub type Report = ArrayString<320>;
 
 impl Status {
     /// The status by which the program ends.
@@ -58,13 +58,14 @@ impl Status {
     // The words of the report; the offset of a damage or of a record comes after them.
     fn words(&self) -> &'static str
         ensures words { result.now ≡ words_of self.now }
-        ensures short { length result.now ≤ 155 }
+        ensures short { length result.now ≤ 266 }
     {
         match self {
             Status::Done => "",
             Status::Usage => {
                 "usage: pubsubd serve --service HOST --store PATH HOST IN OUT [HOST IN OUT].. \
-                 | rehearse SEED COUNT | compact PATH NEW \
+                 | rehearse SEED COUNT | compact PATH NEW | explain PATH ADDRESS SERVICE NODE \
+                 | readers PATH SERVICE NODE | feed PATH FROM OUT | follow HOST FEED IN OUT \
                  | mirror SERVICE NODE ADDRESS MAX IN\n"
             }
             Status::OpenFault => "open fault\n",

@@ -4,7 +4,7 @@ use Rattle.std.proofs.lemmas.Result.{IfOk-weaker}
 use Rattle.ps_args.specs.Words.{command_of as first_of}
 use Rattle.ps_commands.specs.Well.{IsWell}
 use Rattle.ps_commands.specs.declared.command.Command.{Command}
-use Rattle.ps_commands.proofs.Well.{first-well, none-first, mirror-form, some-first}
+use Rattle.ps_commands.proofs.Well.{first-well, none-first, other-well, some-first}
 use Rattle.ps_commands.proofs.words.read_command.Goals as goal
 
 pub returns-in-Ok-clause-ok : goal.returns-in-Ok-clause-ok
@@ -19,7 +19,7 @@ returns-in-Err-Usage-clause-ok c =
     IfOk-weaker c.read_other.result _ _ (λ x e. none-first c.args.words.now none ∙ e) c.read_other.ensures.ok
 
 pub returns-in-Err-Usage-clause-well : goal.returns-in-Err-Usage-clause-well
-returns-in-Err-Usage-clause-well c = IfOk-weaker c.read_other.result _ _ (λ x e. mirror-form c.args.words.now x e) c.read_other.ensures.ok
+returns-in-Err-Usage-clause-well c = IfOk-weaker c.read_other.result _ _ (λ x e. other-well c.args.words.now x e) c.read_other.ensures.ok
 
 pub returns-in-Err-Usage-clause-usage : goal.returns-in-Err-Usage-clause-usage
 returns-in-Err-Usage-clause-usage c =

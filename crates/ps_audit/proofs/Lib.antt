@@ -1,0 +1,5 @@
+mod Decoded
+mod Going
+mod Walks
+mod Adding
+mod Rows

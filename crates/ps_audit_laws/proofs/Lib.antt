@@ -1,0 +1,7 @@
+mod Lists
+mod Texts
+pub mod Telling
+mod PlacedKinds
+mod Placed
+pub mod Reading
+mod Cases

@@ -1,0 +1,9 @@
+pub mod Heads
+pub mod Gets
+pub mod Ending
+pub mod Piecewise
+pub mod Streaming
+pub mod Having
+mod Catching
+pub mod Answering
+mod Cases
