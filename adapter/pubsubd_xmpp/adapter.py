@@ -27,8 +27,6 @@ from .trees import Elem
 # How long a server has to grant rights before events go out without them, and before what is missing is said.
 SETTLE = 3.0
 COMPLAIN = 8.0
-# How long after it came again a server has to tell who is there.
-TELL = 5.0
 
 
 class Adapter:
@@ -78,7 +76,7 @@ class Adapter:
         self._later(0.05, self._settle_early)
         self._later(SETTLE, self._settle)
         self._later(COMPLAIN, self._router.grants.complain)
-        self._later(TELL, self._router.sweep)
+        self._later(self._config.presence_seconds, self._router.sweep)
         if self._config.keep_presences:
             self._router.ask_whether_there()
 

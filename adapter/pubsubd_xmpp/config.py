@@ -50,6 +50,7 @@ class Config:
     stop_seconds: float = 45.0
     ping_seconds: float = 60.0
     roster_seconds: float = 10.0
+    presence_seconds: float = 5.0
     keep_presences: bool = False
     compact_at: When | None = None
     compact_ratio: int = 8
@@ -66,6 +67,7 @@ _SETTINGS = {
     ("server", "port"): "port",
     ("server", "ping_seconds"): "ping_seconds",
     ("server", "roster_seconds"): "roster_seconds",
+    ("server", "presence_seconds"): "presence_seconds",
     ("server", "keep_presences"): "keep_presences",
     ("service", "answer_seconds"): "answer_seconds",
     ("service", "stop_seconds"): "stop_seconds",

@@ -26,7 +26,8 @@ from servers import HOSTS, PASSWORD, SERVICE
 
 A, B = HOSTS
 NODE = "urn:pubsubd:test"
-SECONDS = 40
+# How long is waited for what has to come.
+SECONDS = 120
 
 
 class Wrong(AssertionError):
@@ -213,9 +214,9 @@ async def main(plant):
     world.bob.claim(NODE)
     for one in (world.ann, world.bob):
         await one.come()
-    await asyncio.sleep(1)
+    await asyncio.to_thread(plant.wait_present, 2)
     for check in CHECKS:
-        await asyncio.wait_for(check(world), 120)
+        await asyncio.wait_for(check(world), 3 * SECONDS)
         print(f"ok   aioxmpp, {plant.server.name}: {check.__name__.replace('_', ' ')}", flush=True)
     for one in (world.ann, world.bob):
         await one.go()

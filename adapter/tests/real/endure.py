@@ -11,7 +11,7 @@ import sys
 import time
 
 from plant import Plant
-from raw import Raw, event_item, register
+from raw import SECONDS, Raw, event_item, register
 from servers import HOSTS, PASSWORD, SERVICE
 
 from pubsubd_xmpp.names import PUBSUB
@@ -37,7 +37,7 @@ class Load:
         self.asked: dict[str, list[str]] = {"news": [], "urn:mine": []}
         self.heard: dict[str, list[str]] = {}
         self.denied = 0
-        self.patience = 40.0  # seconds; who asked an adapter that was killed isn't answered
+        self.patience = SECONDS  # seconds; who asked an adapter that was killed isn't answered
         self.numbers = 0
         self.names: set[tuple] = set()  # events by their ids
         self.may_repeat = False  # an adapter that is killed gives the notices of its last write again, with their ids
@@ -63,14 +63,13 @@ class Load:
         for client in (self.bob, self.cid):
             for node, to in (("news", SERVICE), ("urn:mine", self.ann.bare)):
                 await client.iq("set", f"<pubsub xmlns='{PUBSUB}'><subscribe node='{node}' jid='{client.bare}'/></pubsub>", to)
-            client.send("<presence/>")
-        self.ann.send("<presence/>")
-        await asyncio.sleep(0.5)
+            await client.come()
+        await self.ann.come()
         self.heard = {client.bare: [] for client in (self.bob, self.cid)}
 
     def hear(self, client, message):
         told = event_item(message)
-        if told is None or client.bare not in self.heard:
+        if told is None or told[1] == "first" or client.bare not in self.heard:
             return
         name = (client.bare, message.get("from"), message.get("id"), told)
         if self.may_repeat and name in self.names:
@@ -103,10 +102,24 @@ class Load:
         works = [work("news", SERVICE) for _ in range(width)] + [work("urn:mine", None) for _ in range(width)]
         await asyncio.gather(*works)
 
+    async def settle(self):
+        """Publishes one more item to each node, and waits until all heard of it: events come in order, so whatever comes of earlier ones has come too."""
+        until = time.monotonic() + SECONDS
+        for node, to in (("news", SERVICE), ("urn:mine", None)):
+            made = len(self.made[node])
+            while len(self.made[node]) == made:
+                if time.monotonic() > until:
+                    raise Wrong(f"nothing can be published to {node}")
+                await self.one(node, to)
+            last = node, self.made[node][-1]
+            while not all(last in heard for heard in self.heard.values()):
+                if time.monotonic() > until:
+                    raise Wrong(f"{last} isn't heard of by all: {[who for who, heard in self.heard.items() if last not in heard]}")
+                await asyncio.sleep(0.05)
+
     async def check(self, what):
         """The items that were acknowledged stand, and each of them that stands was heard of once, in the order in which they stand."""
-        await self.ann.iq("get", f"<pubsub xmlns='{PUBSUB}'><subscriptions/></pubsub>", SERVICE)
-        await asyncio.sleep(1)
+        await self.settle()
         for node, to in (("news", SERVICE), ("urn:mine", self.ann.bare)):
             stand = await self.ann.items(node, to)
             lost = set(self.made[node]) - set(stand)
@@ -151,22 +164,23 @@ async def kill_adapter(load, kills):
         load.plant.kill_adapter()
         await asyncio.to_thread(load.plant.start_adapter)
         await running
-    load.patience = 40.0
-    await asyncio.sleep(2)
+    load.patience = SECONDS
+    await load.settle()
     load.may_repeat = False
     if load.repeated > 16 * kills:
         raise Wrong(f"{load.repeated} notices came again after {kills} kills")
 
 
 async def compact(load):
-    until = time.monotonic() + 3
-    running = asyncio.create_task(load.run(lambda: time.monotonic() > until, width=2))
-    before = load.denied
-    for count in (1, 2):
-        await asyncio.sleep(0.8)
-        load.plant.tell(signal.SIGUSR2)
-        await asyncio.to_thread(load.plant.wait_said, "compacted bytes_before", count)
-    await running
+    async def compacting():
+        for count in (1, 2):
+            await asyncio.sleep(0.8)
+            load.plant.tell(signal.SIGUSR2)
+            await asyncio.to_thread(load.plant.wait_said, "compacted bytes_before", count)
+
+    before, done = load.denied, asyncio.create_task(compacting())
+    await load.run(done.done, width=2)
+    await done
     if load.denied != before:
         raise Wrong(f"{load.denied - before} requests were not answered by a result over a compaction")
 
@@ -180,11 +194,9 @@ async def restart_server(load):
     await asyncio.to_thread(load.plant.server.restart)
     for words, count in zip(wanted, told, strict=True):
         await asyncio.to_thread(load.plant.wait_said, words, count + len(HOSTS))
-    await asyncio.sleep(1)
     await load.connect()
     for client in (load.bob, load.cid, load.ann):
-        client.send("<presence/>")
-    await asyncio.sleep(1)
+        await client.come()
     until = time.monotonic() + 1
     await load.run(lambda: time.monotonic() > until, width=2)
 

@@ -2,9 +2,11 @@
 
 from __future__ import annotations
 
+import contextlib
 import os
 import pathlib
 import signal
+import sqlite3
 import subprocess
 import sys
 import tempfile
@@ -13,6 +15,8 @@ import time
 from servers import HOSTS, SECRET, SERVERS, SERVICE, die_with
 
 ADAPTER = pathlib.Path(__file__).resolve().parent.parent.parent
+# How long is waited for what has to come.
+SECONDS = 120
 
 
 class Plant:
@@ -25,9 +29,9 @@ class Plant:
         self.adapter: subprocess.Popen | None = None
         self.log = self.folder / "adapter.log"
         (self.folder / "secret").write_text(SECRET)
-        keep = "yes" if server == "ejabberd" else "no"
+        self.keeps = server == "ejabberd"
         (self.folder / "conf").write_text(
-            f"[server]\nport = {self.server.component_port}\nsecret_file = {self.folder}/secret\nkeep_presences = {keep}\n"
+            f"[server]\nport = {self.server.component_port}\nsecret_file = {self.folder}/secret\nkeep_presences = {'yes' if self.keeps else 'no'}\npresence_seconds = {SECONDS}\n"
             f"[service]\nhost = {SERVICE}\nhosts = {' '.join(HOSTS)}\nprogram = {program}\nstate = {self.folder}/state\nrun = {self.folder}/run\n{settings}"
         )
 
@@ -40,7 +44,7 @@ class Plant:
         if self.adapter is not None and self.adapter.poll() is None:
             self.adapter.terminate()
             try:
-                self.adapter.wait(30)
+                self.adapter.wait(SECONDS)
             except subprocess.TimeoutExpired:
                 self.kill_service()
                 self.adapter.kill()
@@ -66,12 +70,35 @@ class Plant:
         """What is said of a host once all of its namespaces are delegated."""
         return f"namespaces={self.server.namespaces}\n"
 
-    def wait_said(self, words: str, count: int, seconds: float = 60) -> None:
+    def wait_said(self, words: str, count: int, seconds: float = SECONDS) -> None:
         until = time.monotonic() + seconds
         while self.said().count(words) < count:
             if time.monotonic() > until or self.adapter.poll() is not None:
                 raise TimeoutError(f"'{words}' wasn't said {count} times:\n{self.said()[-3000:]}")
             time.sleep(0.05)
+
+    def wait_present(self, count: int) -> None:
+        """Waits until the adapter knows of so many resources that they are there."""
+        until, words = time.monotonic() + SECONDS, f" present={count} "
+        while True:
+            self.tell(signal.SIGUSR1)
+            time.sleep(0.1)
+            if words in "".join(line for line in self.said().splitlines()[-20:] if " status " in line):
+                return
+            if time.monotonic() > until:
+                raise TimeoutError(f"never {count} are present:\n{self.said()[-3000:]}")
+
+    def wait_kept(self, resource: str) -> None:
+        """Waits until that presence is on the disk, where presences are kept."""
+        until = time.monotonic() + SECONDS
+        while self.keeps and not self._is_kept(resource):
+            if time.monotonic() > until:
+                raise TimeoutError(f"the presence of {resource} isn't kept")
+            time.sleep(0.1)
+
+    def _is_kept(self, resource: str) -> bool:
+        with contextlib.closing(sqlite3.connect(self.folder / "state" / "adapter.sqlite", timeout=SECONDS)) as base:
+            return bool(base.execute("SELECT 1 FROM presence WHERE resource = ?", (resource,)).fetchall())
 
     def service_pid(self) -> int:
         return int(self.said().split("service started pid=")[-1].split()[0])

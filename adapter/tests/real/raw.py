@@ -15,7 +15,8 @@ from pubsubd_xmpp.trees import Elem
 from pubsubd_xmpp.xmltext import StreamParser
 
 STREAM = "<stream:stream xmlns='jabber:client' xmlns:stream='http://etherx.jabber.org/streams' version='1.0' to='{}'>"
-SECONDS = 60
+# How long is waited for what has to come.
+SECONDS = 120
 
 
 class Raw:
@@ -127,6 +128,11 @@ class Raw:
         if found is None:
             raise RuntimeError(str(reply))
         return [one.get("id") for one in found.children("item")]
+
+    async def come(self):
+        """Is there, once the server has taken the presence."""
+        self.send("<presence/>")
+        await self.iq("get", "<ping xmlns='urn:xmpp:ping'/>", self.host)
 
     def close(self):
         if self._reading is not None:

@@ -42,7 +42,7 @@ class Server:
     """What both have."""
 
     name = ""
-    start_seconds = 60
+    start_seconds = 120
     namespaces = 0  # how many of each host it delegates
 
     def __init__(self, folder: pathlib.Path):
@@ -75,7 +75,7 @@ class Server:
         if self.child.poll() is None:
             os.killpg(self.child.pid, signal.SIGTERM)
             try:
-                self.child.wait(10)
+                self.child.wait(60)
             except subprocess.TimeoutExpired:
                 pass
         try:
@@ -216,7 +216,7 @@ modules:
 class Ejabberd(Server):
     name = "ejabberd"
     namespaces = 2
-    start_seconds = 120
+    start_seconds = 240
     more = ""
 
     def write(self) -> None:

@@ -23,7 +23,8 @@ PUBSUB = "http://jabber.org/protocol/pubsub"
 EVENT = "{http://jabber.org/protocol/pubsub#event}"
 DATA = "{jabber:x:data}"
 PLUGINS = "xep_0004 xep_0030 xep_0060 xep_0084 xep_0107 xep_0115 xep_0163 xep_0172 xep_0199".split()
-SECONDS = 40
+# How long is waited for what has to come.
+SECONDS = 120
 
 
 class Wrong(AssertionError):
@@ -338,7 +339,7 @@ async def last_items(world):
 async def personal_events_outlive_the_adapter(world):
     """Nobody sends a presence again, and a contact hears of what is published afterwards."""
     ann, bob = world.ann, world.bob
-    await asyncio.sleep(2)  # what was gathered is written each second
+    await asyncio.to_thread(world.plant.wait_kept, bob.boundjid.full)
     world.plant.kill_adapter()
     await asyncio.to_thread(world.plant.start_adapter)
     bob.messages.clear()
@@ -404,9 +405,9 @@ async def main(plant):
     world.phone = await world.person(f"ann@{A}/phone", "urn:xmpp:bookmarks:1")
     world.bob = await world.person(f"bob@{B}/1", "http://jabber.org/protocol/mood", "urn:xmpp:avatar:metadata")
     world.eve = await world.person(f"eve@{B}/1", "http://jabber.org/protocol/mood")
-    await asyncio.sleep(1)
+    await asyncio.to_thread(plant.wait_present, 4)
     for check in CHECKS:
-        await asyncio.wait_for(check(world), 120)
+        await asyncio.wait_for(check(world), 3 * SECONDS)
         print(f"ok   slixmpp, {plant.server.name}: {check.__name__.replace('_', ' ')}", flush=True)
     for one in world.people:
         await one.go()

@@ -13,6 +13,8 @@ import time
 ADAPTER = pathlib.Path(__file__).resolve().parent.parent.parent
 REAL = ADAPTER / "tests" / "real"
 DEBIANS = "/usr/bin/python3"  # the one that has Debian's libraries
+# A step takes one to five minutes on a machine with nothing else to do. Each of its tests waits for what has to come, two minutes at most.
+SECONDS = 1800.0
 
 
 def step(name: str, words: list[str], seconds: float) -> bool:
@@ -39,22 +41,21 @@ def step(name: str, words: list[str], seconds: float) -> bool:
     return status == 0
 
 
-def units(seconds: float) -> bool:
+def units() -> bool:
     """The tests that need no server, two modules beside one another, since they wait most of their time."""
     names = {"test_parts": "the parts", "test_duties": "the duties of a router", "test_events": "what an operator meets"}
 
     def one(module: str) -> bool:
-        return step(names[module], [sys.executable, "-W", "ignore", "-m", "unittest", f"adapter.tests.unit.{module}"], seconds)
+        return step(names[module], [sys.executable, "-W", "ignore", "-m", "unittest", f"adapter.tests.unit.{module}"], SECONDS)
 
     with concurrent.futures.ThreadPoolExecutor(2) as pool:
         return all(list(pool.map(one, names)))
 
 
-def real(server: str, program: str, kills: int, scale: float = 1.0) -> bool:
+def real(server: str, program: str, kills: int) -> bool:
     """Both libraries, and the kills."""
-    programs = [("slix.py", 120, []), ("aiox.py", 90, []), ("endure.py", 150 + 8 * kills, [str(kills)])]
     passed = True
-    for script, seconds, more in programs:
+    for script, more in (("slix.py", []), ("aiox.py", []), ("endure.py", [str(kills)])):
         words = [DEBIANS, "-W", "ignore", str(REAL / script), server, program, *more]
-        passed = step(f"{script} with {server}", words, seconds * scale) and passed
+        passed = step(f"{script} with {server}", words, SECONDS) and passed
     return passed

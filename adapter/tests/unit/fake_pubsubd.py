@@ -2,6 +2,7 @@
 """A stand-in for the service: it opens its streams as pubsubd does, keeps a list of all that it was told, and does what the node of a request asks for.
 
 Beside the store it writes STORE.told: `start` at each start, then `HOST LINE` for each line. A file STORE.exit with a number makes a start end with that status.
+A request whose node is `held` is answered once there is a file `go` beside the store, and nothing is read meanwhile.
 """
 import json
 import os
@@ -127,8 +128,9 @@ class Service:
             asked = {"from": self.service, "id": f"n-{rest}", "to": a["from"], "type": "get"}
             self.write(fd, {"a": asked, "c": [{"a": {"node": "c#v"}, "n": "query", "ns": "http://jabber.org/protocol/disco#info"}], "n": "iq"})
             self.result(fd, a)
-        elif verb == "slow":
-            time.sleep(float(rest))
+        elif verb == "held":
+            while not os.path.exists(os.path.join(os.path.dirname(self.store), "go")):
+                time.sleep(0.02)
             self.result(fd, a)
         else:
             self.result(fd, a)

@@ -3,10 +3,12 @@
 from __future__ import annotations
 
 import asyncio
+import contextlib
 import hashlib
 import os
 import pathlib
 import signal
+import sqlite3
 import sys
 import tempfile
 import unittest
@@ -24,7 +26,8 @@ PUBSUB = "http://jabber.org/protocol/pubsub"
 HOST = "a.example"
 SERVICE = "pubsub.a.example"
 SECRET = "not a secret"
-SECONDS = 40
+# How long a test waits for what has to come: it goes on as soon as that is there.
+SECONDS = 120
 
 
 class FakeServer:
@@ -179,6 +182,7 @@ class AdapterCase(unittest.IsolatedAsyncioTestCase):
     """A test with a server, a service and an adapter of its own."""
 
     hosts = HOST
+    of_server = ""
     settings = ""
 
     async def asyncSetUp(self):
@@ -188,13 +192,14 @@ class AdapterCase(unittest.IsolatedAsyncioTestCase):
         self.server = FakeServer()
         await self.server.start()
         self.adapter = None
+        self.pings = 0
         self.log = self.root / "log"
         (self.root / "secret").write_text(SECRET)
         self.configure()
         self.server.on_connect = self.server.grant
 
     def configure(self, program=HERE / "fake_pubsubd.py"):
-        text = f"[server]\nport = {self.server.port}\nsecret_file = {self.root}/secret\n"
+        text = f"[server]\nport = {self.server.port}\nsecret_file = {self.root}/secret\n{self.of_server}"
         text += f"[service]\nhost = {SERVICE}\nhosts = {self.hosts}\nprogram = {program}\nstate = {self.root}/state\nrun = {self.root}/run\n"
         (self.root / "conf").write_text(text + self.settings)
         (self.root / "state").mkdir(exist_ok=True)
@@ -261,6 +266,38 @@ class AdapterCase(unittest.IsolatedAsyncioTestCase):
 
     async def until_told(self, words):
         return await self.server.until(lambda: next((line for line in self.told() if words in line), None), f"the line {words}")
+
+    async def until_status(self, words):
+        """Asks the adapter for its status until the line has those words."""
+
+        def asked():
+            self.adapter.send_signal(signal.SIGUSR1)
+            lines = [line for line in self.said().splitlines() if " status " in line]
+            return bool(lines) and words in lines[-1].split()
+
+        await self.server.until(asked, f"the status {words}")
+
+    async def until_kept(self, query, *rows):
+        """Waits until what the adapter keeps on the disk answers the query so."""
+
+        def asked():
+            try:
+                with contextlib.closing(sqlite3.connect(self.root / "state" / "adapter.sqlite", timeout=5)) as base:
+                    return base.execute(query).fetchall() == list(rows)
+            except sqlite3.Error:
+                return False
+
+        await self.server.until(asked, f"{query}: {rows}")
+
+    async def until_taken(self):
+        """Waits until the adapter has taken all that the server sent, and what it sent before that has come."""
+        self.pings += 1
+        self.server.send(f"<iq from='ann@{HOST}/ping' to='{SERVICE}' id='taken-{self.pings}' type='get'><ping xmlns='urn:xmpp:ping'/></iq>")
+        await self.server.reply(f"taken-{self.pings}")
+
+    def let_go(self):
+        """From now on the service answers what it held."""
+        (self.root / "state" / "go").write_text("")
 
 
 def condition(reply):

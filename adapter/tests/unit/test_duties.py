@@ -81,8 +81,9 @@ class Start(AdapterCase):
     async def test_rows_that_were_not_answered_are_told_again_first(self):
         self.server.rosters[ANN] = [contact(BOB, "from")]
         await self.start()
-        self.server.send(request("1", "slow 1.5") + presence(f"{ANN}/1"))
-        await asyncio.sleep(0.5)
+        self.server.send(request("1", "held") + presence(f"{ANN}/1"))
+        await self.until_told('"id":"1"')
+        await self.until_kept("SELECT contact, sure FROM roster", (BOB, 0))
         kill_service(self)
         self.assertEqual(condition(await self.server.reply("1")), ("internal-server-error", "wait"))
         await self.until_said("service started", 2)
@@ -144,24 +145,12 @@ class Serving(AdapterCase):
         self.assertIn('"id":"n-4"', line)
         self.assertIn('"type":"result"', line)
 
-    async def test_unavailable_is_told_behind_its_presence(self):
-        self.server.answers_rosters = False
-        await self.start()
-        self.server.send(presence(f"{ANN}/1") + presence(f"{BOB}/1") + presence(f"{BOB}/1", kind="unavailable"))
-        self.server.send(request("1"))
-        await asyncio.sleep(0.3)
-        self.server.answers_rosters = True
-        self.server.send(presence(f"cid@{HOST}/1"))
-        await self.until_told("cid@a.example/1")
-        self.assertNotIn("bob@a.example/1", "".join(self.told()))
-
     async def test_who_is_not_told_again_when_the_server_comes_back_is_gone(self):
         await self.start()
         self.server.send(presence(f"{ANN}/1") + presence(f"{BOB}/1"))
         await self.until_told("bob@a.example/1")
+        self.server.on_connect = lambda: (self.server.grant(), self.server.send(presence(f"{ANN}/1")))
         self.server.drop()
-        await self.server.until(lambda: self.server.is_up)
-        self.server.send(presence(f"{ANN}/1"))
         line = await self.until_told("unavailable")
         self.assertIn("bob@a.example/1", line)
         self.assertEqual(sum("unavailable" in line for line in self.told()), 1)
@@ -174,7 +163,9 @@ class End(AdapterCase):
 
     async def test_what_was_answered_is_read_and_half_a_line_is_none(self):
         await self.start()
-        self.server.send(request("1", "slow 0.2") + request("2") + request("3", "die") + request("4"))
+        self.server.send(request("1", "held") + request("2") + request("3", "die") + request("4"))
+        await self.until_taken()
+        self.let_go()
         self.assertEqual((await self.server.reply("1")).get("type"), "result")
         self.assertEqual((await self.server.reply("2")).get("type"), "result")
         self.assertEqual(condition(await self.server.reply("3")), ("internal-server-error", "wait"))
@@ -193,8 +184,9 @@ class End(AdapterCase):
 
     async def test_nothing_unread_comes_to_the_next_run(self):
         await self.start()
-        self.server.send(request("1", "slow 1") + request("2", "old") + request("3", "old"))
-        await asyncio.sleep(0.4)
+        self.server.send(request("1", "held") + request("2", "old") + request("3", "old"))
+        await self.until_told('"id":"1"')
+        await self.until_taken()
         kill_service(self)
         for name in ("1", "2", "3"):
             self.assertEqual(condition(await self.server.reply(name)), ("internal-server-error", "wait"))
@@ -232,9 +224,12 @@ class End(AdapterCase):
 
     async def test_the_adapter_stops_in_good_order(self):
         await self.start()
-        self.server.send(request("1", "slow 0.5"))
+        self.server.send(request("1", "held"))
         await self.until_told('"id":"1"')
-        self.assertEqual(await self.stop(), 0)
+        stopping = asyncio.create_task(self.stop())
+        await self.until_said("stopping")
+        self.let_go()
+        self.assertEqual(await stopping, 0)
         self.assertEqual((await self.server.reply("1")).get("type"), "result")
         self.assertTrue(self.server.ended)
         self.assertIn("service ended status=0", self.said())
@@ -330,8 +325,7 @@ class Personal(AdapterCase):
         self.server.answers_rosters = False
         await self.start()
         self.server.send("".join(delegated(f"d{at}", request(str(at), sender=f"{BOB}/1", to=ANN)) for at in range(20)))
-        await self.server.until(lambda: self.server.roster_questions == 1)
-        await asyncio.sleep(0.2)
+        await self.until_taken()
         self.assertEqual(self.server.roster_questions, 1)
 
     async def test_a_server_asks_for_the_features_of_accounts_and_is_told_those_of_the_service(self):
@@ -344,13 +338,23 @@ class Personal(AdapterCase):
         self.assertEqual(list(main.child("query").elements()), [])
 
 
-class SilentRosters(AdapterCase):
-    settings = "[server]\n"
+class LateRosters(AdapterCase):
+    of_server = "roster_seconds = 600\n"
 
-    def configure(self, *_):
-        super().configure()
-        text = (self.root / "conf").read_text().replace("[server]\n", "[server]\nroster_seconds = 1\n", 1)
-        (self.root / "conf").write_text(text.removesuffix("[server]\n"))
+    async def test_unavailable_is_told_behind_its_presence(self):
+        self.server.answers_rosters = False
+        await self.start()
+        self.server.send(presence(f"{ANN}/1") + presence(f"{BOB}/1") + presence(f"{BOB}/1", kind="unavailable"))
+        await self.until_taken()
+        self.assertEqual(self.server.roster_questions, 2)
+        self.server.answers_rosters = True
+        self.server.send(presence(f"cid@{HOST}/1"))
+        await self.until_told("cid@a.example/1")
+        self.assertNotIn("bob@a.example/1", "".join(self.told()))
+
+
+class SilentRosters(AdapterCase):
+    of_server = "roster_seconds = 1\n"
 
     async def test_a_request_is_not_judged_by_contacts_that_could_not_be_had(self):
         self.server.answers_rosters = False

@@ -38,10 +38,11 @@ class Server(AdapterCase):
 
     async def test_an_event_waits_for_the_server(self):
         await self.start()
-        self.server.send(request("1", "slow 0.7") + request("2", f"notice 1 {SERVICE}"))
+        self.server.send(request("1", "held") + request("2", f"notice 1 {SERVICE}"))
         await self.until_told('"id":"1"')
         self.server.drop()
-        await self.server.until(lambda: self.server.is_up)
+        await self.until_said("disconnected")
+        self.let_go()
         await self.server.message(id="n-1")
 
     async def test_a_wrong_secret_is_said(self):
@@ -72,10 +73,7 @@ class Killed(AdapterCase):
         await self.start()
         self.server.send(request("1", f"notice 1 {SERVICE}"))
         await self.server.message(id="n-1")
-        self.adapter.send_signal(signal.SIGSTOP)
         self.server.send(request("2", f"notice 2 {SERVICE}"))
-        await asyncio.sleep(0.2)
-        self.adapter.send_signal(signal.SIGCONT)
         await self.server.message(id="n-2")
         await self.kill()
         left = next((self.root / "run").glob("run-*"))
@@ -94,9 +92,10 @@ class Killed(AdapterCase):
 
     async def test_the_service_of_a_killed_adapter_ends_before_the_next_starts(self):
         await self.start()
-        self.server.send(request("1", "slow 1.5"))
+        self.server.send(request("1", "held"))
         await self.until_told('"id":"1"')
         await self.kill()
+        self.let_go()
         await self.start()
         self.server.send(request("2"))
         await self.server.reply("2")
@@ -115,7 +114,7 @@ class KilledEarly(AdapterCase):
         await self.start(wait=False)
         children = pathlib.Path(f"/proc/{self.adapter.pid}/task/{self.adapter.pid}/children")
         child = (await self.server.until(lambda: children.read_text().split()))[0]
-        await asyncio.sleep(0.3)
+        await self.server.until(lambda: pathlib.Path(f"/proc/{child}/cmdline").read_bytes() == b"sleep\x001000\0", "the program")
         self.adapter.kill()
         await self.adapter.wait()
         await self.server.until(lambda: not pathlib.Path(f"/proc/{child}/cmdline").exists() or not pathlib.Path(f"/proc/{child}/cmdline").read_bytes())
@@ -126,9 +125,11 @@ class Limits(AdapterCase):
 
     async def test_more_requests_than_may_be_open_are_refused_for_now(self):
         await self.start()
-        self.server.send(request("0", "slow 1") + "".join(request(str(at)) for at in range(1, 9)))
-        replies = [await self.server.reply(str(at)) for at in range(9)]
-        self.assertEqual([condition(one) for one in replies], [None] * 5 + [("resource-constraint", "wait")] * 4)
+        self.server.send(request("0", "held") + "".join(request(str(at)) for at in range(1, 9)))
+        refused = [await self.server.reply(str(at)) for at in range(5, 9)]
+        self.let_go()
+        served = [await self.server.reply(str(at)) for at in range(5)]
+        self.assertEqual([condition(one) for one in served + refused], [None] * 5 + [("resource-constraint", "wait")] * 4)
         self.server.send(request("9"))
         self.assertEqual((await self.server.reply("9")).get("type"), "result")
 
@@ -160,8 +161,11 @@ class Hosts(AdapterCase):
         self.server.on_connect = lambda: (self.server.grant(), self.server.grant(host="b.example"))
         self.server.rosters[ANN] = [contact("dot@b.example", "from")]
         await self.start()
-        self.server.send(request("1", "slow 0.5"))
+        self.server.send(request("1", "held"))
         self.server.send(delegated("d", request("2", sender="dot@b.example/1", to=ANN), host=HOST))
+        await self.until_kept("SELECT contact, sure FROM roster", ("dot@b.example", 0))
+        self.assertFalse([line for line in self.told() if '"id":"2"' in line])
+        self.let_go()
         await self.server.reply("d")
         lines = (self.root / "state" / "store.told").read_text().splitlines()
         row = next(at for at, line in enumerate(lines) if "jabber:iq:roster" in line)
@@ -172,10 +176,10 @@ class Hosts(AdapterCase):
         self.server.on_connect = lambda: (self.server.grant(), self.server.grant(host="b.example"))
         self.server.rosters[ANN] = [contact("dot@b.example", "from")]
         await self.start()
-        self.server.send(request("1", "slow 1"))
+        self.server.send(request("1", "held"))
         await self.until_told('"id":"1"')
         self.server.send(delegated("d", request("2", sender="dot@b.example/1", to=ANN), host=HOST))
-        await asyncio.sleep(0.4)
+        await self.until_kept("SELECT contact, sure FROM roster", ("dot@b.example", 0))
         kill_service(self)
         await self.server.reply("d")
         lines = (self.root / "state" / "store.told").read_text().split("start\n")[-1].splitlines()
@@ -237,11 +241,13 @@ class Compacting(AdapterCase):
 
     async def test_a_store_is_compacted_when_told_and_no_request_is_lost(self):
         await self.start()
-        self.server.send(request("1", "slow 0.5"))
+        self.server.send(request("1", "held"))
         await self.until_told('"id":"1"')
         self.adapter.send_signal(signal.SIGUSR2)
         await self.until_said("service is started anew why=compaction")
         self.server.send("".join(request(str(at)) for at in range(2, 30)))
+        await self.until_taken()
+        self.let_go()
         for at in range(1, 30):
             self.assertEqual((await self.server.reply(str(at))).get("type"), "result")
         self.assertIn("compacted bytes_before=108 bytes_now=18", self.said())
@@ -282,29 +288,48 @@ class Compacting(AdapterCase):
         self.assertEqual(self.store.read_bytes(), before)
 
 
+KEPT = "SELECT resource FROM presence ORDER BY resource"
+
+
 class Kept(AdapterCase):
-    def configure(self, *_):
-        super().configure()
-        text = (self.root / "conf").read_text()
-        (self.root / "conf").write_text(text.replace("[server]\n", "[server]\nkeep_presences = yes\n", 1))
+    of_server = "keep_presences = yes\npresence_seconds = 600\n"
 
     async def test_who_was_there_is_asked_where_the_server_does_not_tell(self):
         await self.start()
         self.server.send(presence(f"{ANN}/1", CAPS) + presence(f"{BOB}/1"))
-        await self.until_told("bob@a.example/1")
-        await asyncio.sleep(1.5)
+        await self.until_kept(KEPT, (f"{ANN}/1",), (f"{BOB}/1",))
         await self.kill()
         await self.start()
         await self.until_told("bob@a.example/1")
         self.assertIn('"ver":"AAAA"', "".join(self.told()))
-        asked = {one.get("to"): one for one in self.server.got if one.get("id").startswith("there-")}
-        self.assertEqual(set(asked), {f"{ANN}/1", f"{BOB}/1"})
+        await self.until_taken()
+        asked = [one.get("to") for one in self.server.got if one.get("id").startswith("there-")]
+        self.assertEqual(asked, [f"{ANN}/1", f"{BOB}/1"])
         self.server.send(f"<iq from='{ANN}/1' to='{SERVICE}' id='there-1' type='result'><query xmlns='http://jabber.org/protocol/disco#info'/></iq>")
         self.server.send(f"<iq from='{BOB}/1' to='{SERVICE}' id='there-1' type='error'><error type='cancel'/></iq>")
         gone = await self.until_told("unavailable")
         self.assertIn("bob@a.example/1", gone)
-        await asyncio.sleep(6)
+        self.server.send(request("1"))
+        await self.server.reply("1")
         self.assertEqual(sum("unavailable" in line for line in self.told()), 1)
+        await self.until_kept(KEPT, (f"{ANN}/1",))
+
+
+class KeptSilent(AdapterCase):
+    of_server = "keep_presences = yes\npresence_seconds = 1\n"
+
+    async def test_who_was_there_and_does_not_answer_is_gone(self):
+        await self.start()
+        self.server.send(presence(f"{ANN}/1") + presence(f"{BOB}/1"))
+        await self.until_kept(KEPT, (f"{ANN}/1",), (f"{BOB}/1",))
+        await self.kill()
+        await self.start()
+        await self.until_kept(KEPT)
+        self.server.send(request("1"))
+        await self.server.reply("1")
+        # Where the service began later than that, it is told of neither.
+        last = {line.split('"from":"')[1].split('"')[0]: "unavailable" in line for line in self.told() if '"n":"presence"' in line}
+        self.assertTrue(all(last.values()), last)
 
 
 class Signals(AdapterCase):

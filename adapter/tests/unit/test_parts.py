@@ -19,6 +19,7 @@ from pubsubd_xmpp.kept import Kept, Row, Told
 from pubsubd_xmpp.lines import NotALine, from_line, to_line
 from pubsubd_xmpp.names import canonical, host_of, is_full
 from pubsubd_xmpp.notices import Notices
+from pubsubd_xmpp.presences import Presences
 from pubsubd_xmpp.spool import PIECE, Spool
 from pubsubd_xmpp.trees import Elem
 from pubsubd_xmpp.xmltext import NotXmpp, StreamParser, to_xml
@@ -266,6 +267,20 @@ class KeptThings(InAFolder):
         kept.keep_presence("a@b/2", None)
         kept.close()
         self.assertEqual(self.open().presences(), [("a@b/1", "")])
+
+    def test_who_was_there_is_doubted_until_he_shows_himself(self):
+        kept = self.open()
+        for name in ("a@b/1", "a@b/2", "a@b/3"):
+            kept.keep_presence(name, "")
+        kept.close()
+        there = Presences("pubsub.b", self.open(), lambda _: None)
+        there.load()
+        self.assertEqual((there.stale(), len(there)), (["a@b/1", "a@b/2", "a@b/3"], 3))
+        there.sure("A@b/1")
+        there.take("a@b/2", parse("<presence/>")[0])
+        self.assertEqual(there.stale(), ["a@b/3"])
+        there.doubt()
+        self.assertEqual(there.stale(), ["a@b/1", "a@b/2", "a@b/3"])
 
 
 class Spools(InAFolder):
