@@ -8,6 +8,8 @@ a.example and b.example, and those that come. Over both streams the lines are wr
 answered; one whose id is no number is written behind the line above it. Replies are compared in their order, and of each address the notices; whether a
 notice comes before a reply or behind it is free. What examples/nodes.txt gives stands in README.md.
 
+Where `commands` stands there too, it has commands over the store that is left: behind `$ ` their words, in which STORE is the store, and in the lines behind them what they report.
+
 Where mirror.in stands there too, it is what bob was told over more than one run: the lines of b.out, some of them again. `mirror` must make mirror.out of it, and these are the items of the
 last reply in b.out.
 """
@@ -60,6 +62,25 @@ def compare(what, got, wanted):
         raise Wrong(f"{what}: notices that differ: {sorted(set(got) ^ set(wanted))}")
 
 
+def commands_in(path):
+    """The words of each command, and the lines that it reports."""
+    found = []
+    for line in path.read_text(encoding="utf-8").splitlines():
+        if line.startswith("$ "):
+            found.append((line[2:].split(), []))
+        else:
+            found[-1][1].append(line)
+    return found
+
+
+def run_commands(program, path, folder):
+    for words, wanted in commands_in(path):
+        told = [f"{folder}/store" if word == "STORE" else word for word in words]
+        ended = subprocess.run([program, *told], timeout=60, capture_output=True, text=True)
+        if (ended.returncode, ended.stdout.splitlines()) != (0, wanted):
+            raise Wrong(f"{' '.join(words)} ended with {ended.returncode}, and reported {ended.stdout!r}")
+
+
 def run(program, name, folder):
     here = TOP / "examples" / name
     hosts = [letter for letter in "ab" if (here / f"{letter}.in").is_file()]
@@ -77,6 +98,8 @@ def run(program, name, folder):
             raise Wrong(f"the program ended with {status}, and reported {report!r}")
         for at, stream in enumerate(service.streams):
             compare(stream.host, stream.lines(), wanted[at])
+    if (here / "commands").is_file():
+        run_commands(program, here / "commands", folder)
 
 
 def run_mirror(program, name):

@@ -1,7 +1,7 @@
 #!/usr/bin/env python3
 """Refuses each growth of the program's memory in turn, and looks at what it answered and at what its store holds.
 
-    memory.py PROGRAM [STEP [CASE..]]      STEP: each STEP-th number (1: all); CASE: of those below, or all
+    memory.py PROGRAM [MOST [CASE..]]      MOST: so many numbers of each case at most, evenly dealt (2,000); CASE: of those below, or all
 
 A case is a run over a store: the first one begins it, others go on where earlier runs ended. It is counted how often the run grows; then it is run once
 for each number, and the growth of that number is refused by refuse.c, which is loaded before the C library. So no number costs a build. Each run ends well, with all
@@ -16,6 +16,7 @@ import shutil
 import subprocess
 import sys
 import tempfile
+import time
 from concurrent.futures import ThreadPoolExecutor
 
 HERE = pathlib.Path(__file__).resolve().parent
@@ -26,6 +27,8 @@ from stanzas import SERVICE, asked, create, is_notice, item, publish, subscribe
 ANN, BOB = "ann@a.example/1", "bob@b.example/1"
 HOSTS = ("a.example", "b.example")
 MEMORY = 7
+# A run takes a fraction of a second; one that takes so many seconds hangs.
+SECONDS = 20
 # What a fault of a stream, of the store and of an opening has.
 FAULTS = (3, 4, 9)
 
@@ -117,7 +120,7 @@ class Room:
             environment.update(LD_PRELOAD=self.library, REFUSE=str(refused or 0))
             if count is not None:
                 environment["REFUSE_COUNT"] = str(count)
-        done = subprocess.run(words, env=environment, capture_output=True, timeout=120, check=False)
+        done = subprocess.run(words, env=environment, capture_output=True, timeout=SECONDS, check=False)
         came = {}
         for host, own in zip(HOSTS, lines):
             if own is not None:
@@ -152,7 +155,9 @@ class Case:
             status, self.came = room.run(self.lines, count=count)
             if status:
                 raise Wrong(f"{name}: the whole run ended with {status}")
-            self.growths = int(count.read_text())
+            self.growths = int(count.read_text()) if count.exists() else 0
+            if not self.growths:
+                raise Wrong(f"{name}: no growth was counted: an unproved build has a malloc of its own, so this wants a proved one")
             self.changes = changes_in(room.store.read_bytes())[len(changes_in(self.before)) :]
 
     def tried(self, number):
@@ -181,30 +186,55 @@ class Case:
             return status
 
 
+def compiled(folder):
+    """refuse.c as a library that can be loaded before the C library."""
+    library = f"{folder}/refuse.so"
+    compiler = shutil.which("cc") or shutil.which("clang") or "gcc"
+    subprocess.run([compiler, "-O2", "-shared", "-fPIC", "-o", library, str(HERE / "refuse.c"), "-ldl"], check=True)
+    return library
+
+
+def refused(case, most):
+    """What each number came to, over so many at most: a status, or what was wrong."""
+
+    def tried(number):
+        try:
+            return number, case.tried(number)
+        except Wrong as wrong:
+            return number, str(wrong)
+        except subprocess.TimeoutExpired:
+            return number, f"no end within {SECONDS} s"
+
+    with ThreadPoolExecutor(os.cpu_count()) as pool:
+        return list(pool.map(tried, range(1, case.growths + 1, -(-case.growths // most))))
+
+
+def told(case, came):
+    """How often each status came; and what was wrong, with its numbers. Returns how many were."""
+    counts = collections.Counter(what for _, what in came if isinstance(what, int))
+    wrong = collections.defaultdict(list)
+    for number, what in came:
+        if not isinstance(what, int):
+            wrong[what].append(number)
+    ends = ", ".join(f"{count} with {status}" for status, count in sorted(counts.items()))
+    print(f"{case.name}: {case.growths} growths, {len(came)} refused one by one: {ends}, {sum(map(len, wrong.values()))} wrong")
+    for what, numbers in wrong.items():
+        print(f"  {what}: {len(numbers)} growths, from {numbers[0]} to {numbers[-1]}", flush=True)
+    return sum(map(len, wrong.values()))
+
+
 def main(words):
-    program = str(pathlib.Path(words[0]).resolve())
-    step = int(words[1]) if len(words) > 1 else 1
-    failed = 0
+    program, most, failed = str(pathlib.Path(words[0]).resolve()), int(words[1]) if len(words) > 1 else 2000, 0
     with tempfile.TemporaryDirectory(prefix="pubsubd-refuse-") as folder:
-        library = f"{folder}/refuse.so"
-        compiler = shutil.which("cc") or shutil.which("clang") or "gcc"
-        subprocess.run([compiler, "-O2", "-shared", "-fPIC", "-o", library, str(HERE / "refuse.c"), "-ldl"], check=True)
+        library = compiled(folder)
         for name in words[2:] or CASES:
-            case = Case(name, program, library)
-            counts = collections.Counter()
-
-            def tried(number):
-                try:
-                    return case.tried(number)
-                except (Wrong, subprocess.TimeoutExpired) as wrong:
-                    print(f"{case.name}, growth {number}: {wrong}", flush=True)
-                    return "wrong"
-
-            with ThreadPoolExecutor(os.cpu_count()) as pool:
-                counts.update(pool.map(tried, range(1, case.growths + 1, step)))
-            failed += counts["wrong"]
-            told = ", ".join(f"{count} with {status}" for status, count in sorted(counts.items(), key=str))
-            print(f"{name}: {case.growths} growths, of which were refused one by one: {told}", flush=True)
+            began = time.monotonic()
+            try:
+                case = Case(name, program, library)
+            except Wrong as wrong:
+                sys.exit(str(wrong))
+            failed += told(case, refused(case, most))
+            print(f"  {time.monotonic() - began:.0f} s", flush=True)
     return 1 if failed else 0
 
 

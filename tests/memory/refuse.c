@@ -1,11 +1,14 @@
 /* Refuses one growth of a program's memory: the one whose number REFUSE names, counted from 1 over malloc, calloc, realloc, aligned_alloc and posix_memalign.
-   Where REFUSE_COUNT names a file, the number of all growths is written there at the end. Loaded before the C library by LD_PRELOAD. */
+   Where REFUSE_COUNT names a file, the number of all growths is written there at the end, which the program may come to by _exit. Loaded before the
+   C library by LD_PRELOAD. */
 #define _GNU_SOURCE
 #include <dlfcn.h>
 #include <errno.h>
 #include <stdatomic.h>
 #include <stdio.h>
 #include <stdlib.h>
+#include <sys/syscall.h>
+#include <unistd.h>
 
 static atomic_long count;
 static long refused;
@@ -38,7 +41,7 @@ __attribute__((constructor)) static void begin(void) {
     atomic_store(&count, 0);
 }
 
-__attribute__((destructor)) static void end(void) {
+static void tell(void) {
     char *path = getenv("REFUSE_COUNT");
     long all = atomic_load(&count);
     FILE *file = path ? fopen(path, "w") : NULL;
@@ -46,6 +49,15 @@ __attribute__((destructor)) static void end(void) {
         fprintf(file, "%ld\n", all);
         fclose(file);
     }
+}
+
+__attribute__((destructor)) static void end(void) {
+    tell();
+}
+
+void _exit(int status) {
+    tell();
+    for (;;) syscall(SYS_exit_group, status);
 }
 
 static int is_refused(void) {

@@ -29,6 +29,7 @@ def words(program, store, source, sink):
 ANN = "ann@a.example/1"
 # The sizes of the address space that are tried, how far they lie apart, and the load.
 SIZES, STEP, PUBLISHES, PAYLOAD = 20, 2 << 20, 400, 16_000
+MOST = 1 << 36
 MEMORY = 7
 PUBLISHED = re.compile(rb'"type":"result"}.*"a":{"id":"(i\d+)"}')
 
@@ -49,13 +50,22 @@ def within(size, *told):
 
 
 def least(program, folder):
-    """The least size, by steps, in which a run without lines ends well."""
+    """The least size, to a step, in which a run without lines ends well: doubled until one does, and halved into what lies between."""
     empty = folder / "empty"
     empty.write_bytes(b"")
-    for steps in range(1, 1024):
-        if within(steps * STEP, program, folder / "none", empty, folder / "out") == (0, b""):
-            return steps * STEP
-    raise Wrong("no size serves a run without lines")
+
+    def serves(steps):
+        return within(steps * STEP, program, folder / "none", empty, folder / "out") == (0, b"")
+
+    low, high = 0, 1
+    while not serves(high):
+        low, high = high, 2 * high
+        if high * STEP > MOST:
+            raise Wrong(f"not even {MOST} bytes serve a run without lines: an unproved build reserves far more, so this wants a proved one")
+    while high - low > 1:
+        middle = (low + high) // 2
+        low, high = (low, middle) if serves(middle) else (middle, high)
+    return high * STEP
 
 
 def short_of_memory(program, folder):
@@ -78,6 +88,7 @@ def short_of_memory(program, folder):
         if again != (0, b"") or not kept.issuperset(answered):
             raise Wrong(f"in {size} bytes: {len(set(answered) - kept)} answered items are lost, {again}")
         ended.append((status, len(answered)))
+        print(f"{size >> 20} MB: status {status}, {len(answered)} of {PUBLISHES} publishes answered, {len(kept)} kept", flush=True)
         store.unlink()
     if not any(status == MEMORY for status, _ in ended):
         raise Wrong(f"no size was too small: {ended}")

@@ -8,6 +8,7 @@ import sys
 
 USAGE = (
     "usage: pubsubd serve --service HOST --store PATH HOST IN OUT [HOST IN OUT].. | rehearse SEED COUNT | compact PATH NEW"
+    " | explain PATH ADDRESS SERVICE NODE | readers PATH SERVICE NODE | feed PATH FROM OUT | follow HOST FEED IN OUT"
     " | mirror SERVICE NODE ADDRESS MAX IN\n"
 )
 
