@@ -129,7 +129,7 @@ def run_nodes(program, folder):
 
 def main():
     program = pathlib.Path(sys.argv[1]).resolve()
-    names = sys.argv[2:] or ["nodes.txt"] + sorted(path.name for path in (TOP / "examples").iterdir() if path.is_dir())
+    names = sys.argv[2:] or ["nodes.txt"] + sorted(path.name for path in (TOP / "examples").iterdir() if (path / "a.in").is_file())
     status = 0
     for name in names:
         with tempfile.TemporaryDirectory(prefix="examples-") as folder:
