@@ -4,8 +4,12 @@
     try.py              those of TRIED, of the crates whose proof is too dear for `rt ci` to begin its edits with
     try.py NAME/EDIT..  these, of tests/edits or of the crates' must-fail; NAME/EDIT=PATH where several functions have the name
 
-It asks the toolchain's own `rt` to read, apply and check an edit. The check is of the function that each change stands in, so it says of the
-callers of that function nothing; what is refused is that function's own contract.
+It asks the toolchain's own `rt` to read, apply and check edits. The check is of the functions that the edits change, so it says of the
+callers of these nothing; what is refused is that function's own contract.
+
+A check reads all libraries below its crate, which for a crate of the hall takes most of its time. So edits of one crate are tried together, as far as none changes
+a function from which one may come to a function of another: what is refused of the one says then nothing of the other. Where such a check says anything
+but which of these functions are proved, each of its edits is tried alone.
 """
 
 import importlib.machinery
@@ -14,11 +18,13 @@ import os
 import re
 import shutil
 import sys
+import tempfile
+import time
 from concurrent.futures import ThreadPoolExecutor
 
 HERE = os.path.dirname(os.path.abspath(__file__))
 ROOT = os.path.dirname(os.path.dirname(HERE))
-LANES = 4
+LANES = int(os.environ.get("LANES", os.cpu_count() or 1))
 TRIED = [
     "ps_access/pending_reads",
     "ps_access/publishers_anyone",
@@ -86,27 +92,109 @@ def functions_of(folder, edit):
     return list(dict.fromkeys(found))
 
 
-def refusal(rt, crates, name):
-    """Returns whether the prover refuses an edit, and what there is to say of it."""
-    name, _, function = name.partition("=")
-    crate, edit = file_of(name)
-    if crate not in crates or not edit:
-        return False, "no such edit"
-    crate = crates[crate]
-    lacking = [it.name for it in crate.below() if not os.path.isdir(it.rlib)]
-    if lacking:
-        return False, f"{lacking[0]} isn't built: run rt ci first"
-    texts, why = rt.read_edit(edit, crate.folder)
-    if why:
-        return False, why
-    functions = [function] if function else functions_of(crate.folder, edit)
-    ran = rt.checked(crate, texts, ["--jobs", "1", *(word for it in functions for word in ("--only", it))], None)
-    lines = ran.stdout.split("\n")
-    open_ones = [it for it in lines if re.match(r"fn \S+: (not proved|no proof)", it)]
+class Edit:
+    """An edit of a crate: its name, the texts that it makes, and the functions that it changes. Or why it can't be tried."""
+
+    def __init__(self, rt, crates, name):
+        self.name, _, function = name.partition("=")
+        crate, file = file_of(self.name)
+        self.crate, self.said, self.is_refused = crates.get(crate), None, False
+        if self.crate is None or not file:
+            self.said = "no such edit"
+            return
+        lacking = [it.name for it in self.crate.below() if not os.path.isdir(it.rlib)]
+        if lacking:
+            self.said = f"{lacking[0]} isn't built: run rt ci first"
+            return
+        with open(file, encoding="utf-8") as text:
+            self.text = text.read()
+        self.functions = [function] if function else functions_of(self.crate.folder, file)
+        _, self.said = rt.edited(self.text, self.crate.folder)
+
+    def plain(self):
+        """The names of the functions, without what they stand in."""
+        return {it.rpartition("::")[2] for it in self.functions}
+
+
+def calls_in(folder):
+    """Returns for each name of a function of a crate the names of those of its functions that those of that name may call."""
+    bodies = {}
+    for root, _, files in os.walk(f"{folder}/src"):
+        for file in files:
+            with open(f"{root}/{file}", encoding="utf-8") as text:
+                parts = re.split(r"(?m)^\s*(?:pub(?:\([a-z]+\))?\s+)?fn\s+(\w+)", text.read())
+            for name, body in zip(parts[1::2], parts[2::2]):
+                bodies[name] = bodies.get(name, "") + body
+    return {name: {it for it in re.findall(r"\b(\w+)\b", body) if it in bodies} for name, body in bodies.items()}
+
+
+def reached(calls, names):
+    """Returns the names that these lead to."""
+    found, more = set(), set(names)
+    while more:
+        more = {it for name in more for it in calls.get(name, ())} - found
+        found |= more
+    return found
+
+
+def groups_of(edits):
+    """Returns the edits of one crate in groups: no edit of a group leads to what another one of it changes, and no two change one file's text in one place."""
+    calls = calls_in(edits[0].crate.folder)
+    groups = []
+    for edit in edits:
+        led = reached(calls, edit.plain()) | edit.plain()
+        for group in groups:
+            if all(not led & other.plain() and not (reached(calls, other.plain()) & edit.plain()) for other in group):
+                group.append(edit)
+                break
+        else:
+            groups.append([edit])
+    return groups
+
+
+def texts_of(rt, group):
+    """Returns the texts that all edits of a group make, one applied after the other, or none where they don't fit together."""
+    return rt.edited("\n".join(it.text for it in group), group[0].crate.folder)[0]
+
+
+def is_open(lines, function):
+    """Whether the prover said of the function that it isn't proved: True, False, or None where it said nothing of it."""
+    said = [it for it in lines if re.match(rf"fn (\S+::)?{re.escape(function)}: ", it)]
+    if not said:
+        return None
+    return any(re.search(r": (not proved|no proof)", it) for it in said)
+
+
+def tries(rt, group, kept):
+    """Tries the edits of a group by one check, and each alone where that tells too little."""
+    texts = texts_of(rt, group)
+    lines, status = [], None
+    if texts is not None:
+        functions = [it for edit in group for it in edit.functions]
+        flags = ["--jobs", "1", *(word for it in functions for word in ("--only", it))]
+        ran = rt.checked(group[0].crate, texts, flags, kept)
+        lines, status = ran.stdout.split("\n"), ran.returncode
     strange = next((it for it in lines if "error[" in it), "")
-    if ran.returncode == 1 and open_ones and not strange:
-        return True, f"refused at {', '.join(functions)}"
-    return False, strange or f"NOT REFUSED at {', '.join(functions)}: {' '.join(lines[-3:])}"[:300]
+    found = {edit: [is_open(lines, it) for it in edit.functions] for edit in group}
+    tells = status in (0, 1) and not strange and all(it is not None for opens in found.values() for it in opens)
+    if not tells and len(group) > 1:
+        for edit in group:
+            tries(rt, [edit], kept)
+        return
+    for edit in group:
+        edit.is_refused = tells and any(found[edit])
+        at = ", ".join(edit.functions)
+        edit.said = f"refused at {at}" if edit.is_refused else strange or f"NOT REFUSED at {at}: {' '.join(lines[-3:])}"[:300]
+
+
+def try_crate(rt, edits):
+    """Tries the edits of one crate, over one another's work."""
+    began = time.monotonic()
+    groups = groups_of(edits)
+    with tempfile.TemporaryDirectory(prefix="edits-") as kept:
+        for group in groups:
+            tries(rt, group, kept)
+    print(f"{edits[0].crate.name}: {len(edits)} edits by {len(groups)} checks in {time.monotonic() - began:.0f} s", flush=True)
 
 
 def main(names):
@@ -116,14 +204,20 @@ def main(names):
     rt.Crate.allowed = rt.handles_of(ROOT)
     rt.rtlib.guarded()
     crates = {it.name: it for it in rt.rtlib.crates_below(ROOT)}
-    names = names or TRIED
+    edits = [Edit(rt, crates, it) for it in names or TRIED]
+    by_crate = {}
+    for edit in edits:
+        if not edit.said:
+            by_crate.setdefault(edit.crate.name, []).append(edit)
+    # Those with most below them take longest, and begin first.
+    order = sorted(by_crate.values(), key=lambda it: -len(it[0].crate.below()))
     with ThreadPoolExecutor(LANES) as pool:
-        tried = list(pool.map(lambda it: refusal(rt, crates, it), names))
-    for name, (_, said) in zip(names, tried):
-        print(f"{name}: {said}")
-    refused = sum(is_well for is_well, _ in tried)
-    print(f"{len(names)} edits, {refused} refused")
-    return 0 if names and refused == len(names) else 1
+        list(pool.map(lambda it: try_crate(rt, it), order))
+    for edit in edits:
+        print(f"{edit.name}: {edit.said}")
+    refused = sum(it.is_refused for it in edits)
+    print(f"{len(edits)} edits, {refused} refused")
+    return 0 if edits and refused == len(edits) else 1
 
 
 if __name__ == "__main__":

@@ -39,11 +39,11 @@ def main(program):
         if told != (report, status):
             wrong += 1
             print(f"rehearse {' '.join(words)}: {told}")
-    one, other = rehearse(program, ("7", "2000")), rehearse(program, ("7", "2000"))
+    one, other = rehearse(program, ("7", "20000")), rehearse(program, ("7", "20000"))
     told = numbers(one[0])
-    if one != other or one[1] != 0 or told["stanzas"] != 2000 or told["results"] + told["errors"] != 2000 or not told["notices"]:
+    if one != other or one[1] != 0 or told["stanzas"] != 20000 or told["results"] + told["errors"] != 20000 or not told["notices"]:
         wrong += 1
-        print(f"rehearse 7 2000: {one}, {other}")
+        print(f"rehearse 7 20000: {one}, {other}")
     print(f"rehearsals: {len(CASES) + 1 - wrong} passed, {wrong} failed")
     return 1 if wrong else 0
 

@@ -1,294 +1,78 @@
-// The two examples of XEP-0115 (§5.2 and §5.3), answers that are ill-formed, and a long one.
-ghost use Rattle.std.specs.Prelude.{◌≢◌, []};
-
+// Strings of capabilities: the two examples of XEP-0115 (§5.2 and §5.3), answers that are ill-formed, and long ones.
 use ps_caps::{VerRefusal, check, read_info, ver_of};
-use ps_names::element;
-use ps_types::{Attrs, Child, Info, Kids, Text};
+use ps_types::{Info, Text};
+use ps_wire::read_tree;
 use std::alloc::Global;
 use std::process::Abort;
 use std::test::Fail;
 
-const INFO: &str = "http://jabber.org/protocol/disco#info";
+// Answers, each behind a word and its string: it `agrees` with that, is `well`-formed and of another string, or `ill`-formed.
+const ANSWERS: &str =
+    r#"agrees QgayPKawpkPSDYmwT/WM94uAlu0= {"n":"query","ns":"http://jabber.org/protocol/disco#info","c":[{"n":"feature","a":{"var":"http://jabber.org/protocol/caps"}},{"n":"feature","a":{"var":"http://jabber.org/protocol/disco#items"}},{"n":"feature","a":{"var":"http://jabber.org/protocol/disco#info"}},{"n":"feature","a":{"var":"http://jabber.org/protocol/muc"}},{"n":"identity","a":{"category":"client","type":"pc","xml:lang":"","name":"Exodus 0.9.1"}}]}
+agrees q07IKJEyjvHSyhy//CH0CxmKi8w= {"n":"query","ns":"http://jabber.org/protocol/disco#info","c":[{"n":"identity","a":{"category":"client","type":"pc","xml:lang":"en","name":"Psi 0.11"}},{"n":"feature","a":{"var":"http://jabber.org/protocol/caps"}},{"n":"feature","a":{"var":"http://jabber.org/protocol/disco#info"}},{"n":"feature","a":{"var":"http://jabber.org/protocol/disco#items"}},{"n":"feature","a":{"var":"http://jabber.org/protocol/muc"}},{"n":"x","ns":"jabber:x:data","a":{"type":"result"},"c":[{"n":"field","a":{"type":"","var":"os"},"c":[{"n":"value","c":["Mac"]}]},{"n":"field","a":{"type":"hidden","var":"FORM_TYPE"},"c":[{"n":"value","c":["urn:xmpp:dataforms:softwareinfo"]}]},{"n":"field","a":{"type":"","var":"ip_version"},"c":[{"n":"value","c":["ipv6"]},{"n":"value","c":["ipv4"]}]},{"n":"field","a":{"type":"","var":"os_version"},"c":[{"n":"value","c":["10.5.1"]}]},{"n":"field","a":{"type":"","var":"software"},"c":[{"n":"value","c":["Psi"]}]},{"n":"field","a":{"type":"","var":"software_version"},"c":[{"n":"value","c":["0.11"]}]}]},{"n":"identity","a":{"category":"client","type":"pc","xml:lang":"el","name":"Ψ 0.11"}}]}
+ill - {"n":"query","ns":"http://jabber.org/protocol/disco#info","c":[{"n":"identity","a":{"category":"client","type":"pc","xml:lang":"en","name":"Psi"}},{"n":"identity","a":{"category":"client","type":"bot","xml:lang":"en","name":"Psi"}},{"n":"identity","a":{"category":"client","type":"pc","xml:lang":"en","name":"Psi"}}]}
+ill - {"n":"query","ns":"http://jabber.org/protocol/disco#info","c":[{"n":"feature","a":{"var":"http://jabber.org/protocol/muc"}},{"n":"feature","a":{"var":"http://jabber.org/protocol/caps"}},{"n":"feature","a":{"var":"http://jabber.org/protocol/muc"}}]}
+ill - {"n":"query","ns":"http://jabber.org/protocol/disco#info","c":[{"n":"x","ns":"jabber:x:data","a":{"type":"result"},"c":[{"n":"field","a":{"type":"hidden","var":"FORM_TYPE"},"c":[{"n":"value","c":["urn:xmpp:dataforms:softwareinfo"]}]}]},{"n":"x","ns":"jabber:x:data","a":{"type":"result"},"c":[{"n":"field","a":{"type":"hidden","var":"FORM_TYPE"},"c":[{"n":"value","c":["urn:a"]}]}]},{"n":"x","ns":"jabber:x:data","a":{"type":"result"},"c":[{"n":"field","a":{"type":"hidden","var":"FORM_TYPE"},"c":[{"n":"value","c":["urn:xmpp:dataforms:softwareinfo"]}]}]}]}
+ill - {"n":"query","ns":"http://jabber.org/protocol/disco#info","c":[{"n":"x","ns":"jabber:x:data","a":{"type":"result"},"c":[{"n":"field","a":{"type":"hidden","var":"FORM_TYPE"},"c":[{"n":"value","c":["urn:xmpp:dataforms:softwareinfo"]},{"n":"value","c":["urn:a"]}]}]}]}
+well - {"n":"query","ns":"http://jabber.org/protocol/disco#info","c":[{"n":"identity","a":{"category":"client","type":"pc","xml:lang":"en","name":"Psi"}},{"n":"identity","a":{"category":"client","type":"pc","xml:lang":"en","name":"Psi 2"}},{"n":"x","ns":"jabber:x:data","a":{"type":"result"},"c":[{"n":"field","a":{"type":"hidden","var":"FORM_TYPE"},"c":[{"n":"value","c":["urn:xmpp:dataforms:softwareinfo"]},{"n":"value","c":["urn:xmpp:dataforms:softwareinfo"]}]}]},{"n":"x","ns":"jabber:x:data","a":{"type":"result"},"c":[{"n":"field","a":{"type":"","var":"FORM_TYPE"},"c":[{"n":"value","c":["urn:xmpp:dataforms:softwareinfo"]},{"n":"value","c":["urn:a"]}]}]},{"n":"x","ns":"jabber:x:data","a":{"type":"result"},"c":[{"n":"field","a":{"type":"","var":"FORM_TYPE"},"c":[{"n":"value","c":["urn:xmpp:dataforms:softwareinfo"]}]}]},{"n":"x","ns":"jabber:x:data","a":{"type":"result"},"c":[{"n":"field","a":{"type":"hidden","var":"FORM_TYPE"},"c":[]}]}]}
+agrees 2jmj7l5rSw0yVb/vlWAYkK/YBwk= {"n":"query","ns":"http://jabber.org/protocol/disco#info"}"#;
 
-const DATA: &str = "jabber:x:data";
+const LONG: &str = "LuRdj3+NfnH64FgIQAUChB6mAz4=";
 
-const SOFTWARE: &str = "urn:xmpp:dataforms:softwareinfo";
-
-const CAPS: &str = "http://jabber.org/protocol/caps";
-
-const ITEMS: &str = "http://jabber.org/protocol/disco#items";
-
-const MUC: &str = "http://jabber.org/protocol/muc";
-
-fn put(alloc: Global, attrs: &mut Attrs, name: &str, value: &str) -> Result<(), Fail> {
-    let name = Text::of(alloc, name)?;
-    let value = Text::of(alloc, value)?;
-    attrs.put(name, value)?;
-    Ok(())
-}
-
-// A child of that name.
-fn add(
-    alloc: Global,
-    kids: &mut Kids,
-    name: &str,
-    ns: &str,
-    attrs: Attrs,
-    inner: Kids,
-) -> Result<(), Fail>
-    requires { name.now ≢ [] }
-{
-    let child = element(alloc, name, ns, attrs, inner)?;
-    kids.push(Child::Tree(child))?;
-    Ok(())
-}
-
-fn put_identity(
-    alloc: Global,
-    attrs: &mut Attrs,
-    kind: &str,
-    lang: &str,
-    name: &str,
-) -> Result<(), Fail> {
-    put(alloc, attrs, "category", "client")?;
-    put(alloc, attrs, "type", kind)?;
-    put(alloc, attrs, "xml:lang", lang)?;
-    put(alloc, attrs, "name", name)
-}
-
-fn add_identity(
-    alloc: Global,
-    kids: &mut Kids,
-    kind: &str,
-    lang: &str,
-    name: &str,
-) -> Result<(), Fail> {
-    let mut attrs = Attrs::new(alloc);
-    put_identity(alloc, &mut attrs, kind, lang, name)?;
-    add(alloc, kids, "identity", INFO, attrs, Kids::new(alloc))
-}
-
-fn add_feature(alloc: Global, kids: &mut Kids, var: &str) -> Result<(), Fail> {
-    let mut attrs = Attrs::new(alloc);
-    put(alloc, &mut attrs, "var", var)?;
-    add(alloc, kids, "feature", INFO, attrs, Kids::new(alloc))
-}
-
-fn add_features(alloc: Global, kids: &mut Kids, vars: &[&str]) -> Result<(), Fail> {
-    for var in vars {
-        add_feature(alloc, kids, var)?;
-    }
-    Ok(())
-}
-
-// A value, unless it is empty.
-fn add_value(alloc: Global, kids: &mut Kids, value: &str) -> Result<(), Fail> {
-    if value.is_empty() {
-        return Ok(());
-    }
-    let text = Text::of(alloc, value)?;
-    let mut words = Kids::new(alloc);
-    words.push(Child::Words(text))?;
-    add(alloc, kids, "value", DATA, Attrs::new(alloc), words)
-}
-
-fn values(alloc: Global, first: &str, second: &str) -> Result<Kids, Fail> {
-    let mut values = Kids::new(alloc);
-    add_value(alloc, &mut values, first)?;
-    add_value(alloc, &mut values, second)?;
-    Ok(values)
-}
-
-// A field of one value, or of two where the second isn't empty.
-fn add_field(
-    alloc: Global,
-    kids: &mut Kids,
-    kind: &str,
-    var: &str,
-    first: &str,
-    second: &str,
-) -> Result<(), Fail> {
-    let inner = values(alloc, first, second)?;
-    let mut attrs = Attrs::new(alloc);
-    put(alloc, &mut attrs, "type", kind)?;
-    put(alloc, &mut attrs, "var", var)?;
-    add(alloc, kids, "field", DATA, attrs, inner)
-}
-
-fn add_form(alloc: Global, kids: &mut Kids, fields: Kids) -> Result<(), Fail> {
-    let mut attrs = Attrs::new(alloc);
-    put(alloc, &mut attrs, "type", "result")?;
-    add(alloc, kids, "x", DATA, attrs, fields)
-}
-
-// A form of that type alone.
-fn add_typed(
-    alloc: Global,
-    kids: &mut Kids,
-    kind: &str,
-    first: &str,
-    second: &str,
-) -> Result<(), Fail> {
-    let mut fields = Kids::new(alloc);
-    add_field(alloc, &mut fields, kind, "FORM_TYPE", first, second)?;
-    add_form(alloc, kids, fields)
-}
-
-fn info(alloc: Global, kids: Kids) -> Result<Info, Fail> {
-    let query = element(alloc, "query", INFO, Attrs::new(alloc), kids)?;
-    Ok(read_info(alloc, &query)?)
-}
-
-fn checked(alloc: Global, info: &Info, ver: &str) -> Result<Result<bool, VerRefusal>, Fail> {
-    let ver = Text::of(alloc, ver)?;
-    Ok(check(alloc, info, &ver))
-}
-
-fn agrees(rt: &impl Abort, alloc: Global, info: &Info, ver: &str) -> Result<(), Fail> {
+// Whether what an answer comes to is of that word.
+fn is_such(alloc: Global, info: &Info, word: &str, ver: &str) -> Result<bool, Fail> {
+    let wanted = Text::of(alloc, ver)?;
+    let other = Text::of(alloc, "AAAA")?;
+    let (checked, besides) = (check(alloc, info, &wanted), check(alloc, info, &other));
     match ver_of(alloc, info) {
-        Ok(own) => assert!(rt; own.is(ver)),
-        Err(_) => assert!(rt; false),
+        Ok(own) => {
+            let agrees = own.is(ver);
+            let as_told = checked == Ok(agrees) && besides == Ok(false);
+            Ok(as_told && agrees == (word == "agrees") && word != "ill")
+        }
+        Err(VerRefusal::IllFormed) => {
+            let ill = Err(VerRefusal::IllFormed);
+            Ok(word == "ill" && checked == ill && besides == ill)
+        }
+        Err(VerRefusal::Memory) => Err(Fail::new("no memory")),
     }
-    assert_eq!(rt; checked(alloc, info, ver)?, Ok(true));
-    assert_eq!(rt;
-        checked(alloc, info, "QgayPKawpkPSDYmwT/WM94uAlu0")?,
-        Ok(false)
-    );
-    Ok(())
 }
 
-fn has_ver(rt: &impl Abort, alloc: Global, kids: Kids, ver: &str) -> Result<(), Fail> {
-    let info = info(alloc, kids)?;
-    agrees(rt, alloc, &info, ver)
+// Whether the answer of that line comes to that.
+fn comes_to(alloc: Global, line: &str, word: &str, ver: &str) -> Result<bool, Fail> {
+    let tree = read_tree(alloc, line.as_bytes())?;
+    let info = read_info(alloc, &tree)?;
+    is_such(alloc, &info, word, ver)
 }
 
-fn has_none(rt: &impl Abort, alloc: Global, info: &Info) -> Result<(), Fail> {
-    match ver_of(alloc, info) {
-        Ok(_) => assert!(rt; false),
-        Err(e) => assert_eq!(rt; e, VerRefusal::IllFormed),
+fn is_row(alloc: Global, row: &str) -> Result<bool, Fail> {
+    let (word, rest) = row.split_once(' ').ok_or("no word")?;
+    let (ver, line) = rest.split_once(' ').ok_or("no answer")?;
+    comes_to(alloc, line, word, ver)
+}
+
+// An answer of 255 features, the last of them first, and this one.
+fn long(alloc: Global, feature: &str) -> Result<String, Fail> {
+    let mut line = String::new(alloc);
+    line.push_str(r#"{"n":"query","ns":"http://jabber.org/protocol/disco#info","c":["#)?;
+    for at in 0..255u32 {
+        let number = 255 - at;
+        let one = format!(in alloc; r#"{{"n":"feature","a":{{"var":"urn:f:{number:03}"}}}},"#)?;
+        line.push_str(one.as_str())?;
     }
-    assert_eq!(rt; checked(alloc, info, "AAAA")?, Err(VerRefusal::IllFormed));
-    Ok(())
+    let last = format!(in alloc; r#"{{"n":"feature","a":{{"var":"{feature}"}}}}]}}"#)?;
+    line.push_str(last.as_str())?;
+    Ok(line)
 }
 
-fn is_ill_formed(rt: &impl Abort, alloc: Global, kids: Kids) -> Result<(), Fail> {
-    let info = info(alloc, kids)?;
-    has_none(rt, alloc, &info)
-}
-
-fn is_well_formed(rt: &impl Abort, alloc: Global, kids: Kids) -> Result<(), Fail> {
-    let info = info(alloc, kids)?;
-    assert_eq!(rt; checked(alloc, &info, "AAAA")?, Ok(false));
-    Ok(())
-}
-
-fn add_simple(alloc: Global, kids: &mut Kids) -> Result<(), Fail> {
-    add_features(alloc, kids, &[CAPS, ITEMS, INFO, MUC])?;
-    add_identity(alloc, kids, "pc", "", "Exodus 0.9.1")
-}
-
-#[test]
-fn the_simple_example(rt: HostRuntime) -> Result<(), Fail> {
-    let mut kids = Kids::new(rt.alloc());
-    add_simple(rt.alloc(), &mut kids)?;
-    has_ver(&rt, rt.alloc(), kids, "QgayPKawpkPSDYmwT/WM94uAlu0=")
-}
-
-fn add_fields(alloc: Global, fields: &mut Kids) -> Result<(), Fail> {
-    add_field(alloc, fields, "", "os", "Mac", "")?;
-    add_field(alloc, fields, "hidden", "FORM_TYPE", SOFTWARE, "")?;
-    add_field(alloc, fields, "", "ip_version", "ipv6", "ipv4")?;
-    add_field(alloc, fields, "", "os_version", "10.5.1", "")?;
-    add_field(alloc, fields, "", "software", "Psi", "")?;
-    add_field(alloc, fields, "", "software_version", "0.11", "")
-}
-
-fn add_software(alloc: Global, kids: &mut Kids) -> Result<(), Fail> {
-    let mut fields = Kids::new(alloc);
-    add_fields(alloc, &mut fields)?;
-    add_form(alloc, kids, fields)
-}
-
-fn add_complex(alloc: Global, kids: &mut Kids) -> Result<(), Fail> {
-    add_identity(alloc, kids, "pc", "en", "Psi 0.11")?;
-    add_features(alloc, kids, &[CAPS, INFO, ITEMS, MUC])?;
-    add_software(alloc, kids)?;
-    add_identity(alloc, kids, "pc", "el", "\u{3a8} 0.11")
-}
-
-#[test]
-fn the_complex_example(rt: HostRuntime) -> Result<(), Fail> {
-    let mut kids = Kids::new(rt.alloc());
-    add_complex(rt.alloc(), &mut kids)?;
-    has_ver(&rt, rt.alloc(), kids, "q07IKJEyjvHSyhy//CH0CxmKi8w=")
-}
-
-fn repeats_identity(alloc: Global, kids: &mut Kids) -> Result<(), Fail> {
-    add_identity(alloc, kids, "pc", "en", "Psi")?;
-    add_identity(alloc, kids, "bot", "en", "Psi")?;
-    add_identity(alloc, kids, "pc", "en", "Psi")
-}
-
-fn repeats_form(alloc: Global, kids: &mut Kids) -> Result<(), Fail> {
-    add_typed(alloc, kids, "hidden", SOFTWARE, "")?;
-    add_typed(alloc, kids, "hidden", "urn:a", "")?;
-    add_typed(alloc, kids, "hidden", SOFTWARE, "")
-}
-
-#[test]
-fn what_is_repeated_is_ill_formed(rt: HostRuntime) -> Result<(), Fail> {
-    let mut kids = Kids::new(rt.alloc());
-    repeats_identity(rt.alloc(), &mut kids)?;
-    is_ill_formed(&rt, rt.alloc(), kids)?;
-    let mut kids = Kids::new(rt.alloc());
-    add_features(rt.alloc(), &mut kids, &[MUC, CAPS, MUC])?;
-    is_ill_formed(&rt, rt.alloc(), kids)?;
-    let mut kids = Kids::new(rt.alloc());
-    repeats_form(rt.alloc(), &mut kids)?;
-    is_ill_formed(&rt, rt.alloc(), kids)?;
-    let mut kids = Kids::new(rt.alloc());
-    add_typed(rt.alloc(), &mut kids, "hidden", SOFTWARE, "urn:a")?;
-    is_ill_formed(&rt, rt.alloc(), kids)
-}
-
-fn add_near(alloc: Global, kids: &mut Kids) -> Result<(), Fail> {
-    add_identity(alloc, kids, "pc", "en", "Psi")?;
-    add_identity(alloc, kids, "pc", "en", "Psi 2")?;
-    add_typed(alloc, kids, "hidden", SOFTWARE, SOFTWARE)?;
-    add_typed(alloc, kids, "", SOFTWARE, "urn:a")?;
-    add_typed(alloc, kids, "", SOFTWARE, "")?;
-    add_typed(alloc, kids, "hidden", "", "")
-}
-
-#[test]
-fn what_is_near_it_is_well_formed(rt: HostRuntime) -> Result<(), Fail> {
-    let mut kids = Kids::new(rt.alloc());
-    add_near(rt.alloc(), &mut kids)?;
-    is_well_formed(&rt, rt.alloc(), kids)?;
-    has_ver(
-        &rt,
-        rt.alloc(),
-        Kids::new(rt.alloc()),
-        "2jmj7l5rSw0yVb/vlWAYkK/YBwk=",
-    )
-}
-
-fn add_many(alloc: Global, kids: &mut Kids) -> Result<(), Fail> {
-    for i in 0..256u32 {
-        let number = 255 - i;
-        let var = format!(in alloc; "urn:f:{number:03}")?;
-        add_feature(alloc, kids, var.as_str())?;
+/// Each answer is of its word.
+pub fn goes(rt: &impl Abort, alloc: Global) -> Result<(), Fail> {
+    for row in ANSWERS.lines() {
+        assert!(rt; is_row(alloc, row)?, "{row}");
+    }
+    for (feature, word) in [("urn:f:000", "agrees"), ("urn:f:128", "ill")] {
+        let line = long(alloc, feature)?;
+        assert!(rt; comes_to(alloc, line.as_str(), word, LONG)?, "{feature}");
     }
     Ok(())
-}
-
-#[test]
-fn a_long_answer_is_sorted(rt: HostRuntime) -> Result<(), Fail> {
-    let mut kids = Kids::new(rt.alloc());
-    add_many(rt.alloc(), &mut kids)?;
-    let again = kids.clone()?;
-    has_ver(&rt, rt.alloc(), kids, "LuRdj3+NfnH64FgIQAUChB6mAz4=")?;
-    let mut kids = again;
-    add_feature(rt.alloc(), &mut kids, "urn:f:128")?;
-    is_ill_formed(&rt, rt.alloc(), kids)
 }

@@ -10,3 +10,5 @@ mod capabilities;
 mod configs;
 #[cfg(test)]
 mod forms;
+#[cfg(test)]
+mod tests;
