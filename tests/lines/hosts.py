@@ -99,14 +99,14 @@ def steps(path):
     return found
 
 
-def content(path, found, script):
+def content(path, found, script, between="\n", end="\n"):
     title = path.read_text().splitlines()[0].removeprefix("# ")
-    table = "\n".join(line for step in found for line in step)
+    table = between.join("\n".join(step) for step in found)
     marks = "#"
     while f'"{marks}' in table:
         marks += "#"
     cases_at = path.relative_to(HERE.parent.parent)
-    return f'// {title}\n// Made by {script} from the cases in {cases_at}.\npub const ROWS: &str = r{marks}"{table}\n"{marks};\n'
+    return f'// {title}\n// Made by {script} from the cases in {cases_at}.\npub const ROWS: &str = r{marks}"{table}{end}"{marks};\n'
 
 
 def write_or_check(files):

@@ -44,12 +44,12 @@ def halves(path):
         if side != SIDES[len(found) % 2]:
             raise ValueError(f"{path.name}: {text}")
         found.append(half(number, rest, *below))
-    return found
+    return [[*left, "=", *right] for left, right in zip(found[::2], found[1::2])]
 
 
 def main():
     script = pathlib.Path(__file__).resolve().relative_to(HERE.parent.parent)
-    files = {ROWS / f"{path.stem}.rt": hosts.content(path, halves(path), script).encode() for path in sorted((HERE / "pairs").glob("*.txt"))}
+    files = {ROWS / f"{path.stem}.rt": hosts.content(path, halves(path), script, "\n-\n", "").encode() for path in sorted((HERE / "pairs").glob("*.txt"))}
     return hosts.write_or_check(files)
 
 

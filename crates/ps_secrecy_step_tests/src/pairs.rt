@@ -3,7 +3,6 @@ use crate::rows::{commits, evictions, handed, items};
 use ps_secrecy_step::{Deed, Said, Service, is_due, step};
 use ps_types::{Arrival, Bytes, Entry, Jid, Notice, Text};
 use std::alloc::Global;
-use std::mem;
 use std::process::Abort;
 use std::test::Fail;
 use std::thread::Threads;
@@ -20,7 +19,15 @@ struct Half<'a> {
     deed: Deed,
     makes: bool,
     reply: &'a str,
-    notices: &'a [&'a str],
+    notices: &'a str,
+}
+
+// The first line, and those behind it.
+fn cut(text: &str) -> (&str, &str) {
+    match text.split_once('\n') {
+        Some(cut) => cut,
+        None => (text, ""),
+    }
 }
 
 fn outsider(alloc: Global) -> Result<Jid, Fail> {
@@ -59,10 +66,10 @@ fn deed_of(alloc: Global, head: &str, line: u64, text: &str) -> Result<(Deed, bo
     }
 }
 
-fn half_of<'a>(alloc: Global, line: u64, rows: &'a [&'a str]) -> Result<Half<'a>, Fail> {
-    let [head, text, reply, notices @ ..] = rows else {
-        return Err(Fail::new("no step"));
-    };
+fn half_of(alloc: Global, line: u64, rows: &str) -> Result<Half<'_>, Fail> {
+    let (head, rows) = cut(rows);
+    let (text, rows) = cut(rows);
+    let (reply, notices) = cut(rows);
     let (deed, makes) = deed_of(alloc, head, line, text)?;
     Ok(Half {
         deed,
@@ -72,25 +79,17 @@ fn half_of<'a>(alloc: Global, line: u64, rows: &'a [&'a str]) -> Result<Half<'a>
     })
 }
 
-// A notice of the entry at this place, as its row has it: the address, the number and the stanza.
-fn is_told(
-    rt: &impl Abort,
-    alloc: Global,
-    notice: &Notice,
-    place: u64,
-    row: &str,
-) -> Result<(), Fail> {
-    assert_eq!(rt; notice.place, place);
+// Whether a notice is that of its row: the address, the number and the stanza.
+fn is_told(alloc: Global, notice: &Notice, row: &str) -> Result<bool, Fail> {
     let to = notice.to.text(alloc)?;
     let head = format!(in alloc; "> {} {} ", to.as_str(), notice.number)?;
-    let Some(line) = row.strip_prefix(head.as_str()) else {
-        return Err(Fail::new("another address or number"));
-    };
-    assert!(rt; notice.line.as_slice() == line.as_bytes(), "{line}");
-    Ok(())
+    match row.strip_prefix(head.as_str()) {
+        Some(line) => Ok(notice.line.as_slice() == line.as_bytes()),
+        None => Ok(false),
+    }
 }
 
-// What the service said is what its half says.
+// What the service said is what its half says, with notices of the entry at this place.
 fn says(
     rt: &impl Abort,
     alloc: Global,
@@ -102,9 +101,12 @@ fn says(
         [reply] => assert!(rt; reply.as_slice() == half.reply.as_bytes(), "{}", half.reply),
         _ => assert!(rt; said.replies.is_empty() && half.reply.is_empty()),
     }
-    assert_eq!(rt; said.notices.len(), half.notices.len());
-    for (notice, row) in said.notices.iter().zip(half.notices) {
-        is_told(rt, alloc, notice, place, row)?;
+    assert_eq!(rt; said.notices.len(), half.notices.lines().count());
+    for (notice, row) in said.notices.iter().zip(half.notices.lines()) {
+        assert!(rt;
+            notice.place == place && is_told(alloc, notice, row)?,
+            "{row}"
+        );
     }
     Ok(())
 }
@@ -131,9 +133,9 @@ fn takes(
     rt: &(impl Abort + Threads + Sync),
     alloc: Global,
     pair: &mut Pair,
-    first: &[&str],
-    second: &[&str],
+    step: &str,
 ) -> Result<(), Fail> {
+    let (first, second) = step.split_once("\n=\n").ok_or("no step")?;
     let (before, before_there) = (pair.left.count(), pair.right.count());
     let one = half_of(alloc, before, first)?;
     let other = half_of(alloc, before_there, second)?;
@@ -163,39 +165,16 @@ fn runs(rt: &(impl Abort + Threads + Sync), alloc: Global, rows: &str) -> Result
         right: Service::new(alloc)?,
     };
     boots(rt, alloc, &mut pair)?;
-    let mut first = Vec::new(alloc);
-    let mut second = Vec::new(alloc);
-    for line in rows.lines() {
-        if second.len() >= 3 && !line.starts_with("> ") {
-            if first.is_empty() {
-                mem::swap(&mut first, &mut second);
-            } else {
-                takes(rt, alloc, &mut pair, first.as_slice(), second.as_slice())?;
-                first.clear();
-                second.clear();
-            }
-        }
-        second.push(line)?;
+    for step in rows.split("\n-\n") {
+        takes(rt, alloc, &mut pair, step)?;
     }
-    takes(rt, alloc, &mut pair, first.as_slice(), second.as_slice())
+    Ok(())
 }
 
 #[test]
-fn an_item_at_one_service_stays_unseen(rt: HostRuntime) -> Result<(), Fail> {
-    runs(&rt, rt.alloc(), items::ROWS)
-}
-
-#[test]
-fn a_commit_at_one_service_stays_unseen(rt: HostRuntime) -> Result<(), Fail> {
-    runs(&rt, rt.alloc(), commits::ROWS)
-}
-
-#[test]
-fn evictions_stay_unseen(rt: HostRuntime) -> Result<(), Fail> {
-    runs(&rt, rt.alloc(), evictions::ROWS)
-}
-
-#[test]
-fn notices_to_others_stay_unseen(rt: HostRuntime) -> Result<(), Fail> {
-    runs(&rt, rt.alloc(), handed::ROWS)
+fn what_one_service_has_stays_unseen(rt: HostRuntime) -> Result<(), Fail> {
+    for rows in [items::ROWS, commits::ROWS, evictions::ROWS, handed::ROWS] {
+        runs(&rt, rt.alloc(), rows)?;
+    }
+    Ok(())
 }
