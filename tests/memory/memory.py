@@ -219,7 +219,8 @@ def told(case, came):
     ends = ", ".join(f"{count} with {status}" for status, count in sorted(counts.items()))
     print(f"{case.name}: {case.growths} growths, {len(came)} refused one by one: {ends}, {sum(map(len, wrong.values()))} wrong")
     for what, numbers in wrong.items():
-        print(f"  {what}: {len(numbers)} growths, from {numbers[0]} to {numbers[-1]}", flush=True)
+        shown = ", ".join(map(str, numbers[:30])) + (" .." if len(numbers) > 30 else "")
+        print(f"  {what}: {len(numbers)} growths: {shown}", flush=True)
     return sum(map(len, wrong.values()))
 
 

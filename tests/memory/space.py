@@ -1,7 +1,7 @@
 #!/usr/bin/env python3
 """The program in twenty sizes of address space under load: where memory is short nothing is lost that was answered.
 
-Usage: space.py PROGRAM (outside the gate: it takes minutes)
+Usage: space.py PROGRAM (outside the gate: it takes minutes; a proved program, since an unproved build reserves terabytes)
 """
 import os
 import pathlib

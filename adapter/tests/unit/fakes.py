@@ -69,11 +69,14 @@ class FakeServer:
     async def _take(self, reader, writer):
         waiting = []
         parser = StreamParser(waiting.append, lambda attrs: self._open(attrs, writer), self._end)
-        while data := await reader.read(1 << 16):
-            parser.feed(data)
-            while waiting:
-                self._stanza(waiting.pop(0), writer)
-            self._changed.set()
+        try:
+            while data := await reader.read(1 << 16):
+                parser.feed(data)
+                while waiting:
+                    self._stanza(waiting.pop(0), writer)
+                self._changed.set()
+        except ConnectionError:
+            pass  # an adapter that is killed with bytes unread resets its connection
         if self._writer is writer:
             self._writer = None
             self._changed.set()
