@@ -39,6 +39,8 @@ TRIED = [
     "ps_events/retract_is_told_anyway",
     "ps_fanout/leaf_is_not_asked",
     "ps_fanout/nearest_is_passed_over",
+    "ps_follow/commit_is_answered_by_its_result",
+    "ps_follow/other_bytes_are_passed_over",
     "ps_io/asked_as_another_kind=ps_io::mem_world::MemWorldWorld::open_sink",
     "ps_io/fault_not_counted",
     "ps_journal/gate_before_the_sync",
