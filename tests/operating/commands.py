@@ -1,5 +1,5 @@
 #!/usr/bin/env python3
-"""What an operator meets at the commands that read a store or mirror a node: the usage line, what isn't there, a damaged store, one of version 1, and one that is held.
+"""What an operator meets at the commands that read a store or mirror a node: the usage line, a mirror's reports, what isn't there, a damaged store, one of version 1, and one that is held.
 
 Usage: commands.py PROGRAM
 """
@@ -9,12 +9,42 @@ import subprocess
 import sys
 import tempfile
 
+sys.path.insert(0, str(pathlib.Path(__file__).resolve().parent.parent / "lines"))
+from notation import NAMESPACES, PUBSUB, Element, line_of
 from operating import LINE, Wrong, refuses, reply_in, words
+from stanzas import SERVICE, entry, notice, result
 
 USAGE = (
     b"usage: pubsubd serve --service HOST --store PATH HOST IN OUT [HOST IN OUT].. | rehearse SEED COUNT | compact PATH NEW"
     b" | mirror SERVICE NODE ADDRESS MAX IN\n"
 )
+
+
+BOB = "bob@b.example"
+
+
+def retracted(number, name):
+    """The line that tells of an item that was retracted."""
+    items = Element("items", None, {"node": "news"}, [Element("retract", None, {"id": name}, [])])
+    event = Element("event", NAMESPACES["E"], {}, [items])
+    return line_of(Element("message", None, {"from": SERVICE, "id": f"n-{number}", "to": BOB, "type": "headline"}, [event]))
+
+
+def shown(name):
+    """The line of an item in a mirror's report."""
+    return line_of(Element("item", PUBSUB, {"id": name}, [entry("hi")]))
+
+
+FIRST, REPLY = notice(BOB, 1, "news", "i1"), result("ann@a.example/1", 1)
+
+# What a mirror is told of: how many items stay, the lines of its source, its status and the items of its report; without items the usage.
+MIRRORED = {
+    "told twice, and a reply": ("10", [FIRST, FIRST, REPLY], 0, ["i1"]),
+    "another item where one stays": ("1", [FIRST, FIRST, REPLY, notice(BOB, 2, "news", "i2")], 0, ["i2"]),
+    "told again after it was retracted": ("10", [FIRST, retracted(2, "i1"), FIRST], 0, []),
+    "no items stay": ("0", [FIRST], 2, None),
+    "more than 1000 stay": ("1001", [FIRST], 2, None),
+}
 
 
 def command(program, *told):
@@ -36,13 +66,17 @@ def expect(what, came, wanted):
 
 def usage(program, folder):
     """Words that are no command."""
-    i = folder / "in"
-    for told in (
-        (),
-        ("mirror", "pubsub.example", "news", "bob@b.example", "0", i),
-        ("mirror", "pubsub.example", "news", "bob@b.example", "1001", i),
-    ):
+    for told in ((), ("mirror", SERVICE, "news", BOB, "10")):
         expect(told, command(program, *told), (2, USAGE, b""))
+
+
+def mirrored(program, folder):
+    """What a mirror reports of the lines of a source."""
+    source = folder / "in"
+    for case, (most, lines, status, names) in MIRRORED.items():
+        source.write_bytes(b"".join(line + b"\n" for line in lines))
+        report = USAGE if names is None else b"".join(shown(name) + b"\n" for name in names)
+        expect(case, command(program, "mirror", SERVICE, "news", BOB, most, source), (status, report, b""))
 
 
 def missing(program, folder):
@@ -52,7 +86,7 @@ def missing(program, folder):
     why = b"No such file or directory"
     for told in reads_of(store, sink):
         refuses(told[0], command(program, *told), "store", store, why)
-    refuses("mirror", command(program, "mirror", "pubsub.example", "news", "bob@b.example", "10", store), "source", store, why)
+    refuses("mirror", command(program, "mirror", SERVICE, "news", BOB, "10", store), "source", store, why)
     left = sorted(path.name for path in folder.iterdir())
     expect("what is there", left, ["empty"])
 
@@ -91,7 +125,7 @@ def main():
     if len(sys.argv) != 2:
         sys.exit(__doc__.strip())
     program = str(pathlib.Path(sys.argv[1]).resolve())
-    for part in (usage, missing, damaged, reads_beside):
+    for part in (usage, mirrored, missing, damaged, reads_beside):
         with tempfile.TemporaryDirectory() as folder:
             try:
                 part(program, pathlib.Path(folder))
