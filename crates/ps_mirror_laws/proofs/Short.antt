@@ -1,18 +1,16 @@
 -- Each notice of a list whose entries have a spelling is short, or tells a copy nothing: so a copy loses nothing where longer lines are passed over.
-use Rattle.std.proofs.Common.{◌≡◌, ◌⊎◌, inl, inr, ℕ, zero, suc, ◌+◌, ◌<◌, ◌≤◌, ◌^◌, Bool, true, false, cond, ◌&&◌, not, List, [], ◌∷◌, ◌++◌, length, map, filter, Option, Some, None, option_map, refl, sym, ap, subst, ◌∙◌, arith}
-use Rattle.std.specs.Prelude.{Result, Ok, Err, nat_le, slice_get}
+use Rattle.std.proofs.Common.{◌≡◌, inl, inr, ℕ, zero, suc, ◌+◌, ◌<◌, ◌≤◌, ◌^◌, Bool, true, false, cond, List, [], ◌∷◌, length, map, filter, Option, Some, None, refl, sym, ap, subst, ◌∙◌, arith}
+use Rattle.std.specs.Prelude.{slice_get}
 use Rattle.std.specs.List.{AllByRecursion as Each, cons_option, filter_map, flat_map}
 use Rattle.std.proofs.lemmas.Bool.Decides.{nat_tests}
 use Rattle.ps_types.specs.declared.entry.Entry.{Entry}
 use Rattle.ps_types.specs.declared.entry.Entry.TheVariants.{Boot, Change, Handed, Gone, Base}
-use Rattle.ps_types.specs.declared.denial.LineRefusal.{LineRefusal}
 use Rattle.ps_types.specs.declared.entry.Notice.{Notice}
 use Rattle.ps_types.specs.declared.event.Event.{Event}
 use Rattle.ps_types.specs.declared.jid.Jid.{Jid}
 use Rattle.ps_types.specs.declared.node.NodeKey.{NodeKey}
 use Rattle.ps_types.specs.declared.rows.TallyRow.{TallyRow}
 use Rattle.ps_types.specs.Address.{IsAddress, bare}
-use Rattle.ps_types.specs.LineTree.{line_tree}
 use Rattle.ps_types.specs.Lines.{lines_of}
 use Rattle.ps_types.specs.Print.{print}
 use Rattle.ps_types.specs.Same.{same_bare, same_jid}
@@ -23,9 +21,9 @@ use Rattle.ps_model.specs.After as step
 use Rattle.ps_model.specs.Book.{Book, State, empty_state}
 use Rattle.ps_model.specs.Entries.{AreEntries, IsEntry}
 use Rattle.ps_model.specs.Given.{given, asked as asked_by}
-use Rattle.ps_model.specs.NoticeTrees.{notice_id, with_id}
+use Rattle.ps_model.specs.NoticeTrees.{with_id}
 use Rattle.ps_model.specs.Numbered.{numbered}
-use Rattle.ps_model.specs.Replay.{IsLawfulFrom, accepted, is_booted, lawful, notices, notices_from, of_bare, request_accepted, to_address}
+use Rattle.ps_model.specs.Replay.{IsLawfulFrom, accepted, is_booted, notices, notices_from, of_bare, request_accepted, to_address}
 use Rattle.ps_model.specs.Sorted.{sorted}
 use Rattle.ps_model.specs.Taken.{Taken, silent, refused, denied, asked}
 use Rattle.ps_model.specs.Taking.{request_in, tree_taken}
@@ -44,8 +42,6 @@ use Rattle.ps_compact_laws.proofs.Printable.{IsPrintable, NodeIs}
 use Rattle.ps_compact_laws.proofs.Stored.{all-asked, for-is, printable-after}
 use Rattle.ps_mirror.specs.Copy.{Copy, copy_after, copy_from, empty_copy, is_numbered, news_by, news_in, news_of, said_of}
 use Rattle.ps_mirror.specs.Filled.{is_short}
-use Rattle.ps_mirror.specs.Report.{copied_of}
-use Rattle.ps_mirror.specs.declared.copied.Copied.{Copied}
 use Rattle.ps_mirror.specs.declared.said.News.{News}
 use Rattle.ps_mirror.specs.declared.said.Said.{Said}
 use Rattle.ps_mirror_laws.specs.Laws.{EachMirroredSourceIsExact, HasInOrder, IsNoBase, IsBriefTo, EachNoticeIsBrief, notices_to}

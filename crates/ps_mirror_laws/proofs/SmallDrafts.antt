@@ -1,5 +1,5 @@
 -- Each stanza that tells of an event is short, or says nothing of a node's items.
-use Rattle.std.proofs.Common.{◌≡◌, ℕ, ◌+◌, ◌*◌, ◌<◌, ◌≤◌, ◌^◌, ◌⊎◌, inl, inr, Bool, true, false, cond, ◌&&◌, List, [], ◌∷◌, length, reverse, Option, Some, None, option_map, refl, sym, ap, subst, ◌∙◌, arith}
+use Rattle.std.proofs.Common.{◌≡◌, ℕ, ◌+◌, ◌*◌, ◌<◌, ◌≤◌, ◌^◌, ◌⊎◌, inl, inr, Bool, true, false, cond, ◌&&◌, List, [], ◌∷◌, length, reverse, Option, Some, None, option_map, refl, sym, subst, ◌∙◌, arith}
 use Rattle.std.specs.Prelude.{codes, find, nat_le}
 use Rattle.std.specs.List.{AllByRecursion as Each}
 use Rattle.std.proofs.lemmas.Bool.{and_parts, leb-true}
@@ -22,19 +22,18 @@ use Rattle.ps_types.specs.Namespaces.{event_ns, headers_ns}
 use Rattle.ps_types.specs.Nodes.{config_at, node_at}
 use Rattle.ps_types.specs.Print.{client, print}
 use Rattle.ps_types.specs.Same.{same_jid}
-use Rattle.ps_types.specs.Tree.{Tree, Nodes, none, words}
+use Rattle.ps_types.specs.Tree.{Tree, Nodes, none}
 use Rattle.ps_types.proofs.Same.{same_jid-Decides}
 use Rattle.ps_model.specs.Book.{Book}
 use Rattle.ps_model.specs.Due.{About, about_new, about_node, always, delivered, delivers, items_inside, may_pass, may_read, node_message, node_notice, one_way, told_about}
 use Rattle.ps_model.specs.Given.{given, to_one}
 use Rattle.ps_model.specs.Last.{is_leaf, last_notice, sends_last}
-use Rattle.ps_model.specs.NoticeTrees.{approval_form, associate_tree, delay_nodes, event_nodes, header_nodes, headers, item_nodes, items_tree, kind_attr, message, named_tree, notice_id, one, only, payload_nodes, question, retract_tree, told_tree, with_id}
-use Rattle.ps_model.specs.Stanza.{host_jid}
+use Rattle.ps_model.specs.NoticeTrees.{approval_form, associate_tree, delay_nodes, event_nodes, header_nodes, headers, item_nodes, items_tree, kind_attr, message, named_tree, notice_id, one, only, payload_nodes, retract_tree, told_tree, with_id}
 use Rattle.ps_model.specs.Stamp.{stamp}
 use Rattle.ps_model.specs.Ways.{Way, NoWay, OwnRow, Through, is_interested}
 use Rattle.ps_book_laws.proofs.Keys.{each-push}
 use Rattle.ps_compact_laws.proofs.Drafts.{found-key}
-use Rattle.ps_compact_laws.proofs.Printable.{IsEventText, IsKeyText, IsPrintable, NodeIs}
+use Rattle.ps_compact_laws.proofs.Printable.{IsKeyText, IsPrintable, NodeIs}
 use Rattle.ps_mirror.specs.Copy.{said_of}
 use Rattle.ps_mirror_laws.proofs.Heard.{may-key, none-sent, said-message}
 use Rattle.ps_mirror_laws.proofs.Sizes.{WeighAttrs, WeighIn, Weighs, id-size, jid-size, more-attrs, no-attrs, weigh-branch, weigh-in-more, weigh-more, weigh-none, weigh-printed, weigh-tree, weigh-words}

@@ -1,6 +1,6 @@
 -- Kind by kind: a request leaves items whose ids and payloads are short, and counts of made ids that rise by one at most.
-use Rattle.std.proofs.Common.{◌≡◌, ℕ, ◌+◌, ◌<◌, ◌≤◌, ◌^◌, arith, Bool, true, false, cond, ◌&&◌, ◌||◌, not, List, [], ◌∷◌, ◌++◌, length, length-append, Option, Some, None, refl, sym, ap, subst}
-use Rattle.std.specs.Prelude.{Result, Ok, Err, codes, decimal, find, is_some, nat_le, ◌==◌}
+use Rattle.std.proofs.Common.{◌≡◌, ℕ, ◌+◌, ◌<◌, ◌≤◌, ◌^◌, arith, Bool, true, false, cond, ◌&&◌, ◌||◌, not, List, [], ◌∷◌, ◌++◌, length, length-append, Option, Some, None, refl, sym, subst}
+use Rattle.std.specs.Prelude.{Result, Ok, Err, codes, decimal, find, nat_le, ◌==◌}
 use Rattle.std.specs.List.{AllByRecursion as Each, list_all}
 use Rattle.std.proofs.lemmas.Bool.{leb-true}
 use Rattle.std.proofs.lemmas.List.{append-nil}
@@ -50,7 +50,7 @@ use Rattle.ps_model.specs.CheckCreate.{node_limit_step}
 use Rattle.ps_model.specs.CheckForms.{config_given, config_or, new_config, node_of}
 use Rattle.ps_model.specs.CheckNode.{leaf_by}
 use Rattle.ps_model.specs.CheckOptions.{form_options, is_known, known_options, made_step, options_config, options_step, publish_type}
-use Rattle.ps_model.specs.CheckPublish.{first_item_steps, item_steps, made_item_steps, payload_step, publish_by, publish_new_steps, takes_item}
+use Rattle.ps_model.specs.CheckPublish.{item_steps, payload_step, publish_by, publish_new_steps, takes_item}
 use Rattle.ps_model.specs.ItemIds.{auto_id, item_id, next_made}
 use Rattle.ps_model.specs.Steps.{denied_by, first_denial, is_short, unless}
 use Rattle.ps_model.specs.Words.{RosterAsk, set, remove, roster_of}
