@@ -175,7 +175,9 @@ each-clean a [] are = tt
 each-clean a (n ∷ ns) are = (clean-line n (line_tree n.line) are.0.notice.line, each-clean a ns are.1)
 
 told-clean : Each Clean (notices_to bob entries)
-told-clean = each-filter Clean (λ (n : Notice). same_jid n.to bob) (notices entries (bare bob)) (each-clean (bare bob) (notices entries (bare bob)) (unhanded-are entries (bare bob) 0 lawful-is spelled-is-so))
+told-clean =
+    each-filter Clean (λ (n : Notice). same_jid n.to bob) (notices entries (bare bob))
+    (each-clean (bare bob) (notices entries (bare bob)) (unhanded-are entries (bare bob) 0 lawful-is spelled-is-so))
 
 all-clean : (lines : List (List ℕ)) → Each NoNewline lines → All NoNewline lines
 all-clean [] are = All-nil NoNewline
