@@ -1,7 +1,8 @@
 -- A node that keeps two items at most, and a mirror of it.
-use Rattle.std.specs.Prelude.{◌≡◌, ℕ, true, List, [], ◌∷◌, map, Some, None, codes}
+use Rattle.std.specs.Prelude.{◌≡◌, ℕ, ◌<◌, ◌^◌, true, List, [], ◌∷◌, length, map, Some, None, codes}
 use Rattle.std.specs.Fmt.{decimal}
 use Rattle.ps_types.specs.Defaults.{service_config}
+use Rattle.ps_types.specs.Lines.{joined, lines_of}
 use Rattle.ps_types.specs.Namespaces.{data_ns, pubsub_ns}
 use Rattle.ps_types.specs.Print.{client}
 use Rattle.ps_types.specs.Shape.{element}
@@ -14,6 +15,7 @@ use Rattle.ps_types.specs.declared.jid.Jid.{Jid}
 use Rattle.ps_types.specs.declared.node.NodeKey.{NodeKey}
 use Rattle.ps_model.specs.Replay.{replay}
 use Rattle.ps_mirror_laws.specs.Laws.{HasInOrder, IsHeard, held, notices_to}
+use Rattle.ps_mirror.specs.Report.{copied_of}
 use Rattle.ps_mirror.specs.declared.copied.Copied.{Copied}
 
 abbrev pub service : Jid
@@ -70,10 +72,18 @@ abbrev pub again : List (List ℕ) → List (List ℕ)
 again (x ∷ y ∷ z ∷ []) = x ∷ x ∷ codes "" ∷ y ∷ x ∷ z ∷ z ∷ []
 again xs = xs
 
+-- the bytes of a source that has these lines
+abbrev pub source : List ℕ
+source = joined (again told)
+
 abbrev pub second : Copied
 second = record { id = codes "i2"; payload = Some payload }
 
+-- all that the laws ask, and what comes of it
 pub record CaseHolds : Type 0 where
   pub heard : IsHeard news bob config entries
+  pub few : length entries < 2 ^ 127
   pub order : HasInOrder news bob [] (notices_to bob entries) (again told)
+  pub source_order : HasInOrder news bob [] (notices_to bob entries) (lines_of source)
   pub holds : held news (replay entries).book ≡ second ∷ []
+  pub reported : copied_of news bob config.max_items source ≡ second ∷ []

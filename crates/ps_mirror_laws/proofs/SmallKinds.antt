@@ -163,7 +163,9 @@ items-small config (item ∷ items) more is ok =
 
 new-small : (given : Result NodeConfig Condition) (b : Book) (r : Request) (items : List AskItem) → Gives IsConfig given → first_denial (publish_new_steps b r items given) ≡ None → FirstSmall items
 new-small (Err why) b r items is ok = absurd (let no = (step-parts (Some why) (node_limit_step b r ∷ []) ok).0 in cc no)
-new-small (Ok config) b r items is ok = items-small config items (node_limit_step b r ∷ []) (is.config config refl) (step-parts (made_step (Ok config) b r) (item_steps config items ++ node_limit_step b r ∷ []) ok).1
+new-small (Ok config) b r items is ok =
+    items-small config items (node_limit_step b r ∷ []) (is.config config refl)
+    (step-parts (made_step (Ok config) b r) (item_steps config items ++ node_limit_step b r ∷ []) ok).1
 
 pub publish-small : (o : Option NodeRow) (b : Book) (r : Request) (node : List ℕ) (items : List AskItem) (options : Option Tree) → FoundNode o
     → first_denial (publish_by o b r node items options) ≡ None → FirstSmall items

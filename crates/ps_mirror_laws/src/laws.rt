@@ -11,7 +11,7 @@ pub fn each_notice_is_brief()
     ensures { EachNoticeIsBrief }
 {}
 
-/// So what is reported of a source whose lines have the notices in order is just what the node holds, though longer lines are passed over.
+/// What is reported of a source whose lines have the notices in order is just what the node holds, though longer lines are passed over.
 pub fn each_mirrored_source_is_exact()
     ensures { EachMirroredSourceIsExact }
 {}
