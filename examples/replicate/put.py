@@ -1,10 +1,11 @@
 #!/usr/bin/env python3
 """Puts the entries of a store into a replicated log, again and again, while the store is served.
 
-Usage: put.py PROGRAM STORE NAME PORT.. 
+Usage: put.py PROGRAM STORE NAME PORT..
 
-PROGRAM is pubsubd, NAME the log's, each PORT that of a node of the engine. Twice a second it copies the store, has `pubsubd feed` write the records behind the last one that
-the log has, and puts them into the log, each message once the one before is confirmed. So the log has the records in order, and where it was stopped at any moment, some of them twice.
+PROGRAM is pubsubd, NAME the log's, each PORT that of a node of the engine. Twice a second it copies the store, has `pubsubd feed` write the records behind
+the last one that the log has, and puts them into the log, each message once the one before is confirmed. So the log has the records in order, and where it
+was stopped at any moment, some of them twice.
 """
 import os
 import pathlib

@@ -30,6 +30,8 @@ ANN = "ann@a.example/1"
 # The sizes of the address space that are tried, how far they lie apart, and the load.
 SIZES, STEP, PUBLISHES, PAYLOAD = 20, 2 << 20, 400, 16_000
 MOST = 1 << 36
+# Seconds in which a run without lines ends, and one under load.
+SHORT, LONG = 10, 300
 MEMORY = 7
 PUBLISHED = re.compile(rb'"type":"result"}.*"a":{"id":"(i\d+)"}')
 
@@ -42,20 +44,29 @@ def loaded():
         yield publish(ANN, number, "news", f"i{number}", "x" * PAYLOAD)
 
 
-def within(size, *told):
-    """A run in an address space of so many bytes."""
+def within(size, seconds, *told):
+    """A run in an address space of so many bytes: its status and report, or None if it comes to no end in so many seconds."""
     limit = None if size is None else lambda: resource.setrlimit(resource.RLIMIT_AS, (size, size))
-    done = subprocess.run(words(*told), capture_output=True, timeout=300, check=False, preexec_fn=limit)
+    try:
+        done = subprocess.run(words(*told), capture_output=True, timeout=seconds, check=False, preexec_fn=limit)
+    except subprocess.TimeoutExpired:
+        return None
     return done.returncode, done.stdout
 
 
 def least(program, folder):
-    """The least size, to a step, in which a run without lines ends well: doubled until one does, and halved into what lies between."""
-    empty = folder / "empty"
+    """The least size, to a step, in which a run without lines ends well: doubled until one does, and halved into what lies between.
+
+    Also those sizes of the search in which it came to no end.
+    """
+    empty, endless = folder / "empty", []
     empty.write_bytes(b"")
 
     def serves(steps):
-        return within(steps * STEP, program, folder / "none", empty, folder / "out") == (0, b"")
+        ended = within(steps * STEP, SHORT, program, folder / "none", empty, folder / "out")
+        if ended is None:
+            endless.append(steps * STEP)
+        return ended == (0, b"")
 
     low, high = 0, 1
     while not serves(high):
@@ -65,7 +76,7 @@ def least(program, folder):
     while high - low > 1:
         middle = (low + high) // 2
         low, high = (low, middle) if serves(middle) else (middle, high)
-    return high * STEP
+    return high * STEP, endless
 
 
 def short_of_memory(program, folder):
@@ -73,17 +84,18 @@ def short_of_memory(program, folder):
     there, question = folder / "in", folder / "question"
     there.write_bytes(b"".join(line + b"\n" for line in loaded()))
     question.write_bytes(retrieve(ANN, "q", "news") + b"\n")
-    begin, ended = least(program, folder), []
+    (begin, endless), ended = least(program, folder), []
     for size in (begin + steps * STEP for steps in range(SIZES)):
         store, sink = folder / f"store-{size}", folder / f"out-{size}"
-        status, report = within(size, program, store, there, sink)
-        if (status, report) not in ((0, b""), (MEMORY, b"out of memory\n")):
-            raise Wrong(f"in {size} bytes: ended with {status}, and reported {report!r}")
+        came = within(size, LONG, program, store, there, sink)
+        if came not in ((0, b""), (MEMORY, b"out of memory\n")):
+            raise Wrong(f"in {size} bytes: came {came}")
+        status, _ = came
         replies = sink.read_bytes().split(b"\n")[:-1] if sink.exists() else []
         answered = [found[1] for found in map(PUBLISHED.search, replies) if found]
         if status == 0 and len(answered) != PUBLISHES:
             raise Wrong(f"in {size} bytes: {len(answered)} answers")
-        again = within(None, program, store, question, folder / "again")
+        again = within(None, LONG, program, store, question, folder / "again")
         kept = set(re.findall(rb'"a":{"id":"(i\d+)"}', (folder / "again").read_bytes()))
         if again != (0, b"") or not kept.issuperset(answered):
             raise Wrong(f"in {size} bytes: {len(set(answered) - kept)} answered items are lost, {again}")
@@ -92,6 +104,8 @@ def short_of_memory(program, folder):
         store.unlink()
     if not any(status == MEMORY for status, _ in ended):
         raise Wrong(f"no size was too small: {ended}")
+    if endless:
+        raise Wrong(f"a run without lines came to no end in {', '.join(f'{size >> 20} MB' for size in sorted(endless))}")
 
 
 def main():
