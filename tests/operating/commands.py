@@ -70,7 +70,6 @@ def expect(what, came, wanted):
 
 def usage(program, folder):
     """Words that are no command."""
-    i = folder / "in"
     for told in (
         (),
         ("explain", "s", "ann@a.example", "pubsub.example"),
@@ -80,8 +79,6 @@ def usage(program, folder):
         ("follow", "a.example", "f", "f", "o"),
         ("follow", "a.example", "f", "i", "i"),
         ("mirror", SERVICE, "news", BOB, "10"),
-        ("mirror", SERVICE, "news", BOB, "0", i),
-        ("mirror", SERVICE, "news", BOB, "1001", i),
     ):
         expect(told, command(program, *told), (2, USAGE, b""))
 
