@@ -22,6 +22,16 @@ CASES = [
 ]
 
 
+# Over an output that takes nothing: wrong words stay wrong words, and a report that can't be written is a fault of a stream.
+UNTOLD = [(("0", "4"), 3), (("0", "0"), 2)]
+
+
+def untold(program, words):
+    """Its status where nothing of its report can be written."""
+    with open("/dev/full", "wb") as full:
+        return subprocess.run([program, "rehearse", *words], stdout=full, stderr=subprocess.DEVNULL, timeout=110, check=False).returncode
+
+
 def rehearse(program, words):
     """What it reports, and its status."""
     told = subprocess.run([program, "rehearse", *words], capture_output=True, text=True, timeout=110, check=False)
@@ -39,12 +49,17 @@ def main(program):
         if told != (report, status):
             wrong += 1
             print(f"rehearse {' '.join(words)}: {told}")
+    for words, status in UNTOLD:
+        told = untold(program, words)
+        if told != status:
+            wrong += 1
+            print(f"rehearse {' '.join(words)}, untold: {told}")
     one, other = rehearse(program, ("7", "20000")), rehearse(program, ("7", "20000"))
     told = numbers(one[0])
     if one != other or one[1] != 0 or told["stanzas"] != 20000 or told["results"] + told["errors"] != 20000 or not told["notices"]:
         wrong += 1
         print(f"rehearse 7 20000: {one}, {other}")
-    print(f"rehearsals: {len(CASES) + 1 - wrong} passed, {wrong} failed")
+    print(f"rehearsals: {len(CASES) + len(UNTOLD) + 1 - wrong} passed, {wrong} failed")
     return 1 if wrong else 0
 
 

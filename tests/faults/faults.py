@@ -1,0 +1,115 @@
+#!/usr/bin/env python3
+"""Fails each call of the program on its store, and on each source and sink, one run a call; and looks at what it answered, and at what its store holds and hands out then.
+
+    faults.py PROGRAM [CASE..]      CASE: of those in tests/memory/cases.py, or those of TRIED
+
+It is counted how often a case's run seeks, reads, writes and syncs on the file; then it is run once for each number, and that call is failed by fail.c, which is loaded
+before the C library. A fault of the store ends a run with status 4, one of a source or a sink with 3; a call that didn't come this time, with 0. What
+the sinks then hold is a front of what they hold else, and the other streams' sinks miss nothing. The store opens afterwards, holds a front of each
+host's changes with each one that was answered, and the notices of both runs are those of the whole run, where at most one an address comes again.
+"""
+import collections
+import os
+import pathlib
+import subprocess
+import sys
+import tempfile
+from concurrent.futures import ThreadPoolExecutor
+
+HERE = pathlib.Path(__file__).resolve().parent
+sys.path.insert(0, str(HERE.parent / "memory"))
+from cases import CASES, HOSTS, Whole, Wrong, compiled, parted
+
+STREAM, STORE = 3, 4
+TRIED = ("an opening over a boot", "a subscription that waits", "an approval", "three notices", "notices that wait", "two creates at once")
+
+
+class Case(Whole):
+    """A case whose calls on one file are failed in turn: the store, or a host's source or sink."""
+
+    def __init__(self, name, program, library, what):
+        self.library, self.kind, self.host = library, *what
+        with tempfile.TemporaryDirectory(prefix="pubsubd-faults-") as folder:
+            super().__init__(name, program, folder)
+        with tempfile.TemporaryDirectory(prefix="pubsubd-faults-") as folder:
+            room, count = self.room(folder), pathlib.Path(folder) / "count"
+            status, _ = room.run(self.lines, {**self.failing(room, 0), "FAIL_COUNT": str(count)})
+            if status:
+                raise Wrong(f"{name}: the whole run ended with {status}")
+            self.calls = int(count.read_text())
+
+    def failing(self, room, number):
+        """The environment of a run whose call of that number fails."""
+        file = room.store if self.kind == "store" else getattr(room, self.kind)(self.host)
+        return {"LD_PRELOAD": self.library, "FAIL_FILE": str(file), "FAIL_CALL": str(number)}
+
+    def tried(self, number):
+        """Runs it with that call failed, and returns its status."""
+        with tempfile.TemporaryDirectory(prefix="pubsubd-faults-") as folder:
+            room = self.room(folder)
+            status, came = room.run(self.lines, self.failing(room, number))
+            if status not in (0, STORE if self.kind == "store" else STREAM):
+                raise Wrong(f"ended with {status}")
+            self.must_be_front(status, came)
+            self.must_serve_others(status, came)
+            self.must_be_kept(status, came, room)
+            self.must_hand_on(status, came, room)
+            return status
+
+    def must_serve_others(self, status, came):
+        """A fault of a stream takes no reply from another one, and that of a sink no notice."""
+        for host, lines in came.items():
+            if status != STREAM or host == self.host:
+                continue
+            for got, whole in list(zip(parted(lines), parted(self.came[host])))[: 2 if self.kind == "sink" else 1]:
+                if got != whole:
+                    raise Wrong(f"a fault of {self.host}'s {self.kind}, and {host} was told {got}")
+
+    def must_hand_on(self, status, came, room):
+        """The next run hands out the notices that are left, and one that was written once more at most."""
+        is_whole = self.new_changes(room) and len(self.new_changes(room)) == len(self.changes)
+        for host, lines in self.must_serve_on(status, room).items():
+            first, second, whole = parted(came.get(host, []))[1], parted(lines)[1], parted(self.came[host])[1]
+            if first and second and first[-1] == second[0]:
+                second = second[1:]
+            if first + second != whole[: len(first + second)] or (is_whole and first + second != whole):
+                raise Wrong(f"status {status}, and {host} was handed {first} and then {second}")
+
+
+def failed(case):
+    """What each number came to: a status, or what was wrong."""
+
+    def tried(number):
+        try:
+            return case.tried(number)
+        except (Wrong, subprocess.TimeoutExpired) as wrong:
+            return f"call {number}: {wrong}"
+
+    with ThreadPoolExecutor(os.cpu_count()) as pool:
+        return list(pool.map(tried, range(1, case.calls + 1)))
+
+
+def main(words):
+    program, runs, wrong = str(pathlib.Path(words[0]).resolve()), 0, 0
+    with tempfile.TemporaryDirectory(prefix="pubsubd-fail-") as folder:
+        library = compiled(HERE / "fail.c", folder)
+        for name in words[1:] or TRIED:
+            for what in [("store", None), *((kind, host) for host in HOSTS for kind in ("source", "sink"))]:
+                case = Case(name, program, library, what)
+                came = failed(case)
+                runs += len(came)
+                wrong += sum(isinstance(it, str) for it in came)
+                ends = collections.Counter("wrong" if isinstance(it, str) else f"status {it}" for it in came)
+                where = case.kind if case.host is None else f"{case.kind} of {case.host}"
+                print(f"{name}, {where}: {case.calls} calls: {', '.join(f'{count} {end}' for end, count in sorted(ends.items())) or 'none'}")
+                for it in came:
+                    if isinstance(it, str):
+                        print(f"  {it}")
+    print(f"faults: {runs} runs, {wrong} wrong")
+    return 1 if wrong or not runs else 0
+
+
+if __name__ == "__main__":
+    if len(sys.argv) < 2 or any(it not in CASES for it in sys.argv[2:]):
+        sys.exit(__doc__.strip())
+    sys.exit(main(sys.argv[1:]))
