@@ -109,7 +109,7 @@ class Edit:
             return
         lacking = [it.name for it in self.crate.below() if not os.path.isdir(it.rlib)]
         if lacking:
-            self.said = f"{lacking[0]} isn't built: run rt ci first"
+            self.said = f"{lacking[0]} isn't built: run rt ci or bench/gate/keep.py first"
             return
         with open(file, encoding="utf-8") as text:
             self.text = text.read()
