@@ -3,8 +3,8 @@
     python3 tests/lines/hosts.py            writes crates/ps_core_tests/src/rows/NAME.rt for each hosts/NAME.txt
     python3 tests/lines/hosts.py --check    compares them, and ends with 1 where they differ
 
-A table has three lines for each step, whose stream it is on, the line, and the reply, and below them one for each notice (specified in
-`src/rows.rt` there).
+A table has three lines for each step, whose stream it is on, the line, and the reply, and below them one for each notice; a line `-` stands between
+two steps (specified in `src/rows.rt` there).
 
 A file begins with a service that was just booted. Its cases are those of make.py, but that WHO is `name@a` or `name@b`, of the host
 `a.example` or `b.example`, and that the reply of a line which makes an entry begins with `* `. `at N ` before a line is its moment, in
@@ -99,14 +99,14 @@ def steps(path):
     return found
 
 
-def content(path, found, script, between="\n", end="\n"):
+def content(path, found, script):
     title = path.read_text().splitlines()[0].removeprefix("# ")
-    table = between.join("\n".join(step) for step in found)
+    table = "\n-\n".join("\n".join(step) for step in found)
     marks = "#"
     while f'"{marks}' in table:
         marks += "#"
     cases_at = path.relative_to(HERE.parent.parent)
-    return f'// {title}\n// Made by {script} from the cases in {cases_at}.\npub const ROWS: &str = r{marks}"{table}{end}"{marks};\n'
+    return f'// {title}\n// Made by {script} from the cases in {cases_at}.\npub const ROWS: &str = r{marks}"{table}"{marks};\n'
 
 
 def write_or_check(files):

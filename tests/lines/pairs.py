@@ -49,7 +49,7 @@ def halves(path):
 
 def main():
     script = pathlib.Path(__file__).resolve().relative_to(HERE.parent.parent)
-    files = {ROWS / f"{path.stem}.rt": hosts.content(path, halves(path), script, "\n-\n", "").encode() for path in sorted((HERE / "pairs").glob("*.txt"))}
+    files = {ROWS / f"{path.stem}.rt": hosts.content(path, halves(path), script).encode() for path in sorted((HERE / "pairs").glob("*.txt"))}
     return hosts.write_or_check(files)
 
 

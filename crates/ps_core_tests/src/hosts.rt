@@ -1,5 +1,5 @@
 // A service goes through lines on several hosts.
-use crate::lines::{Line, boot, says, serve_line, take_silently};
+use crate::lines::{Line, answer_of, boot, says, take, take_silently};
 use crate::rows::{
     access, approvals, bookmarks, capabilities, collections, dealt, handed, interest, items, last,
     reach, rosters, streams, subscribers,
@@ -11,54 +11,53 @@ use std::process::Abort;
 use std::test::Fail;
 use std::thread::Threads;
 
-// The head of a step: a host, then the line's moment if it has one, then whether the line makes an entry.
-fn line_of<'a>(head: &'a str, number: u64, text: &'a str) -> Result<(Line<'a>, bool), Fail> {
-    let (head, makes) = match head.strip_suffix(" makes") {
-        Some(head) => (head, true),
-        None => (head, false),
-    };
+// The first line, and those behind it.
+fn cut(text: &str) -> (&str, &str) {
+    match text.split_once('\n') {
+        Some(cut) => cut,
+        None => (text, ""),
+    }
+}
+
+// The head of a step: a host, then the line's moment if it has one.
+fn line_of<'a>(head: &'a str, number: u64, text: &'a str) -> Result<Line<'a>, Fail> {
     let (host, moment) = match head.split_once(" at ") {
         Some((host, moment)) => (host, Some(moment.parse()?)),
         None => (head, None),
     };
-    let line = Line {
+    Ok(Line {
         host,
         number,
         moment,
         text,
-    };
-    Ok((line, makes))
+    })
 }
 
-// A notice of the entry at this place, as its row has it: the address, the number and the stanza.
-fn is_told(
-    rt: &impl Abort,
-    alloc: Global,
-    notice: &Notice,
-    place: u64,
-    row: &str,
-) -> Result<(), Fail> {
-    assert_eq!(rt; notice.place, place);
+// Whether a notice is that of its row: the address, the number and the stanza.
+fn is_told(alloc: Global, notice: &Notice, row: &str) -> Result<bool, Fail> {
     let to = notice.to.text(alloc)?;
     let head = format!(in alloc; "> {} {} ", to.as_str(), notice.number)?;
-    let Some(line) = row.strip_prefix(head.as_str()) else {
-        return Err(Fail::new("another address or number"));
-    };
-    says(rt, &notice.line, line);
-    Ok(())
+    match row.strip_prefix(head.as_str()) {
+        Some(line) => Ok(notice.line.as_slice() == line.as_bytes()),
+        None => Ok(false),
+    }
 }
 
+// The notices of the entry at that place are those of the rows.
 fn tells(
     rt: &impl Abort,
     alloc: Global,
     notices: &[Notice],
     place: u64,
-    rows: &[&str],
+    rows: &str,
 ) -> Result<(), Fail> {
-    assert_eq!(rt; notices.len(), rows.len());
-    for (notice, row) in notices.iter().zip(rows) {
-        is_told(rt, alloc, notice, place, row)?;
+    for (notice, row) in notices.iter().zip(rows.lines()) {
+        assert!(rt;
+            notice.place == place && is_told(alloc, notice, row)?,
+            "{row}"
+        );
     }
+    assert_eq!(rt; notices.len(), rows.lines().count(), "{rows}");
     Ok(())
 }
 
@@ -68,18 +67,29 @@ fn answers(
     alloc: Global,
     service: &mut Service,
     head: &str,
-    text: &str,
-    reply: &str,
-    notices: &[&str],
+    rows: &str,
 ) -> Result<(), Fail> {
-    let before = service.count();
-    let (line, makes) = line_of(head, before, text)?;
-    let said = serve_line(rt, alloc, service, &line)?;
-    says(rt, &said.reply, reply);
-    assert_eq!(rt; service.count() != before, makes);
-    tells(rt, alloc, said.notices.as_slice(), before, notices)
+    let place = service.count();
+    let makes = head.strip_suffix(" makes");
+    let (text, rows) = cut(rows);
+    let (reply, notices) = cut(rows);
+    let line = line_of(makes.unwrap_or(head), place, text)?;
+    let answer = answer_of(alloc, service, line)?;
+    assert!(rt; says(alloc, &answer, reply)?, "{text}");
+    match &answer.entry {
+        Some(entry) => {
+            assert!(rt; makes.is_some(), "{text}");
+            let told = take(rt, service, entry)?;
+            tells(rt, alloc, told.as_slice(), place, notices)
+        }
+        None => {
+            assert!(rt; makes.is_none() && notices.is_empty(), "{text}");
+            Ok(())
+        }
+    }
 }
 
+// The stream of a host ends.
 fn leaves(
     rt: &(impl Abort + Threads + Sync),
     alloc: Global,
@@ -104,7 +114,7 @@ fn hands(
         to: Jid::read(alloc, who.as_bytes())?,
     };
     let accepted = service.accepts(&handed)?;
-    assert_eq!(rt; accepted, is_there);
+    assert_eq!(rt; accepted, is_there, "{who}");
     if is_there {
         take_silently(rt, service, &handed)?;
     }
@@ -115,12 +125,10 @@ fn takes(
     rt: &(impl Abort + Threads + Sync),
     alloc: Global,
     service: &mut Service,
-    step: &[&str],
+    step: &str,
 ) -> Result<(), Fail> {
-    let [head, line, reply, notices @ ..] = step else {
-        return Err(Fail::new("no step"));
-    };
-    if *head == "boot" {
+    let (head, rows) = cut(step);
+    if head == "boot" {
         return boot(rt, alloc, service);
     }
     if let Some(host) = head.strip_prefix("gone ") {
@@ -132,10 +140,9 @@ fn takes(
     if let Some(who) = head.strip_prefix("not handed ") {
         return hands(rt, alloc, service, who, false);
     }
-    answers(rt, alloc, service, head, line, reply, notices)
+    answers(rt, alloc, service, head, rows)
 }
 
-// A step has three lines, and a line for each notice behind them.
 fn goes(
     rt: &(impl Abort + Threads + Sync),
     alloc: Global,
@@ -143,58 +150,8 @@ fn goes(
     rows: &str,
 ) -> Result<(), Fail> {
     boot(rt, alloc, service)?;
-    let mut step = Vec::new(alloc);
-    for line in rows.lines() {
-        if step.len() >= 3 && !line.starts_with("> ") {
-            takes(rt, alloc, service, step.as_slice())?;
-            step.clear();
-        }
-        step.push(line)?;
-    }
-    takes(rt, alloc, service, step.as_slice())
-}
-
-// A new service goes through a table.
-fn runs(rt: &(impl Abort + Threads + Sync), alloc: Global, rows: &str) -> Result<(), Fail> {
-    let mut service = Service::new(alloc)?;
-    goes(rt, alloc, &mut service, rows)
-}
-
-#[test]
-fn lines_on_several_hosts_are_answered(rt: HostRuntime) -> Result<(), Fail> {
-    let tables = [
-        items::ROWS,
-        access::ROWS,
-        rosters::ROWS,
-        bookmarks::ROWS,
-        collections::ROWS,
-        streams::ROWS,
-        dealt::ROWS,
-    ];
-    for rows in tables {
-        runs(&rt, rt.alloc(), rows)?;
-    }
-    Ok(())
-}
-
-#[test]
-fn subscribers_and_owners_are_told(rt: HostRuntime) -> Result<(), Fail> {
-    let tables = [
-        subscribers::ROWS,
-        handed::ROWS,
-        approvals::ROWS,
-        reach::ROWS,
-    ];
-    for rows in tables {
-        runs(&rt, rt.alloc(), rows)?;
-    }
-    Ok(())
-}
-
-#[test]
-fn resources_are_told_of_what_they_want(rt: HostRuntime) -> Result<(), Fail> {
-    for rows in [interest::ROWS, last::ROWS] {
-        runs(&rt, rt.alloc(), rows)?;
+    for step in rows.split("\n-\n") {
+        takes(rt, alloc, service, step)?;
     }
     Ok(())
 }
@@ -222,15 +179,58 @@ fn verifies(
         ("ann@a.example/1", Some(4)),
         ("bob@b.example/z", None),
     ] {
-        let found = known(alloc, service, who)?;
-        assert_eq!(rt; found, features);
+        assert_eq!(rt; known(alloc, service, who)?, features, "{who}");
     }
     assert_eq!(rt; service.tables().cache.len(), 1);
     Ok(())
 }
 
+// A new service goes through a table; without one, through that of capabilities.
+fn runs(rt: &(impl Abort + Threads + Sync), alloc: Global, rows: &str) -> Result<(), Fail> {
+    let mut service = Service::new(alloc)?;
+    if rows.is_empty() {
+        return verifies(rt, alloc, &mut service);
+    }
+    goes(rt, alloc, &mut service, rows)
+}
+
+fn all_run(rt: &(impl Abort + Threads + Sync), alloc: Global, tables: &[&str]) -> Result<(), Fail> {
+    for rows in tables {
+        runs(rt, alloc, rows)?;
+    }
+    Ok(())
+}
+
+// Three tests, since each has a time of its own.
 #[test]
-fn an_exact_answer_counts_for_all(rt: HostRuntime) -> Result<(), Fail> {
-    let mut service = Service::new(rt.alloc())?;
-    verifies(&rt, rt.alloc(), &mut service)
+fn lines_on_several_hosts_are_answered(rt: HostRuntime) -> Result<(), Fail> {
+    let tables = [
+        items::ROWS,
+        access::ROWS,
+        rosters::ROWS,
+        bookmarks::ROWS,
+        collections::ROWS,
+    ];
+    all_run(&rt, rt.alloc(), &tables)
+}
+
+#[test]
+fn subscribers_and_owners_are_told(rt: HostRuntime) -> Result<(), Fail> {
+    let tables = [
+        streams::ROWS,
+        dealt::ROWS,
+        subscribers::ROWS,
+        handed::ROWS,
+        approvals::ROWS,
+    ];
+    all_run(&rt, rt.alloc(), &tables)
+}
+
+#[test]
+fn resources_are_told_of_what_they_want(rt: HostRuntime) -> Result<(), Fail> {
+    all_run(
+        &rt,
+        rt.alloc(),
+        &[reach::ROWS, interest::ROWS, last::ROWS, ""],
+    )
 }

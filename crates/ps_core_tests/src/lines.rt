@@ -11,19 +11,12 @@ use std::test::Fail;
 use std::thread::Threads;
 
 /// A line on the stream of a host, with its number and its moment.
-#[derive(Drop)]
+#[derive(Clone, Copy)]
 pub struct Line<'a> {
     pub host: &'a str,
     pub number: u64,
     pub moment: Option<u64>,
     pub text: &'a str,
-}
-
-/// The reply to a line, and the notices that its entry makes.
-#[derive(Drop)]
-pub struct Said {
-    pub reply: Bytes,
-    pub notices: Vec<Notice>,
 }
 
 /// A line as it arrives.
@@ -85,65 +78,17 @@ pub fn boot(
     take_silently(rt, service, &boot)
 }
 
-fn answer_of(alloc: Global, service: &Service, line: &Line<'_>) -> Result<Answer, Fail> {
+/// The answer to a line.
+pub fn answer_of(alloc: Global, service: &Service, line: Line<'_>) -> Result<Answer, Fail> {
     let host = Text::of(alloc, line.host)?;
     let arrival = arrived(alloc, line.text, line.moment)?;
     Ok(service.answer(&host, line.number, &arrival)?)
 }
 
-/// Answers the line and takes the entry that it makes.
-pub fn serve_line(
-    rt: &(impl Abort + Threads + Sync),
-    alloc: Global,
-    service: &mut Service,
-    line: &Line<'_>,
-) -> Result<Said, Fail> {
-    let answer = answer_of(alloc, service, line)?;
-    let notices = match &answer.entry {
-        Some(entry) => take(rt, service, entry)?,
-        None => Vec::new(alloc),
-    };
-    let reply = match &answer.reply {
-        Some(reply) => print_tree(alloc, reply)?,
-        None => Bytes::from_vec(Vec::new(alloc)),
-    };
-    Ok(Said { reply, notices })
-}
-
-/// Answers the line of `a.example` and takes the entry that it makes.
-pub fn answered(
-    rt: &(impl Abort + Threads + Sync),
-    alloc: Global,
-    service: &mut Service,
-    line: u64,
-    text: &str,
-) -> Result<Bytes, Fail> {
-    let line = Line {
-        host: "a.example",
-        number: line,
-        moment: None,
-        text,
-    };
-    let said = serve_line(rt, alloc, service, &line)?;
-    Ok(said.reply)
-}
-
-/// The entry that the line of `a.example` makes.
-pub fn entry_at(alloc: Global, service: &Service, line: u64, text: &str) -> Result<Entry, Fail> {
-    let line = Line {
-        host: "a.example",
-        number: line,
-        moment: None,
-        text,
-    };
-    let (_, entry) = answer_of(alloc, service, &line)?.into_said();
-    match entry {
-        Some(entry) => Ok(entry),
-        None => Err(Fail::new("no entry")),
+/// Whether the answer has this reply, which is empty where it has none.
+pub fn says(alloc: Global, answer: &Answer, text: &str) -> Result<bool, Fail> {
+    match &answer.reply {
+        Some(reply) => Ok(print_tree(alloc, reply)?.as_slice() == text.as_bytes()),
+        None => Ok(text.is_empty()),
     }
-}
-
-/// The reply is this text.
-pub fn says(rt: &impl Abort, bytes: &Bytes, text: &str) {
-    assert!(rt; bytes.as_slice() == text.as_bytes(), "{text}");
 }

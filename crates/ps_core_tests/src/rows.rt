@@ -2,7 +2,7 @@
 //
 // Each step has three lines of its table. The first is the host on whose stream a line comes, with ` at ` and a number behind it where the line
 // has that moment, and ` makes` where it makes an entry; then come the line and its reply, which is empty where there is none. Behind them each
-// notice of the entry has a line of its own, in their order: `> `, its address, its number and its stanza.
+// notice of the entry has a line of its own, in their order: `> `, its address, its number and its stanza. A line `-` stands between two steps.
 //
 // Where the first is `gone` and a host, the stream of that host ends. Where it is `handed` and an address, the first notice to the address that
 // wasn't handed out yet is handed out; where it is `not handed`, there is none. Where it is `boot`, the service boots.

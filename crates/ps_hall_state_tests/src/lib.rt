@@ -1,4 +1,4 @@
-//! Tests of `ps_hall_state`: lines, notices, flushes and ends over a state in memory, with one host.
+//! Tests of `ps_hall_state`: lines, notices, flushes and ends over a state in memory, with one host, as tables.
 //!
 //! They stand in a crate of their own, since a crate with tests is proved twice. Nothing stands on this crate, and it has no public function.
 #![tactic(auto)]
@@ -6,12 +6,10 @@
 #[cfg(test)]
 mod calls;
 #[cfg(test)]
-mod ends;
-#[cfg(test)]
 mod lines;
-#[cfg(test)]
-mod notices;
 #[cfg(test)]
 mod opened;
 #[cfg(test)]
-mod replies;
+mod rows;
+#[cfg(test)]
+mod tests;

@@ -60,19 +60,19 @@ fn is_presence_with_moment(entry: &Entry) -> bool {
     }
 }
 
-#[test]
-fn each_kind_is_read_and_written_back(rt: HostRuntime) -> Result<(), Fail> {
+// Each kind is read and written back.
+fn are_read_and_written(rt: &impl Abort, alloc: Global) -> Result<(), Fail> {
     for bytes in [BOOT, CHANGE, CHANGE_AT, LAST, HANDED, GONE, BASE] {
-        assert!(rt; is_read_and_written(rt.alloc(), bytes)?);
+        assert!(rt; is_read_and_written(alloc, bytes)?);
     }
-    let (entry, next) = read_entry(rt.alloc(), CHANGE_AT, 0)?;
+    let (entry, next) = read_entry(alloc, CHANGE_AT, 0)?;
     assert_eq!(rt; next, 48);
     assert!(rt; is_presence_with_moment(&entry));
     Ok(())
 }
 
-#[test]
-fn what_is_printed_otherwise_is_no_entry(rt: HostRuntime) {
+// What is printed otherwise is no entry.
+fn are_no_entries(rt: &impl Abort, alloc: Global) {
     let others: [&[u8]; 12] = [
         b"",
         b"\x09\x00\x0epubsub.example",
@@ -88,15 +88,15 @@ fn what_is_printed_otherwise_is_no_entry(rt: HostRuntime) {
         b"\x05\0\0\0\x26{\"n\":\"ver\",\"ns\":\"urn:pubsubd\",\"x\":\"1\"}",
     ];
     for (i, bytes) in others.iter().enumerate() {
-        let refused = read_entry(rt.alloc(), bytes, 0).err();
+        let refused = read_entry(alloc, bytes, 0).err();
         assert_eq!(rt; refused, Some(EntryRefusal::Bad(0)), "at {i}");
     }
     assert_eq!(rt;
-        read_entry(rt.alloc(), BOOT, 18).err(),
+        read_entry(alloc, BOOT, 18).err(),
         Some(EntryRefusal::Bad(18))
     );
     assert_eq!(rt;
-        read_entry(rt.alloc(), BOOT, 3).err(),
+        read_entry(alloc, BOOT, 3).err(),
         Some(EntryRefusal::Bad(3))
     );
 }
@@ -112,17 +112,24 @@ fn push(rt: &impl Abort, alloc: Global, batch: &mut Batch, bytes: &[u8]) -> Resu
     }
 }
 
-#[test]
-fn a_batch_is_a_frame_behind_its_gate(rt: HostRuntime) -> Result<(), Fail> {
-    let mut batch = Batch::new(rt.alloc())?;
+// A batch is a frame behind its gate.
+fn is_a_frame(rt: &impl Abort, alloc: Global) -> Result<(), Fail> {
+    let mut batch = Batch::new(alloc)?;
     assert_eq!(rt; (batch.len(), batch.frame()), (0, b"\0\0\0\0\0".as_slice()));
-    push(&rt, rt.alloc(), &mut batch, GONE)?;
+    push(rt, alloc, &mut batch, GONE)?;
     assert_eq!(rt; batch.len(), 12);
-    push(&rt, rt.alloc(), &mut batch, BOOT)?;
+    push(rt, alloc, &mut batch, BOOT)?;
     assert_eq!(rt; batch.len(), 29);
     assert_eq!(rt;
         batch.frame(),
         b"\0\0\0\x1d\x03\x00\x09a.example\x00\x00\x0epubsub.example\0".as_slice()
     );
     Ok(())
+}
+
+#[test]
+fn entries_are_bytes_and_batches_frames(rt: HostRuntime) -> Result<(), Fail> {
+    are_read_and_written(&rt, rt.alloc())?;
+    are_no_entries(&rt, rt.alloc());
+    is_a_frame(&rt, rt.alloc())
 }

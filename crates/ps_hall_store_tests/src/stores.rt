@@ -1,12 +1,10 @@
-// Stores in memory: begun, appended to, damaged, upgraded, and crashed after each call of the disk.
+// Stores in memory: begun, appended to, upgraded, and crashed after each call of the disk. Where a store is damaged, `tests/rows` says, which runs the program.
 ghost use Rattle.std.specs.Prelude.{◌≢◌, ◌≤◌, [], length, IfOk};
 ghost use Rattle.ps_model.specs.Entries.{spelling, IsEntry};
 
 use ps_base::Memory;
 use ps_disk::{Disk, MemDisk, Torn};
-use ps_journal::{
-    AppendRefusal, EntriesRefusal, Journal, JournalRefusal, JournalWhy, Verdict, judge,
-};
+use ps_journal::{AppendRefusal, EntriesRefusal, Journal, JournalRefusal, JournalWhy};
 use ps_record::{Batch, read_entry};
 use ps_types::Entry;
 use std::alloc::Global;
@@ -119,24 +117,19 @@ fn leaves_a_front(rt: &impl Abort, alloc: Global, disk: &MemDisk, calls: u64) ->
     Ok(())
 }
 
-fn leaves_fronts(rt: &impl Abort, alloc: Global, disk: &MemDisk) -> Result<(), Fail> {
-    for calls in 0..=17 {
-        leaves_a_front(rt, alloc, disk, calls)?;
-    }
-    assert_eq!(rt; after_crash(alloc, disk, 12, Torn::Lost), Some(0));
-    assert_eq!(rt; after_crash(alloc, disk, 12, Torn::Whole), Some(1));
-    Ok(())
-}
-
 // Opening begins the store by the calls 1 to 9, and each append makes four.
-#[test]
-fn a_crash_after_each_call_leaves_a_front(rt: HostRuntime) -> Result<(), Fail> {
-    let disk = grown(&rt, rt.alloc())?;
+fn leaves_fronts(rt: &impl Abort, alloc: Global) -> Result<(), Fail> {
+    let disk = grown(rt, alloc)?;
     assert_eq!(rt;
         disk.bytes(),
         b"PUBSUBJ2\x01\0\0\0\x11\0\0\x0epubsub.example\x01\0\0\0\x0c\x03\0\x09a.example\0".as_slice()
     );
-    leaves_fronts(&rt, rt.alloc(), &disk)
+    for calls in 0..=17 {
+        leaves_a_front(rt, alloc, &disk, calls)?;
+    }
+    assert_eq!(rt; after_crash(alloc, &disk, 12, Torn::Lost), Some(0));
+    assert_eq!(rt; after_crash(alloc, &disk, 12, Torn::Whole), Some(1));
+    Ok(())
 }
 
 // Where this call of an append fails, the journal is broken for good, and opens again.
@@ -188,14 +181,13 @@ fn is_not_begun(rt: &impl Abort, alloc: Global, call: u64) -> Result<(), Fail> {
 }
 
 // Beginning makes the calls 1 to 9, and the append the calls 10 to 13.
-#[test]
-fn a_fault_breaks_the_journal_for_good(rt: HostRuntime) -> Result<(), Fail> {
-    let boot = batch_of(rt.alloc(), BOOT)?;
+fn breaks_for_good(rt: &impl Abort, alloc: Global) -> Result<(), Fail> {
+    let boot = batch_of(alloc, BOOT)?;
     for call in 10..=13 {
-        breaks(&rt, rt.alloc(), &boot, call)?;
+        breaks(rt, alloc, &boot, call)?;
     }
     for call in 1..=9 {
-        is_not_begun(&rt, rt.alloc(), call)?;
+        is_not_begun(rt, alloc, call)?;
     }
     Ok(())
 }
@@ -213,65 +205,23 @@ fn always_leaves_one(alloc: Global, disk: &MemDisk) -> bool {
 }
 
 // A store of version 1 opens with its entry and is one of version 2 then. A crash meanwhile leaves the entry.
-#[test]
-fn a_store_of_version_1_is_upgraded(rt: HostRuntime) -> Result<(), Fail> {
+fn is_upgraded(rt: &impl Abort, alloc: Global) -> Result<(), Fail> {
     for version in [b'1', b'z', b'2'] {
         let mut bytes = WHOLE;
         bytes[7] = version;
-        let disk = MemDisk::new(rt.alloc(), &bytes, &[])?;
-        let (journal, count) = opened(rt.alloc(), disk).ok_or("not opened")?;
+        let disk = MemDisk::new(alloc, &bytes, &[])?;
+        let (journal, count) = opened(alloc, disk).ok_or("not opened")?;
         let disk = journal.close();
         bytes[7] = b'2';
         assert_eq!(rt; (count, disk.bytes()), (1, bytes.as_slice()));
-        assert!(rt; always_leaves_one(rt.alloc(), &disk));
+        assert!(rt; always_leaves_one(alloc, &disk));
     }
     Ok(())
-}
-
-// Where a store is damaged, and how many entries are before.
-fn damage(alloc: Global, bytes: &[u8]) -> Option<(u64, usize)> {
-    match judge(alloc, bytes) {
-        Verdict::Damaged(at, before) => Some((at, before.len())),
-        _ => None,
-    }
-}
-
-fn entries_of(alloc: Global, bytes: &[u8]) -> Option<usize> {
-    let (journal, count) = opened(alloc, MemDisk::new(alloc, bytes, &[]).ok()?)?;
-    let _ = journal.close();
-    Some(count)
 }
 
 #[test]
-fn damage_is_found_where_it_stands(rt: HostRuntime) -> Result<(), Fail> {
-    let opens: [&[u8]; 4] = [b"", b"\x50", &[0; 40], b"?UBSUBJ1\0"];
-    for bytes in opens {
-        assert_eq!(rt; entries_of(rt.alloc(), bytes), Some(0));
-    }
-    assert_eq!(rt; entries_of(rt.alloc(), &WHOLE), Some(1));
-    let tag4 =
-        b"PUBSUBJ1\x01\0\0\0\x11\0\0\x0epubsub.example\x01\0\0\0\x30\x04\0\x09a.example\0\0\0\0\0\0\0\x01\0\0\0\0\x3b\x9a\xca\x00\0\0\0\x10{\"n\":\"presence\"}\0";
-    let mut second = *tag4;
-    second[7] = b'2';
-    assert_eq!(rt; entries_of(rt.alloc(), &second), Some(2));
-    let mut head = WHOLE;
-    head[0] = 0x51;
-    let mut entry = WHOLE;
-    entry[13] = 9;
-    let damaged: [(&[u8], (u64, usize)); 9] = [
-        (&head, (0, 0)),
-        (b"Q2", (0, 0)),
-        (b"PUBSUBK1\0", (0, 0)),
-        (&WHOLE[..8], (8, 0)),
-        (&WHOLE[..30], (8, 0)),
-        (b"PUBSUBJ1\x01\0\0\0\x12\0\0\x0epubsub.example7", (8, 0)),
-        (b"PUBSUBJ1\x01\0\0\0\0\0\0\x0epubsub.example7", (8, 0)),
-        (&entry, (13, 0)),
-        (tag4, (35, 1)),
-    ];
-    for (bytes, want) in damaged {
-        assert_eq!(rt; damage(rt.alloc(), bytes), Some(want));
-        assert_eq!(rt; entries_of(rt.alloc(), bytes), None);
-    }
-    Ok(())
+fn a_store_keeps_a_front_through_crashes_and_faults(rt: HostRuntime) -> Result<(), Fail> {
+    leaves_fronts(&rt, rt.alloc())?;
+    breaks_for_good(&rt, rt.alloc())?;
+    is_upgraded(&rt, rt.alloc())
 }

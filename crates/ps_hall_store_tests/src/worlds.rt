@@ -1,4 +1,4 @@
-// What a world gives by names, in memory and on the machine.
+// What a world in memory gives by names. That of the machine is under each run of the program.
 ghost use Rattle.std.specs.Prelude.{◌∷◌, []};
 ghost use Rattle.ps_io.specs.MemWorld.{IsNewWorld};
 
@@ -11,7 +11,6 @@ use ps_wire::{MemSink, MemSource, Sink, Source};
 use std::alloc::Global;
 use std::process::Abort;
 use std::test::Fail;
-use std::{env, process};
 
 // The first source of a new world, whose third opening or report fails, and a sink that isn't there.
 fn opens_once(rt: &impl Abort, alloc: Global, world: &mut MemWorld) -> Result<(), Fail>
@@ -42,12 +41,6 @@ fn gives_again(rt: &impl Abort, world: &mut MemWorld, name: &Text) -> Result<(),
     assert!(rt; world.source(name).is_none());
     assert!(rt; matches!(world.open_source(name), Err(WorldRefusal::Failed)));
     Ok(())
-}
-
-#[test]
-fn what_was_put_is_opened_once_and_given_back(rt: HostRuntime) -> Result<(), Fail> {
-    let mut world = MemWorld::new(rt.alloc(), &[3])?;
-    opens_once(&rt, rt.alloc(), &mut world)
 }
 
 fn gives_stores(rt: &impl Abort, alloc: Global, world: &mut MemWorld) -> Result<(), Fail>
@@ -92,80 +85,32 @@ fn gives_clocks(rt: &impl Abort, alloc: Global, world: &mut MemWorld) -> Result<
     Ok(())
 }
 
-#[test]
-fn stores_are_opened_and_given_back(rt: HostRuntime) -> Result<(), Fail> {
-    let mut world = MemWorld::new(rt.alloc(), &[])?;
-    gives_stores(&rt, rt.alloc(), &mut world)
-}
-
-#[test]
-fn sinks_are_opened_and_given_back(rt: HostRuntime) -> Result<(), Fail> {
-    let mut world = MemWorld::new(rt.alloc(), &[])?;
-    gives_sinks(&rt, rt.alloc(), &mut world)
-}
-
-#[test]
-fn clocks_are_opened_and_given_back(rt: HostRuntime) -> Result<(), Fail> {
-    let mut world = MemWorld::new(rt.alloc(), &[])?;
-    gives_clocks(&rt, rt.alloc(), &mut world)
-}
-
-#[test]
-fn clocks_tell_what_they_were_given(rt: HostRuntime) -> Result<(), Fail> {
+// Clocks tell what they were given.
+fn tells(rt: &impl Abort, alloc: Global) -> Result<(), Fail> {
     let mut constant = ConstClock { moment: 3 };
     assert_eq!(rt; constant.now().ok(), Some(3));
-    assert!(rt; MemClock::new(rt.alloc(), &[])?.now().is_err());
+    assert!(rt; MemClock::new(alloc, &[])?.now().is_err());
     Ok(())
 }
 
-// Writes a file, and reads it as a source and as a store.
-fn writes_and_reads(
-    rt: &impl Abort,
-    world: &mut RealWorld<HostRuntime>,
-    name: &Text,
-) -> Result<(), Fail> {
-    let mut sink = world.open_sink(name)?;
-    assert_eq!(rt; sink.write(b"kept").ok(), Some(4));
-    assert!(rt; sink.flush().is_ok());
-    world.give_back_sink(name, sink);
-    let mut source = world.open_source(name)?;
-    let mut room = [0; 8];
-    assert_eq!(rt; source.read(&mut room).ok(), Some(4));
-    assert_eq!(rt; room, *b"kept\0\0\0\0");
-    world.give_back(name, source);
-    let mut disk = world.open_disk(name, Missing::Make)?;
-    assert_eq!(rt; disk.len().ok(), Some(4));
-    world.give_back_disk(name, disk);
-    Ok(())
-}
-
-// The clock of the machine, and a source that isn't there.
-fn tells_and_misses(
-    rt: &impl Abort,
-    alloc: Global,
-    world: &mut RealWorld<HostRuntime>,
-) -> Result<(), Fail> {
-    let missing = Text::of(alloc, "/no/such/folder/in")?;
-    assert!(rt; matches!(world.open_source(&missing), Err(WorldRefusal::Failed)));
-    let mut clock = world.open_clock(&missing)?;
-    assert!(rt; clock.now().ok().unwrap_or(0) > 1_700_000_000);
-    world.give_back_clock(&missing, clock);
-    Ok(())
+// A new world, in which something was put.
+fn gives(rt: &impl Abort, alloc: Global, what: u8) -> Result<(), Fail> {
+    if what == 0 {
+        let mut world = MemWorld::new(alloc, &[3])?;
+        return opens_once(rt, alloc, &mut world);
+    }
+    let mut world = MemWorld::new(alloc, &[])?;
+    match what {
+        1 => gives_stores(rt, alloc, &mut world),
+        2 => gives_sinks(rt, alloc, &mut world),
+        _ => gives_clocks(rt, alloc, &mut world),
+    }
 }
 
 #[test]
-fn the_real_world_tells_the_time_and_misses_files(rt: HostRuntime) -> Result<(), Fail> {
-    let mut world = RealWorld::new(rt.alloc(), rt);
-    tells_and_misses(&rt, rt.alloc(), &mut world)
-}
-
-#[test]
-fn the_real_world_writes_and_reads_files(rt: HostRuntime) -> Result<(), Fail> {
-    let file = format!(in rt.alloc(); "ps_io-{}", process::id(rt.process()))?;
-    let path = env::temp_dir(&rt)?.join(rt.alloc(), file.as_str())?;
-    let name = Text::of(rt.alloc(), path.to_str().ok_or("no text")?)?;
-    let mut world = RealWorld::new(rt.alloc(), rt);
-    writes_and_reads(&rt, &mut world, &name)?;
-    std::fs::remove_file(&rt, path.as_path())?;
-    Ok(())
+fn what_was_put_is_opened_and_given_back(rt: HostRuntime) -> Result<(), Fail> {
+    for what in 0..4 {
+        gives(&rt, rt.alloc(), what)?;
+    }
+    tells(&rt, rt.alloc())
 }
