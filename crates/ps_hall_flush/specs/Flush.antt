@@ -19,7 +19,7 @@ use Rattle.ps_hall_store.specs.declared.store.Frame.{Frame}
 use Rattle.ps_hall_store.specs.declared.store.Store.{Store}
 use Rattle.ps_world.specs.Sound.{Sound}
 use Rattle.ps_hall_flush.specs.Doing.{Adds, Passes}
-use Rattle.ps_hall_flush.specs.Homes.{TellAtMost, WithinStore, marked, numbers_of, store_mark, world_at}
+use Rattle.ps_hall_flush.specs.Homes.{marked, numbers_of, store_mark, world_at}
 use Rattle.ps_hall_flush.specs.Origin.{Origin}
 use Rattle.ps_hall_flush.specs.Seat.{MayCall}
 
@@ -49,8 +49,6 @@ module _ {V J : Type 0} where
     pub firm : firm_of s ≡ store.firm_of y
     pub mark : mark_of s ≡ (f.count, f.length)
     pub some : HasSome f
-    pub within : WithinStore y (list_of s)
-    pub fits : (n : ℕ) → TellAtMost (f.length + 5) n (seen_of s)
 
   -- no frame is begun, and the journal is as it was taken
   pub record NoFrame {D : Type 0} {g : Ghosts D} (o : Origin) (t : Twin V J Deed) (s : TwinSeat V J Deed) (y : Store D g) : Type 0 where
@@ -58,7 +56,6 @@ module _ {V J : Type 0} where
     pub held : HasJournal s
     pub front : Prefix (list_of s) (seen_of s)
     pub stands : store.StoreStands o.at y (world_at o (list_of s))
-    pub within : WithinStore y (list_of s)
     pub firm : firm_of s ≡ store.firm_of y
     pub mark : mark_of s ≡ store_mark y
 
