@@ -123,10 +123,10 @@ module _ {D : Type 0} {g : Ghosts D} where
       broken = ap (λ log. (world_at o log).broken) (seen_as_was t s1 s2 v left) ∙ (sym stands.stands.broken ∙ broken);
     }
 
-    pub frame_spared : (s0 s1 s2 : TwinSeat V J Deed) (v : State) (y : Store D g) (m : ℕ) → HoldsStore o t s0 y → TookState s0 s1 → HomeStands o v (seen_of s1) → Prefix (list_of s0) (seen_of s1) → state_mark v ≡ mark_of s0 → m ≤ v.flushed → v.flushed ≤ known_of s1 → HasLeft t s1 s2 v [] → FrameSpared o t s2 y m
-    frame_spared s0 s1 s2 v y m holds took stands front mark low firm left =
+    pub frame_spared : (s0 s1 s2 : TwinSeat V J Deed) (v : State) (y : Store D g) (m : ℕ) → HoldsStore o t s0 y → TookState s0 s1 → HomeStands o v (seen_of s1) → Prefix (list_of s0) (seen_of s1) → state_mark v ≡ mark_of s0 → v.broken ≡ false → m ≤ v.flushed → v.flushed ≤ known_of s1 → HasLeft t s1 s2 v [] → FrameSpared o t s2 y m
+    frame_spared s0 s1 s2 v y m holds took stands front mark unbroken low firm left =
         let e : (world_at o (seen_of s2)).flushed ≡ v.flushed = ap (λ log. (world_at o log).flushed) (seen_as_was t s1 s2 v left) ∙ sym stands.stands.flushed in
-        record { as_was = no_frame s0 s1 s2 v y holds took front mark left; flushed = omega (arith, e, low); known = (let same = left.known in omega (arith, low, firm, same)) }
+        record { as_was = no_frame s0 s1 s2 v y holds took front mark left; quiet = ap (λ log. (world_at o log).broken) (seen_as_was t s1 s2 v left) ∙ (sym stands.stands.broken ∙ unbroken); flushed = omega (arith, e, low); known = (let same = left.known in omega (arith, low, firm, same)) }
 
     -- the frame has all steps that the seat has seen
     pub frame_steps : (s : TwinSeat V J Deed) (y : Store D g) (f : Frame) → FrameBegun o t s y f → f.steps ≡ length (seen_of s)

@@ -1,5 +1,5 @@
 -- A flush.
-use Rattle.std.specs.Prelude.{◌≡◌, ◌≢◌, ℕ, ◌+◌, ◌≤◌, ◌⊎◌, true, List, [], length, None, IfSome}
+use Rattle.std.specs.Prelude.{◌≡◌, ◌≢◌, ℕ, ◌+◌, ◌≤◌, ◌⊎◌, true, false, List, [], length, None, IfSome}
 use Rattle.ps_disk.specs.declared.device.Disk.{Ghosts}
 use Rattle.ps_twin.specs.declared.twin.TwinSeat.{TwinSeat}
 use Rattle.ps_twin.specs.declared.twin.Twin.{Twin}
@@ -64,9 +64,10 @@ module _ {V J : Type 0} where
     pub as_was : NoFrame o t s y
     pub broken : (world_at o (seen_of s)).broken ≡ true
 
-  -- since the first m steps are flushed
+  -- since the first m steps are flushed, and none has failed
   pub record FrameSpared {D : Type 0} {g : Ghosts D} (o : Origin) (t : Twin V J Deed) (s : TwinSeat V J Deed) (y : Store D g) (m : ℕ) : Type 0 where
     pub as_was : NoFrame o t s y
+    pub quiet : (world_at o (seen_of s)).broken ≡ false
     pub flushed : m ≤ (world_at o (seen_of s)).flushed
     pub known : m ≤ known_of s
 
@@ -95,10 +96,11 @@ pub record IsBrokenAt (o : Origin) (log : List Deed) : Type 0 where
 abbrev pub FlushesAll : Origin → ℕ → ℕ → List Deed → List Deed → Type 0
 FlushesAll o k m found new = ((new ≡ found) × (m ≤ (world_at o found).flushed)) ⊎ Adds o k found new (Flush (length found))
 
--- what the pass found with the journal in its hand, and then a Flush of all that it had seen before, of its own or another's
+-- what the pass found with the journal in its hand, where no fault had been told of, and then a Flush of all that it had seen before, of its own or another's
 pub record Flushes (o : Origin) (k : ℕ) (old new : List Deed) : Type 0 where
   pub found : List Deed
   pub passed : Passes o k old found
+  pub quiet : (world_at o found).broken ≡ false
   pub flush : FlushesAll o k (length old) found new
 
 -- the frame was not written: a fault had been told of, or the pass tells of one
