@@ -13,6 +13,7 @@ use ps_io::{World, WorldRefusal};
 /// How a run ends that could not open an object.
 pub fn refused(why: WorldRefusal) -> Status
     ensures open { result ≡ Status.OpenFault → why ≡ WorldRefusal.Failed }
+    ensures failed { why ≡ WorldRefusal.Failed → result ≡ Status.OpenFault }
     ensures only { (result ≡ Status.OpenFault) ⊎ (result ≡ Status.Memory) }
 {
     match why {

@@ -13,6 +13,7 @@ use Rattle.ps_model.specs.declared.steps.Step.{Step}
 use Rattle.ps_model.specs.declared.steps.Step.TheVariants.{Ended}
 use Rattle.ps_model.proofs.TheLaws.{the-laws}
 use Rattle.ps_trace.specs.declared.deed.Deed.{Deed}
+use Rattle.ps_trace.specs.Did.{HasInHand}
 use Rattle.ps_trace.specs.Own.{AllDiffer, IsWriterOf}
 use Rattle.ps_trace.proofs.Doing.{did-between, did-world, world-append}
 use Rattle.ps_trace.proofs.Flying.{still-run}
@@ -37,6 +38,10 @@ hand-landed (Some b) h w is a here = by (same_jid a b) refl
     by : (t : Bool) → same_jid a b ≡ t → ((w.addresses a).flight ≡ Nothing) ⊎ ((w.addresses a).flight ≡ Unrecorded)
     by true e = inr (ap (λ (j : Jid). (w.addresses j).flight) ((same_jid-Decides a b).0 e) ∙ is.this)
     by false e = inl (is.others a here (λ s. false≢true (sym e ∙ (same_jid-Decides a b).1 s)))
+
+-- the notice that was in hand is so still, in the same host's
+pub hand-still : (o : Origin) (seen : List Deed) (hand : Option Jid) (to : Jid) (g h : List ℕ) → hand ≡ Some to → g ≡ h → HasHand hand g (world_at o seen) → HasInHand h to (world_at o seen)
+hand-still o seen hand to g h is same had = subst (λ (x : Option Jid). HasHand x h (world_at o seen)) is (subst (λ (f : List ℕ). HasHand hand f (world_at o seen)) same had)
 
 module _ (o : Origin) (k : ℕ) where
   abbrev at : List Deed → World

@@ -2,6 +2,8 @@
 use Rattle.std.proofs.Common.{◌≡◌, ◌≢◌, ℕ, ◌⊎◌, inl, inr, true, List, [], ◌∷◌, ◌++◌, Option, Result, Err, refl, ap, sym, ◌∙◌, subst}
 use Rattle.ps_types.specs.declared.entry.Arrival.{Arrival}
 use Rattle.ps_model.specs.TheCore.{the_core}
+use Rattle.ps_model.specs.declared.steps.Role.TheVariants.{Reader}
+use Rattle.ps_model.specs.declared.steps.Step.TheVariants.{Ended as Ends}
 use Rattle.ps_model.proofs.TheLaws.{the-laws}
 use Rattle.ps_world.proofs.Lists.{assoc, nil-right}
 use Rattle.ps_trace.specs.declared.deed.Deed.{Deed}
@@ -17,8 +19,8 @@ use Rattle.ps_hall_flush.specs.Origin.{Origin}
 use Rattle.ps_wire.specs.Reading.{IsWithoutLine}
 use Rattle.ps_streams.specs.declared.read.ReadEnd.{ReadEnd}
 use Rattle.ps_streams.specs.declared.read.ReadEnd.TheVariants.{Ended, Long, ReadFault, Store}
-use Rattle.ps_streams.specs.Reading.{Brought, CameOf, Comes, IsEnd, NoneComes, Reads, SoRead, StreamRead, WasAsked, brings_all}
-use Rattle.ps_streams.proofs.Bringing.{brought-as, brought-more, brought-none, gone-brought, gone-keeps}
+use Rattle.ps_streams.specs.Reading.{Brought, CameOf, Comes, EndsByGone, IsEnd, NoneComes, Reads, SoRead, StreamRead, WasAsked, brings_all}
+use Rattle.ps_streams.proofs.Bringing.{brought-as, brought-more, brought-none, ends-append, gone-brought, gone-keeps}
 use Rattle.ps_streams.proofs.Lines.{asked-more, asked-none, came-more, came-none, end-of}
 
 abbrev Bytes : Type 0
@@ -135,7 +137,7 @@ module _ (o : Origin) where
 
   pub stream-read : {T : Type 0} (h : List ℕ) (k : ℕ) (old mid new : List Deed) (before source : Bytes) (told now : Told) (end final : ReadEnd) (r : Result T HandedRefusal) → (brings_all final ≡ true → final ≡ end) → (end ≡ Store → final ≡ Store) → (r ≡ Err NotStored → final ≡ Store) → Reads o k old mid before source told now end → (end ≢ Store → IsKept the_core o.boot o.list o.hosts k mid) → HasGone o k h mid new r → StreamRead o h k old new before source told now final
   stream-read h k old mid new before source told now end final r all earlier stored a landed gone =
-      let b = subst (Brought o k old gone.before) (nil-right a.arrived) (brought-more o k old mid gone.before a.arrived [] a.brought (gone-brought o k h mid gone.before r gone.gone)) in
+      let b = gone-brought o k h mid gone.before r gone.gone in
       let there = arrivals_in (own_steps k gone.before) in
       let last = did-own the_core the-laws o.boot o.list o.hosts k gone.before new gone.ended in
       record {
@@ -150,9 +152,10 @@ module _ (o : Origin) where
           cut = λ is. a.lined.cut (elim is [ inl x ↦ inl (sym (all (ap brings_all x)) ∙ x) | inr x ↦ inr (sym (all (ap brings_all x)) ∙ x) ]);
           asked = a.lined.asked;
         };
-        own = ap arrivals_in last ∙ (arrivals-append (own_steps k gone.before) gone.ended.steps ∙ (ap (λ l. there ++ arrivals_in l) gone.ended.does ∙ (nil-right there ∙ b.own)));
+        own = ap arrivals_in last ∙ (arrivals-append (own_steps k gone.before) gone.ended.steps ∙ (ap (λ l. there ++ arrivals_in l) gone.ended.does ∙ (nil-right there ∙ (b.own ∙ a.brought.own))));
+        last = λ none. subst EndsByGone (sym (last ∙ ap (λ ss. own_steps k gone.before ++ ss) gone.ended.does)) (ends-append (own_steps k gone.before) (Ends h Reader ∷ []) (b.last (a.brought.no_gone none)) (λ l. l, tt) tt);
         owned = gone.ended.owned;
         done = λ other no_end kept.
-            done-kept the_core the-laws o.boot o.list o.hosts k gone.before new gone.ended h gone.ended.does (b.no_end no_end)
+            done-kept the_core the-laws o.boot o.list o.hosts k gone.before new gone.ended h gone.ended.does (b.no_end (a.brought.no_end no_end))
             (gone-keeps o k h mid gone.before r (λ e. other (stored e)) gone.gone (landed (λ e. other (earlier e))));
       }

@@ -1,19 +1,21 @@
 -- What a reader did.
-use Rattle.std.specs.Prelude.{◌≡◌, ◌≢◌, ◌⊎◌, ℕ, ◌<◌, ◌≤◌, ◌++◌, ◌∷◌, [], Bool, true, false, List, Option, Some, None, Result, Ok, Err, length, nat_lt, if◌then◌else◌}
+use Rattle.std.specs.Prelude.{◌≡◌, ◌≢◌, ◌⊎◌, ℕ, ◌<◌, ◌≤◌, ◌++◌, ◌∷◌, [], Contains, Bool, true, false, List, Option, Some, None, Result, Ok, Err, length, nat_lt, if◌then◌else◌}
 use Rattle.ps_types.specs.Lines.{lines_of}
 use Rattle.ps_types.specs.declared.entry.Arrival.{Arrival}
 use Rattle.ps_types.specs.declared.entry.Arrival.TheVariants.{Line, TooLong}
 use Rattle.ps_io.specs.Clock.{noted}
-use Rattle.ps_wire.specs.Reading.{IsWithoutLine}
+use Rattle.ps_wire.specs.Reading.{IsWithoutLine, held_of}
+use Rattle.ps_wire.specs.declared.lines.Lines.{Lines}
+use Rattle.ps_wire.specs.declared.streams.Source.{Ghosts as SourceGhosts}
 use Rattle.ps_model.specs.TheCore.{the_core}
 use Rattle.ps_model.specs.declared.steps.Step.{Step}
-use Rattle.ps_model.specs.declared.steps.Step.TheVariants.{Gone}
+use Rattle.ps_model.specs.declared.steps.Step.TheVariants.{Arrive, Flush, Take, Emit, Record, Gone, Ended as Ends, Broken, Crash}
 use Rattle.ps_twin.specs.declared.twin.TwinSeat.{TwinSeat}
 use Rattle.ps_twin.specs.Seats.{number_of, seen_of}
 use Rattle.ps_trace.specs.declared.deed.Deed.{Deed}
 use Rattle.ps_trace.specs.Did.{IsKept}
 use Rattle.ps_trace.specs.Over.{ReaderDone}
-use Rattle.ps_trace.specs.Own.{AreOwned, HasNoEnd, arrivals_in, own_steps}
+use Rattle.ps_trace.specs.Own.{AreOwned, HasNoEnd, Lays, arrivals_in, own_steps}
 use Rattle.ps_hall_state.specs.Shape.{IsArrival}
 use Rattle.ps_hall_flush.specs.Homes.{world_at}
 use Rattle.ps_hall_flush.specs.Origin.{Origin}
@@ -56,6 +58,10 @@ CameOf (Some all) None arrivals = ⊥
 CameOf (Some all) (Some left) arrivals =
     (given : List (List ℕ)) × (lines_of all ≡ given ++ lines_of left) × AreLinesOf arrivals given
 
+-- a whole line is held, so that the next one is at hand
+abbrev pub HoldsLine : {S : Type 0} {g : SourceGhosts S} → Lines S g → Type 0
+HoldsLine lines = Contains (held_of lines) 10
+
 -- nothing is left of the bytes that there were
 abbrev pub IsEnd : Option (List ℕ) → Option (List ℕ) → Type 0
 IsEnd None left = Unit {0}
@@ -95,10 +101,45 @@ pub record NoneComes (before left : Option (List ℕ)) (told now : Option (List 
 
 -- ---- steps
 
--- the pass brought these arrivals, and did not say that its reader has ended
+-- the step does not say that a host's callers are gone
+abbrev pub IsNoGone : Step → Type 0
+IsNoGone (Arrive g arrival full) = Unit {0}
+IsNoGone (Flush m) = Unit {0}
+IsNoGone (Take g) = Unit {0}
+IsNoGone (Emit a) = Unit {0}
+IsNoGone (Record a) = Unit {0}
+IsNoGone (Gone g) = ⊥
+IsNoGone (Ends g role) = Unit {0}
+IsNoGone Broken = Unit {0}
+IsNoGone (Crash m) = Unit {0}
+
+abbrev pub HasNoGone : List Step → Type 0
+HasNoGone [] = Unit {0}
+HasNoGone (s ∷ ss) = IsNoGone s × HasNoGone ss
+
+-- no line is brought, nor is said that the callers are gone
+abbrev pub LaysNothing : List Step → Type 0
+LaysNothing [] = Unit {0}
+LaysNothing (s ∷ ss) = (Lays s → ⊥) × LaysNothing ss
+
+-- once it was said that the callers are gone, nothing is laid any more
+abbrev pub EndsByGone : List Step → Type 0
+EndsByGone [] = Unit {0}
+EndsByGone (Arrive g arrival full ∷ ss) = EndsByGone ss
+EndsByGone (Flush m ∷ ss) = EndsByGone ss
+EndsByGone (Take g ∷ ss) = EndsByGone ss
+EndsByGone (Emit a ∷ ss) = EndsByGone ss
+EndsByGone (Record a ∷ ss) = EndsByGone ss
+EndsByGone (Gone g ∷ ss) = LaysNothing ss
+EndsByGone (Ends g role ∷ ss) = EndsByGone ss
+EndsByGone (Broken ∷ ss) = EndsByGone ss
+EndsByGone (Crash m ∷ ss) = EndsByGone ss
+
+-- the pass brought these arrivals, and said neither that its host's callers are gone nor that its reader has ended
 pub record Brought (o : Origin) (k : ℕ) (old new : List Deed) (arrivals : List Arrival) : Type 0 where
   pub own : arrivals_in (own_steps k new) ≡ arrivals_in (own_steps k old) ++ arrivals
   pub no_end : HasNoEnd (own_steps k old) → HasNoEnd (own_steps k new)
+  pub no_gone : HasNoGone (own_steps k old) → HasNoGone (own_steps k new)
   pub owned : AreOwned o.hosts new
 
 -- one line was brought, and none after a refusal
@@ -185,6 +226,7 @@ pub record StreamRead (o : Origin) (host : List ℕ) (k : ℕ) (old new : List D
   pub arrived : List Arrival
   pub lined : Lined end before source told now arrived
   pub own : arrivals_in (own_steps k new) ≡ arrivals_in (own_steps k old) ++ arrived
+  pub last : HasNoGone (own_steps k old) → EndsByGone (own_steps k new)
   pub owned : AreOwned o.hosts new
   pub done : end ≢ Store → HasNoEnd (own_steps k old) → IsKept the_core o.boot o.list o.hosts k old
       → ReaderDone the_core o.boot o.list host k new

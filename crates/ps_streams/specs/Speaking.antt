@@ -13,6 +13,7 @@ use Rattle.ps_disk.specs.declared.device.Disk.{Ghosts}
 use Rattle.ps_twin.specs.declared.twin.TwinSeat.{TwinSeat}
 use Rattle.ps_twin.specs.Seats.{number_of, seen_of}
 use Rattle.ps_trace.specs.declared.deed.Deed.{Deed}
+use Rattle.ps_trace.specs.Did.{HasInHand}
 use Rattle.ps_trace.specs.Over.{IsOver, WriterDone}
 use Rattle.ps_trace.specs.Own.{AreOwned, own_steps, words_by}
 use Rattle.ps_trace.specs.Words.{Word, bytes_of, notes_in, records_in}
@@ -64,10 +65,11 @@ pub record SpokeWhole (o : Origin) (k : ℕ) (old new : List Deed) (before now :
 
 -- ---- ends
 
--- at a deed that was seen the store was so long that a Record of a notice to an address of the host would pass the limit
+-- At a deed that was seen the store was so long that the Record of a notice to an address of the host would pass the limit. That notice was said, and is in hand still.
 pub record HadNoRoom (o : Origin) (host : List ℕ) (seen : List Deed) : Type 0 where
   pub to : Jid
   pub here : to.host ≡ host
+  pub hand : HasInHand host to (world_at o seen)
   pub over : FoundOver o (Handed to) seen
 
 -- the step does not say that a writer has ended

@@ -10,7 +10,7 @@ ghost use Rattle.ps_twin.specs.Seats.{number_of, seen_of};
 ghost use Rattle.ps_hall_flush.specs.Flush.{SeatFlushes};
 ghost use Rattle.ps_hall.specs.Calls.{FoundOver, IsReader};
 ghost use Rattle.ps_streams.specs.Speaking.{FindsBroken, IsSamePass};
-ghost use Rattle.ps_streams.specs.Reading.{ClockGives, Comes, NoneComes, SaidGone, SeatBrings, SeatFoundClosed, SeatIsKept, SeatNextRead, SeatReads, SeatStreamRead, SeatTakes, WasAsked, brings_all, says_gone};
+ghost use Rattle.ps_streams.specs.Reading.{ClockGives, Comes, HoldsLine, NoneComes, SaidGone, SeatBrings, SeatFoundClosed, SeatIsKept, SeatNextRead, SeatReads, SeatStreamRead, SeatTakes, WasAsked, brings_all, says_gone};
 
 use crate::idle::{FOR_ROOM, await_news};
 use ps_disk::Disk;
@@ -43,7 +43,9 @@ pub enum ReadEnd {
 fn end_of_lines(why: NextLineRefusal) -> ReadEnd
     ensures ended { result ≡ ReadEnd.Ended → ⊥ }
     ensures fault { result ≡ ReadEnd.ReadFault → why ≡ NextLineRefusal.ReadFault }
+    ensures from_fault { why ≡ NextLineRefusal.ReadFault → result ≡ ReadEnd.ReadFault }
     ensures long { result ≡ ReadEnd.Long → why ≡ NextLineRefusal.Long }
+    ensures from_long { why ≡ NextLineRefusal.Long → result ≡ ReadEnd.Long }
     ensures store { result ≡ ReadEnd.Store → ⊥ }
     ensures closed { result ≡ ReadEnd.Closed → ⊥ }
     ensures room { result ≡ ReadEnd.Full → ⊥ }
@@ -55,17 +57,20 @@ fn end_of_lines(why: NextLineRefusal) -> ReadEnd
     }
 }
 
+// Of a line that was not taken though there was room for its reply.
 fn end_of_line(refusal: ArriveRefusal) -> ReadEnd
+    requires { refusal ≢ ArriveRefusal.Again }
     ensures some { brings_all result ≡ true → ⊥ }
     ensures store { refusal ≡ ArriveRefusal.Store → result ≡ ReadEnd.Store }
     ensures from_store { result ≡ ReadEnd.Store → refusal ≡ ArriveRefusal.Store }
+    ensures closed { refusal ≡ ArriveRefusal.Closed → result ≡ ReadEnd.Closed }
     ensures from_closed { result ≡ ReadEnd.Closed → refusal ≡ ArriveRefusal.Closed }
     ensures room { result ≡ ReadEnd.Full → ⊥ }
 {
     match refusal {
         ArriveRefusal::Closed => ReadEnd::Closed,
         ArriveRefusal::Store => ReadEnd::Store,
-        ArriveRefusal::Again => ReadEnd::Memory,
+        ArriveRefusal::Again => unreachable!(),
         ArriveRefusal::Memory => ReadEnd::Memory,
     }
 }
@@ -76,6 +81,8 @@ fn worse(end: ReadEnd, refusal: HandedRefusal) -> ReadEnd
     ensures earlier { end ≡ ReadEnd.Store → result ≡ ReadEnd.Store }
     ensures store { refusal ≡ HandedRefusal.Store → result ≡ ReadEnd.Store }
     ensures from_store { result ≡ ReadEnd.Store → (end ≡ ReadEnd.Store) ⊎ (refusal ≡ HandedRefusal.Store) }
+    ensures full { (end ≡ ReadEnd.Full) ⊎ (refusal ≡ HandedRefusal.Full)
+        → (result ≡ ReadEnd.Full) ⊎ (result ≡ ReadEnd.Store) }
     ensures from_full { result ≡ ReadEnd.Full → (end ≡ ReadEnd.Full) ⊎ (refusal ≡ HandedRefusal.Full) }
     ensures never { says_gone result ≡ true → ⊥ }
 {
@@ -97,13 +104,15 @@ fn moment<C: Clock>(clock: &mut C) -> Option<u64>
     }
 }
 
-// The line that comes next, as it arrives.
-fn next_arrival<S: Source, C: Clock>(
+// The line that comes next, as it arrives. It may have to wait for that, unless the line is at hand: so all that the pass laid is flushed then.
+fn next_arrival<B: Opening, D: Disk, S: Source, C: Clock>(
     alloc: Global,
+    pass: &Pass<B, D>,
     lines: &mut Lines<S>,
     clock: &mut C,
 ) -> Result<Option<Arrival>, ReadEnd>
     requires going { stopped_of lines.old ≡ None }
+    requires flushed { HoldsLine lines.old ⊎ SeatIsKept B.origin pass.now.seat }
     ensures some { IfOk result (λ next. IfSome next
         (Comes (rest_of lines.old) (rest_of lines.new) (C.told clock.old) (C.told clock.new))) }
     ensures none { IfOk result (λ next. IfNone next
@@ -151,12 +160,21 @@ fn flush_all<B: Opening, D: Disk, R: Wait>(
     ensures same { IsSamePass pass.old pass.new }
     ensures brings { SeatBrings B.origin pass.old.seat pass.new.seat [] }
     ensures flushes { OnOk result (SeatFlushes B.origin pass.old.seat pass.new.seat) }
+    ensures kept { OnOk result (SeatIsKept B.origin pass.new.seat) }
     ensures fault { IfErr result (λ e. (e ≡ ReadEnd.Store) × FindsBroken B.origin pass.new.seat) }
 {
     match hall.flush(rt, pass) {
         Ok(()) => Ok(()),
         Err(FlushRefusal::Store) => Err(ReadEnd::Store),
     }
+}
+
+// Waits for a reply to be taken. All that the pass laid is flushed then.
+fn await_room<B: Opening, D: Disk, R: Wait>(rt: &R, hall: &Hall<B, D>, pass: &Pass<B, D>)
+    requires flushed { SeatIsKept B.origin pass.now.seat }
+{
+    let heard = hall.news(pass);
+    await_news(rt, hall, pass, heard, FOR_ROOM);
 }
 
 // Waits for a reply to be taken. Those that wait may be of lines that only this reader flushes, and what is not flushed is not taken: so it flushes first. That
@@ -173,8 +191,7 @@ fn make_room<B: Opening, D: Disk, R: Wait>(
     ensures fault { IfErr result (λ e. (e ≡ ReadEnd.Store) × FindsBroken B.origin pass.new.seat) }
 {
     flush_all(rt, hall, pass)?;
-    let heard = hall.news(pass);
-    await_news(rt, hall, pass, heard, FOR_ROOM);
+    await_room(rt, hall, pass);
     Ok(())
 }
 
@@ -217,6 +234,7 @@ fn flush_to_wait<B: Opening, D: Disk, R: Wait, S: Source>(
     ensures reader { IsReader B.origin hall.now.twin pass.new.at pass.new.host pass.new.seat }
     ensures same { IsSamePass pass.old pass.new }
     ensures brings { SeatBrings B.origin pass.old.seat pass.new.seat [] }
+    ensures waits { OnOk result (HoldsLine lines.now ⊎ SeatIsKept B.origin pass.new.seat) }
     ensures fault { IfErr result (λ e. (e ≡ ReadEnd.Store) × FindsBroken B.origin pass.new.seat) }
 {
     if lines.holds_line() {
@@ -257,7 +275,7 @@ fn read_next<B: Opening, D: Disk, R: Wait + Threads + Sync, S: Source, C: Clock>
         → S.left (source_of lines.new) ≡ nothing_of (S.left (source_of lines.new))) }
 {
     flush_to_wait(rt, hall, pass, lines)?;
-    match next_arrival(alloc, lines, clock) {
+    match next_arrival(alloc, pass, lines, clock) {
         Ok(Some(arrival)) => match take_line(rt, hall, pass, &arrival) {
             Ok(()) => Ok(true),
             Err(end) => Err(end),

@@ -10,7 +10,7 @@ use Rattle.ps_hall_flush.specs.Homes.{world_at}
 use Rattle.ps_hall.specs.declared.answers.Next.TheVariants.{NotYet, Notice, Over, Reply}
 use Rattle.ps_hall.specs.declared.answers.EndCause.{EndCause}
 use Rattle.ps_streams.specs.Speaking.{HasLanded}
-use Rattle.ps_streams.proofs.Causes.{hand-landed, handed-store}
+use Rattle.ps_streams.proofs.Causes.{hand-landed, hand-still, handed-store}
 use Rattle.ps_streams.proofs.Ending.{ends-after, goes-handed, goes-next, handed-ends}
 use Rattle.ps_streams.proofs.Looping.{err-same, the_err}
 use Rattle.ps_streams.proofs.Saying.{free_of, handed-as, next-as, note-part, note-whole, over-found, quiet-speaks, reply-part, reply-whole, told, writes_of}
@@ -141,10 +141,13 @@ returns-in-Ok-write_line-clause-full g c = λ e. (
     let old = seen_of c.args.pass.now.seat in
     let new = seen_of c.next.new.pass.seat in
     let t = told o k h Memory hand old new c.in-Ok-Notice.line (next-as o k h Memory hand old new c.in-Ok-Notice.field-0 (Notice c.in-Ok-Notice.line) c.in-Ok-Notice.field-0-is c.in-Ok-Notice.ensures.does) c.requires.differ (writes_of o c.args.hall.now.twin c.args.pass.now c.requires.ready) (free_of o c.args.hall.now.twin c.args.pass.now c.requires.ready) in
+    let full = c.end_of.ensures.full (err-same c.end_of.result _ e) in
+    let kept = c.in-Err-handed.ensures.kept (λ s. absurd (cc (sym full ∙ s))) in
     record {
       to = t.to;
       here = t.host;
-      over = c.in-Err-handed.ensures.over t.to t.in_hand (ap (λ (x : HandedRefusal). the_err (Unit {0}) x) (c.end_of.ensures.full (err-same c.end_of.result _ e)));
+      hand = hand-still o (seen_of c.handed.new.pass.seat) c.handed.new.pass.in_hand t.to c.next.new.pass.host h (c.in-Err-handed.ensures.still ∙ t.in_hand) c.next.ensures.same.1 kept;
+      over = c.in-Err-handed.ensures.over t.to t.in_hand (ap (λ (x : HandedRefusal). the_err (Unit {0}) x) full);
     })
 
 pub returns-in-Ok-clause-going : goal.returns-in-Ok-clause-going
