@@ -2,6 +2,7 @@
 use Rattle.std.proofs.Common.{◌≡◌, ◌⊎◌, inl, inr, ℕ, ◌+◌, ◌≤◌, List, [], ◌∷◌, ◌++◌, length, map, take, Some, refl, ap, sym, ◌∙◌, subst, arith}
 use Rattle.std.specs.Prelude.{slice_get}
 use Rattle.ps_types.specs.declared.entry.Arrival.{Arrival}
+use Rattle.ps_types.specs.declared.entry.Entry.{Entry}
 use Rattle.ps_types.specs.declared.jid.Jid.{Jid}
 use Rattle.ps_model.specs.Core.{handed}
 use Rattle.ps_model.specs.CoreLaws.{IsLawful}
@@ -30,14 +31,16 @@ use Rattle.ps_hall_flush.specs.Homes.{HadNoRoom, maker_of, world_at}
 use Rattle.ps_hall_flush.specs.Origin.{Origin}
 use Rattle.ps_hall.specs.declared.answers.EndCause.{EndCause}
 use Rattle.ps_hall.specs.declared.answers.EndCause.TheVariants.{Finished, WriteFault}
-use Rattle.ps_hall_flush.proofs.Logs.{none_of}
-use Rattle.ps_streams.specs.Reading.{Lined}
+use Rattle.ps_hall_flush.proofs.Logs.{none_of, same_cut}
+use Rattle.ps_streams.specs.Reading.{EndsByGone, Lined}
 use Rattle.ps_workers.specs.Headline.{IsAllSaid, ServesStream, Worked, base_of}
-use Rattle.ps_workers.specs.Told.{AreOurs, IsAcknowledged}
+use Rattle.ps_workers.specs.Told.{AreBeforeGone, AreOurs, GoneIsLast, IsAcknowledged, LacksAtMostOne}
 use Rattle.ps_workers.specs.Working.{ReaderMade, WriterMade}
 use Rattle.ps_workers.proofs.Acknowledging.{acknowledged}
+use Rattle.ps_workers.proofs.Again.{again-durable}
 use Rattle.ps_workers.proofs.Filling.{full-run}
 use Rattle.ps_workers.proofs.Leaving.{has-gone}
+use Rattle.ps_workers.proofs.Made.{run-grows}
 use Rattle.ps_workers.proofs.Ours.{words-ours}
 use Rattle.ps_workers.proofs.ReadBack.{each-line, reads-back, reads-whole}
 
@@ -106,6 +109,9 @@ module _ (o : Origin) (log : List Deed) (lawful : IsLawful the_core o.list) (nam
       let arrivals : r.read.arrived ≡ map arrival_in cs = brought seen r.read.arrived kept r.read.own in
       let words_are : ws ≡ whole ++ last = said seen_too (whole ++ last) kept_too spoke.words in
       let stand = run-lines the_core h the-laws o.boot base first [] (steps_in log) quiet (begun-lines the_core h o.boot o.list) in
+      let grown = run-grows o.boot o.hosts log first owned in
+      let since_is : grown.since ≡ stand.since = (same_cut base base grown.since stand.since (sym grown.list ∙ stand.list) refl).1 in
+      let ends : EndsByGone (own_steps (i + i) log) = subst EndsByGone (sym (own_seen (i + i) seen log kept)) (r.read.last tt) in
       let front_is : IsFront the_core base h at cs (whole ++ last) = subst (IsFront the_core base h at cs) words_are (is-front the_core the-laws o.boot named o.list lawful o.hosts h log owned) in
       let ours : AreOurs h (whole ++ last) = subst (AreOurs h) words_are (words-ours the_core h o.boot first (steps_in log)) in
       let acked : IsAcknowledged (durable at) h cs (whole ++ last) =
@@ -130,6 +136,7 @@ module _ (o : Origin) (log : List Deed) (lawful : IsLawful the_core o.list) (nam
           front = front_is;
           ours = ours;
           recorded = recorded;
+          again = subst (LacksAtMostOne base (take (durable at) at.entries) h) words_are (again-durable o log lawful named owned h);
           acknowledged = acked;
           one_line = each-line base h at cs whole last (durable at) fits sound.lawful stand.lines front_is ours acked;
           reads_back = λ tells_all.
@@ -138,7 +145,9 @@ module _ (o : Origin) (log : List Deed) (lawful : IsLawful the_core o.list) (nam
           gone = λ says. (
               let g = r.gone says in
               has-gone the_core the-laws o.boot o.list h (i + i) log g.front g.rest quiet (own_seen (i + i) seen log kept ∙ g.is));
-          causes = record { read_later = r.later; read_fault = r.fault; long = r.long; early = r.early; write_later = w.later; write_fault = w.fault };
+          gone_last = subst (GoneIsLast h) since_is (grown.last h (i + i) differ (i, here, refl) ends);
+          gone_later = subst (λ (es : List Entry). AreBeforeGone h (length base) es cs) since_is (grown.before h (i + i) differ (i, here, refl) ends);
+          causes = record { read_later = r.later; read_fault = r.fault; long = r.long; early = r.early; spent = r.spent; write_later = w.later; write_fault = w.fault };
         },
         λ all finished. (
             let d = (w.done finished).done in

@@ -2,6 +2,7 @@
 use Rattle.std.proofs.Common.{◌≡◌, ℕ, ◌+◌, ◌<◌, ◌≤◌, ◌^◌, true, List, Option, sym, subst, arith}
 use Rattle.ps_base.specs.Causes.{Rose}
 use Rattle.ps_disk.specs.declared.device.Disk.{Ghosts}
+use Rattle.ps_wire.specs.AtEnd.{nothing_of}
 use Rattle.ps_wire.specs.Reading.{Gave, IsFresh, given_of, rest_of, source_of}
 use Rattle.ps_wire.specs.declared.lines.Lines.{Lines}
 use Rattle.ps_wire.specs.declared.streams.Source.{Ghosts as SourceGhosts}
@@ -48,10 +49,10 @@ module _ {B D S C K : Type 0} {g : Ghosts D} {s : SourceGhosts S} (o : Origin) (
         → SeatStreamRead o old.pass.host old.pass.seat p.seat (rest_of lines) (s.left (source_of now)) (told clock) (told clock_now) end
         → s.faults (source_of lines) ≤ s.faults (source_of now) → (end ≡ ReadFault → Rose (s.faults (source_of lines)) (s.faults (source_of now))) → (end ≡ Long → given_of now ≡ 2 ^ 40)
         → (says_gone end ≡ true → SaidGone old.pass.host (number_of old.pass.seat) (seen_of p.seat))
-        → Gave (s.left (source_of lines)) (s.left (source_of now)) (given_of lines) (given_of now) → (end ≡ Ended → given_of now < 2 ^ 40)
+        → Gave (s.left (source_of lines)) (s.left (source_of now)) (given_of lines) (given_of now) → (end ≡ Ended → given_of now < 2 ^ 40) → (end ≡ Ended → s.left (source_of now) ≡ nothing_of (s.left (source_of now)))
         → (end ≡ ReaderStore → FindsBroken o p.seat) → (end ≡ ReaderFull → FoundOver o (Gone old.pass.host) (seen_of p.seat)) → (end ≡ Closed → SeatFoundClosed o old.pass.host old.pass.seat p.seat)
         → DidWork o t (clocks clock_faults told) (sinks sink_faults written) old (record { pass = p; work = Reader now clock_now end })
-    did_read lines now clock clock_now e end is reader same read later fault long gone gave early broke full closed =
+    did_read lines now clock clock_now e end is reader same read later fault long gone gave early spent broke full closed =
         let fresh = (may_read lines clock e is).1 in
         let k = number_of old.pass.seat in
         let first : SeatStreamRead o old.pass.host old.pass.seat p.seat (s.left (source_of lines)) (s.left (source_of now)) (told clock) (told clock_now) end =
@@ -67,6 +68,7 @@ module _ {B D S C K : Type 0} {g : Ghosts D} {s : SourceGhosts S} (o : Origin) (
               fault = fault;
               long = λ at_end. (gave.0, gave.1, all_given (given_of lines) _ (given_of now) (2 ^ 40) gave.2 fresh.given_none (long at_end));
               early = λ at_end. (gave.0, gave.1, fewer_given (given_of lines) _ (given_of now) (2 ^ 40) gave.2 fresh.given_none (early at_end));
+              spent = spent;
               broke = broke;
               full = full;
               closed = λ at_end. closed at_end (subst (λ (l : List Deed). HasNoEnd (own_steps k l)) (sym ready.fresh) tt);

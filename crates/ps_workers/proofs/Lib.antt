@@ -1,8 +1,10 @@
 pub mod Acknowledging
+pub mod Again
 pub mod Leaving
 pub mod Filling
 pub mod Heading
 pub mod Finishing
+pub mod Made
 pub mod Reasons
 pub mod Spelled
 pub mod Given

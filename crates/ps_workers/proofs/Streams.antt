@@ -37,6 +37,7 @@ use Rattle.ps_workers.specs.Working.{DidWork, IsReady, ReaderMade, WriterMade}
 use Rattle.ps_workers.specs.declared.serving.Ended.{Ended}
 use Rattle.ps_workers.specs.declared.work.Worker.{Worker}
 use Rattle.ps_workers.proofs.Heading.{HasSeen, has_seen, serves_stream}
+use Rattle.ps_workers.proofs.Made.{run-grows}
 use Rattle.ps_workers.proofs.Reasons.{reasons}
 use Rattle.ps_workers.proofs.Spelled.{durable-spelled}
 use Rattle.ps_workers.proofs.Teaming.{AllDid, all_did, are_paired, ended_size, made_at, passes_back, seats_at, team_length, team_ready, worked_size}
@@ -94,19 +95,21 @@ module _ {B D S C K : Type 0} {g : Ghosts D} {s : SourceGhosts S} (o : Origin) (
   pub serves : Serves o v y worked
   serves =
       let w = world_at o ended.log in
-      let on = run_follows the_core o.boot (start the_core o.boot o.list) (steps_in ended.log) (calm o.hosts ended.log ended.owned) in
+      let on = run-grows o.boot o.hosts ended.log (start the_core o.boot o.list) ended.owned in
+      let later = run_follows the_core o.boot (start the_core o.boot o.list) (steps_in ended.log) (calm o.hosts ended.log ended.owned) in
       record {
         world = w;
         stands = ended.stands;
-        since = on.more;
-        begins = on.entries;
+        since = on.since;
+        begins = on.list;
+        made = on.each;
         kept = ended.kept;
         are_entries = spelled;
         whole = ended.whole;
         length_is = ended.length_is;
         limits = ended.limits;
         rows = ended.rows;
-        opened = on.opened;
+        opened = later.opened;
         broken = ended.broken;
         fault = ended.fault;
         faults = ended.faults;
@@ -122,7 +125,7 @@ module _ {B D S C K : Type 0} {g : Ghosts D} {s : SourceGhosts S} (o : Origin) (
         reasons = λ i h x here there.
             let m = made_at o t clock_of sink_of ps ports ws same all passes i x there in
             let host : m.0 ≡ h = some_same m.0 h (sym m.3.here ∙ here) in
-            subst (λ (k : List ℕ). HasReasons o v y k x) host
+            subst (λ (k : List ℕ). HasReasons o v y w.entries k x) host
             (reasons o v y (seats_in (passes_in ws)) ended differ i m.0 m.3.here x (seen_of m.1.reader.seat) (seen_of m.1.writer.seat) m.3.reader (seen_reader i m.1 m.2) m.3.writer (seen_writer i m.1 m.2));
         others = λ a unserved. none-handed the_core o.boot o.hosts a.host unserved the-laws ended.named o.list ended.lawful ended.log ended.owned a refl;
       }

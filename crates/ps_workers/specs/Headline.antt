@@ -6,9 +6,10 @@ use Rattle.ps_base.specs.Causes.{Rose}
 use Rattle.ps_types.specs.declared.jid.Jid.{Jid}
 use Rattle.ps_types.specs.declared.entry.Entry.{Entry}
 use Rattle.ps_types.specs.declared.entry.Entry.TheVariants.{Boot, Gone, Handed}
+use Rattle.ps_wire.specs.AtEnd.{nothing_of}
 use Rattle.ps_disk.specs.declared.device.Disk.{Ghosts}
 use Rattle.ps_model.specs.Core.{handed}
-use Rattle.ps_model.specs.Entries.{AreEntries, spelling}
+use Rattle.ps_model.specs.Entries.{AreEntries, IsBare, spelling}
 use Rattle.ps_model.specs.TheCore.{the_core}
 use Rattle.ps_model.specs.World.{World, durable}
 use Rattle.ps_io.specs.Held.{Held, HeldClock}
@@ -30,7 +31,7 @@ use Rattle.ps_streams.specs.Speaking.{IsFew, Written}
 use Rattle.ps_streams.specs.declared.read.ReadEnd.{ReadEnd}
 use Rattle.ps_streams.specs.declared.read.ReadEnd.TheVariants.{Ended, Long, ReadFault, Closed, Store as ReaderStore, Full as ReaderFull}
 use Rattle.ps_workers.specs.Sinks.{OfGained, ReadsBack, ReadsWhole}
-use Rattle.ps_workers.specs.Told.{AreFull, AreOurs, HasGoneBehind, IsAcknowledged}
+use Rattle.ps_workers.specs.Told.{AreBeforeGone, AreFull, AreMadeFor, AreOurs, GoneIsLast, HasGoneBehind, IsAcknowledged, LacksAtMostOne}
 
 -- ---- a stream
 
@@ -52,28 +53,32 @@ GaveAll before now = (piece : List ℕ) × Consumes before now piece × (length 
 abbrev pub GaveFewer : Option (List ℕ) → Option (List ℕ) → Type 0
 GaveFewer before now = (piece : List ℕ) × Consumes before now piece × (length piece < 2 ^ 40)
 
--- why its workers ended, by the counts of its objects and the bytes of its source
+-- why its workers ended, by the counts of its objects and the bytes of its source: a reader that ended of its own accord left none of these
 pub record HasCauses (t : Worked) : Type 0 where
   pub read_later : t.source.faults ≤ t.source_now.faults
   pub read_fault : t.read ≡ ReadFault → Rose t.source.faults t.source_now.faults
   pub long : t.read ≡ Long → GaveAll t.source.bytes t.source_now.bytes
   pub early : t.read ≡ Ended → GaveFewer t.source.bytes t.source_now.bytes
+  pub spent : t.read ≡ Ended → t.source_now.bytes ≡ nothing_of t.source_now.bytes
   pub write_later : t.sink.faults ≤ t.sink_now.faults
   pub write_fault : t.wrote ≡ WriteFault → Rose t.sink.faults t.sink_now.faults
 
--- a Handed to some address of the host would pass the limit behind so many bytes
-pub record LacksRecord (limit bytes : ℕ) (h : List ℕ) : Type 0 where
+-- A bare address of the host has a notice in this list that is not recorded as handed, and the Handed that records it would pass the limit behind so many bytes.
+pub record LacksRecord (limit bytes : ℕ) (E : List Entry) (h : List ℕ) : Type 0 where
   pub to : Jid
   pub here : to.host ≡ h
+  pub bare : IsBare to
+  pub unhanded : handed E to < length (the_core.notices E to)
   pub over : limit < bytes + length (spelling (Handed to))
 
 -- And why by the state and the store at the end. A worker that met a fault of the disk leaves a store that tells of it; one that found no room would find none at the
 -- end; and where a reader found its writer ended, that one had not finished.
-pub record HasReasons {D : Type 0} {g : Ghosts D} (o : Origin) (v : State) (y : Store D g) (h : List ℕ) (t : Worked) : Type 0 where
+pub record HasReasons {D : Type 0} {g : Ghosts D} (o : Origin) (v : State) (y : Store D g) (E : List Entry) (h : List ℕ)
+    (t : Worked) : Type 0 where
   pub read_store : t.read ≡ ReaderStore → is_some (broken_in y) ≡ true
   pub read_full : t.read ≡ ReaderFull → o.limits.whole < v.length + 5 + length (spelling (Gone h))
   pub write_store : t.wrote ≡ WriterStore → is_some (broken_in y) ≡ true
-  pub write_full : t.wrote ≡ WriterFull → LacksRecord o.limits.whole (v.length + 5) h
+  pub write_full : t.wrote ≡ WriterFull → LacksRecord o.limits.whole (v.length + 5) E h
   pub closed : t.read ≡ Closed → t.wrote ≢ Finished
 
 -- the list that the store had, and the Boot
@@ -97,10 +102,14 @@ module _ (o : Origin) (tells : Type 0) where
     pub front : IsFront the_core (base_of o) h w lines (whole ++ last)
     pub ours : AreOurs h (whole ++ last)
     pub recorded : (a : Jid) → a.host ≡ h → handed w.entries a ≤ handed (base_of o) a + length (notes_in a whole)
+    -- of what was written to an address all but one notice is recorded among the durable entries, which every crash leaves
+    pub again : LacksAtMostOne (base_of o) (take (durable w) w.entries) h (whole ++ last)
     pub acknowledged : IsAcknowledged (durable w) h lines (whole ++ last)
     pub one_line : AllByRecursion IsOneLine (whole ++ last)
     pub reads_back : tells → OfGained t.sink.bytes t.sink_now.bytes (ReadsBack (base_of o) w.entries h lines)
     pub gone : says_gone t.read ≡ true → HasGoneBehind (base_of o) w.entries h
+    pub gone_last : GoneIsLast h stand.since
+    pub gone_later : AreBeforeGone h (length (base_of o)) stand.since lines
     pub causes : HasCauses t
 
   -- nothing is left to say or to record for it, and all of it is read back
@@ -114,14 +123,16 @@ module _ (o : Origin) (tells : Type 0) where
 abbrev pub NoneBroke : List Worked → Type 0
 NoneBroke worked = (i : ℕ) (t : Worked) → slice_get worked i ≡ Some t → (t.read ≢ ReaderStore) × (t.wrote ≢ WriterStore)
 
--- The list of entries is lawful and begins with what the store had and the Boot. A crash leaves a front of it that has all durable entries, each of which has a
--- spelling, and where nothing failed the store has all of it. Each stream is served so, and where no worker met a fault of the disk, all is said for a stream
--- whose writer finished. Each worker's cause shows at the end. An address of a host that is not served keeps its notices.
+-- The list of entries is lawful and begins with what the store had and the Boot; all behind that was made for the hosts that are served. A crash leaves a front of
+-- it that has all durable entries, each of which has a spelling, and where nothing failed the store has all of it. Each stream is served so, and where no worker
+-- met a fault of the disk, all is said for a stream whose writer finished. Each worker's cause shows at the end. An address of a host that is not served keeps its
+-- notices.
 pub record Serves {D : Type 0} {g : Ghosts D} (o : Origin) (v : State) (y : Store D g) (worked : List Worked) : Type 0 where
   pub world : World
   pub stands : Stands v world
   pub since : List Entry
   pub begins : world.entries ≡ base_of o ++ since
+  pub made : AreMadeFor o.hosts since
   pub kept : g.tells → IsKept g o.at (disk_in y) v.flushed world
   pub are_entries : g.tells → AreEntries (take (durable world) world.entries)
   pub whole : v.broken ≡ false → broken_in y ≡ None → IsWhole y world
@@ -137,5 +148,6 @@ pub record Serves {D : Type 0} {g : Ghosts D} (o : Origin) (v : State) (y : Stor
   pub streams : (i : ℕ) (h : List ℕ) (t : Worked) → slice_get o.hosts i ≡ Some h → slice_get worked i ≡ Some t
       → (s : ServesStream o g.tells (v.length + 5) world h t)
       × (NoneBroke worked → t.wrote ≡ Finished → IsAllSaid o g.tells world h (v.length + 5) t s)
-  pub reasons : (i : ℕ) (h : List ℕ) (t : Worked) → slice_get o.hosts i ≡ Some h → slice_get worked i ≡ Some t → HasReasons o v y h t
+  pub reasons : (i : ℕ) (h : List ℕ) (t : Worked) → slice_get o.hosts i ≡ Some h → slice_get worked i ≡ Some t
+      → HasReasons o v y world.entries h t
   pub others : (a : Jid) → (IsServed o.hosts a.host → ⊥) → handed world.entries a ≡ handed (base_of o) a

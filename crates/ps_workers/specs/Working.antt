@@ -2,6 +2,7 @@
 use Rattle.std.specs.Prelude.{◌≡◌, ℕ, ◌≤◌, [], true, List, Option}
 use Rattle.ps_base.specs.Causes.{Rose}
 use Rattle.ps_disk.specs.declared.device.Disk.{Ghosts}
+use Rattle.ps_wire.specs.AtEnd.{nothing_of}
 use Rattle.ps_wire.specs.Reading.{IsFresh, source_of}
 use Rattle.ps_wire.specs.declared.lines.Lines.{Lines}
 use Rattle.ps_wire.specs.declared.streams.Source.{Ghosts as SourceGhosts}
@@ -46,6 +47,7 @@ pub record ReaderMade (o : Origin) (host : List ℕ) (k : ℕ) (seen : List Deed
   pub fault : end ≡ ReadFault → Rose source.faults now.faults
   pub long : end ≡ Long → GaveAll source.bytes now.bytes
   pub early : end ≡ Ended → GaveFewer source.bytes now.bytes
+  pub spent : end ≡ Ended → now.bytes ≡ nothing_of now.bytes
   pub broke : end ≡ ReaderStore → (world_at o seen).broken ≡ true
   pub full : end ≡ ReaderFull → FoundOver o (Gone host) seen
   pub closed : end ≡ Closed → FoundClosed o host k seen

@@ -17,7 +17,7 @@ returns-in-Reader g c =
     let e = c.read_stream.ensures in
     record {
       did = did_read g.B.Opening.origin c.args.hall.now.twin c.args.worker.now c.requires.ready (λ x. g.C.Clock.faults x) (λ x. g.C.Clock.told x) (λ x. g.K.Sink.faults x) (λ x. g.K.Sink.written x) c.read_stream.new.pass
-          c.in-Reader.lines c.read_stream.new.lines c.in-Reader.clock c.read_stream.new.clock c.in-Reader.end c.read_stream.result c.in-Reader.is e.reader e.same e.read e.later e.fault e.long e.gone e.gave e.early e.store e.full e.closed;
+          c.in-Reader.lines c.read_stream.new.lines c.in-Reader.clock c.read_stream.new.clock c.in-Reader.end c.read_stream.result c.in-Reader.is e.reader e.same e.read e.later e.fault e.long e.gone e.gave e.early e.whole e.store e.full e.closed;
     }
 
 pub returns-in-Writer : goal.returns-in-Writer
