@@ -10,14 +10,14 @@ use Rattle.ps_workers.specs.Limits.{Limits}
 use Rattle.ps_workers.specs.State.{State}
 use Rattle.ps_hall_store.specs.Stand.{broken_in}
 use Rattle.ps_hall_store.specs.declared.store.Store.{Store}
-use Rattle.ps_workers.specs.ReadEnd.TheVariants.{Closed}
+use Rattle.ps_workers.specs.ReadEnd.TheVariants.{Closed, Ended}
 use Rattle.ps_workers.specs.Headline.{HasReasons, NoneBroke, Serves, Worked}
 use Rattle.ps_serve.specs.Ends.{IsServing, worst_of}
 use Rattle.ps_serve.specs.Headline.{the_limits}
 use Rattle.ps_serve.specs.Room.{LacksRoom}
 use Rattle.ps_status.specs.declared.status.Status.{Status}
-use Rattle.ps_status.specs.declared.status.Status.TheVariants.{StoreFault, StoreFull}
-use Rattle.ps_serve.proofs.Ranks.{IsOf, met-full, met-store, some-stream}
+use Rattle.ps_status.specs.declared.status.Status.TheVariants.{Done, StoreFault, StoreFull}
+use Rattle.ps_serve.proofs.Ranks.{IsOf, each-done, met-full, met-store, some-stream}
 
 get-there : {X : Type 0} (xs : List X) (k : ℕ) → k < length xs → (x : X) × (slice_get xs k ≡ Some x)
 get-there [] k low = absurd (omega (arith, low))
@@ -31,7 +31,7 @@ cases P (Some x) none some = some refl
 
 module _ {D : Type 0} {g : DiskGhosts D} (o : Origin) (v : State) (y : Store D g) (worked : List Worked) (serves : Serves o v y worked) where
   -- each stream has a host, and its reasons
-  host-of : (i : ℕ) (t : Worked) → slice_get worked i ≡ Some t → (h : List ℕ) × (slice_get o.hosts i ≡ Some h) × HasReasons o v y h t
+  host-of : (i : ℕ) (t : Worked) → slice_get worked i ≡ Some t → (h : List ℕ) × (slice_get o.hosts i ≡ Some h) × HasReasons o v y serves.world.entries h t
   host-of i t here =
       let low = slice_get_within worked i t here in
       let size = serves.size in
@@ -62,7 +62,7 @@ module _ {D : Type 0} {g : DiskGhosts D} (o : Origin) (v : State) (y : Store D g
       let r = (host-of m.at m.stream m.here).2 in
       ⊎_elim r.read_store r.write_store (met-store m.stream.read m.stream.wrote m.is)
 
-  room-by : o.limits ≡ the_limits → IsOf worked StoreFull → LacksRoom o.hosts v.length
+  room-by : o.limits ≡ the_limits → IsOf worked StoreFull → LacksRoom o.hosts serves.world.entries v.length
   room-by limits m =
       let host = host-of m.at m.stream m.here in
       let r = host.2 in
@@ -72,7 +72,7 @@ module _ {D : Type 0} {g : DiskGhosts D} (o : Origin) (v : State) (y : Store D g
       (λ e. (
       let f = r.write_full e in
       let over = f.over in
-      inr (record { to = f.to; here = (m.at, host.1 ∙ ap (λ (x : List ℕ). Some x) (sym f.here)); over = omega (arith, whole, over) })))
+      inr (record { to = f.to; here = (m.at, host.1 ∙ ap (λ (x : List ℕ). Some x) (sym f.here)); bare = f.bare; unhanded = f.unhanded; over = omega (arith, whole, over) })))
       (met-full m.stream.read m.stream.wrote m.is)
 
   -- ---- the status
@@ -91,8 +91,11 @@ module _ {D : Type 0} {g : DiskGhosts D} (o : Origin) (v : State) (y : Store D g
     pub first-cause : st ≢ StoreFault → worst_of worked ≡ st
     first-cause not = sym (streams (whole-is not))
 
-    pub full-is : o.limits ≡ the_limits → st ≡ StoreFull → LacksRoom o.hosts v.length
+    pub full-is : o.limits ≡ the_limits → st ≡ StoreFull → LacksRoom o.hosts serves.world.entries v.length
     full-is limits e = room-by limits (some-stream worked StoreFull (λ f. cc f) (first-cause (λ f. absurd (cc (e, f))) ∙ e))
+
+    pub all-finished : st ≡ Done → (i : ℕ) (t : Worked) → slice_get worked i ≡ Some t → (t.read ≡ Ended) × (t.wrote ≡ Finished)
+    all-finished e i t here = each-done worked (first-cause (λ f. absurd (cc (e, f))) ∙ e) i t here
 
     pub is-serving : IsServing (worst_of worked) → IsServing st
     is-serving is =

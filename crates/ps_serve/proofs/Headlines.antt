@@ -33,7 +33,8 @@ use Rattle.ps_serve.specs.Starts.{at_of, start_of}
 use Rattle.ps_status.specs.declared.status.Status.{Status}
 use Rattle.ps_status.specs.declared.status.Status.TheVariants.{StoreDamaged, StoreFault}
 use Rattle.ps_serve.specs.declared.storing.Run.{Run}
-use Rattle.ps_serve.proofs.Causes.{calm, fault-is, first-cause, full-is, is-serving, none-broke, not-finished, whole-is}
+use Rattle.ps_serve.proofs.Causes.{all-finished, calm, fault-is, first-cause, full-is, is-serving, none-broke, not-finished, whole-is}
+use Rattle.ps_serve.proofs.Longest.{each-lacks, has-longest}
 use Rattle.ps_serve.proofs.Ranks.{serving}
 
 -- a store that has entries has a closed gate behind its frames
@@ -160,6 +161,9 @@ module _ {D : Type 0} {g : DiskGhosts D} (disk : D) (service : List ℕ) (hosts 
               (λ bs begun. len ∙ l.closed.long tells none bs (subst (λ (d : D). Begun (g.seen d) bs) (sym l.closed.is) begun));
         }
 
+    lasts-now : g.tells → (c : List ℕ) → MayLeave (g.synced (disk_in l.store)) (g.written (disk_in l.store)) c → IsFront w.entries (durable w) c
+    lasts-now tells c may = subst (λ (n : ℕ). IsFront w.entries (ends n w.made) c) l.serves.stands.flushed ((l.serves.kept tells).now c may)
+
     at-store : Headline g.tells service hosts worked (held_as g disk) (held_as g (disk_in l.store)) (g.left_since (disk_in l.store)) run.status
     at-store = record {
       origin = origin_at;
@@ -173,9 +177,11 @@ module _ {D : Type 0} {g : DiskGhosts D} (disk : D) (service : List ℕ) (hosts 
         lawful = l.serves.stands.sound.lawful;
         since = l.serves.since;
         begins = l.serves.begins;
+        made = l.serves.made;
         enough = enough-durable;
         are_entries = l.serves.are_entries;
-        lasts = λ tells c may. subst (λ (n : ℕ). IsFront w.entries (ends n w.made) c) l.serves.stands.flushed ((l.serves.kept tells).now c may);
+        lasts = lasts-now;
+        longest = λ tells. has-longest w.entries (durable w) (g.synced (disk_in l.store)) (g.written (disk_in l.store)) (lasts-now tells);
         crash = λ tells tidy c left. elim (((l.serves.kept tells).since_start tidy).left c left) [
           | inl may ↦ inl may
           | inr front ↦ inr (subst (λ (n : ℕ). IsFront w.entries n c) opened-less front)
@@ -185,6 +191,9 @@ module _ {D : Type 0} {g : DiskGhosts D} (disk : D) (service : List ℕ) (hosts 
       streams = λ i h t at_h at_t.
           let p = l.serves.streams i h t at_h at_t in
           (p.0, λ not fin. p.1 (none-broke origin_at l.state l.store worked l.serves (unbroken not)) fin);
+      again = λ tells i h t at_h at_t.
+          let s = (l.serves.streams i h t at_h at_t).0 in
+          each-lacks w.entries (durable w) (g.synced (disk_in l.store)) (g.written (disk_in l.store)) (lasts-now tells) base h (s.whole ++ s.last) s.again;
       others = l.serves.others;
       ended = record {
         streams = first-cause origin_at l.state l.store worked l.serves run.status l.ends.broken by-streams;
@@ -193,6 +202,7 @@ module _ {D : Type 0} {g : DiskGhosts D} (disk : D) (service : List ℕ) (hosts 
             rose-since (g.faults disk) (g.faults (disk_in y0)) (g.faults (disk_in l.store)) later
             (l.serves.fault (fault-is origin_at l.state l.store worked l.serves run.status l.ends.broken by-streams e));
         full = full-is origin_at l.state l.store worked l.serves run.status l.ends.broken by-streams is.limits_are;
+        done = all-finished origin_at l.state l.store worked l.serves run.status l.ends.broken by-streams;
         closed = not-finished origin_at l.state l.store worked l.serves;
         served = is-serving origin_at l.state l.store worked l.serves run.status l.ends.broken by-streams (serving (λ (t : Worked). t.read) (λ (t : Worked). t.wrote) worked);
       };

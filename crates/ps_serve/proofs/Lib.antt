@@ -4,6 +4,7 @@ mod Ranks
 mod Stored
 mod Pairs
 mod Causes
+mod Longest
 mod Headlines
 mod Opened
 mod Over

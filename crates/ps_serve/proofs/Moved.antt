@@ -40,13 +40,16 @@ module _ (tells : Type 0) (service : List ℕ) (st : Status) (left left1 : ℕ �
       lawful = h.list.lawful;
       since = h.list.since;
       begins = h.list.begins;
+      made = h.list.made;
       enough = h.list.enough;
       are_entries = h.list.are_entries;
       lasts = h.list.lasts;
+      longest = h.list.longest;
       crash = λ told tidy c l. h.list.crash told tidy c (less b.moment c l);
       fronts = λ told tidy pending c l. h.list.fronts told tidy pending c (less b.moment c l);
     };
     streams = h.streams;
+    again = h.again;
     others = h.others;
     ended = h.ended;
   }

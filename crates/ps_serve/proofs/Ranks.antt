@@ -1,6 +1,7 @@
 -- The first of the causes of all workers is that of some worker.
-use Rattle.std.proofs.Common.{◌≡◌, ◌⊎◌, ⊎_elim, inl, inr, ℕ, suc, Bool, true, false, List, [], ◌∷◌, Some, refl}
+use Rattle.std.proofs.Common.{◌≡◌, ◌⊎◌, ⊎_elim, inl, inr, ℕ, zero, suc, Bool, true, false, List, [], ◌∷◌, Some, None, refl, ap, subst, arith}
 use Rattle.std.specs.Prelude.{nat_lt, slice_get, if◌then◌else◌}
+use Rattle.std.proofs.lemmas.Bool.Decides.{nat_tests}
 use Rattle.ps_workers.specs.EndCause.{EndCause}
 use Rattle.ps_workers.specs.EndCause.TheVariants as writer
 use Rattle.ps_workers.specs.ReadEnd.{ReadEnd}
@@ -8,7 +9,7 @@ use Rattle.ps_workers.specs.ReadEnd.TheVariants as reader
 use Rattle.ps_workers.specs.Headline.{Worked}
 use Rattle.ps_serve.specs.Ends.{IsServing, closed_status, rank, stream_status, worst, worst_in, worst_of, write_status}
 use Rattle.ps_status.specs.declared.status.Status.{Status}
-use Rattle.ps_status.specs.declared.status.Status.TheVariants.{Done, Memory, StoreFault, StoreFull, StreamFault, StreamLong}
+use Rattle.ps_status.specs.declared.status.Status.TheVariants.{Done, Usage, OpenFault, FeedBad, StoreDamaged, StoreFault, StoreFull, Occupied, Memory, StreamFault, StreamLong}
 
 -- ---- of two
 
@@ -122,6 +123,65 @@ pub some-stream : (ts : List Worked) (s : Status) → (Done ≡ s → ⊥) → w
 some-stream [] s not e = absurd (not e)
 some-stream (t ∷ ts) s not e =
     ⊎_elim (λ f. record { at = 0; stream = t; here = refl; is = f }) (λ f. later t ts s (some-stream ts s not f)) (either (stream_status t.read t.wrote) (worst_of ts) s e)
+
+-- where all was done, each worker came to its end
+rank-zero : (s : Status) → rank s ≡ 0 → s ≡ Done
+rank-zero Done e = refl
+rank-zero StreamLong e = absurd (omega (arith, e))
+rank-zero StreamFault e = absurd (omega (arith, e))
+rank-zero Memory e = absurd (omega (arith, e))
+rank-zero StoreFull e = absurd (omega (arith, e))
+rank-zero StoreFault e = absurd (omega (arith, e))
+rank-zero (StoreDamaged at) e = absurd (omega (arith, e))
+rank-zero (FeedBad at) e = absurd (omega (arith, e))
+rank-zero OpenFault e = absurd (omega (arith, e))
+rank-zero Usage e = absurd (omega (arith, e))
+rank-zero Occupied e = absurd (omega (arith, e))
+
+none-below : (m n : ℕ) → nat_lt m n ≡ true → n ≡ 0 → ⊥
+none-below m n less e = grind (arith, nat_tests, less, e)
+
+none-above : (m n : ℕ) → nat_lt m n ≡ false → m ≡ 0 → n ≡ 0
+none-above m n less e = grind (arith, nat_tests, less, e)
+
+picked-done : (x y : Status) (b : Bool) → nat_lt (rank x) (rank y) ≡ b → (if b then y else x) ≡ Done → (x ≡ Done) × (y ≡ Done)
+picked-done x y true less e = absurd (none-below (rank x) (rank y) less (ap rank e))
+picked-done x y false less e = (e, rank-zero y (none-above (rank x) (rank y) less (ap rank e)))
+
+both-done : (x y : Status) → worst x y ≡ Done → (x ≡ Done) × (y ≡ Done)
+both-done x y e = picked-done x y (nat_lt (rank x) (rank y)) refl e
+
+write-done : (w : EndCause) → write_status w ≡ Done → w ≡ writer.Finished
+write-done writer.Finished e = refl
+write-done writer.WriteFault e = absurd (cc e)
+write-done writer.Store e = absurd (cc e)
+write-done writer.Full e = absurd (cc e)
+write-done writer.Memory e = absurd (cc e)
+
+closed-never-done : (w : EndCause) → closed_status w ≡ Done → ⊥
+closed-never-done writer.Finished e = cc e
+closed-never-done writer.WriteFault e = cc e
+closed-never-done writer.Store e = cc e
+closed-never-done writer.Full e = cc e
+closed-never-done writer.Memory e = cc e
+
+stream-done : (r : ReadEnd) (w : EndCause) → stream_status r w ≡ Done → (r ≡ reader.Ended) × (w ≡ writer.Finished)
+stream-done reader.Ended w e = (refl, write-done w e)
+stream-done reader.ReadFault w e = absurd (cc ((both-done StreamFault (write_status w) e).0))
+stream-done reader.Long w e = absurd (cc ((both-done StreamLong (write_status w) e).0))
+stream-done reader.Closed w e = absurd (closed-never-done w e)
+stream-done reader.Store w e = absurd (cc ((both-done StoreFault (write_status w) e).0))
+stream-done reader.Full w e = absurd (cc ((both-done StoreFull (write_status w) e).0))
+stream-done reader.Memory w e = absurd (cc ((both-done Memory (write_status w) e).0))
+
+pub each-done : (ts : List Worked) → worst_of ts ≡ Done → (i : ℕ) (t : Worked) → slice_get ts i ≡ Some t → (t.read ≡ reader.Ended) × (t.wrote ≡ writer.Finished)
+each-done [] e zero t here = absurd (let no : None ≡ Some t = here in cc no)
+each-done [] e (suc i) t here = absurd (let no : None ≡ Some t = here in cc no)
+each-done (x ∷ ts) e zero t here =
+    let same : x ≡ t = (let is : Some x ≡ Some t = here in cc is) in
+    let first = stream-done x.read x.wrote (both-done (stream_status x.read x.wrote) (worst_of ts) e).0 in
+    subst (λ (u : Worked). (u.read ≡ reader.Ended) × (u.wrote ≡ writer.Finished)) same first
+each-done (x ∷ ts) e (suc i) t here = each-done ts (both-done (stream_status x.read x.wrote) (worst_of ts) e).1 i t here
 
 -- each is a status of a run that served
 write-serving : (w : EndCause) → IsServing (write_status w)

@@ -19,10 +19,12 @@ use Rattle.ps_workers.specs.Origin.{Origin}
 use Rattle.ps_workers.specs.EndCause.TheVariants.{Finished}
 use Rattle.ps_workers.specs.Limits.{Limits}
 use Rattle.ps_hall_store.specs.Left.{IsFront}
-use Rattle.ps_workers.specs.ReadEnd.TheVariants.{Closed}
+use Rattle.ps_workers.specs.ReadEnd.TheVariants.{Closed, Ended}
 use Rattle.ps_workers.specs.Headline.{IsAllSaid, ServesStream, Worked, base_of}
+use Rattle.ps_workers.specs.Told.{AreMadeFor}
 use Rattle.ps_serve.specs.Crashes.{FrontsSince, HasWhole, IsTidy, LeftSince}
 use Rattle.ps_serve.specs.Ends.{IsServing, worst_of}
+use Rattle.ps_serve.specs.Longest.{EachLacksAtMostOne, HasLongest}
 use Rattle.ps_serve.specs.Room.{LacksRoom, max_whole}
 use Rattle.ps_status.specs.declared.status.Status.{Status}
 use Rattle.ps_status.specs.declared.status.Status.TheVariants.{Done, Usage, OpenFault, FeedBad, StoreDamaged, StoreFault, StoreFull, Occupied, Memory, StreamFault, StreamLong}
@@ -79,9 +81,12 @@ pub record HasOneList (tells : Type 0) (o : Origin) (w : World) (old new : HeldS
   pub lawful : IsLawful the_core w.entries
   pub since : List Entry
   pub begins : w.entries ≡ base_of o ++ since
+  -- each behind the Boot was made for a served host, and none is a Boot
+  pub made : AreMadeFor o.hosts since
   pub enough : length (base_of o) ≤ durable w
   pub are_entries : tells → AreEntries (take (durable w) w.entries)
   pub lasts : tells → (c : List ℕ) → MayLeave new.synced new.written c → IsFront w.entries (durable w) c
+  pub longest : tells → HasLongest new.synced new.written
   pub crash : tells → IsTidy old.seen → LeftSince old left w.entries (length o.list)
   pub fronts : tells → IsTidy old.seen → FrontsSince old new left
 
@@ -92,7 +97,10 @@ pub record HasEnded (tells : Type 0) (o : Origin) (w : World) (worked : List Wor
   pub streams : status ≢ StoreFault → worst_of worked ≡ status
   pub whole : status ≢ StoreFault → tells → HasWhole new w.entries len
   pub store : status ≡ StoreFault → Rose old.faults new.faults
-  pub full : status ≡ StoreFull → LacksRoom o.hosts len
+  pub full : status ≡ StoreFull → LacksRoom o.hosts w.entries len
+  -- each source was read to its end, and all was written
+  pub done : status ≡ Done → (i : ℕ) (t : Worked) → slice_get worked i ≡ Some t
+      → (t.read ≡ Ended) × (t.wrote ≡ Finished)
   -- where a reader found its writer ended, that one had not finished
   pub closed : (i : ℕ) (t : Worked) → slice_get worked i ≡ Some t → t.read ≡ Closed → t.wrote ≢ Finished
   pub served : IsServing status
@@ -112,6 +120,10 @@ pub record Headline (tells : Type 0) (service : List ℕ) (hosts : List (List �
   pub streams : (i : ℕ) (h : List ℕ) (t : Worked) → slice_get hosts i ≡ Some h → slice_get worked i ≡ Some t
       → (s : ServesStream origin tells (len + 5) world h t)
       × (status ≢ StoreFault → t.wrote ≡ Finished → IsAllSaid origin tells world h (len + 5) t s)
+  -- whatever a crash may leave now, of what a sink has got all but one notice an address is recorded in it
+  pub again : tells → (i : ℕ) (h : List ℕ) (t : Worked)
+      → (here : slice_get hosts i ≡ Some h) (there : slice_get worked i ≡ Some t) → (let s = (streams i h t here there).0 in
+      EachLacksAtMostOne new.synced new.written (base_of origin) h (s.whole ++ s.last))
   pub others : (a : Jid) → (IsServed hosts a.host → ⊥)
       → handed world.entries a ≡ handed (base_of origin) a
   pub ended : HasEnded tells origin world worked old new len status

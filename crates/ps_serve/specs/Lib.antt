@@ -2,6 +2,7 @@ pub mod Ends
 pub mod Room
 pub mod Worked
 pub mod Crashes
+pub mod Longest
 pub mod Starts
 pub mod Headline
 pub mod Comes

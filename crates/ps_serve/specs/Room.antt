@@ -3,7 +3,9 @@ use Rattle.std.specs.Prelude.{◌⊎◌, ℕ, ◌+◌, ◌<◌, List, length}
 use Rattle.ps_types.specs.declared.entry.Entry.{Entry}
 use Rattle.ps_types.specs.declared.entry.Entry.TheVariants.{Gone, Handed}
 use Rattle.ps_types.specs.declared.jid.Jid.{Jid}
-use Rattle.ps_model.specs.Entries.{spelling}
+use Rattle.ps_model.specs.Core.{handed}
+use Rattle.ps_model.specs.Entries.{IsBare, spelling}
+use Rattle.ps_model.specs.TheCore.{the_core}
 use Rattle.ps_trace.specs.Own.{IsServed}
 
 -- at most this many bytes are written for all entries
@@ -20,11 +22,13 @@ pub record LacksGone (hosts : List (List ℕ)) (len : ℕ) : Type 0 where
   pub here : IsServed hosts host
   pub over : IsOver (Gone host) len
 
--- the Handed of a notice to one does
-pub record LacksHanded (hosts : List (List ℕ)) (len : ℕ) : Type 0 where
+-- the Handed of a notice does that stands in this list for a bare address of one, and is not recorded as handed
+pub record LacksHanded (hosts : List (List ℕ)) (E : List Entry) (len : ℕ) : Type 0 where
   pub to : Jid
   pub here : IsServed hosts to.host
+  pub bare : IsBare to
+  pub unhanded : handed E to < length (the_core.notices E to)
   pub over : IsOver (Handed to) len
 
-abbrev pub LacksRoom : List (List ℕ) → ℕ → Type 0
-LacksRoom hosts len = LacksGone hosts len ⊎ LacksHanded hosts len
+abbrev pub LacksRoom : List (List ℕ) → List Entry → ℕ → Type 0
+LacksRoom hosts E len = LacksGone hosts len ⊎ LacksHanded hosts E len

@@ -1,0 +1,6 @@
+use Rattle.std.proofs.Common.{◌≡◌, take}
+use Rattle.std.specs.Prelude.{map, string_bytes}
+use Rattle.pubsubd.proofs.texts_of.Given as goal
+
+abbrev pub invariant-loop-word : goal.invariant-loop-word
+invariant-loop-word l = l.texts.items ≡ map string_bytes (take l.word-index l.words)
