@@ -8,7 +8,7 @@ use Rattle.ps_serve.specs.Compacting.{Compacts, compacted_by}
 use Rattle.ps_serve.specs.Did.{Did}
 use Rattle.ps_serve.specs.Runs.{Leaves, Runs, openings_of, served_by}
 use Rattle.ps_status.specs.Asking.{AsksInOrder}
-use Rattle.ps_status.specs.Outside.{Outside, outside}
+use Rattle.ps_status.specs.Outside.{outside}
 use Rattle.ps_status.specs.Statuses.{code_of, report_of}
 use Rattle.ps_status.specs.Telling.{IsReported}
 use Rattle.ps_status.specs.declared.status.Status.{Status}
