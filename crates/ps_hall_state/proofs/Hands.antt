@@ -59,7 +59,7 @@ landing_later flushed upto steps at Nothing is by l = tt
 landing_later flushed upto steps at Unrecorded is by l = absurd is
 landing_later flushed upto steps at (Recorded t) is by l = (is.0, omega (arith, by, l))
 
-not_landing : (flushed upto : ℕ) (f : Flight) → f ≡ Unrecorded → IsLanding flushed upto f → ⊥
+pub not_landing : (flushed upto : ℕ) (f : Flight) → f ≡ Unrecorded → IsLanding flushed upto f → ⊥
 not_landing flushed upto f e is = subst (IsLanding flushed upto) e is
 
 landing_if : (b : Bool) (t m upto : ℕ) → nat_le t m ≡ b → t ≤ upto → IsLanding m upto (if b then Nothing else Recorded t)
@@ -103,10 +103,10 @@ at_this a f addresses = ap (λ (p : AddressPart). p.flight) (address_if (same_ji
 -- ---- a notice is taken in hand
 
 not_known_more : (a to : Jid) (held : List Jid) → is_known a (held ++ to ∷ []) ≡ false → is_known a held ≡ false
-not_known_more a to held no = by (is_known a held) refl
+not_known_more a to held out = by (is_known a held) refl
   where
     by : (t : Bool) → is_known a held ≡ t → t ≡ false
-    by true e = absurd (false≢true (sym no ∙ still_known a to held e))
+    by true e = absurd (false≢true (sym out ∙ still_known a to held e))
     by false e = refl
 
 front_known : (a to : Jid) (held : List Jid) → same_bare a to ≡ false → is_known a (held ++ to ∷ []) ≡ true → is_known a held ≡ true
@@ -117,10 +117,10 @@ front_known a to held far known = by (is_known a held) (sym (list_any-append (sa
     by false e = absurd (false≢true (sym (ap (λ x. x || false) far) ∙ e))
 
 apart_bare : (a to : Jid) → a.resource ≡ [] → to.resource ≡ [] → same_jid a to ≡ false → same_bare a to ≡ false
-apart_bare a to p q no = by (same_bare a to) refl
+apart_bare a to p q far = by (same_bare a to) refl
   where
     by : (t : Bool) → same_bare a to ≡ t → t ≡ false
-    by true e = absurd (false≢true (sym no ∙ (same_jid-Decides a to).1 (bare_same a to e p q)))
+    by true e = absurd (false≢true (sym far ∙ (same_jid-Decides a to).1 (bare_same a to e p q)))
     by false e = refl
 
 apart_jid : (a to : Jid) → same_bare to a ≡ false → same_jid a to ≡ false
@@ -145,11 +145,13 @@ module _ (rows : List HostRow) (flushed : ℕ) (held : List Jid) (addresses : Ji
       those_by : (a : Jid) → a.host ≡ r.host → a.resource ≡ [] → is_known a (held ++ to ∷ []) ≡ true → (t : Bool) → same_jid a to ≡ t → (at_address to f addresses a).flight ≡ Unrecorded
       those_by a here bare_a known true e = subst (λ (j : Jid). (at_address to f addresses j).flight ≡ Unrecorded) (sym ((same_jid-Decides a to).0 e)) (at_this to f addresses ∙ does (addresses to))
       those_by a here bare_a known false e = at_other to a f addresses e ∙ (is k r got).those a here bare_a (front_known a to held (apart_bare a to bare_a empty e) known)
+
       others_by : (a : Jid) → a.host ≡ r.host → (a.resource ≡ [] → is_known a (held ++ to ∷ []) ≡ false) → (t : Bool) → same_jid a to ≡ t → IsLanding flushed (landing_step r.landing) (at_address to f addresses a).flight
       others_by a here free true e =
           let same = (same_jid-Decides a to).0 e in
           absurd (false≢true (sym (free (ap (λ (j : Jid). j.resource) same ∙ empty)) ∙ now_known a to held (bare_of_jid a to e)))
       others_by a here free false e = subst (IsLanding flushed (landing_step r.landing)) (sym (at_other to a f addresses e)) ((is k r got).others a here (λ b. not_known_more a to held (free b)))
+
       last_by : (l : Landing) → r.landing ≡ Some l → flushed < l.step → (t : Bool) → same_jid l.to to ≡ t → IsFlying (at_address to f addresses) r.host l
       last_by l e high true same =
           let fly = (is k r got).last l e high in
@@ -170,10 +172,10 @@ module _ (rows : List HostRow) (flushed : ℕ) (held : List Jid) (addresses : Ji
       by false e = (e, sym (others_known to a e held) ∙ known)
 
   free_left : (a : Jid) → same_jid a to ≡ false → (a.resource ≡ [] → is_known a (without (same_bare to) held) ≡ false) → a.resource ≡ [] → is_known a held ≡ false
-  free_left a no free bare_a = by (same_bare to a) refl
+  free_left a far free bare_a = by (same_bare to a) refl
     where
       by : (t : Bool) → same_bare to a ≡ t → is_known a held ≡ false
-      by true e = absurd (false≢true (sym no ∙ (same_jid-Decides a to).1 (sym (bare_same to a e empty bare_a))))
+      by true e = absurd (false≢true (sym far ∙ (same_jid-Decides a to).1 (sym (bare_same to a e empty bare_a))))
       by false e = sym (others_known to a e held) ∙ free bare_a
 
   pub hands_record : (now : HostRow) (steps t : ℕ) → flushed < t → steps ≤ t → RowLandsBy to t row now → ((p : AddressPart) → (f p).flight ≡ Recorded t) → ((a : Jid) → IsBy (addresses a).flight steps)
@@ -188,27 +190,34 @@ module _ (rows : List HostRow) (flushed : ℕ) (held : List Jid) (addresses : Ji
     where
       step_is : landing_step now.landing ≡ t
       step_is = ap landing_step lands.landing
+
       those_by : (x : HostRow) (j : ℕ) → slice_get rows j ≡ Some x → (a : Jid) → a.host ≡ x.host → a.resource ≡ [] → is_known a (without (same_bare to) held) ≡ true → (at_address to f addresses a).flight ≡ Unrecorded
       those_by x j old a here bare_a known = let left = those_left a bare_a known in at_other to a f addresses (apart_jid a to left.0) ∙ (is j x old).those a here bare_a left.1
+
       own_others : (a : Jid) → a.host ≡ row.host → (a.resource ≡ [] → is_known a (without (same_bare to) held) ≡ false) → (s : Bool) → same_jid a to ≡ s → IsLanding flushed t (at_address to f addresses a).flight
       own_others a here free true e = subst (λ (j : Jid). IsLanding flushed t (at_address to f addresses j).flight) (sym ((same_jid-Decides a to).0 e)) (subst (IsLanding flushed t) (sym (at_this to f addresses ∙ does (addresses to))) (high, omega arith))
       own_others a here free false e = subst (IsLanding flushed t) (sym (at_other to a f addresses e)) (landing_later flushed (landing_step row.landing) steps t (addresses a).flight ((is at row was).others a here (free_left a e free)) (by a) late)
+
       own_last : (l : Landing) → now.landing ≡ Some l → IsFlying (at_address to f addresses) now.host l
       own_last l e =
           let same : record { to = to; step = t } ≡ l = (let s : Some (record { to = to; step = t }) ≡ Some l = sym lands.landing ∙ e in cc s) in
           subst (λ (x : Landing). IsFlying (at_address to f addresses) now.host x) same (record { here = of ∙ sym lands.host; flight = at_this to f addresses ∙ does (addresses to) })
+
       own : HandStands flushed (without (same_bare to) held) (at_address to f addresses) now
       own = record {
         those = λ a here bare_a known. those_by row at was a (here ∙ lands.host) bare_a known;
         others = λ a here free. subst (λ (n : ℕ). IsLanding flushed n (at_address to f addresses a).flight) (sym step_is) (own_others a (here ∙ lands.host) free (same_jid a to) refl);
         last = λ l e low. own_last l e;
       }
+
       other_others : (x : HostRow) (j : ℕ) → slice_get rows j ≡ Some x → j ≢ at → (a : Jid) → a.host ≡ x.host → (a.resource ≡ [] → is_known a (without (same_bare to) held) ≡ false) → (s : Bool) → same_jid a to ≡ s → IsLanding flushed (landing_step x.landing) (at_address to f addresses a).flight
       other_others x j old ne a here free true e = absurd (ne (one_row j x a old here ((same_jid-Decides a to).0 e)))
       other_others x j old ne a here free false e = subst (IsLanding flushed (landing_step x.landing)) (sym (at_other to a f addresses e)) ((is j x old).others a here (free_left a e free))
+
       other_last : (x : HostRow) (j : ℕ) → slice_get rows j ≡ Some x → j ≢ at → (l : Landing) → x.landing ≡ Some l → flushed < l.step → (s : Bool) → same_jid l.to to ≡ s → IsFlying (at_address to f addresses) x.host l
       other_last x j old ne l e low true same = absurd (ne (one_row j x l.to old ((is j x old).last l e low).here ((same_jid-Decides l.to to).0 same)))
       other_last x j old ne l e low false same = let fly = (is j x old).last l e low in record { here = fly.here; flight = at_other to l.to f addresses same ∙ fly.flight }
+
       other : slice_get rows k ≡ Some r → k ≢ at → HandStands flushed (without (same_bare to) held) (at_address to f addresses) r
       other old ne = record {
         those = λ a here bare_a known. those_by r k old a here bare_a known;
@@ -229,6 +238,7 @@ held_of host (x ∷ xs) h = by (is_of host x) refl h (held_of host xs)
     by : (t : Bool) → is_of host x ≡ t → t || list_any (is_of host) xs ≡ true → (list_any (is_of host) xs ≡ true → (a : Jid) × (a.host ≡ host) × (a.resource ≡ []) × (is_known a xs ≡ true)) → (a : Jid) × (a.host ≡ host) × (a.resource ≡ []) × (is_known a (x ∷ xs) ≡ true)
     by true e m more = (bare x, sym ((bytes_eq-Decides host x.host).0 e), refl, ap (λ t. t || is_known (bare x) xs) (bare-back x (bare x) (to_its_bare x (bare x) refl)))
     by false e m more = let f = more m in (f.0, f.1, f.2, or_late (same_bare f.0 x) (is_known f.0 xs) f.3)
+
     or_late : (a b : Bool) → b ≡ true → a || b ≡ true
     or_late true b e = refl
     or_late false b e = e

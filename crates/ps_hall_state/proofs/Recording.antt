@@ -30,11 +30,11 @@ use Rattle.ps_hall_state.specs.declared.state.State.{State}
 use Rattle.ps_hall_state.specs.Gone.{IsHeldFor}
 use Rattle.ps_hall_state.specs.Rows.{RowLandsBy}
 use Rattle.ps_hall_state.specs.Shape.{IsSketch}
-use Rattle.ps_hall_state.specs.Stand.{HandsStand, IsStanding, QueuesStand, RowsStand, Stands}
+use Rattle.ps_hall_state.specs.Stand.{HandsStand, IsStanding, QueuesStand, RowsStand, Stands, landing_step}
 use Rattle.ps_hall_state.specs.Steps.{Goes, KeepsRest}
 use Rattle.ps_hall_state.proofs.Addressed.{address-is}
 use Rattle.ps_hall_state.proofs.Calling.{core-accepted}
-use Rattle.ps_hall_state.proofs.Hands.{bare_same, hands_record, same_itself}
+use Rattle.ps_hall_state.proofs.Hands.{bare_same, hands_record, not_landing, same_itself}
 use Rattle.ps_hall_state.proofs.OneRow.{row_lands, rows_keep, there}
 use Rattle.ps_hall_state.proofs.Queued.{notices-more}
 use Rattle.ps_hall_state.proofs.Stepping.{BatchOn, goes_on, step_ok}
@@ -70,6 +70,18 @@ queue_handed w old new a b false bare empty e is at =
 
 flies : (v : State) (w : World) (at : ℕ) (row : HostRow) (a : Jid) → Stands v w → slice_get v.rows.items at ≡ Some row → IsHeldFor v a row → (w.addresses a).flight ≡ Unrecorded
 flies v w at row a is was held = (is.hands at row was).those a held.here held.bare held.held
+
+flying-known : (v : State) (w : World) (at : ℕ) (row : HostRow) (a : Jid) → Stands v w → slice_get v.rows.items at ≡ Some row → a.host ≡ row.host → (w.addresses a).flight ≡ Unrecorded → (a.resource ≡ [] → is_known a v.queues.held ≡ false) → ⊥
+flying-known v w at row a is was here flies free = not_landing w.flushed (landing_step row.landing) (w.addresses a).flight flies ((is.hands at row was).others a here free)
+
+-- a notice in flight that no step has recorded is in the writer's hand
+pub held_for : (v : State) (w : World) (at : ℕ) (row : HostRow) (a : Jid) → Stands v w → slice_get v.rows.items at ≡ Some row → a.host ≡ row.host → (w.addresses a).flight ≡ Unrecorded → IsHeldFor v a row
+held_for v w at row a is was here flies = by a.resource refl (is_known a v.queues.held) refl
+  where
+    by : (resource : List ℕ) → a.resource ≡ resource → (b : Bool) → is_known a v.queues.held ≡ b → IsHeldFor v a row
+    by [] empty true known = record { bare = empty; here = here; held = known }
+    by [] empty false known = absurd (flying-known v w at row a is was here flies (λ e. known))
+    by (x ∷ resource) full b known = absurd (flying-known v w at row a is was here flies (λ e. absurd (let no : [] ≡ x ∷ resource = sym e ∙ full in cc no)))
 
 -- a notice in hand is recorded
 pub record_ok : (v now : State) (at : ℕ) (row to : HostRow) (a : Jid) → slice_get v.rows.items at ≡ Some row → IsHeldFor v a row → RowLandsBy a (v.steps + 1) row to → now.rows.items ≡ slice_set v.rows.items at to

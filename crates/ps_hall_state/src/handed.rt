@@ -69,7 +69,12 @@ impl State {
 
     /// A notice in hand is recorded: its Handed waits to be written, and once that step is flushed nothing to its address is in flight. After a refusal the
     /// state stands for the same world.
-    pub fn record<R: Threads + Sync>(&mut self, rt: &R, at: usize, to: &Jid) -> Result<(), HandedRefusal>
+    pub fn record<R: Threads + Sync>(
+        &mut self,
+        rt: &R,
+        at: usize,
+        to: &Jid,
+    ) -> Result<(), HandedRefusal>
         requires here { at < length self.old.rows.items }
         requires few { self.old.steps < 2 ^ 63 }
         requires standing { IsStanding self.old }

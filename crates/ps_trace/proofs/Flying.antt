@@ -89,8 +89,8 @@ not-both : (a b : Bool) → a ≡ false → b ≡ false → a || b ≡ false
 not-both a b p q = (λ i. p i || q i)
 
 not-same : (a b : Jid) (t : Bool) → same_jid b a ≡ t → same_jid a b ≡ false → same_jid b a ≡ false
-not-same a b true e no = absurd (false≢true (sym no ∙ (same_jid-Decides a b).1 (sym ((same_jid-Decides b a).0 e))))
-not-same a b false e no = e
+not-same a b true e apart = absurd (false≢true (sym apart ∙ (same_jid-Decides a b).1 (sym ((same_jid-Decides b a).0 e))))
+not-same a b false e apart = e
 
 -- each of them is an address of the host
 pub in-host : (h : List ℕ) (hand : List Jid) (a : Jid) → AreHeld h hand → is_in a hand ≡ true → a.host ≡ h
@@ -105,19 +105,19 @@ in-snoc : (hand : List Jid) (a b : Jid) → is_in b (hand ++ a ∷ []) ≡ (is_i
 in-snoc hand a b = list_any-append (same_jid b) hand (a ∷ [])
 
 in-front : (hand : List Jid) (a b : Jid) → same_jid b a ≡ false → is_in b (hand ++ a ∷ []) ≡ true → is_in b hand ≡ true
-in-front hand a b no among = by (is_in b hand) (sym (in-snoc hand a b) ∙ among)
+in-front hand a b apart among = by (is_in b hand) (sym (in-snoc hand a b) ∙ among)
   where
     by : (t : Bool) → t || (same_jid b a || false) ≡ true → t ≡ true
     by true m = refl
-    by false m = absurd (false≢true (sym (ap (λ x. x || false) no) ∙ m))
+    by false m = absurd (false≢true (sym (ap (λ x. x || false) apart) ∙ m))
 
 or-false : (t : Bool) → t || false ≡ false → t ≡ false
 or-false true e = absurd (false≢true (sym e))
 or-false false e = refl
 
 out-of-both : (hand : List Jid) (a b : Jid) → is_in b (hand ++ a ∷ []) ≡ false → (is_in b hand ≡ false) × (same_jid b a ≡ false)
-out-of-both hand a b no =
-    let both = both-not (is_in b hand) (same_jid b a || false) (sym (in-snoc hand a b) ∙ no) in
+out-of-both hand a b out =
+    let both = both-not (is_in b hand) (same_jid b a || false) (sym (in-snoc hand a b) ∙ out) in
     (both.0, or-false (same_jid b a) both.1)
 
 held-snoc : (h : List ℕ) (hand : List Jid) (a : Jid) → AreHeld h hand → a.host ≡ h → is_in a hand ≡ false → AreHeld h (hand ++ a ∷ [])
@@ -169,8 +169,8 @@ module _ (core : Core) (boot : List ℕ) (h : List ℕ) where
     are = held-snoc h hand a is.are host out;
     these = λ b among. chosen (λ (p : AddressPart). p.flight ≡ Unrecorded) (same_jid b a) (record (w.addresses b) { sent = (w.addresses b).sent ++ x ∷ []; flight = Unrecorded }) (w.addresses b)
         (λ t. refl) (λ f. is.these b (in-front hand a b f among));
-    others = λ b there no. chosen (λ (p : AddressPart). p.flight ≡ Nothing) (same_jid b a) (record (w.addresses b) { sent = (w.addresses b).sent ++ x ∷ []; flight = Unrecorded }) (w.addresses b)
-        (λ t. absurd (false≢true (sym (out-of-both hand a b no).1 ∙ t))) (λ f. is.others b there (out-of-both hand a b no).0);
+    others = λ b there out'. chosen (λ (p : AddressPart). p.flight ≡ Nothing) (same_jid b a) (record (w.addresses b) { sent = (w.addresses b).sent ++ x ∷ []; flight = Unrecorded }) (w.addresses b)
+        (λ t. absurd (false≢true (sym (out-of-both hand a b out').1 ∙ t))) (λ f. is.others b there (out-of-both hand a b out').0);
   }
 
   emits-if : (hand : List Jid) (w : World) (a : Jid) (n x : Notice) (b : Bool) → a.host ≡ h → is_in a hand ≡ false → HasInHand h hand w → (if b then Note a x ∷ [] else []) ≡ Note a n ∷ [] → HasInHand h (hand ++ a ∷ []) (counted (if b then sending w a x else w))

@@ -156,6 +156,15 @@ hand-lands h hand n w is c there = by (is_in c hand) refl
     by true e = is.these c e
     by false e = subst (Lands n w.flushed) (sym (is.others c there e)) tt
 
+-- what was not recorded is in flight with no Handed still
+pub left-flies : (core : Core) (boot : List ℕ) (h : List ℕ) (w : World) (done : List Jid) (a : Jid) (rest : List Jid) → w.flushed ≤ w.steps → HasInHand h (done ++ a ∷ rest) w → ((run core boot w (records_of done)).addresses a).flight ≡ Unrecorded
+left-flies core boot h w done a rest sound is =
+    let n = w.steps + length done in
+    let v = run core boot w (records_of done) in
+    let lands = records-land core boot h n w done (a ∷ rest) sound (omega arith) is.are (hand-lands h (done ++ a ∷ rest) n w is) in
+    let itself : is_in a (a ∷ rest) ≡ true = ap (λ b. b || is_in a rest) ((same_jid-Decides a a).1 refl) in
+    held-if (is_in a (a ∷ rest)) n v.flushed (v.addresses a).flight itself (lands a (held-rest h done (a ∷ rest) is.are).0)
+
 length-records : (done : List Jid) → length (records_of done) ≡ length done
 length-records [] = refl
 length-records (a ∷ done) = ap suc (length-records done)
