@@ -1,6 +1,6 @@
 -- An entry that no line makes, or the end of who would have made it, by the world that the holding found.
 use Rattle.std.proofs.Common.{◌≡◌, ◌≢◌, ℕ, zero, suc, ◌+◌, ◌<◌, ◌≤◌, ◌^◌, List, [], ◌∷◌, ◌++◌, take, drop, length, refl, ap, sym, subst, arith}
-use Rattle.std.specs.Prelude.{Result, Ok, Err}
+use Rattle.std.specs.Prelude.{IfOk, Result, Ok, Err}
 use Rattle.ps_model.specs.Entries.{spelling}
 use Rattle.ps_model.specs.Machine.{happens, run}
 use Rattle.ps_model.specs.TheCore.{the_core}
@@ -160,3 +160,7 @@ module _ {T : Type 0} where
   pub gone_few : (host : List ℕ) (result : Result T HandedRefusal) → length (gone_steps host result) < 2 ^ 63
   gone_few host (Ok t) = omega arith
   gone_few host (Err e) = omega arith
+
+pub records_most : (v now : State) (host : List ℕ) (hand : List Jid) (result : Result ℕ HandedRefusal) → RecordsOrEnds v now host hand result → IfOk result (λ n. (0 < n) × (n ≤ length hand))
+records_most v now host hand (Ok n) did = (did.some, did.most)
+records_most v now host hand (Err e) did = tt

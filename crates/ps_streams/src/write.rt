@@ -1,9 +1,9 @@
 // The writer of a stream.
-ghost use Rattle.std.specs.Prelude.{◌≡◌, ◌≢◌, ◌≤◌, true, IfOk, IsErrOf, IsFalse, OnOk};
+ghost use Rattle.std.specs.Prelude.{◌≡◌, ◌≢◌, ◌<◌, ◌≤◌, [], true, IfOk, IsErrOf, IsFalse, OnErr, OnOk};
 ghost use Rattle.ps_base.specs.Causes.{Rose};
 ghost use Rattle.ps_trace.specs.Own.{AllDiffer};
 ghost use Rattle.ps_hall.specs.Calls.{IsWriter};
-ghost use Rattle.ps_streams.specs.Speaking.{FindsBroken, FindsLanded, FindsOver, FoundNoRoom, IsSamePass, IsWriterDone, MaySpeak, SeatEndsOnce, SeatGoesOn, SeatSpeaks};
+ghost use Rattle.ps_streams.specs.Speaking.{FindsBroken, FindsLanded, FindsOver, FoundNoRoom, IsSamePass, IsWriterDone, MaySpeak, MayTell, SeatEndsOnce, SeatGoesOn, SeatRecords, SeatSpeaks, SeatSpeaksOn, SeatSpokeWhole};
 
 use crate::idle::{FOR_LINES, await_news};
 use ps_disk::Disk;
@@ -39,20 +39,87 @@ fn has_ended(why: EndCause) -> bool
     }
 }
 
-// Writes one line, or waits where there is none now. False: all is said. A Record that finds no room has ended the writer.
+// So many notices a writer has in hand at most.
+const MOST_IN_HAND: usize = 512;
+
+// Records what is in hand, where so many notices are. A Record that finds no room has ended the writer.
+fn record_from<B: Opening, D: Disk, R: Wait + Threads + Sync>(
+    rt: &R,
+    hall: &Hall<B, D>,
+    pass: &mut Pass<B, D>,
+    least: usize,
+) -> Result<(), EndCause>
+    requires ready { MayTell B.origin hall.now.twin pass.old }
+    requires differ { AllDiffer B.origin.hosts }
+    requires some { 0 < least }
+    ensures writer { IsWriter B.origin hall.now.twin pass.new.at pass.new.host pass.new.seat }
+    ensures same { IsSamePass pass.old pass.new }
+    ensures ready { OnOk result (MayTell B.origin hall.now.twin pass.new) }
+    ensures quiet { OnOk result (SeatRecords B.origin pass.old.in_hand.items pass.new.in_hand.items
+        pass.old.seat pass.new.seat) }
+    ensures refused { OnErr result (SeatRecords B.origin pass.old.in_hand.items [] pass.old.seat pass.new.seat) }
+    ensures written { IsErrOf result EndCause.WriteFault → ⊥ }
+    ensures unfinished { IsErrOf result EndCause.Finished → ⊥ }
+    ensures store { IsErrOf result EndCause.Store → FindsBroken B.origin pass.new.seat }
+    ensures full { IsErrOf result EndCause.Full → FoundNoRoom B.origin pass.old.host pass.new.seat }
+    ensures going { (IsErrOf result EndCause.Full → ⊥) → SeatGoesOn pass.old.seat pass.new.seat }
+    ensures ended { IsErrOf result EndCause.Full → SeatEndsOnce pass.old.host pass.old.seat pass.new.seat }
+    ensures landed { (IsErrOf result EndCause.Store → ⊥) → FindsLanded B.origin pass.old.host pass.new.seat }
+{
+    if hall.in_hand(pass) < least {
+        return Ok(());
+    }
+    match hall.handed(rt, pass) {
+        Ok(()) => Ok(()),
+        Err(refusal) => Err(end_of(refusal)),
+    }
+}
+
+// What a writer does that finds nothing: it records what it has in hand, or waits where that is nothing.
+fn record_or_rest<B: Opening, D: Disk, R: Wait + Threads + Sync>(
+    rt: &R,
+    hall: &Hall<B, D>,
+    pass: &mut Pass<B, D>,
+    heard: u64,
+) -> Result<(), EndCause>
+    requires ready { MayTell B.origin hall.now.twin pass.old }
+    requires differ { AllDiffer B.origin.hosts }
+    ensures writer { IsWriter B.origin hall.now.twin pass.new.at pass.new.host pass.new.seat }
+    ensures same { IsSamePass pass.old pass.new }
+    ensures ready { OnOk result (MayTell B.origin hall.now.twin pass.new) }
+    ensures quiet { OnOk result (SeatRecords B.origin pass.old.in_hand.items pass.new.in_hand.items
+        pass.old.seat pass.new.seat) }
+    ensures refused { OnErr result (SeatRecords B.origin pass.old.in_hand.items [] pass.old.seat pass.new.seat) }
+    ensures written { IsErrOf result EndCause.WriteFault → ⊥ }
+    ensures unfinished { IsErrOf result EndCause.Finished → ⊥ }
+    ensures store { IsErrOf result EndCause.Store → FindsBroken B.origin pass.new.seat }
+    ensures full { IsErrOf result EndCause.Full → FoundNoRoom B.origin pass.old.host pass.new.seat }
+    ensures going { (IsErrOf result EndCause.Full → ⊥) → SeatGoesOn pass.old.seat pass.new.seat }
+    ensures ended { IsErrOf result EndCause.Full → SeatEndsOnce pass.old.host pass.old.seat pass.new.seat }
+    ensures landed { (IsErrOf result EndCause.Store → ⊥) → FindsLanded B.origin pass.old.host pass.new.seat }
+{
+    if hall.in_hand(pass) == 0 {
+        await_news(rt, hall, pass, heard, FOR_LINES);
+    }
+    record_from(rt, hall, pass, 1)
+}
+
+// Writes one line, or records what is in hand, or waits where there is nothing now. False: all is said. A Record that finds no room has ended the writer.
 fn write_next<B: Opening, D: Disk, R: Wait + Threads + Sync, K: Sink>(
     rt: &R,
     hall: &Hall<B, D>,
     pass: &mut Pass<B, D>,
     sink: &mut K,
 ) -> Result<bool, EndCause>
-    requires ready { MaySpeak B.origin hall.now.twin pass.old }
+    requires ready { MayTell B.origin hall.now.twin pass.old }
     requires differ { AllDiffer B.origin.hosts }
     ensures writer { IsWriter B.origin hall.now.twin pass.new.at pass.new.host pass.new.seat }
     ensures same { IsSamePass pass.old pass.new }
-    ensures spoke { SeatSpeaks B.origin pass.old.seat pass.new.seat (K.written sink.old) (K.written sink.new)
-        (IsErrOf result EndCause.WriteFault) }
-    ensures ready { OnOk result (MaySpeak B.origin hall.now.twin pass.new) }
+    ensures spoke { SeatSpeaksOn B.origin pass.old.in_hand.items pass.old.seat pass.new.seat
+        (K.written sink.old) (K.written sink.new) (IsErrOf result EndCause.WriteFault) }
+    ensures whole { OnOk result (SeatSpokeWhole B.origin pass.old.in_hand.items pass.new.in_hand.items
+        pass.old.seat pass.new.seat (K.written sink.old) (K.written sink.new)) }
+    ensures ready { OnOk result (MayTell B.origin hall.now.twin pass.new) }
     ensures over { IfOk result (λ more. IsFalse more → FindsOver B.origin pass.old.host pass.new.seat) }
     ensures unfinished { IsErrOf result EndCause.Finished → ⊥ }
     ensures later { K.faults sink.old ≤ K.faults sink.new }
@@ -70,14 +137,14 @@ fn write_next<B: Opening, D: Disk, R: Wait + Threads + Sync, K: Sink>(
             Err(_) => Err(EndCause::WriteFault),
         },
         Ok(Next::Notice(line)) => match write_line(sink, line.as_slice()) {
-            Ok(()) => match hall.handed(rt, pass) {
-                Ok(()) => Ok(true),
-                Err(refusal) => Err(end_of(refusal)),
-            },
+            Ok(()) => {
+                record_from(rt, hall, pass, MOST_IN_HAND)?;
+                Ok(true)
+            }
             Err(_) => Err(EndCause::WriteFault),
         },
         Ok(Next::NotYet) => {
-            await_news(rt, hall, pass, heard, FOR_LINES);
+            record_or_rest(rt, hall, pass, heard)?;
             Ok(true)
         }
         Ok(Next::Over) => Ok(false),
