@@ -126,6 +126,8 @@ fn an_address_that_is_held_is_not_ready(rt: HostRuntime) -> Result<(), Fail> {
     assert!(rt; !boxes.holds(&host));
     boxes.hold(jid(alloc, "bob@b.example")?)?;
     assert!(rt; boxes.holds(&host));
+    assert!(rt; boxes.is_held(&jid(alloc, "bob@b.example/2")?));
+    assert!(rt; !boxes.is_held(&jid(alloc, "cid@b.example")?));
     assert!(rt; is_ready(alloc, &boxes, "b.example", 3, "cid@b.example")?);
     boxes.hold(jid(alloc, "cid@b.example")?)?;
     assert!(rt; none_ready(alloc, &boxes, "b.example", 3)?);

@@ -1,5 +1,5 @@
 // A notice in a writer's hand is recorded.
-ghost use Rattle.std.specs.Prelude.{◌≡◌, ◌<◌, ◌^◌, false, IfErr, IfOk, OnOk, length};
+ghost use Rattle.std.specs.Prelude.{◌≡◌, ◌<◌, ◌^◌, true, false, IfErr, IfOk, OnOk, length};
 ghost use Rattle.ps_types.specs.declared.entry.Entry.{Entry};
 ghost use Rattle.ps_types.specs.declared.jid.Jid.{Jid};
 ghost use Rattle.ps_hall_state.specs.Gone.{IsHeldFor, IsRecordingOf, NotRecordsHanded, RecordsHanded};
@@ -65,6 +65,15 @@ impl State {
                 Ok(())
             }
         }
+    }
+
+    /// Whether the writer at a place has a notice to this bare address in hand, which no step has recorded.
+    pub fn has_in_hand(&self, at: usize, to: &Jid) -> bool
+        requires here { at < length self.now.rows.items }
+        ensures yes { AtRow self.now at (λ row. result ≡ true → IsHeldFor self.now to.now row) }
+    {
+        let row = &self.rows[at];
+        to.resource.is_empty() && to.host == row.host && self.queues.is_held(to)
     }
 
     /// A notice in hand is recorded: its Handed waits to be written, and once that step is flushed nothing to its address is in flight. After a refusal the

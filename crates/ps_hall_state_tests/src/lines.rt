@@ -3,6 +3,7 @@ ghost use Rattle.ps_hall_state.specs.Stand.{IsStanding};
 
 use crate::calls::{lays, next};
 use ps_hall_state::{ArriveRefusal, Next, Outcome, Receipt, State};
+use ps_types::Jid;
 use std::alloc::Global;
 use std::process::Abort;
 use std::test::Fail;
@@ -75,16 +76,16 @@ pub fn tells(
     state: &mut State,
     who: &str,
     text: &str,
-) -> Result<(), Fail>
+) -> Result<Jid, Fail>
     requires standing { IsStanding state.old }
     ensures standing { IsStanding state.new }
 {
     match next(rt, state)? {
         Next::Notice(to, line) => {
-            let to = to.text(alloc)?;
-            assert!(rt; to.as_str() == who, "{who}");
+            let name = to.text(alloc)?;
+            assert!(rt; name.as_str() == who, "{who}");
             assert!(rt; line.as_slice() == text.as_bytes(), "{text}");
-            Ok(())
+            Ok(to)
         }
         Next::Reply(_) | Next::NotYet | Next::Over => Err(Fail::new("no notice")),
     }

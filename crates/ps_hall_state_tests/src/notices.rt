@@ -28,6 +28,18 @@ const FIRST: &str =
 const SECOND: &str =
     r#"{"a":{"from":"pubsub.example","id":"n-2","to":"ann@a.example","type":"headline"},"c":[{"c":[{"a":{"node":"news"},"c":[{"a":{"id":"i1"},"c":[{"n":"entry","ns":"urn:t"}],"n":"item"}],"n":"items"}],"n":"event","ns":"http://jabber.org/protocol/pubsub#event"}],"n":"message"}"#;
 
+const BOB_SUBSCRIBES: &str =
+    r#"{"a":{"from":"bob@a.example/1","id":"2","to":"pubsub.example","type":"set"},"c":[{"c":[{"a":{"jid":"bob@a.example","node":"news"},"n":"subscribe"}],"n":"pubsub","ns":"http://jabber.org/protocol/pubsub"}],"n":"iq"}"#;
+
+const BOB_SUBSCRIBED: &str =
+    r#"{"a":{"from":"pubsub.example","id":"2","to":"bob@a.example/1","type":"result"},"c":[{"c":[{"a":{"jid":"bob@a.example","node":"news","subscription":"subscribed"},"n":"subscription"}],"n":"pubsub","ns":"http://jabber.org/protocol/pubsub"}],"n":"iq"}"#;
+
+const BOB_FIRST: &str =
+    r#"{"a":{"from":"pubsub.example","id":"n-1","to":"bob@a.example","type":"headline"},"c":[{"c":[{"a":{"node":"news"},"c":[{"a":{"id":"i1"},"c":[{"n":"entry","ns":"urn:t"}],"n":"item"}],"n":"items"}],"n":"event","ns":"http://jabber.org/protocol/pubsub#event"}],"n":"message"}"#;
+
+const BOB_SECOND: &str =
+    r#"{"a":{"from":"pubsub.example","id":"n-2","to":"bob@a.example","type":"headline"},"c":[{"c":[{"a":{"node":"news"},"c":[{"a":{"id":"i1"},"c":[{"n":"entry","ns":"urn:t"}],"n":"item"}],"n":"items"}],"n":"event","ns":"http://jabber.org/protocol/pubsub#event"}],"n":"message"}"#;
+
 // A node with a subscriber, and two items, of which nothing is flushed.
 fn publishes(
     rt: &(impl Abort + Threads + Sync),
@@ -54,11 +66,39 @@ fn hands(rt: &(impl Abort + Threads + Sync), alloc: Global, state: &mut State) -
         replies(rt, state, reply)?;
     }
     'notices: for notice in [FIRST, SECOND] {
-        tells(rt, alloc, state, "ann@a.example", notice)?;
+        let ann = tells(rt, alloc, state, "ann@a.example", notice)?;
         waits(rt, state)?;
-        assert_eq!(rt; records(rt, state), Ok(()));
+        assert_eq!(rt; records(rt, state, &ann), Ok(()));
         waits(rt, state)?;
         assert_eq!(rt; flushes(rt, state), Some(HANDED_BYTES));
+    }
+    waits(rt, state)
+}
+
+// Notices of different addresses are in hand together, and one of the same address waits until the first is flushed.
+fn runs(rt: &(impl Abort + Threads + Sync), alloc: Global, state: &mut State) -> Result<(), Fail>
+    requires standing { IsStanding state.old }
+{
+    comes(rt, alloc, state, CREATE, 1, Outcome::Committed)?;
+    comes(rt, alloc, state, SUBSCRIBE, 2, Outcome::Committed)?;
+    comes(rt, alloc, state, BOB_SUBSCRIBES, 3, Outcome::Committed)?;
+    comes(rt, alloc, state, PUBLISH, 4, Outcome::Committed)?;
+    comes(rt, alloc, state, PUBLISH, 5, Outcome::Committed)?;
+    let _ = flushes(rt, state);
+    'replies: for reply in [MADE, SUBSCRIBED, BOB_SUBSCRIBED, PUBLISHED, PUBLISHED] {
+        replies(rt, state, reply)?;
+    }
+    'rounds: for (first, second) in [(FIRST, BOB_FIRST), (SECOND, BOB_SECOND)] {
+        let ann = tells(rt, alloc, state, "ann@a.example", first)?;
+        let bob = tells(rt, alloc, state, "bob@a.example", second)?;
+        waits(rt, state)?;
+        assert_eq!(rt; records(rt, state, &ann), Ok(()));
+        waits(rt, state)?;
+        assert!(rt; !state.rows.is_empty());
+        assert!(rt; !state.has_in_hand(0, &ann));
+        assert_eq!(rt; records(rt, state, &bob), Ok(()));
+        waits(rt, state)?;
+        assert_eq!(rt; flushes(rt, state), Some(2 * HANDED_BYTES));
     }
     waits(rt, state)
 }
@@ -74,4 +114,14 @@ fn notices_are_handed_one_by_one(rt: HostRuntime) -> Result<(), Fail> {
     };
     let mut state = opened(&rt, rt.alloc(), limits)?;
     hands(&rt, rt.alloc(), &mut state)
+}
+
+#[test]
+fn notices_of_different_addresses_are_in_hand_together(rt: HostRuntime) -> Result<(), Fail> {
+    let limits = Limits {
+        changes: 10_000,
+        whole: 10_000,
+    };
+    let mut state = opened(&rt, rt.alloc(), limits)?;
+    runs(&rt, rt.alloc(), &mut state)
 }

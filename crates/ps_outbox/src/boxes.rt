@@ -232,6 +232,13 @@ impl Outboxes {
         }
     }
 
+    /// Whether this bare address is held.
+    pub fn is_held(&self, bare: &Jid) -> bool
+        ensures { result ≡ is_known bare.now self.now.held }
+    {
+        self.held.any(Index::Key, &AddressOf { who: bare })
+    }
+
     /// Whether an address of the host is held.
     pub fn holds(&self, host: &Text) -> bool
         ensures { result ≡ list_any (is_of host.now) self.now.held }
