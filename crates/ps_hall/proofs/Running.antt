@@ -13,7 +13,9 @@ use Rattle.ps_world.proofs.Read.{run-append}
 use Rattle.ps_trace.specs.Did.{HasInHand, records_of}
 use Rattle.ps_trace.proofs.Flying.{held-rest}
 use Rattle.ps_trace.proofs.Landing.{left-flies}
-use Rattle.ps_hall_state.specs.Gone.{IsHeldFor, RecordsHanded}
+use Rattle.ps_types.specs.declared.entry.Entry.TheVariants.{Handed}
+use Rattle.ps_hall_state.specs.declared.answers.HandedRefusal.{HandedRefusal}
+use Rattle.ps_hall_state.specs.Gone.{IsHeldFor, NotRecordsHanded, RecordsHanded}
 use Rattle.ps_hall_state.specs.Stand.{IsStanding, Stands}
 use Rattle.ps_hall_state.specs.Steps.{KeepsNumbers}
 use Rattle.ps_hall_state.specs.declared.state.HostRow.{HostRow}
@@ -21,7 +23,7 @@ use Rattle.ps_hall_state.specs.declared.state.State.{State}
 use Rattle.ps_hall_state.proofs.OneRow.{there}
 use Rattle.ps_hall_state.proofs.Recording.{held_for}
 use Rattle.ps_hall.specs.Ending.{IsHolding, RecordsFirst}
-use Rattle.ps_hall.proofs.Refusals.{row_kept}
+use Rattle.ps_hall.proofs.Refusals.{refused_stands, row_kept}
 
 -- ---- lists
 
@@ -99,3 +101,15 @@ first_held v at row hand a more split held was =
     let all : HasInHand row.host (a ∷ more) held.0 = subst (λ (l : List Jid). HasInHand row.host l held.0) split held.2 in
     let flies = left-flies the_core name row.host held.0 [] a more held.1.sound.flushed all in
     held_for v held.0 at row a held.1 was all.are.0 flies
+
+-- one is refused
+pub records_still : (first mid now : State) (hand : List Jid) (n : ℕ) (a : Jid) (why : HandedRefusal) → RecordsFirst first mid hand n → NotRecordsHanded mid now a why → RecordsFirst first now hand n
+records_still first mid now hand n a why is refused = record {
+  some = is.some;
+  most = is.most;
+  few = is.few;
+  goes = λ service some w stands.
+      (let one = is.goes service some w stands in
+      let v = run the_core service w (records_of (take n hand)) in
+      record { unbroken = one.unbroken; stands = refused_stands mid now (Handed a) why v (refused v one.stands) });
+}

@@ -4,8 +4,7 @@ ghost use Rattle.ps_hall_state.specs.Gone.{IsHeldFor, RecordsHanded};
 ghost use Rattle.ps_hall_state.specs.Rows.{AtRow};
 ghost use Rattle.ps_hall_state.specs.Stand.{IsStanding};
 ghost use Rattle.ps_hall_state.specs.Steps.{KeepsNumbers};
-ghost use Rattle.ps_hall_state.specs.declared.state.State.{State};
-ghost use Rattle.ps_hall.specs.Ending.{EndsFor, IsHolding, LaysOrEnds, RecordsFirst, RecordsOrEnds};
+ghost use Rattle.ps_hall.specs.Ending.{EndsFor, IsHolding, LaysOrEnds, RecordsOrEnds};
 
 use ps_hall_state::{HandedRefusal, State};
 use ps_types::Jid;
@@ -64,31 +63,6 @@ fn record_first<R: Threads + Sync>(
     }
 }
 
-// With so many recorded, the others are, as far as none is refused. It answers how many are recorded then.
-fn record_others<R: Threads + Sync>(
-    state: &mut State,
-    rt: &R,
-    at: usize,
-    hand: &Vec<Jid>,
-) -> usize
-    ghost first: { State }
-    requires here { at < length first.rows.items }
-    requires holding { AtRow first at (IsHolding first hand.now.items) }
-    requires kept { KeepsNumbers first state.old }
-    requires one { RecordsFirst first state.old hand.now.items 1 }
-    ensures kept { KeepsNumbers first state.new }
-    ensures does { RecordsFirst first state.new hand.now.items result }
-{
-    let mut done = 1;
-    'others: while done < hand.len() && done < MOST_AT_ONCE && state.steps < MOST_STEPS {
-        match state.record(rt, at, &hand[done]) {
-            Ok(()) => done += 1,
-            Err(_) => return done,
-        }
-    }
-    done
-}
-
 /// The first notices in the hand of the writer at a place are recorded, at least one; where there is no room for that the writer has ended. It answers how
 /// many are recorded.
 pub(crate) fn record_or_end<R: Threads + Sync>(
@@ -105,5 +79,12 @@ pub(crate) fn record_or_end<R: Threads + Sync>(
     ensures kept { KeepsNumbers state.old state.new }
 {
     record_first(state, rt, at, &hand[0])?;
-    Ok(record_others(state, rt, at, hand))
+    let mut done = 1;
+    'others: while done < hand.len() && done < MOST_AT_ONCE && state.steps < MOST_STEPS {
+        match state.record(rt, at, &hand[done]) {
+            Ok(()) => done += 1,
+            Err(_) => return Ok(done),
+        }
+    }
+    Ok(done)
 }
