@@ -235,13 +235,13 @@ pub held_of : (host : List ℕ) (held : List Jid) → list_any (is_of host) held
 held_of host [] h = absurd (false≢true h)
 held_of host (x ∷ xs) h = by (is_of host x) refl h (held_of host xs)
   where
-    by : (t : Bool) → is_of host x ≡ t → t || list_any (is_of host) xs ≡ true → (list_any (is_of host) xs ≡ true → (a : Jid) × (a.host ≡ host) × (a.resource ≡ []) × (is_known a xs ≡ true)) → (a : Jid) × (a.host ≡ host) × (a.resource ≡ []) × (is_known a (x ∷ xs) ≡ true)
-    by true e m more = (bare x, sym ((bytes_eq-Decides host x.host).0 e), refl, ap (λ t. t || is_known (bare x) xs) (bare-back x (bare x) (to_its_bare x (bare x) refl)))
-    by false e m more = let f = more m in (f.0, f.1, f.2, or_late (same_bare f.0 x) (is_known f.0 xs) f.3)
-
     or_late : (a b : Bool) → b ≡ true → a || b ≡ true
     or_late true b e = refl
     or_late false b e = e
+
+    by : (t : Bool) → is_of host x ≡ t → t || list_any (is_of host) xs ≡ true → (list_any (is_of host) xs ≡ true → (a : Jid) × (a.host ≡ host) × (a.resource ≡ []) × (is_known a xs ≡ true)) → (a : Jid) × (a.host ≡ host) × (a.resource ≡ []) × (is_known a (x ∷ xs) ≡ true)
+    by true e m more = (bare x, sym ((bytes_eq-Decides host x.host).0 e), refl, ap (λ t. t || is_known (bare x) xs) (bare-back x (bare x) (to_its_bare x (bare x) refl)))
+    by false e m more = let f = more m in (f.0, f.1, f.2, or_late (same_bare f.0 x) (is_known f.0 xs) f.3)
 
 pub none_held : (host : List ℕ) (held : List Jid) (a : Jid) → list_any (is_of host) held ≡ false → a.host ≡ host → is_known a held ≡ false
 none_held host [] a h of = refl

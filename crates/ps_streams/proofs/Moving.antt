@@ -1,5 +1,5 @@
 -- What holdings of a pass leave of what it said and recorded.
-use Rattle.std.proofs.Common.{◌≡◌, ℕ, suc, ◌+◌, ◌≤◌, inl, inr, Bool, true, false, cond, List, [], ◌∷◌, ◌++◌, length, Result, Ok, Err, refl, ap, sym, ◌∙◌, subst, arith}
+use Rattle.std.proofs.Common.{◌≡◌, ◌≢◌, ℕ, suc, ◌+◌, ◌≤◌, inl, inr, Bool, true, false, cond, List, [], ◌∷◌, ◌++◌, length, Result, Ok, Err, refl, ap, sym, ◌∙◌, subst, arith}
 use Rattle.ps_types.specs.Same.{same_jid}
 use Rattle.ps_types.specs.declared.jid.Jid.{Jid}
 use Rattle.ps_model.specs.Machine.{happens}
@@ -45,6 +45,10 @@ more-times false n m o e = e
 pub times-append : (a : Jid) (one two : List Jid) → times a (one ++ two) ≡ times a one + times a two
 times-append a [] two = refl
 times-append a (b ∷ one) two = more-times (same_jid b a) (times a (one ++ two)) (times a one) (times a two) (times-append a one two)
+
+-- some are in hand
+pub some-held : (hand : List Jid) (n : ℕ) → n ≡ length hand → n ≢ 0 → hand ≢ []
+some-held hand n size some none = some (size ∙ ap length none)
 
 says-records : (boot : List ℕ) (w : World) (hand : List Jid) → says the_core boot w (records_of hand) ≡ []
 says-records boot w [] = refl

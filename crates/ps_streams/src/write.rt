@@ -90,7 +90,8 @@ fn record_all<B: Opening, D: Disk, R: Wait + Threads + Sync>(
     ensures ended { IsErrOf result EndCause.Full → SeatEndsOnce pass.old.host pass.old.seat pass.new.seat }
     ensures landed { (IsErrOf result EndCause.Store → ⊥) → FindsLanded B.origin pass.old.host pass.new.seat }
 {
-    if hall.in_hand(pass) == 0 {
+    let held = hall.in_hand(pass);
+    if held == 0 {
         return Ok(());
     }
     match hall.handed(rt, pass) {
