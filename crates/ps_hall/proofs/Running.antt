@@ -40,6 +40,10 @@ split_at (x ∷ hand) (suc n) a got = ap (λ l. x ∷ l) (split_at hand n a got)
 records_next : (hand : List Jid) (n : ℕ) (a : Jid) → slice_get hand n ≡ Some a → records_of (take (n + 1) hand) ≡ records_of (take n hand) ++ Record a ∷ []
 records_next hand n a got = ap records_of (take_next hand n a got) ∙ map-append (λ j. Record j) (take n hand) (a ∷ [])
 
+pub some_first : (hand : List Jid) → hand ≢ [] → (a : Jid) × (more : List Jid) × (hand ≡ a ∷ more)
+some_first [] some = absurd (some refl)
+some_first (a ∷ hand) some = (a, hand, refl)
+
 -- ---- in the state
 
 -- a name of the service, whichever
