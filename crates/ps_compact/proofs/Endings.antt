@@ -1,6 +1,6 @@
 -- How a compaction ends, by how the reading of the old store and the writing of the new one did.
 use Rattle.std.proofs.Common.{◌≡◌, inl, inr, ℕ, List, Result, Ok, Err, refl, subst}
-use Rattle.std.specs.Prelude.{IsErrOf, OnOk}
+use Rattle.std.specs.Prelude.{IfErr, IsErrOf, OnOk}
 use Rattle.ps_base.specs.Causes.{Rose}
 use Rattle.ps_disk.specs.Disk.{LeavesOnly}
 use Rattle.ps_disk.proofs.Moments.{weaker}
@@ -17,9 +17,9 @@ use Rattle.ps_hall_open.specs.declared.opened.ReadWhy.TheVariants as read
 use Rattle.ps_compact.specs.declared.compacting.CompactOutcome.TheVariants as compact
 use Rattle.ps_compact.specs.declared.writing.WriteWhy.{WriteWhy}
 use Rattle.ps_compact.specs.declared.writing.WriteWhy.TheVariants.{Full, Memory, Occupied, Store}
-use Rattle.ps_compact.specs.Compacted.{IfDamaged, IsCompacted, LeavesBase, LeftEmptyOrBase}
+use Rattle.ps_compact.specs.Compacted.{IfDamaged, IsCompacted, LeavesBase, LeftEmptyOrBase, NewStays}
 use Rattle.ps_compact.specs.Refused.{ended_by, unread_by}
-use Rattle.ps_compact.specs.Stores.{IsWrittenNew, LeftEmptyOrWhole}
+use Rattle.ps_compact.specs.Stores.{IsWrittenNew, KeepsNew, LeftEmptyOrWhole}
 
 -- ---- the old store wasn't read
 
@@ -53,6 +53,12 @@ pub unread-same : {P : Type 0} → P → (why : ReadWhy) → IfDamaged (unread_b
 unread-same p (read.Damaged at) = p
 unread-same p read.Store = tt
 unread-same p read.Memory = tt
+
+-- the new store is as it was
+pub unread-stays : (bytes : List ℕ) (why : ReadWhy) → NewStays (unread_by why) bytes bytes
+unread-stays bytes (read.Damaged at) = refl
+unread-stays bytes read.Store = tt
+unread-stays bytes read.Memory = inl refl
 
 -- ---- it was, and the new one was written or not
 
@@ -91,6 +97,13 @@ module _ {T : Type 0} where
   ended-sound P (Err Occupied) = tt
   ended-sound P (Err Full) = tt
   ended-sound P (Err Memory) = tt
+
+  pub ended-stays : (before after : List ℕ) (r : Result T WriteWhy) → IfErr r (λ w. KeepsNew w before after) → NewStays (ended_by r) before after
+  ended-stays before after (Ok x) keeps = tt
+  ended-stays before after (Err Store) keeps = tt
+  ended-stays before after (Err Occupied) keeps = keeps
+  ended-stays before after (Err Full) keeps = keeps
+  ended-stays before after (Err Memory) keeps = keeps
 
   -- what holds at any rate holds where it ended well
   pub on-any : {E P : Type 0} (r : Result T E) → P → OnOk r P

@@ -1,6 +1,6 @@
 -- What is known of a new store: where it is empty, how long it is then, and what a crash leaves of it.
 use Rattle.std.proofs.Common.{◌≡◌, inl, inr, ℕ, ◌+◌, ◌<◌, List, [], ◌∷◌, ◌++◌, length, map, Result, Ok, Err, ◌≤◌, refl, sym, ap, subst, ◌∙◌, arith}
-use Rattle.std.specs.Prelude.{OnOk}
+use Rattle.std.specs.Prelude.{◌≢◌, IfErr, IsErrOf, OnOk}
 use Rattle.std.proofs.lemmas.Bool.{cases_lt}
 use Rattle.ps_types.specs.declared.entry.Entry.{Entry}
 use Rattle.ps_disk.specs.Disk.{LeavesOnly, MayLeave}
@@ -18,9 +18,12 @@ use Rattle.ps_journal.specs.Opened.{HasLength, IsOpened, IsWhyDamaged, LeftOrHas
 use Rattle.ps_journal.specs.Places.{entries_in}
 use Rattle.ps_journal.proofs.Damage.{damaged_spells_nothing}
 use Rattle.ps_journal.proofs.Opens.{found_spells}
-use Rattle.ps_compact.specs.declared.writing.WriteWhy.TheVariants.{Occupied}
-use Rattle.ps_compact.specs.Refused.{refused_by}
-use Rattle.ps_compact.specs.Stores.{LeftEmptyOrWhole}
+use Rattle.ps_journal.specs.declared.journal.AppendRefusal.{AppendRefusal}
+use Rattle.ps_journal.specs.declared.journal.AppendRefusal.TheVariants as append
+use Rattle.ps_compact.specs.declared.writing.WriteWhy.{WriteWhy}
+use Rattle.ps_compact.specs.declared.writing.WriteWhy.TheVariants.{Full, Memory, Occupied, Store}
+use Rattle.ps_compact.specs.Refused.{appended_by, refused_by}
+use Rattle.ps_compact.specs.Stores.{KeepsNew, LeftEmptyOrWhole}
 
 module _ {A : Type 0} where
   pub none-long : (xs : List A) → length xs ≡ 0 → xs ≡ []
@@ -72,6 +75,28 @@ not-over limit n never = elim (cases_lt limit n) [ inl over ↦ absurd (never ov
 pub on-both : {T E : Type 0} {A B C : Type 0} (r : Result T E) → (A → B → C) → OnOk r A → OnOk r B → OnOk r C
 on-both (Ok x) f a b = f a b
 on-both (Err e) f a b = tt
+
+-- ---- refusals
+
+-- an entry less was written than asked for: none
+pub appended-still : (P : Type 0) (w : AppendRefusal) → (w ≡ append.Full → P) → appended_by w ≢ Store → P
+appended-still P append.Full full not = full refl
+appended-still P append.Store full not = absurd (not refl)
+
+-- an empty store was found, and then written or not
+pub kept-empty : {T : Type 0} (before after : List ℕ) (r : Result T WriteWhy) → spelled before [] → (IsErrOf r Occupied → ⊥) → IfErr r (λ w. w ≢ Store → spelled after []) → IfErr r (λ w. KeepsNew w before after)
+kept-empty before after (Ok x) free never still = tt
+kept-empty before after (Err Store) free never still = tt
+kept-empty before after (Err Occupied) free never still = absurd (never refl)
+kept-empty before after (Err Full) free never still = record { free = free; still = still (λ e. absurd (cc e)) }
+kept-empty before after (Err Memory) free never still = inr (record { free = free; still = still (λ e. absurd (cc e)) })
+
+-- it was not found, and the bytes stay
+pub looked-stays : (before after : List ℕ) (w : WriteWhy) → after ≡ before → (w ≡ Full → ⊥) → KeepsNew w before after
+looked-stays before after Store same never = tt
+looked-stays before after Occupied same never = same
+looked-stays before after Full same never = absurd (never refl)
+looked-stays before after Memory same never = inl same
 
 -- ---- moments
 

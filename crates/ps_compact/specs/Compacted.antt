@@ -55,6 +55,20 @@ pub record IsFull (store before : List ℕ) : Type 0 where
   pub free : spelled before []
   pub over : 2 ^ 30 < bytes_with (base entries)
 
+-- the new bytes spelled no entries, and spell none still
+pub record IsStillEmpty (before after : List ℕ) : Type 0 where
+  pub free : spelled before []
+  pub still : spelled after []
+
+-- What a refusal leaves of the new bytes, but for a fault of a disk: they stay, or spell no entries still where an empty store was found to write to.
+abbrev pub NewStays : CompactOutcome → List ℕ → List ℕ → Type 0
+NewStays Done before after = Unit {0}
+NewStays Store before after = Unit {0}
+NewStays (Damaged at) before after = after ≡ before
+NewStays Occupied before after = after ≡ before
+NewStays Full before after = IsStillEmpty before after
+NewStays Memory before after = (after ≡ before) ⊎ IsStillEmpty before after
+
 -- the bytes spell what the list of the old ones is compacted to
 abbrev pub IsBase : List ℕ → List ℕ → Type 0
 IsBase store c = (E : List Entry) × IsStore store E × spelled c (base E)

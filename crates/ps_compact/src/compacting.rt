@@ -1,10 +1,10 @@
 // A store is compacted.
-ghost use Rattle.std.specs.Prelude.{◌≡◌, ◌⊎◌, ◌<◌, ◌≤◌, ◌^◌, [], IsErrOf, OnOk};
+ghost use Rattle.std.specs.Prelude.{◌≡◌, ◌≢◌, ◌⊎◌, ◌<◌, ◌≤◌, ◌^◌, [], IfErr, IsErrOf, OnOk};
 ghost use Rattle.ps_base.specs.Causes.{Rose};
 ghost use Rattle.ps_compact_laws.specs.Laws.{ServesOn};
-ghost use Rattle.ps_compact.specs.Compacted.{IfDamaged, IsCompacted, IsFull, IsOccupied, LeavesBase, LeftEmptyOrBase, bytes_with};
+ghost use Rattle.ps_compact.specs.Compacted.{IfDamaged, IsCompacted, IsFull, IsOccupied, LeavesBase, LeftEmptyOrBase, NewStays, bytes_with};
 ghost use Rattle.ps_compact.specs.Refused.{ended_by, unread_by};
-ghost use Rattle.ps_compact.specs.Stores.{IsWrittenNew, LeftEmptyOrWhole};
+ghost use Rattle.ps_compact.specs.Stores.{IsWrittenNew, KeepsNew, LeftEmptyOrWhole};
 ghost use Rattle.ps_disk.specs.Disk.{LeavesOnly, MayLeave};
 ghost use Rattle.ps_journal.specs.Left.{LeavesList};
 ghost use Rattle.ps_journal.specs.Opened.{IsShortIfUnbegun};
@@ -77,6 +77,8 @@ fn write_base<D: Disk>(alloc: Global, kept: &mut Kept, new: D) -> Written<D>
         (LeavesList (D.synced result.new) (D.written result.new) (base (entries_of kept.old))) }
     ensures occupied { D.tells → IsErrOf result.outcome WriteWhy.Occupied → spelled (D.seen new) [] → ⊥ }
     ensures full { D.tells → IsErrOf result.outcome WriteWhy.Full → 2 ^ 30 < bytes_with (base (entries_of kept.old)) }
+    ensures still { D.tells → D.written new ≡ [] → spelled (D.seen new) [] → IsShortIfUnbegun (D.seen new)
+        → IfErr result.outcome (λ why. why ≢ WriteWhy.Store → spelled (D.seen result.new) []) }
     ensures store { IsErrOf result.outcome WriteWhy.Store → Rose (D.faults new) (D.faults result.new) }
     ensures later { D.faults new ≤ D.faults result.new }
     ensures any_moment { D.tells → spelled (D.seen new) [] → IsShortIfUnbegun (D.seen new)
@@ -108,6 +110,8 @@ fn write_kept<D: Disk>(alloc: Global, kept: &mut Kept, new: D) -> Written<D>
     ensures stays { D.tells → IsErrOf result.outcome WriteWhy.Occupied → D.seen result.new ≡ D.seen new }
     ensures free { D.tells → IsErrOf result.outcome WriteWhy.Full → spelled (D.seen new) [] }
     ensures full { D.tells → IsErrOf result.outcome WriteWhy.Full → 2 ^ 30 < bytes_with (base (entries_of kept.old)) }
+    ensures keeps { D.tells → IsShortIfUnbegun (D.seen new)
+        → IfErr result.outcome (λ why. KeepsNew why (D.seen new) (D.seen result.new)) }
     ensures store { IsErrOf result.outcome WriteWhy.Store → Rose (D.faults new) (D.faults result.new) }
     ensures later { D.faults new ≤ D.faults result.new }
     ensures any_moment { D.tells → IsShortIfUnbegun (D.seen new)
@@ -144,6 +148,8 @@ pub fn compact<R: RandomSource + Threads + Sync, D: Disk>(
     ensures occupied { D.tells → result.outcome ≡ CompactOutcome.Occupied
         → IsOccupied (D.seen store) (D.seen new) (D.seen result.new) }
     ensures full { D.tells → result.outcome ≡ CompactOutcome.Full → IsFull (D.seen store) (D.seen new) }
+    ensures new_stays { D.tells → IsShortIfUnbegun (D.seen new)
+        → NewStays result.outcome (D.seen new) (D.seen result.new) }
     ensures later { D.faults store ≤ D.faults result.store }
     ensures later_new { D.faults new ≤ D.faults result.new }
     // The bytes of the old store stay, whatever the answer, and a crash at any moment leaves of it what it might have left before.

@@ -1,5 +1,5 @@
 // A new store of these entries.
-ghost use Rattle.std.specs.Prelude.{◌≡◌, ◌<◌, ◌≤◌, ◌+◌, ◌^◌, [], length, IsErrOf, OnOk};
+ghost use Rattle.std.specs.Prelude.{◌≡◌, ◌≢◌, ◌<◌, ◌≤◌, ◌+◌, ◌^◌, [], length, IfErr, IsErrOf, OnOk};
 ghost use Rattle.ps_compact.specs.Compacted.{bytes_with};
 ghost use Rattle.ps_compact.specs.Refused.{appended_by, refused_by};
 ghost use Rattle.ps_compact.specs.Stores.{IsWrittenNew, LeftEmptyOrWhole};
@@ -91,6 +91,8 @@ fn append_all<D: Disk>(journal: Journal<D>, batch: &Batch) -> Written<D>
         (LeavesList (D.synced result.new) (D.written result.new) batch.now) }
     ensures free { IsErrOf result.outcome WriteWhy.Occupied → ⊥ }
     ensures full { IsErrOf result.outcome WriteWhy.Full → 2 ^ 30 < length_of journal + 5 + length (body batch.now) }
+    ensures still { D.tells → Has journal []
+        → IfErr result.outcome (λ why. why ≢ WriteWhy.Store → spelled (D.seen result.new) []) }
     ensures store { IsErrOf result.outcome WriteWhy.Store → Rose (faults_in journal) (D.faults result.new) }
     ensures later { faults_in journal ≤ D.faults result.new }
     ensures any_moment { D.tells → Has journal [] → (old : D)
@@ -125,6 +127,9 @@ pub(crate) fn write_store<D: Disk>(alloc: Global, new: D, batch: &Batch) -> Writ
         (LeavesList (D.synced result.new) (D.written result.new) batch.now) }
     ensures occupied { D.tells → IsErrOf result.outcome WriteWhy.Occupied → spelled (D.seen new) [] → ⊥ }
     ensures full { D.tells → IsErrOf result.outcome WriteWhy.Full → 2 ^ 30 < bytes_with batch.now }
+    // But for a fault of the disk an empty store on which nothing is pending spells no entries still.
+    ensures still { D.tells → D.written new ≡ [] → spelled (D.seen new) [] → IsShortIfUnbegun (D.seen new)
+        → IfErr result.outcome (λ why. why ≢ WriteWhy.Store → spelled (D.seen result.new) []) }
     ensures store { IsErrOf result.outcome WriteWhy.Store → Rose (D.faults new) (D.faults result.new) }
     ensures later { D.faults new ≤ D.faults result.new }
     // A crash at any moment of the call leaves what it might have left before, or a store of no entries, or of all.

@@ -1,27 +1,29 @@
 -- A line that is laid, by the world that its holding found.
-use Rattle.std.proofs.Common.{◌≡◌, ℕ, ◌+◌, ◌≤◌, ◌<◌, Bool, true, false, List, [], ◌∷◌, Option, Some, None, length, refl, ap, sym, ◌∙◌, subst, arith}
+use Rattle.std.proofs.Common.{◌≡◌, ℕ, ◌+◌, ◌≤◌, ◌<◌, Bool, true, false, List, [], ◌∷◌, ◌++◌, Option, Some, None, length, refl, ap, sym, ◌∙◌, subst, arith, append_assoc}
 use Rattle.std.specs.Prelude.{nat_lt, IfErr, IfOk, Result, Ok, Err}
 use Rattle.std.proofs.lemmas.Bool.Decides.{nat_tests}
 use Rattle.ps_model.specs.Machine.{run}
 use Rattle.ps_model.specs.TheCore.{the_core}
-use Rattle.ps_model.specs.World.{World}
+use Rattle.ps_model.specs.Entries.{body}
+use Rattle.ps_model.specs.World.{World, more_entries}
 use Rattle.ps_model.specs.declared.steps.Step.TheVariants.{Arrive}
 use Rattle.ps_types.specs.declared.entry.Arrival.{Arrival}
 use Rattle.ps_types.specs.declared.entry.Entry.{Entry}
 use Rattle.ps_trace.specs.Own.{AreOwned, IsReaderOf, deeds}
 use Rattle.ps_trace.specs.declared.deed.Deed.{Deed}
 use Rattle.ps_hall_state.specs.Arrive.{Laid, LaidIn, NotLaid, NotLaidIn, entry_in, lacks_room, outcome_of, reply_in}
-use Rattle.ps_hall_state.specs.Stand.{Stands, bytes_with}
+use Rattle.ps_hall_state.specs.Stand.{Stands, bytes_with, entries_of}
 use Rattle.ps_hall_state.specs.declared.answers.ArriveRefusal.{ArriveRefusal}
 use Rattle.ps_hall_state.specs.declared.answers.ArriveRefusal.TheVariants.{Closed, Store, Again, Memory}
 use Rattle.ps_hall_state.specs.declared.answers.Receipt.{Receipt}
 use Rattle.ps_hall_state.specs.declared.state.State.{State}
 use Rattle.ps_hall_state.proofs.Sizes.{body-more}
-use Rattle.ps_hall.specs.Calls.{IsCause, IsReceipt, LayDoes}
+use Rattle.ps_hall.specs.Calls.{FoundRoom, IsCause, IsMeasured, IsReceipt, LayDoes}
 use Rattle.ps_hall_flush.specs.Homes.{HomeStands, NoRoom, bytes_in, world_at}
 use Rattle.ps_hall_flush.specs.Origin.{Origin}
 use Rattle.ps_hall.specs.Steps.{is_full, lay_steps}
 use Rattle.ps_hall_flush.proofs.Homing.{Rooms}
+use Rattle.ps_hall_flush.proofs.Logs.{same_cut}
 use Rattle.ps_hall_flush.proofs.Quiet.{AreQuiet}
 
 full_is : (full : Bool) (reply : Option (List ℕ)) (entry : Option Entry) → is_full (outcome_of full reply entry) ≡ full
@@ -55,14 +57,13 @@ module _ (o : Origin) (v now : State) (log : List Deed) (is : HomeStands o v log
   lacks_same : (r : Receipt) (laid : Laid v now host arrival r) → is_full r.outcome ≡ lacks_room o.limits.changes v.length v.batch (entry_in w host arrival)
   lacks_same r laid = full_same r laid ∙ ((laid_in r laid).full_is ∙ ap (λ x. lacks_room x.changes v.length v.batch (entry_in w host arrival)) is.limits)
 
-  receipt_is : (r : Receipt) → Laid v now host arrival r → IsReceipt o w host arrival r
+  receipt_is : (r : Receipt) → Laid v now host arrival r → IsReceipt w host arrival r
   receipt_is r laid =
       let l = laid_in r laid in
       record {
         is_open = l.is_open;
         place = l.place;
         outcome = l.outcome_is ∙ ap (λ b. outcome_of b (reply_in w host arrival false) (entry_in w host arrival)) (sym (full_same r laid));
-        room = record { kept = v; stands = is.stands; full_is = lacks_same r laid };
       }
 
   not_laid : (e : ArriveRefusal) → NotLaidIn now host e w → Stands now w
@@ -88,6 +89,47 @@ module _ (o : Origin) (v now : State) (log : List Deed) (is : HomeStands o v log
   pub lay_rooms : (by : ℕ) (result : Result Receipt ArriveRefusal) → IfOk result (λ r. Laid v now host arrival r) → bytes_in v ≤ bytes_in now → Rooms o w now by (lay_steps host arrival result)
   lay_rooms by (Ok r) ok le = ((omega arith, no_room (is_full r.outcome) (lacks_same r ok) le), tt)
   lay_rooms by (Err e) ok le = tt
+
+-- ---- how long the store then is
+
+not_lt : (a b : ℕ) → false ≡ nat_lt a b → b ≤ a
+not_lt a b h = grind (arith, nat_tests, h)
+
+module _ (o : Origin) (v now : State) (log : List Deed) (is : HomeStands o v log) (host : List ℕ) (arrival : Arrival) (count : now.count ≡ v.count) (long : now.length ≡ v.length) where
+  abbrev found : World
+  found = world_at o log
+
+  -- the entry waits behind those that waited
+  waits_more : (e : Entry) → entry_in found host arrival ≡ Some e → Stands now (run the_core o.boot found (Arrive host arrival false ∷ [])) → entries_of now.batch ≡ entries_of v.batch ++ e ∷ []
+  waits_more e made stands =
+      let before = is.stands.batch in
+      let after = stands.batch in
+      let list : found.entries ++ e ∷ [] ≡ after.begun ++ entries_of now.batch = ap (λ (x : Option Entry). more_entries found.entries x) (sym made) ∙ after.all in
+      let cut : before.begun ++ (entries_of v.batch ++ e ∷ []) ≡ after.begun ++ entries_of now.batch =
+      sym (append_assoc before.begun (entries_of v.batch) (e ∷ [])) ∙ (ap (λ (l : List Entry). l ++ e ∷ []) (sym before.all) ∙ list) in
+      sym (same_cut before.begun after.begun (entries_of v.batch ++ e ∷ []) (entries_of now.batch) cut (before.size ∙ (sym count ∙ sym after.size))).1
+
+  -- so the store is as long as it was reckoned to be with it
+  bytes_with_it : (e : Entry) → entry_in found host arrival ≡ Some e → Stands now (run the_core o.boot found (Arrive host arrival false ∷ [])) → bytes_in now ≡ v.length + bytes_with v.batch e
+  bytes_with_it e made stands =
+      let waits = ap (λ (l : List Entry). length (body l)) (waits_more e made stands) in
+      omega (arith, long, waits)
+
+  measured : (full : Bool) (x : Option Entry) → entry_in found host arrival ≡ x → full ≡ lacks_room o.limits.changes v.length v.batch x → bytes_in v ≤ bytes_in now → Stands now (run the_core o.boot found (Arrive host arrival full ∷ []))
+      → IsMeasured o.limits.changes (bytes_in now) x full
+  measured full None made lacks le stands = lacks
+  measured true (Some e) made lacks le stands = (let a = lt_from o.limits.changes (v.length + bytes_with v.batch e) lacks in let b = body-more v.batch e in omega (arith, a, b, le))
+  measured false (Some e) made lacks le stands = (let a = not_lt o.limits.changes (v.length + bytes_with v.batch e) lacks in let b = bytes_with_it e made stands in omega (arith, a, b))
+
+  pub lay_room : (by : ℕ) (result : Result Receipt ArriveRefusal) (new : List Deed) → IfOk result (λ r. Laid v now host arrival r) → IfErr result (λ e. NotLaid v now host e) → bytes_in v ≤ bytes_in now
+      → new ≡ log ++ deeds by (bytes_in now) (lay_steps host arrival result) → IfOk result (λ r. FoundRoom o host arrival r new)
+  lay_room by (Err e) new ok err le seen = tt
+  lay_room by (Ok r) new ok err le seen = record {
+    front = log;
+    deed = record { by = by; step = Arrive host arrival (is_full r.outcome); bytes = bytes_in now };
+    is = seen;
+    room = measured (is_full r.outcome) (entry_in found host arrival) refl (lacks_same o v now log is host arrival r ok) le (lay_stands o v now log is host arrival (Ok r) ok err);
+  }
 
 pub lay_owned : (hosts : List (List ℕ)) (by bytes : ℕ) (host : List ℕ) (arrival : Arrival) (result : Result Receipt ArriveRefusal) → IsReaderOf hosts by host → AreOwned hosts (deeds by bytes (lay_steps host arrival result))
 lay_owned hosts by bytes host arrival (Ok r) reads = (reads, tt)

@@ -62,9 +62,9 @@ module _ (o : Origin) (v now : State) (log : List Deed) (is : HomeStands o v log
   abbrev w : World
   w = world_at o log
 
-  refused_is : (mid : State) (e : Entry) (why : HandedRefusal) → NotRecordedIn v mid e why w → IsNoRecord o w e why
+  refused_is : (mid : State) (e : Entry) (why : HandedRefusal) → NotRecordedIn v mid e why w → IsNoRecord w why
   refused_is mid e Store h = h.0
-  refused_is mid e Full h = (h.0, record { kept = v; stands = is.stands; long = subst (λ x. x.whole < v.length + bytes_with v.batch e) is.limits h.1 })
+  refused_is mid e Full h = h.0
   refused_is mid e Memory h = h.0
 
   pub record_stands : {T : Type 0} (host : List ℕ) (a : Jid) (result : Result T HandedRefusal) → RecordsOrEnds v now host a result → Stands now (run the_core o.boot w (record_steps host a result))

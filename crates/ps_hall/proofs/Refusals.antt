@@ -2,7 +2,6 @@
 use Rattle.std.proofs.Common.{◌≡◌, ℕ, zero, suc, ◌<◌, ◌^◌, inl, List, [], ◌∷◌, ◌++◌, Some, length, refl, ap, sym, ◌∙◌, subst, arith}
 use Rattle.std.specs.Prelude.{slice_get, OnErr, OnOk, Result, Ok, Err}
 use Rattle.ps_types.specs.declared.entry.Entry.{Entry}
-use Rattle.ps_types.specs.declared.entry.Entry.TheVariants.{Gone as GoneEntry}
 use Rattle.ps_model.specs.World.{World}
 use Rattle.ps_model.specs.declared.steps.Role.TheVariants.{Reader}
 use Rattle.ps_model.specs.declared.steps.Step.TheVariants.{Ended}
@@ -59,7 +58,7 @@ refused_few v now e why standing err few =
 -- ---- on the deeds
 
 -- one holding is told as two: a Gone was refused, and then the reader ended
-pub gone_refused : {T : Type 0} (o : Origin) (k : ℕ) (host : List ℕ) (old new : List Deed) (e : HandedRefusal) → Does o k old new (λ w steps. IsNoRecord o w (GoneEntry host) e × (steps ≡ Ended host Reader ∷ [])) → HasGone {T = T} o k host old new (Err e)
+pub gone_refused : {T : Type 0} (o : Origin) (k : ℕ) (host : List ℕ) (old new : List Deed) (e : HandedRefusal) → Does o k old new (λ w steps. IsNoRecord w e × (steps ≡ Ended host Reader ∷ [])) → HasGone {T = T} o k host old new (Err e)
 gone_refused o k host old new e did =
     let before = old ++ did.between in
     let ends = deeds k did.bytes (Ended host Reader ∷ []) in

@@ -2,7 +2,6 @@
 use Rattle.std.specs.Prelude.{◌≡◌, ◌≢◌, ◌⊎◌, ℕ, ◌+◌, ◌<◌, ◌≤◌, Bool, true, false, List, [], ◌∷◌, ◌++◌, length, Option, Some, None, Result, Ok, Err, slice_get}
 use Rattle.ps_types.specs.declared.entry.Arrival.{Arrival}
 use Rattle.ps_types.specs.declared.entry.Entry.{Entry}
-use Rattle.ps_types.specs.declared.entry.Entry.TheVariants.{Handed, Gone as GoneEntry}
 use Rattle.ps_types.specs.declared.jid.Jid.{Jid}
 use Rattle.ps_model.specs.Entries.{spelling}
 use Rattle.ps_model.specs.World.{World}
@@ -15,15 +14,13 @@ use Rattle.ps_twin.specs.Seats.{seen_of, number_of}
 use Rattle.ps_trace.specs.Did.{HasInHand, NoneInHand}
 use Rattle.ps_trace.specs.Own.{AreOwned}
 use Rattle.ps_trace.specs.declared.deed.Deed.{Deed}
-use Rattle.ps_hall_state.specs.Arrive.{IsOpen, entry_in, lacks_room, outcome_of, reply_in, untaken}
+use Rattle.ps_hall_state.specs.Arrive.{IsOpen, entry_in, outcome_of, reply_in, untaken}
 use Rattle.ps_hall_state.specs.Next.{IsFirstNotice, IsFirstReply, NoNotice, NoReply, some_reads}
-use Rattle.ps_hall_state.specs.Stand.{Stands, bytes_with}
 use Rattle.ps_hall_state.specs.declared.answers.ArriveRefusal.{ArriveRefusal}
 use Rattle.ps_hall_state.specs.declared.answers.ArriveRefusal.TheVariants.{Closed, Store as NoStore, Again, Memory as NoMemory}
 use Rattle.ps_hall_state.specs.declared.answers.HandedRefusal.{HandedRefusal}
 use Rattle.ps_hall_state.specs.declared.answers.HandedRefusal.TheVariants.{Store, Full, Memory}
 use Rattle.ps_hall_state.specs.declared.answers.Receipt.{Receipt}
-use Rattle.ps_hall_state.specs.declared.state.State.{State}
 use Rattle.ps_hall_flush.specs.Doing.{Adds, Does}
 use Rattle.ps_hall_flush.specs.Flush.{Flushes, NotFlushed}
 use Rattle.ps_hall_flush.specs.Homes.{world_at}
@@ -58,17 +55,23 @@ HasHand (Some a) host w = HasInHand host a w
 
 -- ---- lines
 
--- a state of this world, in which the entry would pass the limit just where the line found no room
-pub record IsMeasured (o : Origin) (w : World) (host : List ℕ) (arrival : Arrival) (full : Bool) : Type 0 where
-  pub kept : State
-  pub stands : Stands kept w
-  pub full_is : full ≡ lacks_room o.limits.changes kept.length kept.batch (entry_in w host arrival)
+-- Of a line that makes this entry, where the store then has so many bytes: with the entry it is within the limit, or the entry is not laid since it would pass that.
+abbrev pub IsMeasured : ℕ → ℕ → Option Entry → Bool → Type 0
+IsMeasured limit bytes None full = full ≡ false
+IsMeasured limit bytes (Some e) false = bytes ≤ limit
+IsMeasured limit bytes (Some e) true = limit < bytes + length (spelling e)
 
-pub record IsReceipt (o : Origin) (w : World) (host : List ℕ) (arrival : Arrival) (r : Receipt) : Type 0 where
+-- The last deed that was seen tells how long the store was once the line was laid, and by that the line was told that there is no room, or not.
+pub record FoundRoom (o : Origin) (host : List ℕ) (arrival : Arrival) (r : Receipt) (seen : List Deed) : Type 0 where
+  pub front : List Deed
+  pub deed : Deed
+  pub is : seen ≡ front ++ deed ∷ []
+  pub room : IsMeasured o.limits.changes deed.bytes (entry_in (world_at o front) host arrival) (is_full r.outcome)
+
+pub record IsReceipt (w : World) (host : List ℕ) (arrival : Arrival) (r : Receipt) : Type 0 where
   pub is_open : IsOpen w host
   pub place : r.place ≡ length w.entries
   pub outcome : r.outcome ≡ outcome_of (is_full r.outcome) (reply_in w host arrival false) (entry_in w host arrival)
-  pub room : IsMeasured o w host arrival (is_full r.outcome)
 
 -- why a line was not taken
 abbrev pub IsCause : World → List ℕ → ArriveRefusal → Type 0
@@ -78,13 +81,14 @@ IsCause w host Again = ((w.hosts host).writer_ended ≡ false) × (w.broken ≡ 
 IsCause w host NoMemory = IsOpen w host
 
 abbrev pub LayDoes : Origin → List ℕ → Arrival → Result Receipt ArriveRefusal → World → List Step → Type 0
-LayDoes o host arrival (Ok r) w steps = IsReceipt o w host arrival r × (steps ≡ Arrive host arrival (is_full r.outcome) ∷ [])
+LayDoes o host arrival (Ok r) w steps = IsReceipt w host arrival r × (steps ≡ Arrive host arrival (is_full r.outcome) ∷ [])
 LayDoes o host arrival (Err e) w steps = IsCause w host e × (steps ≡ [])
 
 -- the line was laid, and then what came of the flush
 pub record LaidThen (o : Origin) (k : ℕ) (host : List ℕ) (old new : List Deed) (arrival : Arrival) (r : Receipt) (Then : List Deed → List Deed → Type 0) : Type 0 where
   pub mid : List Deed
   pub laid : Does o k old mid (LayDoes o host arrival (Ok r))
+  pub room : FoundRoom o host arrival r mid
   pub after : Then mid new
 
 abbrev pub Arrived : Origin → ℕ → List ℕ → List Deed → List Deed → Arrival → Result Receipt ArriveRefusal → Type 0
@@ -107,17 +111,11 @@ NextDoes o host (Err e) hand w steps = (hand ≡ None) × (steps ≡ [])
 
 -- ---- entries that no line makes
 
--- a state of this world, in which the entry would pass the limit
-pub record IsTooLong (o : Origin) (w : World) (e : Entry) : Type 0 where
-  pub kept : State
-  pub stands : Stands kept w
-  pub long : o.limits.whole < kept.length + bytes_with kept.batch e
-
--- why it was not recorded
-abbrev pub IsNoRecord : Origin → World → Entry → HandedRefusal → Type 0
-IsNoRecord o w e Store = w.broken ≡ true
-IsNoRecord o w e Full = (w.broken ≡ false) × IsTooLong o w e
-IsNoRecord o w e Memory = w.broken ≡ false
+-- why it was not recorded; for want of room a deed tells how long the store was (`FoundOver`)
+abbrev pub IsNoRecord : World → HandedRefusal → Type 0
+IsNoRecord w Store = w.broken ≡ true
+IsNoRecord w Full = w.broken ≡ false
+IsNoRecord w Memory = w.broken ≡ false
 
 -- behind the bytes that some deed among these tells of, the entry passes the limit
 pub record FoundOver (o : Origin) (e : Entry) (seen : List Deed) : Type 0 where
@@ -130,7 +128,7 @@ pub record FoundOver (o : Origin) (e : Entry) (seen : List Deed) : Type 0 where
 -- the notice in hand is recorded, or the writer ends where there is no room
 abbrev pub RecordDoes : {T : Type 0} → Origin → List ℕ → Jid → Result T HandedRefusal → World → List Step → Type 0
 RecordDoes o host a (Ok t) w steps = HasInHand host a w × (w.broken ≡ false) × (steps ≡ Record a ∷ [])
-RecordDoes o host a (Err e) w steps = IsNoRecord o w (Handed a) e × (steps ≡ refused_steps host e)
+RecordDoes o host a (Err e) w steps = IsNoRecord w e × (steps ≡ refused_steps host e)
 
 pub record RecordedThen (o : Origin) (k : ℕ) (host : List ℕ) (a : Jid) (old new : List Deed) (Then : List Deed → List Deed → Type 0) : Type 0 where
   pub mid : List Deed
@@ -144,7 +142,7 @@ HasHanded o k host a old new (Err e) = Does o k old new (RecordDoes {T = Unit {0
 -- the reader is gone
 abbrev pub GoneDoes : {T : Type 0} → Origin → List ℕ → Result T HandedRefusal → World → List Step → Type 0
 GoneDoes o host (Ok t) w steps = (w.broken ≡ false) × (steps ≡ Gone host ∷ [])
-GoneDoes o host (Err e) w steps = IsNoRecord o w (GoneEntry host) e × (steps ≡ [])
+GoneDoes o host (Err e) w steps = IsNoRecord w e × (steps ≡ [])
 
 pub record GoneThen (o : Origin) (k : ℕ) (host : List ℕ) (old new : List Deed) (Then : List Deed → List Deed → Type 0) : Type 0 where
   pub mid : List Deed
@@ -165,7 +163,7 @@ pub record HasGone {T : Type 0} (o : Origin) (k : ℕ) (host : List ℕ) (old ne
 -- in one holding the Gone is laid, or the reader ends
 abbrev pub LayGoneDoes : {T : Type 0} → Origin → List ℕ → Result T HandedRefusal → World → List Step → Type 0
 LayGoneDoes o host (Ok t) w steps = GoneDoes o host (Ok (tt {0})) w steps
-LayGoneDoes o host (Err e) w steps = IsNoRecord o w (GoneEntry host) e × (steps ≡ Ended host Reader ∷ [])
+LayGoneDoes o host (Err e) w steps = IsNoRecord w e × (steps ≡ Ended host Reader ∷ [])
 
 -- what came of the flush, and then the reader has ended
 pub record EndsThen (o : Origin) (k : ℕ) (host : List ℕ) (old new : List Deed) (Then : List Deed → List Deed → Type 0) : Type 0 where

@@ -1,16 +1,18 @@
 -- What the hall gives back at its end.
-use Rattle.std.specs.Prelude.{◌≡◌, ◌≤◌, ℕ, false, List, ◌++◌, Some, is_some, slice_get}
+use Rattle.std.specs.Prelude.{◌≡◌, ◌+◌, ◌≤◌, ℕ, false, List, ◌++◌, Some, is_some, slice_get, take}
 use Rattle.ps_disk.specs.declared.device.Disk.{Ghosts}
 use Rattle.ps_twin.specs.declared.twin.TwinSeat.{TwinSeat}
 use Rattle.ps_twin.specs.Seats.{seen_of, number_of}
 use Rattle.ps_twin.specs.Twins.{Prefix}
 use Rattle.ps_turn.specs.History.{Later}
+use Rattle.ps_model.specs.Machine.{start}
+use Rattle.ps_model.specs.TheCore.{the_core}
 use Rattle.ps_trace.specs.declared.deed.Deed.{Deed}
 use Rattle.ps_hall_state.specs.Stand.{entries_of}
 use Rattle.ps_hall_state.specs.declared.state.State.{State}
-use Rattle.ps_hall_store.specs.Stand.{IsKept, broken_in, disk_in, firm_of, mark_of}
+use Rattle.ps_hall_store.specs.Stand.{IsKept, broken_in, disk_in, firm_of, length_in, mark_of}
 use Rattle.ps_hall_store.specs.declared.store.Store.{Store}
-use Rattle.ps_hall_flush.specs.Homes.{ArchiveStands, HomeStands, maker_of, numbers_of, world_at}
+use Rattle.ps_hall_flush.specs.Homes.{ArchiveStands, HadNoRoom, HomeStands, maker_of, numbers_of, world_at}
 use Rattle.ps_hall_flush.specs.Origin.{Origin}
 
 -- The state stands for the deeds of all passes, and the store for a beginning of them. What each pass has seen is a beginning too, behind which nothing is
@@ -28,6 +30,8 @@ pub record HasClosed {V J D : Type 0} {g : Ghosts D} (o : Origin) (v : State) (y
   pub whole : (world_at o log).broken ≡ false → (world_at o log).entries ≡ (world_at o list).entries ++ entries_of v.batch
   -- what the state counts as flushed the store has made durable
   pub firm : v.flushed ≤ firm_of y
+  -- Of those steps each line that found no room would find none behind the bytes of the journal, which no crash makes fewer (`floor` of `Store::close`).
+  pub room : HadNoRoom o.limits.changes (length_in y + 5) o.boot (start the_core o.boot o.list) (take (firm_of y) log)
   -- both tell of a fault, or neither; and then both have begun the same frames
   pub broken : v.broken ≡ is_some (broken_in y)
   pub mark : v.broken ≡ false → numbers_of v ≡ mark_of y

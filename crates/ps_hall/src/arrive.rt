@@ -1,8 +1,8 @@
 // A line is laid, and made durable.
-ghost use Rattle.std.specs.Prelude.{◌≡◌, OnErr, OnOk};
+ghost use Rattle.std.specs.Prelude.{◌≡◌, IfOk, OnErr, OnOk};
 ghost use Rattle.ps_hall_state.specs.Shape.{IsArrival};
-ghost use Rattle.ps_twin.specs.Seats.{number_of};
-ghost use Rattle.ps_hall.specs.Calls.{IsPass, IsReader, LayDoes, SeatArrived};
+ghost use Rattle.ps_twin.specs.Seats.{number_of, seen_of};
+ghost use Rattle.ps_hall.specs.Calls.{FoundRoom, IsPass, IsReader, LayDoes, SeatArrived};
 ghost use Rattle.ps_hall_flush.specs.Doing.{Makes};
 ghost use Rattle.ps_hall_flush.specs.Flush.{SeatFlushes, SeatNotFlushed};
 
@@ -31,6 +31,9 @@ impl<B: Opening, D: Disk> Hall<B, D> {
         ensures same { (pass.new.at ≡ pass.old.at) × (pass.new.host ≡ pass.old.host) }
         ensures does { Makes B.origin pass.old.seat pass.new.seat
             (LayDoes B.origin pass.old.host arrival.now result) }
+        // A change that would pass the limit is never laid, and none is refused that would not.
+        ensures room { IfOk result
+            (λ r. FoundRoom B.origin pass.old.host arrival.now r (seen_of pass.new.seat)) }
     {
         let mut home = self.twin.enter(rt, &mut pass.seat);
         let outcome = home.state.lay(rt, pass.at, arrival);

@@ -3,7 +3,8 @@ use Rattle.std.proofs.Common.{◌≡◌, ◌≢◌, ◌⊎◌, ⊎_elim, ℕ, �
 use Rattle.std.specs.Prelude.{IfSome, is_some}
 use Rattle.std.proofs.lemmas.Bool.{false≢true}
 use Rattle.ps_disk.specs.declared.device.Disk.{Ghosts}
-use Rattle.ps_model.specs.Machine.{run}
+use Rattle.ps_model.specs.Entries.{body}
+use Rattle.ps_model.specs.Machine.{run, start}
 use Rattle.ps_model.specs.TheCore.{the_core}
 use Rattle.ps_model.specs.World.{World, ends}
 use Rattle.ps_model.specs.declared.steps.Step.{Step}
@@ -25,15 +26,15 @@ use Rattle.ps_hall_state.proofs.Stepping.{count-is}
 use Rattle.ps_hall_store.specs.Frames.{Loaded, NotesFault, Tears, Writes}
 use Rattle.ps_hall_store.specs.Frames as frames
 use Rattle.ps_hall_store.specs.Stand as store
-use Rattle.ps_hall_store.specs.Stand.{StoreStands, broken_in}
+use Rattle.ps_hall_store.specs.Stand.{StoreStands, broken_in, firm_of as firm_in, length_in}
 use Rattle.ps_hall_store.specs.declared.store.Frame.{Frame}
 use Rattle.ps_hall_store.specs.declared.store.Store.{Store}
 use Rattle.ps_hall_flush.specs.Doing.{Adds}
 use Rattle.ps_hall_flush.specs.Flush.{FrameBegun, FrameRefused, FrameSpared, HasToldFault, IsBrokenAt, IsFrameOf, IsWritten, NoFrame}
-use Rattle.ps_hall_flush.specs.Homes.{HomeStands, marked, state_mark, store_mark, world_at}
+use Rattle.ps_hall_flush.specs.Homes.{HomeStands, TellAtMost, WithinStore, bytes_in, marked, state_mark, store_mark, world_at}
 use Rattle.ps_hall_flush.specs.Origin.{Origin}
 use Rattle.ps_hall_flush.specs.Seat.{HasLeft, HoldsStore}
-use Rattle.ps_hall_flush.proofs.Logs.{prefix_follows, prefix_then, same_cut, steps_of}
+use Rattle.ps_hall_flush.proofs.Logs.{firm_within, prefix_follows, prefix_then, same_cut, steps_of, tell_all, tell_more, within_on}
 use Rattle.ps_hall_flush.proofs.Marking.{broken_mark, counts_same, quiet_mark, whole_mark}
 use Rattle.ps_hall_flush.proofs.Seating.{firm_kept, journal_kept, list_kept}
 
@@ -52,6 +53,14 @@ same_entries (Some es) = refl
 same_bytes : (b : Option (List Entry)) → bytes_of b ≡ frames.bytes_of b
 same_bytes None = refl
 same_bytes (Some es) = refl
+
+-- a frame of them is as long as the store was reckoned to be with one
+holds_batch : (b : Option (List Entry)) → 5 + length (body (entries_of b)) ≤ bytes_of b + 5
+holds_batch None = omega arith
+holds_batch (Some es) = omega arith
+
+frame_holds : (v : State) (long : ℕ) → long ≡ v.length + bytes_of v.batch → bytes_in v ≤ long + 5
+frame_holds v long is = let h = holds_batch v.batch in omega (arith, is, h)
 
 -- the entries of all steps so far
 pub all_entries : (w : World) (m : ℕ) → Sound the_core w → m ≡ w.steps → ends m w.made ≡ length w.entries
@@ -101,6 +110,10 @@ module _ {D : Type 0} {g : Ghosts D} where
           firm = firm_kept t s0 s1 s2 now [] took left ∙ holds.firm;
           mark = left.mark ∙ (quiet_mark now (did.kept.broken ∙ unbroken) ∙ did.mark);
           some = subst (λ (b : Option (List Entry)). IfSome b (λ es. es ≢ [])) (sym did.batch) stands.stands.batch.some;
+          within = subst (λ (log : List Deed). WithinStore y log) (sym l) holds.within;
+          fits = λ n. subst (λ (log : List Deed). TellAtMost (f.length + 5) n log) (sym seen)
+              (tell_more (bytes_in v) (f.length + 5) n (seen_of s1) (frame_holds v f.length did.longer)
+              (tell_all o.limits.changes (bytes_in v) o.boot (start the_core o.boot o.list) (seen_of s1) stands.full n));
         }
 
     -- and one in which none is
@@ -113,6 +126,7 @@ module _ {D : Type 0} {g : Ghosts D} where
           held = journal_kept t s0 s1 s2 v [] took left holds.held;
           front = subst (λ (log : List Deed). Prefix (list_of s2) log) (sym seen) (subst (λ (log : List Deed). Prefix log (seen_of s1)) (sym l) front);
           stands = subst (λ (log : List Deed). StoreStands o.at y (world_at o log)) (sym l) holds.stands;
+          within = subst (λ (log : List Deed). WithinStore y log) (sym l) holds.within;
           firm = firm_kept t s0 s1 s2 v [] took left ∙ holds.firm;
           mark = left.mark ∙ (mark ∙ holds.mark);
         }
@@ -123,10 +137,10 @@ module _ {D : Type 0} {g : Ghosts D} where
       broken = ap (λ log. (world_at o log).broken) (seen_as_was t s1 s2 v left) ∙ (sym stands.stands.broken ∙ broken);
     }
 
-    pub frame_spared : (s0 s1 s2 : TwinSeat V J Deed) (v : State) (y : Store D g) (m : ℕ) → HoldsStore o t s0 y → TookState s0 s1 → HomeStands o v (seen_of s1) → Prefix (list_of s0) (seen_of s1) → state_mark v ≡ mark_of s0 → m ≤ v.flushed → v.flushed ≤ known_of s1 → HasLeft t s1 s2 v [] → FrameSpared o t s2 y m
-    frame_spared s0 s1 s2 v y m holds took stands front mark low firm left =
+    pub frame_spared : (s0 s1 s2 : TwinSeat V J Deed) (v : State) (y : Store D g) (m : ℕ) → HoldsStore o t s0 y → TookState s0 s1 → HomeStands o v (seen_of s1) → Prefix (list_of s0) (seen_of s1) → state_mark v ≡ mark_of s0 → v.broken ≡ false → m ≤ v.flushed → v.flushed ≤ known_of s1 → HasLeft t s1 s2 v [] → FrameSpared o t s2 y m
+    frame_spared s0 s1 s2 v y m holds took stands front mark unbroken low firm left =
         let e : (world_at o (seen_of s2)).flushed ≡ v.flushed = ap (λ log. (world_at o log).flushed) (seen_as_was t s1 s2 v left) ∙ sym stands.stands.flushed in
-        record { as_was = no_frame s0 s1 s2 v y holds took front mark left; flushed = omega (arith, e, low); known = (let same = left.known in omega (arith, low, firm, same)) }
+        record { as_was = no_frame s0 s1 s2 v y holds took front mark left; quiet = ap (λ log. (world_at o log).broken) (seen_as_was t s1 s2 v left) ∙ (sym stands.stands.broken ∙ unbroken); flushed = omega (arith, e, low); known = (let same = left.known in omega (arith, low, firm, same)) }
 
     -- the frame has all steps that the seat has seen
     pub frame_steps : (s : TwinSeat V J Deed) (y : Store D g) (f : Frame) → FrameBegun o t s y f → f.steps ≡ length (seen_of s)
@@ -173,6 +187,20 @@ module _ {D : Type 0} {g : Ghosts D} where
     -- and its mark
     pub told_mark : (s s' : TwinSeat V J Deed) (new : Store D g) (mark : ℕ × ℕ) → StoreStands o.at new (world_at o (seen_of s')) → IsBrokenAt o (seen_of s') → HasToldFault s s' → marked true mark ≡ marked true (mark_of s) → store.mark_of new ≡ mark → store_mark new ≡ mark_of s'
     told_mark s s' new mark is broken told was same = broken_mark new mark (sym is.broken ∙ broken.broken) same ∙ (was ∙ sym told.mark)
+
+    -- once it is written, the store is no shorter than any of its deeds tells
+    pub written_within : (s : TwinSeat V J Deed) (old new : Store D g) (f : Frame) → FrameBegun o t s old f → Writes old new f → store.mark_of new ≡ (f.count, f.length) → WithinStore new (seen_of s)
+    written_within s old new f is writes mark =
+        let whole = (writes o.at (world_at o (list_of s)) (world_at o (seen_of s)) is.loaded).whole is.loaded.unbroken in
+        let a = whole.length_is in
+        let b : new.length ≡ f.length = ap (λ p. p.1) mark in
+        tell_more (f.length + 5) (length_in new + 5) (firm_in new) (seen_of s) (omega (arith, a, b)) (is.fits (firm_in new))
+
+    -- where it isn't, it is as long as it was
+    pub failed_within : (s s' : TwinSeat V J Deed) (old new : Store D g) (f : Frame) (k : ℕ) → FrameBegun o t s old f → firm_in new ≡ firm_in old → length_in old ≤ length_in new → Adds o k (seen_of s) (seen_of s') Broken → WithinStore new (seen_of s')
+    failed_within s s' old new f k is firm grows added =
+        let front = prefix_then (list_of s) (seen_of s) (seen_of s') is.front (prefix_then (seen_of s) (seen_of s ++ added.between) (seen_of s') (added.between, refl) (deeds k added.bytes added.steps, added.seen)) in
+        within_on old new (list_of s) (seen_of s') front (firm_within o old (list_of s) is.loaded.stands) firm grows is.within
 
     pub failed_front : (s s' : TwinSeat V J Deed) (old : Store D g) (f : Frame) (k : ℕ) → FrameBegun o t s old f → list_of s' ≡ list_of s → Adds o k (seen_of s) (seen_of s') Broken → Prefix (list_of s') (seen_of s')
     failed_front s s' old f k is l added = subst (λ (log : List Deed). Prefix log (seen_of s')) (sym l) (prefix_then (list_of s) (seen_of s) (seen_of s') is.front (prefix_then (seen_of s) (seen_of s ++ added.between) (seen_of s') (added.between, refl) (deeds k added.bytes added.steps, added.seen)))

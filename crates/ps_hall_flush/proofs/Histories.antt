@@ -17,16 +17,16 @@ use Rattle.ps_world.proofs.Lists.{nil-right}
 use Rattle.ps_trace.specs.Own.{AreOwned, deeds}
 use Rattle.ps_trace.specs.declared.deed.Deed.{Deed}
 use Rattle.ps_hall_store.specs.Frames.{IsTorn, NotesFault, NotRead as NotReadOf}
-use Rattle.ps_hall_store.specs.Stand.{StoreStands, broken_in, firm_of}
+use Rattle.ps_hall_store.specs.Stand.{StoreStands, broken_in, firm_of, length_in}
 use Rattle.ps_hall_store.specs.declared.store.Store.{Store}
 use Rattle.ps_hall_flush.specs.Doing.{Adds, Passes}
 use Rattle.ps_hall_flush.specs.Flush.{Flushes, FlushesAll, IsBrokenAt, NoFrame, NotFlushed, SeatFlushes}
 use Rattle.ps_hall_flush.specs.History.{HasHistory, NotRead, ReadOf, SeatHistory, SeatNoHistory, SeatNotRead, SeatRead}
-use Rattle.ps_hall_flush.specs.Homes.{world_at}
+use Rattle.ps_hall_flush.specs.Homes.{WithinStore, world_at}
 use Rattle.ps_hall_flush.specs.Origin.{Origin}
 use Rattle.ps_hall_flush.proofs.Flushing.{fault_owned}
 use Rattle.ps_hall_flush.proofs.Framing.{adds_as}
-use Rattle.ps_hall_flush.proofs.Logs.{owned_front, prefix_follows, prefix_then, steps_of}
+use Rattle.ps_hall_flush.proofs.Logs.{firm_within, owned_front, prefix_follows, prefix_then, steps_of, within_on}
 
 -- of two fronts of a list the shorter is a front of the longer
 cut_front : {X : Type 0} (xs ys a b : List X) → xs ++ a ≡ ys ++ b → length xs ≤ length ys → Prefix xs ys
@@ -96,6 +96,14 @@ module _ {D : Type 0} {g : Ghosts D} {V J : Type 0} (o : Origin) (t : Twin V J D
       notes o.at (world_at o (list_of s)) (world_at o (seen_of s')) (torn_by s y torn is whole fails)
       (prefix_follows o (list_of s) (seen_of s') (prefix_then (list_of s) (seen_of s) (seen_of s') is.front (adds_front o k (seen_of s) (seen_of s') Broken added)) broken.owned) broken.sound broken.broken
       (count ∙ sym (steps_of o (seen_of s')))
+
+  -- a store that was read is as long as before
+  pub read_within : (s : TwinSeat V J Deed) (y new : Store D g) → NoFrame o t s y → firm_of new ≡ firm_of y → length_in new ≡ length_in y → WithinStore new (list_of s)
+  read_within s y new is firm same = within_on y new (list_of s) (list_of s) ([], sym (nil-right (list_of s))) (firm_within o y (list_of s) is.stands) firm (omega (arith, same)) is.within
+
+  pub told_within : (s s' : TwinSeat V J Deed) (y new : Store D g) (k : ℕ) → NoFrame o t s y → firm_of new ≡ firm_of y → length_in new ≡ length_in y → Adds o k (seen_of s) (seen_of s') Broken → WithinStore new (seen_of s')
+  told_within s s' y new k is firm same added =
+      within_on y new (list_of s) (seen_of s') (prefix_then (list_of s) (seen_of s) (seen_of s') is.front (adds_front o k (seen_of s) (seen_of s') Broken added)) (firm_within o y (list_of s) is.stands) firm (omega (arith, same)) is.within
 
 -- a fault that is told, or was
 pub not_read : (o : Origin) (k k1 : ℕ) (old found new : List Deed) → k1 ≡ k → Passes o k old found → Adds o k1 found new Broken → NotFlushed o k old new

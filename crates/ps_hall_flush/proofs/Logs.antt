@@ -1,5 +1,5 @@
 -- Lists of deeds, and their worlds.
-use Rattle.std.proofs.Common.{◌≡◌, ℕ, zero, suc, ◌+◌, ◌≤◌, List, [], ◌∷◌, ◌++◌, length, length-append, refl, ap, sym, ◌∙◌, subst, arith}
+use Rattle.std.proofs.Common.{◌≡◌, ℕ, zero, suc, ◌+◌, ◌≤◌, List, [], ◌∷◌, ◌++◌, length, length-append, take, refl, ap, sym, ◌∙◌, subst, arith}
 use Rattle.ps_model.specs.Entries.{body, spelling}
 use Rattle.ps_model.specs.Machine.{happens, run, start, world}
 use Rattle.ps_model.specs.TheCore.{the_core}
@@ -16,7 +16,10 @@ use Rattle.ps_world.proofs.Lists.{assoc}
 use Rattle.ps_world.proofs.Read.{run-append, steps_one}
 use Rattle.ps_trace.specs.Own.{AreOwned, MayMake, NoneOf, deeds, steps_in}
 use Rattle.ps_trace.specs.declared.deed.Deed.{Deed}
-use Rattle.ps_hall_flush.specs.Homes.{HadNoRoom, maker_of, world_at}
+use Rattle.ps_disk.specs.declared.device.Disk.{Ghosts}
+use Rattle.ps_hall_store.specs.Stand.{StoreStands, firm_of, length_in}
+use Rattle.ps_hall_store.specs.declared.store.Store.{Store}
+use Rattle.ps_hall_flush.specs.Homes.{HadNoRoom, TellAtMost, WithinStore, maker_of, world_at}
 use Rattle.ps_hall_flush.specs.Origin.{Origin}
 
 -- ---- steps
@@ -124,6 +127,46 @@ within_front limit upto boot w (f ∷ front) rest d had = within_front limit upt
 
 pub within_room : (limit upto : ℕ) (boot : List ℕ) (w : World) (log front rest : List Deed) (d : Deed) → HadNoRoom limit upto boot w log → log ≡ front ++ d ∷ rest → d.bytes ≤ upto
 within_room limit upto boot w log front rest d had at = within_front limit upto boot w front rest d (subst (λ (l : List Deed). HadNoRoom limit upto boot w l) at had)
+
+-- ---- how long the store was
+
+pub tell_none : (upto n : ℕ) → TellAtMost upto n []
+tell_none upto zero = tt
+tell_none upto (suc n) = tt
+
+pub tell_more : (upto more n : ℕ) (log : List Deed) → upto ≤ more → TellAtMost upto n log → TellAtMost more n log
+tell_more upto more zero log le h = tt
+tell_more upto more (suc n) [] le h = tt
+tell_more upto more (suc n) (d ∷ log) le h = ((let a = h.0 in omega (arith, a, le)), tell_more upto more n log le h.1)
+
+tell_front : (upto n : ℕ) (log behind : List Deed) → n ≤ length log → TellAtMost upto n log → TellAtMost upto n (log ++ behind)
+tell_front upto zero log behind le h = tt
+tell_front upto (suc n) [] behind le h = absurd (omega (arith, le))
+tell_front upto (suc n) (d ∷ log) behind le h = (h.0, tell_front upto n log behind (omega (arith, le)) h.1)
+
+-- all deeds do that the state stands for
+pub tell_all : (limit upto : ℕ) (boot : List ℕ) (w : World) (log : List Deed) → HadNoRoom limit upto boot w log → (n : ℕ) → TellAtMost upto n log
+tell_all limit upto boot w log had zero = tt
+tell_all limit upto boot w [] had (suc n) = tt
+tell_all limit upto boot w (d ∷ log) had (suc n) = (had.0.0, tell_all limit upto boot (happens the_core boot w d.step) log had.1 n)
+
+-- those of the first deeds that found no room found none in so many bytes
+pub room_first : (limit upto less n : ℕ) (boot : List ℕ) (w : World) (log : List Deed) → HadNoRoom limit upto boot w log → TellAtMost less n log → HadNoRoom limit less boot w (take n log)
+room_first limit upto less zero boot w log had tell = tt
+room_first limit upto less (suc n) boot w [] had tell = tt
+room_first limit upto less (suc n) boot w (d ∷ log) had tell = ((tell.0, had.0.1), room_first limit upto less n boot (happens the_core boot w d.step) log had.1 tell.1)
+
+module _ {D : Type 0} {g : Ghosts D} where
+  -- there is a deed for each step that is firm
+  pub firm_within : (o : Origin) (y : Store D g) (log : List Deed) → StoreStands o.at y (world_at o log) → firm_of y ≤ length log
+  firm_within o y log is = let firm = is.firm in let steps = is.steps in let long = steps_of o log in omega (arith, firm, steps, long)
+
+  -- a longer list, of a store that is no shorter
+  pub within_on : (old new : Store D g) (log more : List Deed) → Prefix log more → firm_of old ≤ length log → firm_of new ≡ firm_of old → length_in old ≤ length_in new → WithinStore old log → WithinStore new more
+  within_on old new log more front few firm grows h =
+      let there = tell_more (length_in old + 5) (length_in new + 5) (firm_of old) log (omega (arith, grows)) h in
+      subst (λ (l : List Deed). TellAtMost (length_in new + 5) (firm_of new) l) (sym front.1)
+      (subst (λ (n : ℕ). TellAtMost (length_in new + 5) n (log ++ front.0)) (sym firm) (tell_front (length_in new + 5) (firm_of old) log front.0 few there))
 
 -- ---- lists
 

@@ -1,5 +1,5 @@
 -- A flush.
-use Rattle.std.specs.Prelude.{◌≡◌, ◌≢◌, ℕ, ◌+◌, ◌≤◌, ◌⊎◌, true, List, [], length, None, IfSome}
+use Rattle.std.specs.Prelude.{◌≡◌, ◌≢◌, ℕ, ◌+◌, ◌≤◌, ◌⊎◌, true, false, List, [], length, None, IfSome}
 use Rattle.ps_disk.specs.declared.device.Disk.{Ghosts}
 use Rattle.ps_twin.specs.declared.twin.TwinSeat.{TwinSeat}
 use Rattle.ps_twin.specs.declared.twin.Twin.{Twin}
@@ -19,7 +19,7 @@ use Rattle.ps_hall_store.specs.declared.store.Frame.{Frame}
 use Rattle.ps_hall_store.specs.declared.store.Store.{Store}
 use Rattle.ps_world.specs.Sound.{Sound}
 use Rattle.ps_hall_flush.specs.Doing.{Adds, Passes}
-use Rattle.ps_hall_flush.specs.Homes.{marked, numbers_of, store_mark, world_at}
+use Rattle.ps_hall_flush.specs.Homes.{TellAtMost, WithinStore, marked, numbers_of, store_mark, world_at}
 use Rattle.ps_hall_flush.specs.Origin.{Origin}
 use Rattle.ps_hall_flush.specs.Seat.{MayCall}
 
@@ -49,6 +49,8 @@ module _ {V J : Type 0} where
     pub firm : firm_of s ≡ store.firm_of y
     pub mark : mark_of s ≡ (f.count, f.length)
     pub some : HasSome f
+    pub within : WithinStore y (list_of s)
+    pub fits : (n : ℕ) → TellAtMost (f.length + 5) n (seen_of s)
 
   -- no frame is begun, and the journal is as it was taken
   pub record NoFrame {D : Type 0} {g : Ghosts D} (o : Origin) (t : Twin V J Deed) (s : TwinSeat V J Deed) (y : Store D g) : Type 0 where
@@ -56,6 +58,7 @@ module _ {V J : Type 0} where
     pub held : HasJournal s
     pub front : Prefix (list_of s) (seen_of s)
     pub stands : store.StoreStands o.at y (world_at o (list_of s))
+    pub within : WithinStore y (list_of s)
     pub firm : firm_of s ≡ store.firm_of y
     pub mark : mark_of s ≡ store_mark y
 
@@ -64,9 +67,10 @@ module _ {V J : Type 0} where
     pub as_was : NoFrame o t s y
     pub broken : (world_at o (seen_of s)).broken ≡ true
 
-  -- since the first m steps are flushed
+  -- since the first m steps are flushed, and none has failed
   pub record FrameSpared {D : Type 0} {g : Ghosts D} (o : Origin) (t : Twin V J Deed) (s : TwinSeat V J Deed) (y : Store D g) (m : ℕ) : Type 0 where
     pub as_was : NoFrame o t s y
+    pub quiet : (world_at o (seen_of s)).broken ≡ false
     pub flushed : m ≤ (world_at o (seen_of s)).flushed
     pub known : m ≤ known_of s
 
@@ -95,10 +99,11 @@ pub record IsBrokenAt (o : Origin) (log : List Deed) : Type 0 where
 abbrev pub FlushesAll : Origin → ℕ → ℕ → List Deed → List Deed → Type 0
 FlushesAll o k m found new = ((new ≡ found) × (m ≤ (world_at o found).flushed)) ⊎ Adds o k found new (Flush (length found))
 
--- what the pass found with the journal in its hand, and then a Flush of all that it had seen before, of its own or another's
+-- what the pass found with the journal in its hand, where no fault had been told of, and then a Flush of all that it had seen before, of its own or another's
 pub record Flushes (o : Origin) (k : ℕ) (old new : List Deed) : Type 0 where
   pub found : List Deed
   pub passed : Passes o k old found
+  pub quiet : (world_at o found).broken ≡ false
   pub flush : FlushesAll o k (length old) found new
 
 -- the frame was not written: a fault had been told of, or the pass tells of one

@@ -1,5 +1,5 @@
 -- When the two values stand for a list of deeds.
-use Rattle.std.specs.Prelude.{◌≡◌, ◌≢◌, ℕ, ◌+◌, ◌<◌, ◌≤◌, Bool, true, false, List, [], ◌∷◌, length, Some, is_some}
+use Rattle.std.specs.Prelude.{◌≡◌, ◌≢◌, ℕ, zero, suc, ◌+◌, ◌<◌, ◌≤◌, Bool, true, false, List, [], ◌∷◌, length, Some, is_some}
 use Rattle.ps_types.specs.declared.entry.Entry.{Entry}
 use Rattle.ps_disk.specs.declared.device.Disk.{Ghosts}
 use Rattle.ps_model.specs.CoreLaws.{IsLawful}
@@ -16,7 +16,7 @@ use Rattle.ps_hall_state.specs.Arrive.{entry_in}
 use Rattle.ps_hall_state.specs.Rows.{names}
 use Rattle.ps_hall_state.specs.Stand.{Stands, entries_of}
 use Rattle.ps_hall_state.specs.declared.state.State.{State}
-use Rattle.ps_hall_store.specs.Stand.{StoreStands, broken_in, mark_of}
+use Rattle.ps_hall_store.specs.Stand.{StoreStands, broken_in, firm_of, length_in, mark_of}
 use Rattle.ps_hall_store.specs.declared.store.Store.{Store}
 use Rattle.ps_hall_flush.specs.Origin.{Origin}
 
@@ -43,6 +43,12 @@ abbrev pub HadNoRoom : ℕ → ℕ → List ℕ → World → List Deed → Type
 HadNoRoom limit upto boot w [] = Unit {0}
 HadNoRoom limit upto boot w (d ∷ log) = ((d.bytes ≤ upto) × NoRoom limit d.bytes w d.step) × HadNoRoom limit upto boot (happens the_core boot w d.step) log
 
+-- each of the first so many deeds tells of at most these
+abbrev pub TellAtMost : ℕ → ℕ → List Deed → Type 0
+TellAtMost upto zero log = Unit {0}
+TellAtMost upto (suc n) [] = Unit {0}
+TellAtMost upto (suc n) (d ∷ log) = (d.bytes ≤ upto) × TellAtMost upto n log
+
 -- ---- the values
 
 -- the list at the opening is lawful, each deed is of the pass that may make it, and the state keeps what the world of the deeds holds
@@ -57,6 +63,14 @@ pub record HomeStands (o : Origin) (v : State) (log : List Deed) : Type 0 where
 
 abbrev pub ArchiveStands : {D : Type 0} {g : Ghosts D} → Origin → Store D g → List Deed → Type 0
 ArchiveStands o y log = StoreStands o.at y (world_at o log)
+
+-- the deeds whose entries no crash takes away found the store no longer than its journal is now, with the gate and the length of a frame
+abbrev pub WithinStore : {D : Type 0} {g : Ghosts D} → Store D g → List Deed → Type 0
+WithinStore y log = TellAtMost (length_in y + 5) (firm_of y) log
+
+pub record ArchiveHolds {D : Type 0} {g : Ghosts D} (o : Origin) (y : Store D g) (log : List Deed) : Type 0 where
+  pub stands : ArchiveStands o y log
+  pub within : WithinStore y log
 
 -- ---- marks
 

@@ -11,6 +11,7 @@ use Rattle.ps_model.specs.Store.{spelled}
 use Rattle.ps_hall_store.proofs.Fronts.{front_of_two}
 use Rattle.ps_hall_store.proofs.Keeping.{CountsNow, OnlyNow, SeenLeft}
 use Rattle.ps_hall_open.specs.Left.{Fronts}
+use Rattle.ps_hall_open.specs.Opens.{IsStill}
 
 -- bytes that may be left themselves
 front_itself : (synced : List ℕ) (written : List (ℕ × ℕ)) (E : List Entry) (c : List ℕ) → spelled c E → MayLeave synced written c → IsFrontOfLeft synced written c
@@ -57,6 +58,20 @@ module _ {D : Type 0} (g : Ghosts D) where
   quiet_lasts seen_left d E none spells c may =
       let only : (b : List ℕ) → MayLeave (g.synced d) (g.written d) b → b ≡ g.synced d = λ b m. only_synced (g.synced d) b (subst (λ (x : List (ℕ × ℕ)). MayLeave (g.synced d) x b) none m) in
       subst (λ (b : List ℕ). spelled b E) (only (g.seen d) (seen_left d) ∙ sym (only c may)) spells
+
+  -- A store with nothing pending was not opened, and what a crash left meanwhile is its list: so are the bytes.
+  pub still_opened : SeenLeft g → CountsNow g → (old new : D) (E : List Entry) → g.written old ≡ [] → spelled (g.seen old) E → LeavesOnly g.moment g.left_since old new (λ c. MayLeave (g.synced old) (g.written old) c ⊎ spelled c E)
+      → IsStill (g.seen new) (g.synced new) (g.written new) E
+  still_opened seen_left counts old new E none spells moments =
+      let past = quiet_lasts seen_left old E none spells in
+      let lasts : LeavesList (g.synced new) (g.written new) E = λ c may. elim (moments.each c (counts new (g.moment old) c moments.later may)) [ inl left ↦ past c left | inr is ↦ is ] in
+      record { spells = lasts (g.seen new) (seen_left new); lasts = lasts }
+
+  -- it was read, and no Boot appended
+  pub still_read : (mid new now : D) (E F : List Entry) → now ≡ new → new ≡ mid → F ≡ E → spelled (g.seen mid) F → LeavesList (g.synced mid) (g.written mid) F → IsStill (g.seen now) (g.synced now) (g.written now) E
+  still_read mid new now E F closed same is spells lasts =
+      subst (λ (d : D). IsStill (g.seen d) (g.synced d) (g.written d) E) (sym (closed ∙ same))
+      (subst (λ (l : List Entry). IsStill (g.seen mid) (g.synced mid) (g.written mid) l) is (record { spells = spells; lasts = lasts }))
 
   -- a store with nothing pending was opened, or not
   pub fronts_opened : SeenLeft g → CountsNow g → (old new : D) (E : List Entry) → g.written old ≡ [] → spelled (g.seen old) E → LeavesOnly g.moment g.left_since old new (λ c. MayLeave (g.synced old) (g.written old) c ⊎ spelled c E)

@@ -1,5 +1,6 @@
 -- Why a store is not opened, and what a crash leaves meanwhile.
-use Rattle.std.proofs.Common.{◌≡◌, ◌⊎◌, inl, inr, ℕ, ◌≤◌, List, [], ◌∷◌, sym, ap, subst, refl, arith}
+use Rattle.std.proofs.Common.{◌≡◌, ◌≢◌, ◌⊎◌, inl, inr, ℕ, ◌≤◌, Bool, true, false, List, [], ◌∷◌, Some, take, sym, ap, ◌∙◌, subst, refl, arith}
+use Rattle.std.specs.Prelude.{slice_get}
 use Rattle.ps_base.specs.Causes.{Rose}
 use Rattle.ps_types.specs.declared.entry.Entry.{Entry}
 use Rattle.ps_types.specs.declared.entry.Entry.TheVariants.{Boot}
@@ -13,13 +14,13 @@ use Rattle.ps_journal.specs.declared.opening.JournalWhy.TheVariants as journal
 use Rattle.ps_journal.specs.Journal.{disk_of, length_of}
 use Rattle.ps_journal.specs.Judged.{IsDamaged}
 use Rattle.ps_journal.specs.Left.{IsWithOrWithout, LeavesList}
-use Rattle.ps_journal.specs.Opened.{HasLength, IfWhyDamaged, IsOpened}
+use Rattle.ps_journal.specs.Opened.{HasHeader, HasLength, HasNoHeader, IfWhyDamaged, IsOpened, Upgrades}
 use Rattle.ps_journal.specs.Places.{entries_in}
 use Rattle.ps_journal.proofs.Lists.{one_list}
-use Rattle.ps_model.specs.Store.{spelled}
+use Rattle.ps_model.specs.Store.{is_header, spelled}
 use Rattle.ps_hall_open.specs.Begun.{frame_of}
 use Rattle.ps_hall_open.specs.Left.{IsOpenLeft}
-use Rattle.ps_hall_open.specs.Opens.{OpenNot, NotRestored}
+use Rattle.ps_hall_open.specs.Opens.{NotRestored, OpenNot, StaysButVersion, StaysIfDamaged}
 use Rattle.ps_hall_open.specs.Reads.{ReadNot}
 use Rattle.ps_hall_open.specs.Refused.{IfDamaged, IsWhy, open_why}
 use Rattle.ps_hall_open.specs.Replayed.{StopsAt}
@@ -40,6 +41,29 @@ refused_journal tells bytes service before now whole (journal.Damaged at placed)
 refused_journal tells bytes service before now whole (journal.Damaged at placed) read.Memory damaged is store = tt
 refused_journal tells bytes service before now whole journal.Store answer damaged is store = subst (λ (w : ReadWhy). OpenNot tells bytes before now service whole (open_why w)) (sym is) (store refl)
 refused_journal tells bytes service before now whole journal.Memory answer damaged is store = subst (λ (w : ReadWhy). OpenNot tells bytes before now service whole (open_why w)) (sym is) tt
+
+-- its bytes stay where it finds them damaged
+pub damaged_stays : (old new : List ℕ) (why : JournalWhy) (answer : ReadWhy) → IfWhyDamaged why (λ at placed. new ≡ old) → IsWhy why answer → StaysIfDamaged (open_why answer) old new
+damaged_stays old new (journal.Damaged at placed) (read.Damaged first) stays is = inl stays
+damaged_stays old new (journal.Damaged at placed) read.Store stays is = absurd is
+damaged_stays old new (journal.Damaged at placed) read.Memory stays is = tt
+damaged_stays old new journal.Store answer stays is = subst (λ (w : ReadWhy). StaysIfDamaged (open_why w) old new) (sym is) tt
+damaged_stays old new journal.Memory answer stays is = subst (λ (w : ReadWhy). StaysIfDamaged (open_why w) old new) (sym is) tt
+
+some_stops : (placed : List Placed) (at : ℕ) → placed ≡ [] → StopsAt placed at → ⊥
+some_stops placed at none stops = let e : slice_get [] stops.number ≡ Some stops.one = ap (λ (l : List Placed). slice_get l stops.number) (sym none) ∙ stops.here in cc e
+
+-- and where an entry of it isn't accepted: it has a header then
+pub unaccepted_stays : {D : Type 0} {g : Ghosts D} (old new : Journal D g) (disk now : D) (placed : List Placed) (boot : Entry) (whole : ℕ) (why : OpenWhy) → now ≡ disk_of new → (why ≢ Store → disk_of new ≡ disk_of old)
+    → (HasHeader (g.seen disk) → Upgrades (g.seen disk) (g.seen (disk_of old))) → (HasNoHeader (g.seen disk) → placed ≡ []) → NotRestored old new placed boot whole why → StaysIfDamaged why (g.seen disk) (g.seen now)
+unaccepted_stays {D} {g} old new disk now placed boot whole (Damaged at) closed same upgraded begun not = by (is_header (take 8 (g.seen disk))) refl
+  where
+    by : (b : Bool) → is_header (take 8 (g.seen disk)) ≡ b → StaysButVersion (g.seen disk) (g.seen now)
+    by true e = inr (e, subst (λ (d : D). Upgrades (g.seen disk) (g.seen d)) (sym (closed ∙ same (λ f. absurd (cc f)))) (upgraded e))
+    by false e = absurd (some_stops placed at (begun e) not)
+unaccepted_stays old new disk now placed boot whole Store closed same upgraded begun not = tt
+unaccepted_stays old new disk now placed boot whole Full closed same upgraded begun not = tt
+unaccepted_stays old new disk now placed boot whole Memory closed same upgraded begun not = tt
 
 -- nor was it read
 pub read_refused : (tells : Type 0) (bytes : List ℕ) (before now : ℕ) (why : JournalWhy) (answer : ReadWhy) → (tells → IfWhyDamaged why (λ at placed. IsDamaged bytes at placed)) → IsWhy why answer → (why ≡ journal.Store → Rose before now)

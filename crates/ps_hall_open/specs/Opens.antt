@@ -1,5 +1,5 @@
 -- What comes of opening a store.
-use Rattle.std.specs.Prelude.{◌≡◌, ℕ, ◌+◌, ◌<◌, ◌≤◌, ◌^◌, ◌++◌, ◌∷◌, false, [], List, None, length}
+use Rattle.std.specs.Prelude.{◌≡◌, ◌⊎◌, ℕ, ◌+◌, ◌<◌, ◌≤◌, ◌^◌, ◌++◌, ◌∷◌, false, [], List, None, length}
 use Rattle.ps_base.specs.Causes.{Rose}
 use Rattle.ps_types.specs.declared.entry.Entry.{Entry}
 use Rattle.ps_types.specs.declared.entry.Entry.TheVariants.{Boot}
@@ -8,12 +8,14 @@ use Rattle.ps_model.specs.At.{IsDamagedAt, IsStore}
 use Rattle.ps_model.specs.CoreLaws.{IsLawful}
 use Rattle.ps_model.specs.Machine.{start}
 use Rattle.ps_model.specs.Replay.{lawful, replay}
+use Rattle.ps_model.specs.Store.{spelled}
 use Rattle.ps_model.specs.TheCore.{the_core}
 use Rattle.ps_model.specs.World.{World}
 use Rattle.ps_journal.specs.declared.journal.Journal.{Journal}
 use Rattle.ps_journal.specs.declared.judging.Placed.{Placed}
 use Rattle.ps_journal.specs.Journal.{disk_of, length_of}
-use Rattle.ps_journal.specs.Opened.{HasLength}
+use Rattle.ps_journal.specs.Left.{LeavesList}
+use Rattle.ps_journal.specs.Opened.{HasHeader, HasLength, Upgrades}
 use Rattle.ps_journal.specs.Places.{entries_in}
 use Rattle.ps_hall_state.specs.Rows.{names}
 use Rattle.ps_hall_state.specs.Stand.{QueuesStand, Stands}
@@ -61,6 +63,22 @@ OpenNot tells bytes before now service whole (why.Damaged at) = tells → IsDama
 OpenNot tells bytes before now service whole why.Store = Rose before now
 OpenNot tells bytes before now service whole why.Full = tells → PassesBy bytes service whole
 OpenNot tells bytes before now service whole why.Memory = Unit {0}
+
+-- the bytes stay, but that a store of version 1 may have become one of version 2, which its eighth byte alone tells
+abbrev pub StaysButVersion : List ℕ → List ℕ → Type 0
+StaysButVersion old new = (new ≡ old) ⊎ (HasHeader old × Upgrades old new)
+
+-- where a store is damaged, its bytes stay so
+abbrev pub StaysIfDamaged : OpenWhy → List ℕ → List ℕ → Type 0
+StaysIfDamaged (why.Damaged at) old new = StaysButVersion old new
+StaysIfDamaged why.Store old new = Unit {0}
+StaysIfDamaged why.Full old new = Unit {0}
+StaysIfDamaged why.Memory old new = Unit {0}
+
+-- the bytes spell these entries, and a crash leaves these and no others
+pub record IsStill (seen synced : List ℕ) (written : List (ℕ × ℕ)) (E : List Entry) : Type 0 where
+  pub spells : spelled seen E
+  pub lasts : LeavesList synced written E
 
 -- ---- the two values
 

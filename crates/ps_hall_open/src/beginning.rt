@@ -1,8 +1,8 @@
 // The Boot with which the two values begin.
-ghost use Rattle.std.specs.Prelude.{◌≡◌, ◌∷◌, ◌++◌, ◌+◌, ◌<◌, ◌≤◌, ◌^◌, [], List, ℕ, Some, true, IfErr, IfOk, OnOk};
+ghost use Rattle.std.specs.Prelude.{◌≡◌, ◌≢◌, ◌∷◌, ◌++◌, ◌+◌, ◌<◌, ◌≤◌, ◌^◌, [], List, ℕ, Some, true, IfErr, IfOk, OnOk};
 ghost use Rattle.ps_model.specs.After.{after};
 ghost use Rattle.ps_model.specs.Replay.{accepted};
-ghost use Rattle.ps_journal.specs.Journal.{Has, IsWhole, Keeps, Leaves, faults_in, length_of};
+ghost use Rattle.ps_journal.specs.Journal.{Has, IsWhole, Keeps, Leaves, disk_of, faults_in, length_of};
 ghost use Rattle.ps_journal.specs.Left.{IsWithOrWithout};
 ghost use Rattle.ps_types.specs.declared.entry.Entry.{Entry};
 ghost use Rattle.ps_hall_open.specs.Begun.{IsBoot, NotBegun, frame_of};
@@ -44,6 +44,7 @@ fn append_boot<D: Disk>(
     ensures length { OnOk result (length_of journal.new ≡ length_of journal.old + frame_of boot.now) }
     ensures room { OnOk result (length_of journal.old + frame_of boot.now ≤ whole) }
     ensures err { IfErr result (NotBegun journal.old journal.new boot.now whole) }
+    ensures untouched { IfErr result (λ why. why ≢ OpenWhy.Store → disk_of journal.new ≡ disk_of journal.old) }
     ensures later { faults_in journal.old ≤ faults_in journal.new }
     ensures entries { D.tells → (E : List Entry) → Has journal.old E
         → OnOk result (Has journal.new (E ++ boot.now ∷ [])) }
@@ -82,6 +83,7 @@ pub(crate) fn begin<R: Threads + Sync, D: Disk>(
     ensures length { OnOk result (length_of journal.new ≡ length_of journal.old + frame_of boot.now) }
     ensures room { OnOk result (length_of journal.old + frame_of boot.now ≤ whole) }
     ensures err { IfErr result (NotBegun journal.old journal.new boot.now whole) }
+    ensures untouched { IfErr result (λ why. why ≢ OpenWhy.Store → disk_of journal.new ≡ disk_of journal.old) }
     ensures later { faults_in journal.old ≤ faults_in journal.new }
     ensures entries { D.tells → (E : List Entry) → Has journal.old E
         → OnOk result (Has journal.new (E ++ boot.now ∷ [])) }

@@ -1,5 +1,5 @@
 // A store is opened.
-ghost use Rattle.std.specs.Prelude.{◌≡◌, ◌≤◌, ◌^◌, [], List, ℕ, IfErr, IfOk, MatchResult};
+ghost use Rattle.std.specs.Prelude.{◌≡◌, ◌≢◌, ◌≤◌, ◌^◌, [], List, ℕ, IfErr, IfOk, MatchResult};
 ghost use Rattle.ps_model.specs.Entries.{IsHostName};
 ghost use Rattle.ps_model.specs.Store.{spelled};
 ghost use Rattle.ps_journal.specs.Opened.{IsShortIfUnbegun};
@@ -8,7 +8,7 @@ ghost use Rattle.ps_hall_store.specs.Stand.{disk_in};
 ghost use Rattle.ps_types.specs.declared.entry.Entry.{Entry};
 ghost use Rattle.ps_hall_open.specs.Fresh.{AreHosts, IsReady};
 ghost use Rattle.ps_hall_open.specs.Left.{Fronts, OpenLeaves};
-ghost use Rattle.ps_hall_open.specs.Opens.{IsMadeOf, IsOpen, OpenNot};
+ghost use Rattle.ps_hall_open.specs.Opens.{IsMadeOf, IsOpen, IsStill, OpenNot, StaysIfDamaged};
 
 use crate::opened::{OpenRefusal, OpenWhy, Opened, Rebuilt};
 use crate::reading::why_not;
@@ -75,6 +75,10 @@ fn open_ready<R: Threads + Sync, D: Disk>(
     ensures refused { (service : List ℕ) (hosts : List (List ℕ)) → IsReady service hosts ready
         → IfErr result
         (λ e. OpenNot D.tells (D.seen disk) (D.faults disk) (D.faults e.disk) service limits.whole e.why) }
+    ensures damaged { D.tells → IfErr result (λ e. StaysIfDamaged e.why (D.seen disk) (D.seen e.disk)) }
+    ensures still { D.tells → D.written disk ≡ [] → (E : List Entry) → spelled (D.seen disk) E
+        → IsShortIfUnbegun (D.seen disk)
+        → IfErr result (λ e. e.why ≢ OpenWhy.Store → IsStill (D.seen e.disk) (D.synced e.disk) (D.written e.disk) E) }
     ensures later { MatchResult result
         (λ r. D.faults disk ≤ D.faults (disk_in r.store))
         (λ e. D.faults disk ≤ D.faults e.disk) }
@@ -131,6 +135,12 @@ pub fn open<R: RandomSource + Threads + Sync, D: Disk>(
         (λ r. IsOpen disk service.now hosts.now limits (entries_in r.entries.items) r.state r.store) }
     ensures refused { IfErr result
         (λ e. OpenNot D.tells (D.seen disk) (D.faults disk) (D.faults e.disk) service.now limits.whole e.why) }
+    // The bytes of a damaged store stay, but for its version. Of one that has a list they do at each refusal but a fault: they spell the list, and where
+    // nothing is pending on the disk a crash then leaves it and no other.
+    ensures damaged { D.tells → IfErr result (λ e. StaysIfDamaged e.why (D.seen disk) (D.seen e.disk)) }
+    ensures still { D.tells → D.written disk ≡ [] → (E : List Entry) → spelled (D.seen disk) E
+        → IsShortIfUnbegun (D.seen disk)
+        → IfErr result (λ e. e.why ≢ OpenWhy.Store → IsStill (D.seen e.disk) (D.synced e.disk) (D.written e.disk) E) }
     ensures later { MatchResult result
         (λ r. D.faults disk ≤ D.faults (disk_in r.store))
         (λ e. D.faults disk ≤ D.faults e.disk) }

@@ -1,7 +1,7 @@
 // A store that was read is replayed, and a Boot appended.
-ghost use Rattle.std.specs.Prelude.{◌∷◌, ◌++◌, ◌≡◌, ◌+◌, ◌≤◌, [], List, IfErr, OnOk};
+ghost use Rattle.std.specs.Prelude.{◌∷◌, ◌++◌, ◌≡◌, ◌≢◌, ◌+◌, ◌≤◌, [], List, IfErr, OnOk};
 ghost use Rattle.ps_model.specs.Entries.{AreEntries};
-ghost use Rattle.ps_journal.specs.Journal.{Has, IsWhole, Keeps, Leaves, faults_in, length_of};
+ghost use Rattle.ps_journal.specs.Journal.{Has, IsWhole, Keeps, Leaves, disk_of, faults_in, length_of};
 ghost use Rattle.ps_journal.specs.Left.{IsWithOrWithout};
 ghost use Rattle.ps_journal.specs.Places.{entries_in};
 ghost use Rattle.ps_types.specs.declared.entry.Entry.{Entry};
@@ -38,6 +38,8 @@ pub(crate) fn restore<R: Threads + Sync, D: Disk>(
     ensures length { OnOk result (length_of journal.new ≡ length_of journal.old + frame_of boot.now) }
     ensures room { OnOk result (length_of journal.old + frame_of boot.now ≤ whole) }
     ensures err { IfErr result (NotRestored journal.old journal.new placed.now.items boot.now whole) }
+    // Unless the disk failed nothing is written then.
+    ensures untouched { IfErr result (λ why. why ≢ OpenWhy.Store → disk_of journal.new ≡ disk_of journal.old) }
     ensures later { faults_in journal.old ≤ faults_in journal.new }
     ensures entries { D.tells → Has journal.old (entries_in placed.now.items)
         → OnOk result (Has journal.new (entries_in placed.now.items ++ boot.now ∷ [])) }

@@ -8,3 +8,7 @@ pub mod Both
 pub mod Hosts
 pub mod Empty
 pub mod Ending
+pub mod Forward
+pub mod Own
+pub mod Sinks
+pub mod Run

@@ -3,3 +3,4 @@ pub mod Entries
 pub mod Running
 pub mod Streams
 pub mod Rehearsed
+pub mod Laws

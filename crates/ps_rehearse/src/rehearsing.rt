@@ -1,10 +1,13 @@
 // A rehearsal, and its numbers.
 ghost use Rattle.std.specs.Prelude.{◌≡◌, ◌+◌, ◌≤◌, ◌^◌, None, true, false, IfOk};
 ghost use Rattle.ps_hall_store.specs.Stand.{broken_in};
+ghost use Rattle.ps_rehearse_laws.specs.Rehearsal.{rehearsal};
+ghost use Rattle.ps_rehearse.specs.Laws.{AreNumbers};
 ghost use Rattle.ps_rehearse.specs.Rehearsed.{Rehearsed};
 ghost use Rattle.ps_rehearse.specs.Streams.{AreDone, IsDone};
 
 use crate::entries::{Made, count_entries};
+use crate::laws::each_run_has_the_numbers;
 use crate::numbers::Numbers;
 use crate::running::{Ran, serve_empty};
 use crate::streams::{hosts, ports};
@@ -76,8 +79,8 @@ fn agree(counts: Counts, count: u64, made: &Made) -> bool
     }
 }
 
-/// Deals so many stanzas of the seed to two streams, serves both over an empty store, and answers the numbers of what came of it.
-pub fn rehearse<R: RandomSource + Wait + Threads + Sync>(
+// Deals so many stanzas of the seed to two streams, serves both over an empty store, and answers the numbers of what came of it.
+fn run_once<R: RandomSource + Wait + Threads + Sync>(
     rt: &R,
     alloc: Global,
     seed: u64,
@@ -113,4 +116,20 @@ pub fn rehearse<R: RandomSource + Wait + Threads + Sync>(
         errors: counts.errors,
         notices: counts.notices,
     })
+}
+
+/// Deals so many stanzas of the seed to two streams, serves both over an empty store, and answers the numbers of what came of it: however the streams
+/// interleaved, those of the stanzas one after the other at an empty service.
+pub fn rehearse<R: RandomSource + Wait + Threads + Sync>(
+    rt: &R,
+    alloc: Global,
+    seed: u64,
+    count: u64,
+) -> Result<Numbers, Memory>
+    requires { count ≤ 100000 }
+    ensures run { IfOk result (Rehearsed seed count) }
+    ensures numbers { IfOk result (λ n. AreNumbers n (rehearsal seed count)) }
+{
+    each_run_has_the_numbers();
+    run_once(rt, alloc, seed, count)
 }

@@ -11,7 +11,7 @@ use Rattle.ps_model.specs.Entries.{body}
 use Rattle.ps_model.specs.Store.{Begun, gate_at, spelled}
 use Rattle.ps_model.specs.World.{World, durable, ends}
 use Rattle.ps_hall_open.specs.Left.{Fronts, IsOpenLeft, OpenLeaves}
-use Rattle.ps_hall_open.specs.Opens.{IsOpen, OpenNot}
+use Rattle.ps_hall_open.specs.Opens.{IsOpen, IsStill, OpenNot, StaysButVersion, StaysIfDamaged}
 use Rattle.ps_hall_open.specs.declared.opened.OpenWhy.{OpenWhy}
 use Rattle.ps_hall_open.specs.declared.opened.OpenWhy.TheVariants as why
 use Rattle.ps_endpoints.specs.declared.port.Port.{Port}
@@ -26,12 +26,12 @@ use Rattle.ps_workers.specs.declared.serving.Ended.{Ended}
 use Rattle.ps_serve.specs.Comes.{Lived, not_opened}
 use Rattle.ps_serve.specs.Crashes.{HasWhole}
 use Rattle.ps_serve.specs.Ends.{worst_in, worst_of}
-use Rattle.ps_serve.specs.Headline.{Headline, Idle, IdleCause, the_limits}
+use Rattle.ps_serve.specs.Headline.{HasStill, Headline, Idle, IdleCause, the_limits}
 use Rattle.ps_status.specs.Outside.{held_as}
 use Rattle.ps_serve.specs.Room.{max_whole}
 use Rattle.ps_serve.specs.Starts.{at_of, start_of}
 use Rattle.ps_status.specs.declared.status.Status.{Status}
-use Rattle.ps_status.specs.declared.status.Status.TheVariants.{StoreFault}
+use Rattle.ps_status.specs.declared.status.Status.TheVariants.{StoreDamaged, StoreFault}
 use Rattle.ps_serve.specs.declared.storing.Run.{Run}
 use Rattle.ps_serve.proofs.Causes.{calm, fault-is, first-cause, full-is, is-serving, none-broke, not-finished, whole-is}
 use Rattle.ps_serve.proofs.Ranks.{serving}
@@ -70,11 +70,16 @@ module _ {D : Type 0} (g : DiskGhosts D) (service : List ℕ) (disk new : D)
     → OpenLeaves g.moment g.left_since g.synced g.written E (Boot service) disk new)
     (fronts : g.tells → g.written disk ≡ [] → (E : List Entry) → spelled (g.seen disk) E → IsShortIfUnbegun (g.seen disk)
     → Fronts g.moment g.left_since g.synced g.written disk new) where
-  pub idle-by : (st : Status) → IdleCause g.tells service (held_as g disk) (held_as g new) st
+  pub idle-by : (st : Status)
+      → (g.tells → g.written disk ≡ [] → (E : List Entry) → spelled (g.seen disk) E → IsShortIfUnbegun (g.seen disk) → st ≢ StoreFault → HasStill service (held_as g new) E st)
+      → (g.tells → (at : ℕ) → st ≡ StoreDamaged at → StaysButVersion (g.seen disk) (g.seen new))
+      → IdleCause g.tells service (held_as g disk) (held_as g new) st
       → Idle g.tells service (held_as g disk) (held_as g new) (g.left_since new) st
-  idle-by st cause = record {
+  idle-by st still damaged cause = record {
     crash = λ tells tidy E is c left. open-front (g.synced disk) (g.written disk) E (Boot service) c ((any tells E is tidy).each c left);
     fronts = λ tells tidy E is pending c left. (fronts tells pending E is tidy).since.each c left;
+    still = λ tells tidy none E is sound. still tells none E is tidy sound;
+    damaged = damaged;
     cause = cause;
   }
 
@@ -85,9 +90,21 @@ module _ {D : Type 0} (g : DiskGhosts D) (service : List ℕ) (disk new : D)
   why-not why.Full is = is
   why-not why.Memory is = is
 
-  pub idle-refused : (w : OpenWhy) → OpenNot g.tells (g.seen disk) (g.faults disk) (g.faults new) service max_whole w
+  stays : (w : OpenWhy) → StaysIfDamaged w (g.seen disk) (g.seen new) → (at : ℕ) → not_opened w ≡ StoreDamaged at → StaysButVersion (g.seen disk) (g.seen new)
+  stays (why.Damaged there) s at e = s
+  stays why.Store s at e = absurd (cc e)
+  stays why.Full s at e = absurd (cc e)
+  stays why.Memory s at e = absurd (cc e)
+
+  pub idle-refused : (w : OpenWhy)
+      → (g.tells → g.written disk ≡ [] → (E : List Entry) → spelled (g.seen disk) E → IsShortIfUnbegun (g.seen disk)
+      → w ≢ why.Store → IsStill (g.seen new) (g.synced new) (g.written new) E)
+      → (g.tells → StaysIfDamaged w (g.seen disk) (g.seen new))
+      → OpenNot g.tells (g.seen disk) (g.faults disk) (g.faults new) service max_whole w
       → Idle g.tells service (held_as g disk) (held_as g new) (g.left_since new) (not_opened w)
-  idle-refused w is = idle-by (not_opened w) (why-not w is)
+  idle-refused w still damaged is =
+      idle-by (not_opened w) (λ tells none E spells short sound. inl (still tells none E spells short (λ e. sound (ap not_opened e))))
+      (λ tells at e. stays w (damaged tells) at e) (why-not w is)
 
 -- ---- streams were served
 

@@ -18,6 +18,8 @@ module _ (tells : Type 0) (service : List ℕ) (st : Status) (left left1 : ℕ �
   idle-left b n i = record {
     crash = λ told tidy E is c l. i.crash told tidy E is c (less b.moment c l);
     fronts = λ told tidy E is pending c l. i.fronts told tidy E is pending c (less b.moment c l);
+    still = i.still;
+    damaged = i.damaged;
     cause = i.cause;
   }
 

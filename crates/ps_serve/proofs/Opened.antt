@@ -1,12 +1,13 @@
 -- A store that was opened, up to what comes of its hall.
-use Rattle.std.proofs.Common.{◌≡◌, ◌≢◌, inl, inr, ℕ, ◌≤◌, ◌<◌, List, [], ◌∷◌, length, refl, sym, ◌∙◌, subst, arith}
+use Rattle.std.proofs.Common.{◌≡◌, ◌≢◌, inl, inr, ℕ, ◌≤◌, ◌<◌, List, [], ◌∷◌, ◌++◌, length, refl, sym, ◌∙◌, subst, arith}
 use Rattle.ps_types.specs.declared.entry.Entry.{Entry}
 use Rattle.ps_types.specs.declared.entry.Entry.TheVariants.{Boot}
 use Rattle.ps_disk.specs.declared.device.Disk.{Ghosts as DiskGhosts}
 use Rattle.ps_journal.specs.Opened.{IsShortIfUnbegun}
 use Rattle.ps_model.specs.Store.{spelled}
+use Rattle.ps_model.proofs.OneList.{one_list}
 use Rattle.ps_hall_open.specs.Left.{Fronts, OpenLeaves}
-use Rattle.ps_hall_open.specs.Opens.{IsOpen}
+use Rattle.ps_hall_open.specs.Opens.{IsOpen, IsStill}
 use Rattle.ps_endpoints.specs.declared.port.Port.{Port}
 use Rattle.ps_workers.specs.Origin.{Origin}
 use Rattle.ps_workers.specs.Start.{MayStart}
@@ -18,11 +19,11 @@ use Rattle.ps_workers.specs.Headline.{Worked}
 use Rattle.ps_workers.specs.declared.serving.Ended.{Ended}
 use Rattle.ps_serve.specs.Comes.{Comes, ComesIdle, ComesServed, Lived, Lives, NotLived}
 use Rattle.ps_serve.specs.Ends.{worst_in, worst_of}
-use Rattle.ps_serve.specs.Headline.{Idle, the_limits}
+use Rattle.ps_serve.specs.Headline.{HasStill, Idle, the_limits}
 use Rattle.ps_status.specs.Outside.{held_as}
 use Rattle.ps_serve.specs.Starts.{Start, at_of, start_of}
 use Rattle.ps_status.specs.declared.status.Status.{Status}
-use Rattle.ps_status.specs.declared.status.Status.TheVariants.{Memory}
+use Rattle.ps_status.specs.declared.status.Status.TheVariants.{Memory, StoreFault}
 use Rattle.ps_serve.specs.declared.storing.Run.{Run}
 use Rattle.ps_serve.proofs.Headlines.{headline, idle-by}
 
@@ -63,8 +64,16 @@ module _ {D : Type 0} {g : DiskGhosts D} (disk : D) (service : List ℕ) (hosts 
       (worst_is : (ended : List (Ended L C K)) → length ended ≡ length ports
       → worst_of (works ports ended) ≡ worst_in (λ (e : Ended L C K). e.read) (λ (e : Ended L C K). e.wrote) ended)
       (size_is : (ended : List (Ended L C K)) → length ended ≡ length ports → length (works ports ended) ≡ length ports) where
+    -- the store has its entries and the Boot, and nothing is pending
+    still-booted : g.tells → g.written disk ≡ [] → (F : List Entry) → spelled (g.seen disk) F → IsShortIfUnbegun (g.seen disk) → Memory ≢ StoreFault → HasStill service (held_as g (disk_in y0)) F Memory
+    still-booted tells none F spells short sound =
+        let d = disk_in y0 in
+        let all = is.archive.whole refl in
+        let same : E ≡ F = one_list (g.seen disk) E F (is.store tells).spells spells in
+        inr (refl, subst (λ (l : List Entry). IsStill (g.seen d) (g.synced d) (g.written d) (l ++ Boot service ∷ [])) same (record { spells = all.seen tells; lasts = all.lasts tells }))
+
     idle-at : Idle g.tells service (held_as g disk) (held_as g (disk_in y0)) (g.left_since (disk_in y0)) Memory
-    idle-at = idle-by g service disk (disk_in y0) any fronts Memory tt
+    idle-at = idle-by g service disk (disk_in y0) any fronts Memory still-booted (λ tells at e. absurd (cc e)) tt
 
     not-lived : NotLived g works y0 ports run → ComesIdle g works service disk ports run
     not-lived n = record {

@@ -27,6 +27,7 @@ module _ (tells : Type 0) (o : CompactOutcome) (left left1 left_new left_new1 : 
       left_old = λ told c l. h.still.left_old told c (less a.moment c l);
       left_of_new = λ told short c l. h.still.left_of_new told short c (less_new x.moment c l);
     };
+    new_stays = h.new_stays;
   }
 
   pub comes-moved : (a a1 b b1 x x1 y y1 : HeldStore) → a ≡ a1 → b ≡ b1 → x ≡ x1 → y ≡ y1

@@ -2,8 +2,10 @@
 use Rattle.std.specs.Prelude.{◌≡◌, ◌⊎◌, ℕ, List, Option, Some, Result, Ok, Err}
 use Rattle.ps_commands.specs.declared.command.Command.{Command}
 use Rattle.ps_commands.specs.declared.command.Command.TheVariants.{Rehearse}
+use Rattle.ps_rehearse.specs.Laws.{AreNumbers}
 use Rattle.ps_rehearse.specs.Rehearsed.{Rehearsed}
 use Rattle.ps_rehearse.specs.declared.numbers.Numbers.{Numbers}
+use Rattle.ps_rehearse_laws.specs.Rehearsal.{rehearsal}
 use Rattle.ps_status.specs.Outside.{Outside}
 use Rattle.ps_status.specs.Telling.{ComesTo}
 use Rattle.ps_status.specs.declared.status.Status.{Status}
@@ -30,16 +32,21 @@ status_in (came.Ended status) = status
 status_in (came.Lines lines) = Done
 status_in (came.Rehearsed n) = Done
 
+-- there was a run with these numbers, and they are those of the seed's stanzas one after the other at an empty service
+pub record IsRehearsal (seed count : ℕ) (n : Numbers) : Type 0 where
+  pub ran : Rehearsed seed count n
+  pub are : AreNumbers n (rehearsal seed count)
+
 -- the numbers are those of a rehearsal
 pub record HasNumbers (command : Option Command) (n : Numbers) : Type 0 where
   pub seed : ℕ
   pub count : ℕ
   pub is : command ≡ Some (Rehearse seed count)
-  pub rehearsed : Rehearsed seed count n
+  pub rehearsed : IsRehearsal seed count n
 
 -- what comes of a rehearsal, before it is told
 abbrev pub MayRehearse : ℕ → ℕ → Came → Type 0
-MayRehearse seed count (came.Rehearsed n) = Rehearsed seed count n
+MayRehearse seed count (came.Rehearsed n) = IsRehearsal seed count n
 MayRehearse seed count (came.Lines lines) = ⊥
 MayRehearse seed count (came.Ended status) = status ≡ Memory
 

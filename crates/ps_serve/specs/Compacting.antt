@@ -1,7 +1,7 @@
 -- What compacting does to the world.
 use Rattle.std.specs.Prelude.{◌≡◌, ◌≢◌, ◌⊎◌, ℕ, List, Option, Some, None}
 use Rattle.ps_base.specs.Causes.{Rose}
-use Rattle.ps_compact.specs.Compacted.{IfDamaged, IsCompacted, IsFull, IsOccupied, LeavesBase, LeftEmptyOrBase}
+use Rattle.ps_compact.specs.Compacted.{IfDamaged, IsCompacted, IsFull, IsOccupied, LeavesBase, LeftEmptyOrBase, NewStays}
 use Rattle.ps_compact.specs.declared.compacting.CompactOutcome.{CompactOutcome}
 use Rattle.ps_compact.specs.declared.compacting.CompactOutcome.TheVariants as how
 use Rattle.ps_disk.specs.Disk.{MayLeave}
@@ -53,6 +53,8 @@ pub record ComesOf (tells : Type 0) (old now before after : HeldStore) (left lef
     (o : CompactOutcome) : Type 0 where
   pub cause : HasCause tells old now before after o
   pub still : StandsStill tells old now before after left left_new
+  -- after a refusal but a fault the bytes of the new store are as before, or spell no entries still
+  pub new_stays : tells → IsShortIfUnbegun before.seen → NewStays o before.seen after.seen
 
 -- both were opened, and compacted the one to the other
 pub record RanCompacting (tells : Type 0) (old new : Outside) (lefts_now : List ℕ → ℕ → List ℕ → Type 0) (p : Pair)

@@ -1,5 +1,5 @@
 -- What comes of serving streams over a store: one list of entries, of which each reply and each notice tells.
-use Rattle.std.specs.Prelude.{◌≡◌, ◌≢◌, ℕ, ◌+◌, ◌≤◌, ◌++◌, ◌∷◌, [], List, Some, length, slice_get, take}
+use Rattle.std.specs.Prelude.{◌≡◌, ◌≢◌, ◌⊎◌, ℕ, ◌+◌, ◌≤◌, ◌++◌, ◌∷◌, [], List, Some, length, slice_get, take}
 use Rattle.ps_base.specs.Causes.{Rose}
 use Rattle.ps_types.specs.declared.entry.Entry.{Entry}
 use Rattle.ps_types.specs.declared.entry.Entry.TheVariants.{Boot}
@@ -12,7 +12,7 @@ use Rattle.ps_model.specs.Entries.{AreEntries}
 use Rattle.ps_model.specs.Store.{spelled}
 use Rattle.ps_model.specs.TheCore.{the_core}
 use Rattle.ps_model.specs.World.{World, durable}
-use Rattle.ps_hall_open.specs.Opens.{PassesBy}
+use Rattle.ps_hall_open.specs.Opens.{IsStill, PassesBy, StaysButVersion}
 use Rattle.ps_io.specs.Held.{HeldStore}
 use Rattle.ps_trace.specs.Own.{IsServed}
 use Rattle.ps_workers.specs.Origin.{Origin}
@@ -50,12 +50,23 @@ IdleCause tells service old new OpenFault = ⊥
 IdleCause tells service old new StreamFault = ⊥
 IdleCause tells service old new StreamLong = ⊥
 
+-- the bytes spell the entries of the store, or where memory ran out behind the Boot those and the Boot, and a crash leaves that list and no other
+abbrev pub HasStill : List ℕ → HeldStore → List Entry → Status → Type 0
+HasStill service new E status =
+    IsStill new.seen new.synced new.written E
+    ⊎ ((status ≡ Memory) × IsStill new.seen new.synced new.written (E ++ Boot service ∷ []))
+
 -- the entries of the store stand, with or without the Boot
 pub record Idle (tells : Type 0) (service : List ℕ) (old new : HeldStore) (left : ℕ → List ℕ → Type 0)
     (status : Status) : Type 0 where
   pub crash : tells → IsTidy old.seen → (E : List Entry) → spelled old.seen E
       → LeftSince old left (E ++ Boot service ∷ []) (length E)
   pub fronts : tells → IsTidy old.seen → (E : List Entry) → spelled old.seen E → FrontsSince old new left
+  -- but for a fault of the disk, where nothing was pending
+  pub still : tells → IsTidy old.seen → old.written ≡ [] → (E : List Entry) → spelled old.seen E → status ≢ StoreFault
+      → HasStill service new E status
+  -- the bytes of a damaged store stay, but for its version
+  pub damaged : tells → (at : ℕ) → status ≡ StoreDamaged at → StaysButVersion old.seen new.seen
   pub cause : IdleCause tells service old new status
 
 -- ---- streams were served

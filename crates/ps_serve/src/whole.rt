@@ -145,8 +145,8 @@ fn run_words<R: RandomSource + Wait + Threads + Sync, W: World>(
 /// A store is compacted to a new one where its bytes have a list of entries and the new one's are those of an empty store: the new store spells the rows of the
 /// list, which serve on as the list would, and a crash leaves of it no entries or all (`Compacts`, `ComesOf`). The store's own list stays.
 ///
-/// A rehearsal touches nothing of the world but its reports: the five lines of its numbers, which are those of a run of two streams in memory (`IsTold`,
-/// `Rehearsed` of ps_rehearse).
+/// A rehearsal touches nothing of the world but its reports: the five lines of its numbers, which are those of a run of two streams in memory and, however
+/// they interleaved, those of the seed's stanzas one after the other (`IsTold`, `IsRehearsal`, `rehearsal` of ps_rehearse_laws).
 ///
 /// An audit reports which verdicts an address had on a node after each entry of a store, or who may read the node at its end; the store keeps its entries
 /// (`Did`: `Explains` and `Lists` of ps_audit_command). A feed writes the records of a store's entries to a sink (`Feeds` of ps_follow_command). A follower

@@ -3,8 +3,8 @@ use Rattle.std.specs.Prelude.{IfErr, IfOk}
 use Rattle.ps_disk.proofs.Moments.{started}
 use Rattle.ps_model.specs.At.{IsDamagedAt, IsStore}
 use Rattle.ps_hall_open.specs.Reads.{IsKept, ReadNot, entries_of}
-use Rattle.ps_compact.specs.Compacted.{IfDamaged, LeftEmptyOrBase}
-use Rattle.ps_compact.proofs.Endings.{ended-done, ended-full, ended-occupied, ended-sound, ended-store, is-compacted, leaves-base, left-base, unread-damaged, unread-done, unread-full, unread-occupied, unread-same, unread-store}
+use Rattle.ps_compact.specs.Compacted.{IfDamaged, LeftEmptyOrBase, NewStays}
+use Rattle.ps_compact.proofs.Endings.{ended-done, ended-full, ended-occupied, ended-sound, ended-stays, ended-store, is-compacted, leaves-base, left-base, unread-damaged, unread-done, unread-full, unread-occupied, unread-same, unread-stays, unread-store}
 use Rattle.ps_compact.proofs.compacting.compact.Goals as goal
 
 pub returns-in-Err-clause-done : goal.returns-in-Err-clause-done
@@ -80,3 +80,14 @@ returns-in-Ok-clause-any_moment g c tells short =
     let D = g.D.Disk in
     let d = c.args.new in
     left-base (D.seen c.args.store) (entries_of c.in-Ok.kept) (subst (λ o. IfOk o (λ k. IsStore (D.seen c.args.store) (entries_of k))) c.in-Ok.is (c.read_store-store.ensures.store tells)) D.moment D.left_since d c.write_kept-new.result.new (D.synced d) (D.written d) (c.write_kept-new.ensures.any_moment tells short)
+
+pub returns-in-Err-clause-new_stays : goal.returns-in-Err-clause-new_stays
+returns-in-Err-clause-new_stays g c tells short =
+    let bytes = g.D.Disk.seen c.args.new in
+    subst (λ o. NewStays o bytes bytes) (sym c.why_unread.ensures) (unread-stays bytes c.in-Err.why)
+
+pub returns-in-Ok-clause-new_stays : goal.returns-in-Ok-clause-new_stays
+returns-in-Ok-clause-new_stays g c tells short =
+    let before = g.D.Disk.seen c.args.new in
+    let after = g.D.Disk.seen c.write_kept-new.result.new in
+    subst (λ o. NewStays o before after) (sym c.why_ended.ensures) (ended-stays before after c.write_kept-new.result.outcome (c.write_kept-new.ensures.keeps tells short))

@@ -40,3 +40,12 @@ returns-in-Err-Memory-clause-any_moment g c tells empty short =
     let D = g.D.Disk in
     let d = c.args.new in
     started D.moment D.left_since d (LeftEmptyOrWhole (D.synced d) (D.written d) (base (entries_of c.args.kept.now))) (λ f left. inl (g.met.D.Disk.only_now d f left))
+
+pub returns-in-Err-Long-clause-still : goal.returns-in-Err-Long-clause-still
+returns-in-Err-Long-clause-still g c tells none empty short not = empty
+
+pub returns-in-Err-Memory-clause-still : goal.returns-in-Err-Memory-clause-still
+returns-in-Err-Memory-clause-still g c tells none empty short not = empty
+
+pub returns-in-Ok-clause-still : goal.returns-in-Ok-clause-still
+returns-in-Ok-clause-still g c tells none empty short = c.write_store.ensures.still tells none empty short

@@ -1,11 +1,15 @@
-use Rattle.std.proofs.Common.{[], ◌+◌, ◌^◌, length, sym, subst, ◌∙◌}
+use Rattle.std.proofs.Common.{[], ◌+◌, ◌^◌, length, Result, Err, ap, sym, subst, ◌∙◌}
 use Rattle.ps_disk.specs.Disk.{LeavesOnly, MayLeave}
 use Rattle.ps_journal.specs.Journal.{length_of}
 use Rattle.ps_model.specs.Entries.{body}
 use Rattle.ps_model.specs.Store.{spelled}
 use Rattle.ps_compact.specs.Stores.{LeftEmptyOrWhole}
-use Rattle.ps_compact.proofs.Stores.{no-body, not-over, still-left, then-left}
+use Rattle.ps_journal.specs.declared.journal.AppendRefusal.{AppendRefusal}
+use Rattle.ps_compact.proofs.Stores.{appended-still, no-body, not-over, still-left, then-left}
 use Rattle.ps_compact.proofs.writing.append_all.Goals as goal
+
+abbrev the-err : AppendRefusal → Result (Unit {0}) AppendRefusal
+the-err w = Err w
 
 pub returns-then-len-eq0-clause-done : goal.returns-then-len-eq0-clause-done
 returns-then-len-eq0-clause-done g c = λ tells has.
@@ -42,3 +46,9 @@ returns-in-Err-clause-any_moment g c = λ tells has old runs.
 pub returns-in-Ok-clause-fits : goal.returns-in-Ok-clause-fits
 returns-in-Ok-clause-fits g c = λ low.
     not-over (2 ^ 30) (length_of c.args.journal + 5 + length (body c.args.batch.now)) (λ over. let e = c.in-Ok.ensures.full.1 (c.requires.whole, over) in cc e)
+
+pub returns-in-Err-clause-still : goal.returns-in-Err-clause-still
+returns-in-Err-clause-still g c = λ tells has not.
+    appended-still (spelled (g.D.Disk.seen c.close-in-Err.result) []) c.in-Err.why
+    (λ full. subst (λ d. spelled (g.D.Disk.seen d) []) (sym (c.close-in-Err.ensures ∙ (c.in-Err.ensures.full_writes_nothing (ap (λ (w : AppendRefusal). the-err w) full)).0)) has)
+    (λ e. not (c.why_unappended.ensures ∙ e))

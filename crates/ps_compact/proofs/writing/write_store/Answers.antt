@@ -6,6 +6,7 @@ use Rattle.ps_compact.specs.Stores.{LeftEmptyOrWhole}
 use Rattle.ps_journal.specs.Journal.{Has, Keeps}
 use Rattle.ps_journal.specs.Places.{entries_in}
 use Rattle.ps_compact.specs.declared.writing.WriteWhy.TheVariants.{Occupied}
+use Rattle.ps_hall_open.proofs.Fronts.{still_opened}
 use Rattle.ps_compact.proofs.Stores.{empty-long, is-some, none-long, not-empty, on-both, opened-spells, still-left}
 use Rattle.ps_compact.proofs.writing.write_store.Goals as goal
 
@@ -54,3 +55,17 @@ returns-then-is_empty-clause-done g c = λ tells.
     on-both c.append_all.result.outcome (λ spells fits. record { free = free; written = spells; fits = omega (arith, nine, fits) })
     (c.append_all.ensures.done tells (subst (λ ps. Has c.in-Ok.journal (entries_in ps)) none (c.in-Ok.ensures.same tells)))
     (c.append_all.ensures.fits (omega (arith, nine)))
+
+pub returns-in-Err-clause-still : goal.returns-in-Err-clause-still
+returns-in-Err-clause-still g c = λ tells none empty short not.
+    (still_opened g.D.Disk g.met.D.Disk.seen_left g.met.D.Disk.counts_now c.args.new c.in-Err.refusal.disk [] none empty (c.in-Err.ensures.any_moment tells [] empty short)).spells
+
+pub returns-then-is_empty-clause-still : goal.returns-then-is_empty-clause-still
+returns-then-is_empty-clause-still g c = λ tells none empty short.
+    let nothing = none-long c.in-Ok.placed.items (sym c.in-Ok.placed.ok.0 ∙ eqb-true c.in-Ok.placed.len 0 (sym c.is_empty.ensures ∙ c.if-is_empty.true)) in
+    c.append_all.ensures.still tells (subst (λ ps. Has c.in-Ok.journal (entries_in ps)) nothing (c.in-Ok.ensures.same tells))
+
+pub returns-clause-still : goal.returns-clause-still
+returns-clause-still g c = λ tells none empty short not.
+    let some : c.in-Ok.placed.items ≡ [] → ⊥ = λ n. eqb-false c.in-Ok.placed.len 0 (sym c.is_empty.ensures ∙ c.if-is_empty.false) (c.in-Ok.placed.ok.0 ∙ ap length n) in
+    absurd (is-some (g.D.Disk.seen c.args.new) c.in-Ok.placed.items (c.in-Ok.ensures.entries tells) some empty)

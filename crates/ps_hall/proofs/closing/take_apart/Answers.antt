@@ -9,4 +9,4 @@ returns g c =
     let o = g.B.Opening.origin in
     subst (λ x. HasClosed o x c.into_store.result c.args.seats.items) (sym c.into_state.ensures)
     (subst (λ z. HasClosed o c.close-home.result.0.state z c.args.seats.items) (sym c.into_store.ensures)
-    (closed_ok o c.close-home.result.0.state c.close-home.result.1.store e.log e.list c.args.seats.items e.value e.journal e.front e.firm_le e.mark_same e.later))
+    (closed_ok o c.close-home.result.0.state c.close-home.result.1.store e.log e.list c.args.seats.items e.value e.journal.stands e.journal.within e.front e.firm_le e.mark_same e.later))

@@ -68,4 +68,4 @@ pub returns-then-upto-home-clause-none : goal.returns-then-upto-home-clause-none
 returns-then-upto-home-clause-none g c =
     let e = c.enter-home.ensures in
     let s = c.enter-home.new.seat in
-    frame_spared g.B.Opening.origin c.args.twin.now c.args.seat.now s c.leave_as_was-then-upto-home.new.seat c.enter-home.result.state c.args.archive.now.store c.args.upto c.requires e.hand e.value (e.front c.requires.held.1) (e.marked c.requires.held.1) c.if-upto-home.true e.firm c.leave_as_was-then-upto-home.ensures
+    frame_spared g.B.Opening.origin c.args.twin.now c.args.seat.now s c.leave_as_was-then-upto-home.new.seat c.enter-home.result.state c.args.archive.now.store c.args.upto c.requires e.hand e.value (e.front c.requires.held.1) (e.marked c.requires.held.1) c.if-home.false c.if-upto-home.true e.firm c.leave_as_was-then-upto-home.ensures

@@ -8,7 +8,7 @@ use Rattle.ps_hall_flush.proofs.flush.flush_seat.Goals as goal
 pub begin_frame-requires : goal.begin_frame-requires
 begin_frame-requires g c =
     let e = c.enter_journal-archive.ensures in
-    record { twin = e.twin; held = e.held; stands = e.list; firm = e.firm; mark = e.mark }
+    record { twin = e.twin; held = e.held; stands = e.list.stands; within = e.list.within; firm = e.firm; mark = e.mark }
 
 pub leave_journal-requires : goal.leave_journal-requires
 leave_journal-requires g c =
@@ -17,7 +17,7 @@ leave_journal-requires g c =
     record {
       twin = n.twin;
       held = n.held;
-      list = (list_of s, n.stands, ([], sym (nil-right (list_of s))), n.front);
+      list = (list_of s, record { stands = n.stands; within = n.within }, ([], sym (nil-right (list_of s))), n.front);
       firm = (let f = n.firm in omega (arith, f));
       mark = sym n.mark;
     }
@@ -29,7 +29,7 @@ leave_journal-requires-in-Err g c =
     record {
       twin = n.twin;
       held = n.held;
-      list = (list_of s, n.stands, ([], sym (nil-right (list_of s))), n.front);
+      list = (list_of s, record { stands = n.stands; within = n.within }, ([], sym (nil-right (list_of s))), n.front);
       firm = (let f = n.firm in omega (arith, f));
       mark = sym n.mark;
     }
@@ -48,7 +48,7 @@ returns-in-Ok-Some-clause-ok g c =
     let found = seen_of c.begin_frame.new.seat in
     let b = c.in-Ok-Some.ensures in
     let p = passes_as o k (number_of c.enter_journal-archive.new.seat) old (seen_of c.enter_journal-archive.new.seat) found found e.number e.seen refl b.passed in
-    flush_ok o k (number_of c.begin_frame.new.seat) old found (seen_of c.write_frame.new.seat) c.write_frame.result (b.number ∙ e.number) p c.write_frame.ensures.ok
+    flush_ok o k (number_of c.begin_frame.new.seat) old found (seen_of c.write_frame.new.seat) c.write_frame.result (b.number ∙ e.number) p (rw c.in-Ok-Some.field-0-is at b.some).loaded.unbroken c.write_frame.ensures.ok
 
 pub returns-in-Ok-Some-clause-known : goal.returns-in-Ok-Some-clause-known
 returns-in-Ok-Some-clause-known g c =
@@ -82,7 +82,7 @@ returns-in-Ok-None-clause-ok g c =
     let found = seen_of c.begin_frame.new.seat in
     let p = passes_as o k (number_of c.enter_journal-archive.new.seat) old (seen_of c.enter_journal-archive.new.seat) found found e.number e.seen refl c.in-Ok-None.ensures.passed in
     let n = rw c.in-Ok-None.field-0-is at c.in-Ok-None.ensures.none in
-    spared_by o k old found (seen_of c.leave_journal.new.seat) p c.leave_journal.ensures.seen (let s = c.seen-seen.ensures in let l = n.flushed in omega (arith, s, l))
+    spared_by o k old found (seen_of c.leave_journal.new.seat) p n.quiet c.leave_journal.ensures.seen (let s = c.seen-seen.ensures in let l = n.flushed in omega (arith, s, l))
 
 pub returns-in-Ok-None-clause-known : goal.returns-in-Ok-None-clause-known
 returns-in-Ok-None-clause-known g c =

@@ -3,18 +3,20 @@ use Rattle.std.specs.Global.{Vec}
 use Rattle.ps_types.specs.declared.entry.Entry.{Entry}
 use Rattle.ps_disk.proofs.Moments.{weaker}
 use Rattle.ps_journal.specs.Journal.{disk_of, length_of}
+use Rattle.ps_journal.proofs.Lists.{one_list}
 use Rattle.ps_journal.specs.Left.{LeavesList}
 use Rattle.ps_journal.specs.Places.{entries_in}
 use Rattle.ps_journal.specs.declared.judging.Placed.{Placed}
 use Rattle.ps_model.specs.Store.{spelled}
 use Rattle.ps_hall_open.specs.Begun.{frame_of}
 use Rattle.ps_hall_open.specs.Left.{Fronts, IsOpenLeft, OpenLeaves}
-use Rattle.ps_hall_open.specs.Opens.{IsOpen, IsRestored, OpenNot}
-use Rattle.ps_hall_open.proofs.Fronts.{fronts_opened, fronts_then}
+use Rattle.ps_hall_open.specs.Opens.{IsOpen, IsRestored, OpenNot, StaysIfDamaged}
+use Rattle.ps_hall_open.proofs.Fronts.{fronts_opened, fronts_then, still_opened, still_read}
 use Rattle.ps_hall_open.proofs.Openings.{opens}
-use Rattle.ps_hall_open.proofs.Refusals.{journal_left, open_left, refused_journal, refused_restore}
+use Rattle.ps_hall_open.proofs.Refusals.{damaged_stays, journal_left, open_left, refused_journal, refused_restore, unaccepted_stays}
 use Rattle.ps_hall_open.proofs.Replays.{name_some, opened_spells, opened_store}
 use Rattle.ps_hall_open.proofs.Timely.{placed_entries}
+use Rattle.ps_hall_open.specs.declared.opened.OpenWhy.{OpenWhy}
 use Rattle.ps_hall_open.proofs.opening.open_ready.Goals as goal
 
 pub restore-requires-clause-boot : goal.restore-requires-clause-boot
@@ -30,6 +32,31 @@ returns-in-Err-clause-refused g c service hosts ready =
     let not = OpenNot D.tells (D.seen c.args.disk) (D.faults c.args.disk) (D.faults c.in-Err.refusal.disk) service c.args.limits.whole in
     subst not (sym c.from-why.ensures)
     (refused_journal D.tells (D.seen c.args.disk) service (D.faults c.args.disk) (D.faults c.in-Err.refusal.disk) c.args.limits.whole c.in-Err.refusal.why c.why_not.result (λ tells. e.damaged tells) c.why_not.ensures e.store)
+
+pub returns-in-Err-clause-damaged : goal.returns-in-Err-clause-damaged
+returns-in-Err-clause-damaged g c tells =
+    let D = g.D.Disk in
+    let old = D.seen c.args.disk in
+    let new = D.seen c.in-Err.refusal.disk in
+    subst (λ (w : OpenWhy). StaysIfDamaged w old new) (sym c.from-why.ensures) (damaged_stays old new c.in-Err.refusal.why c.why_not.result (c.in-Err.ensures.untouched tells) c.why_not.ensures)
+
+pub returns-in-Err-clause-still : goal.returns-in-Err-clause-still
+returns-in-Err-clause-still g c tells none E spells short not =
+    still_opened g.D.Disk g.met.D.Disk.seen_left g.met.D.Disk.counts_now c.args.disk c.in-Err.refusal.disk E none spells (c.in-Err.ensures.any_moment tells E spells short)
+
+pub returns-in-Err-restore-clause-damaged : goal.returns-in-Err-restore-clause-damaged
+returns-in-Err-restore-clause-damaged g c tells =
+    let e = c.in-Ok.ensures in
+    unaccepted_stays c.in-Ok.journal c.restore.new.journal c.args.disk c.close.result c.in-Ok.placed.items c.args.ready.boot c.args.limits.whole c.in-Err-restore.why c.close.ensures c.in-Err-restore.ensures.untouched
+    (e.upgraded tells) (λ no. (e.begun tells no).none) c.in-Err-restore.ensures.err
+
+pub returns-in-Err-restore-clause-still : goal.returns-in-Err-restore-clause-still
+returns-in-Err-restore-clause-still g c tells none E spells short not =
+    let D = g.D.Disk in
+    let e = c.in-Ok.ensures in
+    let F = entries_in c.in-Ok.placed.items in
+    still_read D (disk_of c.in-Ok.journal) (disk_of c.restore.new.journal) c.close.result E F c.close.ensures (c.in-Err-restore.ensures.untouched not)
+    (one_list (D.seen c.args.disk) F E (opened_spells (D.seen c.args.disk) c.in-Ok.placed.items (e.entries tells)) spells) (e.same tells) (e.durable tells)
 
 pub returns-in-Err-clause-any_moment : goal.returns-in-Err-clause-any_moment
 returns-in-Err-clause-any_moment g c tells E spells short =

@@ -33,6 +33,7 @@ returns-in-Ok-clause-compacts g c =
         left_old = λ told c l. (made.left told).each c l;
         left_of_new = λ told short c l. (made.any_moment told short).each c l;
       };
+      new_stays = λ told short. made.new_stays told short;
     }))
 
 pub returns-in-Ok-clause-asked : goal.returns-in-Ok-clause-asked

@@ -23,7 +23,7 @@ returns-in-Err g c =
       same = refl;
       idle =
           subst (λ (st : Status). Idle d.tells c.args.service.now (held_as d c.args.disk) (held_as d e.disk) (d.left_since e.disk) st) (sym c.not_opened.ensures)
-          (idle-refused d c.args.service.now c.args.disk e.disk c.in-Err.ensures.any_moment c.in-Err.ensures.fronts e.why c.in-Err.ensures.refused);
+          (idle-refused d c.args.service.now c.args.disk e.disk c.in-Err.ensures.any_moment c.in-Err.ensures.fronts e.why c.in-Err.ensures.still c.in-Err.ensures.damaged c.in-Err.ensures.refused);
     })
 
 pub returns-in-Ok : goal.returns-in-Ok

@@ -1,4 +1,4 @@
--- The law of the command, as it is read.
+-- The law of a rehearsal, as it is read.
 use Rattle.std.specs.Prelude.{◌≡◌, ℕ, ◌≤◌}
 use Rattle.ps_rehearse_laws.specs.Rehearsal.{Numbers as Reported, rehearsal}
 use Rattle.ps_rehearse.specs.Rehearsed.{Rehearsed}

@@ -12,10 +12,10 @@ use Rattle.ps_rehearse_laws.proofs.Whole as whole
 use Rattle.ps_rehearse.specs.Entries.{the_service}
 use Rattle.ps_rehearse.specs.Rehearsed.{Rehearsed, the_base}
 use Rattle.ps_rehearse.specs.declared.numbers.Numbers.{Numbers}
-use Rattle.ps_rehearse_run_laws.specs.Laws.{AreNumbers}
-use Rattle.ps_rehearse_run_laws.proofs.Forward.{first-dealt, second-dealt}
-use Rattle.ps_rehearse_run_laws.proofs.Hosts.{changes-count, made-of, ours-to}
-use Rattle.ps_rehearse_run_laws.proofs.Sinks.{errors-count, notices-count, results-count}
+use Rattle.ps_rehearse.specs.Laws.{AreNumbers}
+use Rattle.ps_rehearse.proofs.Forward.{first-dealt, second-dealt}
+use Rattle.ps_rehearse.proofs.Own.{changes-count, made-of, ours-to}
+use Rattle.ps_rehearse.proofs.Sinks.{errors-count, notices-count, results-count}
 
 module _ (seed count : ℕ) (few : count ≤ 100000) (n : Numbers) (is : Rehearsed seed count n) where
   first : HasServed seed count is.world 0 is.first.lines is.first.words

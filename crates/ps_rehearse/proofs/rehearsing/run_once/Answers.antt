@@ -8,7 +8,7 @@ use Rattle.ps_rehearse.specs.Running.{IsEmpty}
 use Rattle.ps_rehearse.specs.Streams.{AreDone}
 use Rattle.ps_rehearse.proofs.Ending.{are-fresh, finish, two-ports}
 use Rattle.ps_rehearse.proofs.Hosts.{are-hosts, hosts-some, service-name, service-some}
-use Rattle.ps_rehearse.proofs.rehearsing.rehearse.Goals as goal
+use Rattle.ps_rehearse.proofs.rehearsing.run_once.Goals as goal
 
 pub serve_empty-requires-clause-empty : goal.serve_empty-requires-clause-empty
 serve_empty-requires-clause-empty g c κs within =

@@ -1,4 +1,0 @@
-pub mod Forward
-pub mod Hosts
-pub mod Sinks
-pub mod Run

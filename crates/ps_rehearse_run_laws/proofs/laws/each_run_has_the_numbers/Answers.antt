@@ -1,5 +1,0 @@
-use Rattle.ps_rehearse_run_laws.proofs.Run.{same-numbers}
-use Rattle.ps_rehearse_run_laws.proofs.laws.each_run_has_the_numbers.Goals as goal
-
-pub returns : goal.returns
-returns c = λ seed count few n is. same-numbers seed count few n is
