@@ -9,7 +9,7 @@ use Rattle.ps_hall_open.proofs.Timely.{placed_entries}
 use Rattle.ps_hall_open.proofs.reading.kept_on.Goals as goal
 
 pub look_giving-requires-clause-stands : goal.look_giving-requires-clause-stands
-look_giving-requires-clause-stands g c κs within = taken_nothing c.in_ok-nothing-rebuilt.result c.in_ok-nothing-rebuilt.ensures
+look_giving-requires-clause-stands g c κs within = taken_nothing c.in_ok-rebuilt.rebuilt c.in_ok-rebuilt.ensures
 
 pub returns-in-Err-clause-refused : goal.returns-in-Err-clause-refused
 returns-in-Err-clause-refused g c =
