@@ -16,6 +16,8 @@ frames-preserved g c =
     let fits : IsBytes bytes = λ i. omega (arith, c.type_inv.bytes i) in
     let second = c.is_second-second.ensures in
     let judged = subst (λ (b : Bool). Judged refused b s.bodies c.frames.trail.items c.frames.stop) (sym second) s.judged in
-    let next = c.in-Ok.ensures.judged s.bodies judged (ap (λ (n : ℕ). n + 5) (stands refused bytes c.frames.trail.items c.frames.stop rest c.requires.header s)) in
-    (one_more refused bytes c.frames.trail.items c.frames.stop rest c.requires.header s c.in-Frame.body.now c.in-Frame.after.now c.more_entries-next.new.trail.items c.in-Ok.next fits (sym c.in-Frame.ensures)
-    (subst (λ (b : Bool). Judged refused b (s.bodies ++ c.in-Frame.body.now ∷ []) c.more_entries-next.new.trail.items c.in-Ok.next) second next), c.in-Ok.ensures.stands)
+    let next = c.in-Ok.ensures.judged s.bodies judged (ap (λ (n : ℕ). n + 5) (stands refused bytes c.frames.trail.items c.frames.stop rest c.requires.header s)) in (
+      one_more refused bytes c.frames.trail.items c.frames.stop rest c.requires.header s c.in-Frame.body.now c.in-Frame.after.now c.more_entries-next.new.trail.items c.in-Ok.next fits (sym c.in-Frame.ensures)
+          (subst (λ (b : Bool). Judged refused b (s.bodies ++ c.in-Frame.body.now ∷ []) c.more_entries-next.new.trail.items c.in-Ok.next) second next),
+      c.in-Ok.ensures.stands,
+    )

@@ -33,6 +33,12 @@ returns-in-Stopped-clause-before g c =
 pub returns-in-Begun-clause-each : goal.returns-in-Begun-clause-each
 returns-in-Begun-clause-each g c = found_placed c.deref.result.now c.in-Begun.trail.items c.in-Begun.field-1 c.in-Begun.ensures.0
 
+pub returns-in-Stopped-clause-any_moment : goal.returns-in-Stopped-clause-any_moment
+returns-in-Stopped-clause-any_moment g c tells =
+    let D = g.D.Disk in
+    let old = c.args.disk.now in
+    only-old D.moment D.left_since old c.settle.new.disk (D.seen old) (D.synced old) (D.written old) (g.met.D.Disk.seen_left old) (c.settle.ensures.any_moment tells)
+
 pub returns-in-Begun-clause-any_moment : goal.returns-in-Begun-clause-any_moment
 returns-in-Begun-clause-any_moment g c tells =
     let D = g.D.Disk in
