@@ -79,6 +79,7 @@ fn take_placed<R: Threads + Sync>(
 }
 
 /// What takes the entries of a store as they are read, and what they leave so far.
+#[derive(Drop)]
 pub(crate) struct Replay<'a, R: Threads + Sync> {
     pub rt: &'a R,
     pub alloc: Global,
@@ -96,6 +97,7 @@ impl<'a, R: Threads + Sync> Taker for Replay<'a, R> {
 }
 
 /// The same, and it keeps the entries.
+#[derive(Drop)]
 pub(crate) struct ReplayAll<'a, R: Threads + Sync> {
     pub rt: &'a R,
     pub alloc: Global,

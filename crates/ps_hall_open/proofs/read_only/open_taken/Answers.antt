@@ -16,7 +16,7 @@ use Rattle.ps_hall_open.proofs.Timely.{placed_entries}
 use Rattle.ps_hall_open.proofs.read_only.open_taken.Goals as goal
 
 pub open_giving-requires-clause-stands : goal.open_giving-requires-clause-stands
-open_giving-requires-clause-stands g c κs within = (taken_nothing c.args.rebuilt c.requires.fresh, c.new.ensures)
+open_giving-requires-clause-stands g c κs within = (taken_nothing c.args.rebuilt c.requires.fresh, c.new.ensures.items)
 
 pub returns-in-Err-clause-refused : goal.returns-in-Err-clause-refused
 returns-in-Err-clause-refused g c =

@@ -8,7 +8,7 @@ pub returns-in-Begun : goal.returns-in-Begun
 returns-in-Begun c = subst (λ (l : List Placed). IsFound c.args.bytes.now l c.in-Begun.gate) (sym c.in-Begun.ensures.1) c.in-Begun.ensures.0
 
 pub returns-in-Bad : goal.returns-in-Bad
-returns-in-Bad c = bad_damaged c.args.bytes.now c.in-Bad.at c.new.result.items c.new.ensures c.in-Bad.ensures
+returns-in-Bad c = bad_damaged c.args.bytes.now c.in-Bad.at c.new.result.items c.new.ensures.items c.in-Bad.ensures
 
 pub returns-in-Stopped : goal.returns-in-Stopped
 returns-in-Stopped c =
