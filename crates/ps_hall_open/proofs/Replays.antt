@@ -81,11 +81,13 @@ module _ (placed : List Placed) (one : Placed) (old new : Rebuilt) (so_far : Has
   -- it isn't accepted, and all stays
   pub taken_none : IsTaken old new one.entry false → is_refused placed one × HasTaken placed new
   taken_none taken =
-      let is = so_far.replayed in
-      (subst (λ (t : State). accepted t one.entry ≡ false) is.state taken.0, record {
-        few = so_far.few;
-        replayed = record { each = is.each; state = taken.1 ∙ is.state; queues = subst (λ (q : List Notice). QueuesStand q (entries_in placed)) (sym taken.2) is.queues };
-      })
+      let is = so_far.replayed in (
+        subst (λ (t : State). accepted t one.entry ≡ false) is.state taken.0,
+        record {
+          few = so_far.few;
+          replayed = record { each = is.each; state = taken.1 ∙ is.state; queues = subst (λ (q : List Notice). QueuesStand q (entries_in placed)) (sym taken.2) is.queues };
+        },
+      )
 
 -- before the first
 pub taken_nothing : (r : Rebuilt) → IsFresh r → HasTaken [] r
