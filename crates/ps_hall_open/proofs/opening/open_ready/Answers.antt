@@ -13,12 +13,15 @@ use Rattle.ps_hall_open.specs.Opens.{IsOpen, IsRestored, OpenNot, StaysIfDamaged
 use Rattle.ps_hall_open.proofs.Fronts.{fronts_opened, fronts_then, still_opened, still_read}
 use Rattle.ps_hall_open.proofs.Openings.{opens}
 use Rattle.ps_hall_open.proofs.Refusals.{damaged_stays, journal_left, open_left, refused_journal, refused_restore, undamaged}
-use Rattle.ps_hall_open.proofs.Replays.{name_some, opened_spells, opened_store}
+use Rattle.ps_hall_open.proofs.Replays.{name_some, opened_spells, opened_store, taken_nothing}
 use Rattle.ps_hall_open.specs.Refused.{open_why}
 use Rattle.ps_hall_open.specs.Replayed.{HasTaken}
 use Rattle.ps_hall_open.specs.declared.opened.OpenWhy.{OpenWhy}
 use Rattle.ps_hall_open.specs.declared.opened.ReadWhy.{ReadWhy}
 use Rattle.ps_hall_open.proofs.opening.open_ready.Goals as goal
+
+pub open_giving-requires-clause-stands : goal.open_giving-requires-clause-stands
+open_giving-requires-clause-stands g c κs within = let ready = c.requires.ready in taken_nothing c.args.ready.rebuilt ready.2.fresh
 
 pub restore-requires-clause-boot : goal.restore-requires-clause-boot
 restore-requires-clause-boot g c κs within = let ready = c.requires.ready in (ready.0, ready.2.boot, ready.2.name)
