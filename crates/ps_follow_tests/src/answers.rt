@@ -1,5 +1,5 @@
 // What a follower answers.
-use crate::made::{CREATE, PUBLISH, arrival, boot, change, record};
+use crate::made::{BOOT, CREATE, PUBLISH, arrival, change, record};
 use ps_follow::Follower;
 use ps_types::Text;
 use ps_wire::print_tree;
@@ -47,12 +47,12 @@ fn reads_are_answered_and_changes_refused(rt: HostRuntime) -> Result<(), Fail> {
     let alloc = rt.alloc();
     let mut follower = Follower::new(alloc)?;
     let entries = [
-        boot(alloc)?,
+        BOOT.to_vec(alloc)?,
         change(alloc, 1, CREATE)?,
         change(alloc, 2, PUBLISH)?,
     ];
     for (place, entry) in entries.iter().enumerate() {
-        let record = record(alloc, place as u64, entry)?;
+        let record = record(alloc, place as u64, entry.as_slice())?;
         assert_eq!(rt; follower.feed(&rt, record.as_slice()), Ok(place as u64 + 1));
     }
     for (text, reply) in [

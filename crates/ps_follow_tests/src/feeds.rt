@@ -1,5 +1,5 @@
 // Records in pieces, with repeats and cuts, and records that are refused.
-use crate::made::{boot, gone, nobody, record};
+use crate::made::{BOOT, GONE, NOBODY, record};
 use ps_follow::{FeedRefusal, Follower};
 use ps_wire::Bytes;
 use std::alloc::Global;
@@ -8,7 +8,7 @@ use std::test::Fail;
 use std::thread::Threads;
 
 // The record of a boot of `pubsub.example` at the first place.
-const BOOT: [u8; 29] = [
+const BOOT_RECORD: [u8; 29] = [
     0, 0, 0, 0, 0, 0, 0, 0, 0, 0, 0, 17, 0, 0, 14, b'p', b'u', b'b', b's', b'u', b'b', b'.', b'e',
     b'x', b'a', b'm', b'p', b'l', b'e',
 ];
@@ -16,9 +16,9 @@ const BOOT: [u8; 29] = [
 // The record at a place: of a boot, and then of ends of callers.
 fn record_at(alloc: Global, place: u64) -> Result<Bytes, Fail> {
     if place == 0 {
-        record(alloc, place, &boot(alloc)?)
+        record(alloc, place, BOOT)
     } else {
-        record(alloc, place, &gone(alloc)?)
+        record(alloc, place, GONE)
     }
 }
 
@@ -34,7 +34,7 @@ fn three(alloc: Global) -> Result<Vec<u8>, Fail> {
 #[test]
 fn a_boot_has_a_record_of_29_bytes(rt: HostRuntime) -> Result<(), Fail> {
     let alloc = rt.alloc();
-    assert!(rt; record(alloc, 0, &boot(alloc)?)?.as_slice() == &BOOT[..]);
+    assert!(rt; record(alloc, 0, BOOT)?.as_slice() == &BOOT_RECORD[..]);
     Ok(())
 }
 
@@ -62,11 +62,11 @@ fn pieces_repeats_and_cuts_add_nothing(rt: HostRuntime) -> Result<(), Fail> {
 fn one_record_in_pieces_and_again_and_a_gap(rt: HostRuntime) -> Result<(), Fail> {
     let alloc = rt.alloc();
     let mut follower = Follower::new(alloc)?;
-    let (front, back) = BOOT.split_at(5);
+    let (front, back) = BOOT_RECORD.split_at(5);
     assert_eq!(rt; follower.feed(&rt, front), Ok(0));
     assert_eq!(rt; follower.feed(&rt, back), Ok(1));
     follower.cut();
-    assert_eq!(rt; follower.feed(&rt, &BOOT), Ok(1));
+    assert_eq!(rt; follower.feed(&rt, &BOOT_RECORD), Ok(1));
     let past = record_at(alloc, 2)?;
     let gap = FeedRefusal::Gap {
         at: 29,
@@ -121,10 +121,10 @@ fn refused<R: Abort + Threads + Sync>(
     feed.extend_from_slice(bytes)?;
     assert_eq!(rt; follower.feed(rt, &feed), Err(why));
     assert_eq!(rt; by_bytes(rt, alloc, &feed)?, Err(why));
-    assert_eq!(rt; follower.feed(rt, &BOOT), Err(why));
+    assert_eq!(rt; follower.feed(rt, &BOOT_RECORD), Err(why));
     assert_eq!(rt; follower.count(), 3);
     follower.cut();
-    assert_eq!(rt; follower.feed(rt, &BOOT), Ok(3));
+    assert_eq!(rt; follower.feed(rt, &BOOT_RECORD), Ok(3));
     Ok(())
 }
 
@@ -149,20 +149,20 @@ fn a_record_that_is_not_taken_is_named_at_its_offset(rt: HostRuntime) -> Result<
     refused(
         &rt,
         alloc,
-        record(alloc, 3, &nobody(alloc)?)?.as_slice(),
+        record(alloc, 3, NOBODY)?.as_slice(),
         FeedRefusal::Bad { at },
     )?;
     // A place past the next; another entry at a place that is there, and bytes that are none.
     refused(
         &rt,
         alloc,
-        record(alloc, 4, &gone(alloc)?)?.as_slice(),
+        record(alloc, 4, GONE)?.as_slice(),
         FeedRefusal::Gap { at, expected: 3 },
     )?;
     refused(
         &rt,
         alloc,
-        record(alloc, 0, &gone(alloc)?)?.as_slice(),
+        record(alloc, 0, GONE)?.as_slice(),
         FeedRefusal::Differs { at },
     )?;
     refused(
