@@ -30,6 +30,7 @@ class Engine:
         return dict(
             os.environ,
             HOME=str(self.room),
+            ERL_CRASH_DUMP=str(home / "erl_crash.dump"),
             RABBITMQ_NODENAME=self.name(node),
             RABBITMQ_NODE_PORT=str(PORTS[node]),
             RABBITMQ_DIST_PORT=str(PORTS[node] + 20000),

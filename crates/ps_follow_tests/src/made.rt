@@ -28,7 +28,8 @@ pub const NOBODY: &[u8] = b"\x02\x00\x0bx@a.example";
 pub fn change(alloc: Global, line: u64, text: &str) -> Result<Vec<u8>, Memory> {
     let mut bytes = b"\x01\x00\x09a.example".to_vec(alloc)?;
     bytes.extend_from_slice(&line.to_be_bytes())?;
-    bytes.extend_from_slice(&(text.len() as u32).to_be_bytes())?;
+    let size = (text.len() as u64).to_be_bytes();
+    bytes.extend_from_slice(&size[4..])?;
     bytes.extend_from_slice(text.as_bytes())?;
     Ok(bytes)
 }
