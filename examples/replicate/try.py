@@ -123,7 +123,8 @@ class Follower:
         return place
 
     def not_asked_yet(self, reply):
-        for _ in range(100):
+        """Waits until the first service was asked and answered so: a minute, since a busy machine may let it wait."""
+        for _ in range(3000):
             time.sleep(0.02)
             with self.primary.lock:
                 if reply in self.primary.answers:
