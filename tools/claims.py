@@ -1,15 +1,15 @@
 #!/usr/bin/env python3
-"""What docs/claims.md says that is made from the sources: what each crate promises, and each law. tables.py writes it there.
+"""What docs/claims.md says that is made from the sources: laws and crates that its rows written by hand don't name. tables.py writes it there.
 
-A crate's promise is the first sentence of its src/lib.rt. A law is a public function with an empty body: the check proves its contract, which
-is all that it has; what it says is the first sentence of its doc comment.
+A law is a public function with an empty body: the check proves its contract, which is all that it has; what it says is the first sentence of its
+doc comment. A crate's line is the first sentence of its src/lib.rt.
 """
 import pathlib
 import re
 
 ROOT = pathlib.Path(__file__).resolve().parents[1]
 CRATES = ROOT / "crates"
-LONG = 150
+LONG = 100
 
 
 def names():
@@ -76,21 +76,24 @@ def laws_of(name):
     return found
 
 
-def promises():
+def promises(by_hand):
+    """A line for each crate that neither the page nor its table of laws names."""
     rows = ["| Crate | What it is |", "|---|---|"]
     for name in names():
-        if not name.endswith(("_tests", "_cases", "_laws")):
+        if not name.endswith(("_tests", "_cases", "_laws")) and not re.search(rf"\b{name}\b", by_hand) and not new_laws(name, by_hand):
             rows.append(f"| `{name}` | {promise(name)} |")
     return "\n".join(rows) + "\n"
 
 
-def laws():
+def new_laws(name, by_hand):
+    """The laws of a crate that the page doesn't name."""
+    return [it for it in laws_of(name) if f"`{it[1]}`" not in by_hand]
+
+
+def laws(by_hand):
     rows, last = ["| In | Law | What it says |", "|---|---|---|"], None
     for name in names():
-        if name.endswith(("_tests", "_cases")):
-            continue
-        for path, function, says in laws_of(name):
-            where = f"[{name}](../{path})" if path != last else ""
-            rows.append(f"| {where} | `{function}` | {says} |")
-            last = path
+        for _, function, says in new_laws(name, by_hand) if not name.endswith(("_tests", "_cases")) else ():
+            rows.append(f"| {f'`{name}`' if name != last else ''} | `{function}` | {says} |")
+            last = name
     return "\n".join(rows) + "\n"

@@ -7,7 +7,7 @@
 conditions, refusals   from crates/ps_types/src/denial.rt: each variant's doc comment
 config                 from crates/ps_types/specs/Config.antt and Defaults.antt
 features               from crates/ps_model/specs/Discovery.antt
-promises, laws         from the crates' src/lib.rt and laws: claims.py
+promises, laws         from the crates' src/lib.rt and laws, what the page names by hand left out: claims.py
 """
 import pathlib
 import re
@@ -122,12 +122,14 @@ def features():
     return table(["Where", "Features"], rows)
 
 
-TABLES = {"conditions": conditions, "refusals": refusals, "config": config, "features": features, "promises": claims.promises, "laws": claims.laws}
+TABLES = {"conditions": conditions, "refusals": refusals, "config": config, "features": features}
+OF_PAGE = {"promises": claims.promises, "laws": claims.laws}
 
 
 def made(text):
     """The page with its tables made anew."""
-    return MARK.sub(lambda match: match[1] + TABLES[match[2]]() + match[3], text)
+    by_hand = MARK.sub("", text)
+    return MARK.sub(lambda match: match[1] + (TABLES[match[2]]() if match[2] in TABLES else OF_PAGE[match[2]](by_hand)) + match[3], text)
 
 
 def main():
