@@ -1,8 +1,8 @@
 #!/usr/bin/env python3
-"""What docs/claims.md says that is made from the sources: laws and crates that its rows written by hand don't name. tables.py writes it there.
+"""The laws that the rows of docs/claims.md written by hand don't name. tables.py writes them there.
 
 A law is a public function with an empty body: the check proves its contract, which is all that it has; what it says is the first sentence of its
-doc comment. A crate's line is the first sentence of its src/lib.rt.
+doc comment.
 """
 import pathlib
 import re
@@ -35,17 +35,6 @@ def first_sentence(text):
     return (re.split(r"[;:] ", found)[0] if len(found) > LONG else found) + "."
 
 
-def promise(name):
-    """The first sentence of what a crate says of itself."""
-    top = next(it for it in (CRATES / name / "src/lib.rt", CRATES / name / "src/main.rt") if it.is_file())
-    lines = []
-    for line in top.read_text().splitlines():
-        if not line.startswith("//!") or (lines and not line[3:].strip()):
-            break
-        lines.append(line[3:].strip())
-    return first_sentence(" ".join(lines))
-
-
 def functions_of(path):
     """Each public function of a file at its top: its doc comment, its name, its lines up to its body, and whether that is empty."""
     doc, head, name = [], [], None
@@ -74,15 +63,6 @@ def laws_of(name):
             if is_empty and "ensures" in head:
                 found.append((path.relative_to(ROOT), function, first_sentence(doc)))
     return found
-
-
-def promises(by_hand):
-    """A line for each crate that neither the page nor its table of laws names."""
-    rows = ["| Crate | What it is |", "|---|---|"]
-    for name in names():
-        if not name.endswith(("_tests", "_cases", "_laws")) and not re.search(rf"\b{name}\b", by_hand) and not new_laws(name, by_hand):
-            rows.append(f"| `{name}` | {promise(name)} |")
-    return "\n".join(rows) + "\n"
 
 
 def new_laws(name, by_hand):

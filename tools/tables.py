@@ -7,7 +7,7 @@
 conditions, refusals   from crates/ps_types/src/denial.rt: each variant's doc comment
 config                 from crates/ps_types/specs/Config.antt and Defaults.antt
 features               from crates/ps_model/specs/Discovery.antt
-promises, laws         from the crates' src/lib.rt and laws, what the page names by hand left out: claims.py
+laws                   from the crates' laws, those that the page names by hand left out: claims.py
 """
 import pathlib
 import re
@@ -123,13 +123,13 @@ def features():
 
 
 TABLES = {"conditions": conditions, "refusals": refusals, "config": config, "features": features}
-OF_PAGE = {"promises": claims.promises, "laws": claims.laws}
 
 
 def made(text):
     """The page with its tables made anew."""
     by_hand = MARK.sub("", text)
-    return MARK.sub(lambda match: match[1] + (TABLES[match[2]]() if match[2] in TABLES else OF_PAGE[match[2]](by_hand)) + match[3], text)
+    makers = {**TABLES, "laws": lambda: claims.laws(by_hand)}
+    return MARK.sub(lambda match: match[1] + makers[match[2]]() + match[3], text)
 
 
 def main():
