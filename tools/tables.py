@@ -116,8 +116,8 @@ def features():
     first = ["http://jabber.org/protocol/disco#info", "http://jabber.org/protocol/disco#items", "http://jabber.org/protocol/pubsub"]
     rows = [
         ["both", ", ".join(f"`{it}`" for it in first)],
-        ["both, behind `http://jabber.org/protocol/pubsub#`", ", ".join(f"`{it}`" for it in names if it not in accounts)],
-        ["accounts alone, behind the same", ", ".join(f"`{it}`" for it in accounts)],
+        ["both, with the prefix `http://jabber.org/protocol/pubsub#`", ", ".join(f"`{it}`" for it in names if it not in accounts)],
+        ["accounts alone, with the same prefix", ", ".join(f"`{it}`" for it in accounts)],
     ]
     return table(["Where", "Features"], rows)
 
