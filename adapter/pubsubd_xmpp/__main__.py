@@ -15,7 +15,7 @@ from .config import BadConfig, Config, check_folders, read_config
 from .install import CantSetUp, set_up
 from .kept import Kept
 from .log import say
-from .service import OPEN_FAULT, USAGE
+from .service import OPEN_FAULT, STREAM_FAULT, USAGE
 
 
 def words() -> argparse.Namespace:
@@ -75,8 +75,11 @@ def main() -> int:
     try:
         return asyncio.run(serve(config))
     except sqlite3.Error as why:
-        say("the state can't be opened", file=config.state / "adapter.sqlite", why=why)
+        say("the state can't be used", file=config.state / "adapter.sqlite", why=why)
         return OPEN_FAULT
+    except OSError as why:
+        say("the machine refuses what the adapter needs", why=why)
+        return STREAM_FAULT
     finally:
         os.close(held)
 

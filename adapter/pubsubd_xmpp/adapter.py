@@ -46,8 +46,10 @@ class Adapter:
         self._stopping = asyncio.Event()
         self._turning = asyncio.Event()
         self._turn_why = ""
+        self._wants_compaction = False
         self._rarely = Rarely()
         self._run: Run | None = None
+        self._starting: Run | None = None
         self._number = 0
         self._served_at = 0.0
         self._connections = 0
@@ -203,12 +205,14 @@ class Adapter:
         return True
 
     async def _serve(self) -> int:
-        pause, want_compaction = 0.1, self._compaction.is_due()
-        while True:
-            if want_compaction:
+        pause = 0.1
+        self._wants_compaction = self._compaction.is_due()
+        while not self._stopping.is_set():
+            if self._wants_compaction:
+                self._wants_compaction = False
                 notify("STATUS=compacting")
                 await self._compaction.compact()
-            want_compaction = False
+                continue
             began = time.monotonic()
             status = await self._one_run()
             if self._stopping.is_set():
@@ -219,15 +223,14 @@ class Adapter:
                 say("not started again", status=status, meaning=meaning(status))
                 return status
             turned, self._turn_why = self._turn_why, ""
-            want_compaction = turned == "compaction" or self._compaction.is_due()
+            self._wants_compaction = self._wants_compaction or self._compaction.is_due()
             if turned:
                 pause = 0.1
                 continue
             served = self._served_at > began
             pause = 0.1 if time.monotonic() - began > 10 else min(2 * pause, 1.0 if served else 30.0)
             await self._sleep(pause)
-            if self._stopping.is_set():
-                return 0
+        return 0
 
     async def _one_run(self) -> int:
         """One run of the service, to its end."""
@@ -236,10 +239,13 @@ class Adapter:
         self._turning.clear()
         try:
             run.make(self._wake, self._flush_kept)
+            self._starting = run
             opened = await run.start()
         except OSError as why:
             say("the run folder can't be used", why=why)
             return self._abandon(run, STREAM_FAULT)
+        finally:
+            self._starting = None
         if run.process is None:
             return self._abandon(run, OPEN_FAULT)
         self._starts += 1
@@ -283,6 +289,8 @@ class Adapter:
             self._turning.set()
 
     def _ask_compaction(self) -> None:
+        """At once if the service runs, and before it runs again in any case."""
+        self._wants_compaction = True
         self._turn("compaction")
 
     def _stop(self) -> None:
@@ -293,6 +301,9 @@ class Adapter:
         notify("STOPPING=1")
         self._router.stopping = True
         self._stopping.set()
+        self._compaction.give_up()
+        if self._starting is not None and self._starting.process is not None:
+            self._starting.process.kill()  # a store that is being read is changed by nothing
 
     async def _end_session(self) -> None:
         """Gives the server what is still to be given, and ends the stream."""

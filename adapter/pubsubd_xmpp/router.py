@@ -33,7 +33,7 @@ class Router:
         self.session: Session
         self.grants = Grants(config.hosts)
         self.presences = Presences(config.host, kept if config.keep_presences else None, self._tell_presence)
-        self.rosters = Rosters(config, kept, self._to_server, self.put)
+        self.rosters = Rosters(config, kept, self._to_server, self.put, self._may_ask)
         self.counts: Counter[str] = Counter()
         self.streams: dict[str, Stream | None] = dict.fromkeys(config.hosts)
         self.waiting: dict[str, deque[tuple[bytes, Asked | None]]] = {host: deque() for host in config.hosts}
@@ -204,7 +204,8 @@ class Router:
         account = bare_of(sender)
         if kind == "":
             if self.presences.take(sender, stanza):
-                self._with_roster(host, account, lambda _: self.presences.tell_there(sender))
+                behind = self.rosters.before_presence if self._may_ask(account) else self.rosters.behind
+                behind(account, lambda _: self.presences.tell_there(sender))
         elif self._remove(sender):
             self.rosters.behind(account, lambda _: self.presences.tell_gone(sender))
 
@@ -263,7 +264,8 @@ class Router:
         if account == self._config.host:
             self.rosters.behind(bare_of(stanza.get("from")), lambda _: self._go(host, line, asked, True))
         else:
-            self._with_roster(host_of(account), account, lambda told: self._go(host, line, asked, told))
+            behind = self.rosters.first if self._may_ask(account) else self.rosters.behind
+            behind(account, lambda told: self._go(host, line, asked, told))
 
     def _refusal(self, stanza: Elem, host: str) -> tuple[str, str, str] | None:
         """Why the adapter itself refuses the request: the condition, its type and a text."""
@@ -279,11 +281,9 @@ class Router:
             return "resource-constraint", "wait", errors.BUSY
         return None
 
-    def _with_roster(self, host: str, account: str, then: Callable[[bool], None]) -> None:
-        if host in self._config.hosts and account.isascii() and self.grants.has(host, "roster"):
-            self.rosters.first(account, then)
-        else:
-            self.rosters.behind(account, then)
+    def _may_ask(self, account: str) -> bool:
+        """Whether the server tells that account's contacts."""
+        return "@" in account and account.isascii() and self.grants.has(host_of(account), "roster")
 
     def _go(self, host: str, line: bytes, asked: Asked, told: bool) -> None:
         if told:

@@ -26,6 +26,8 @@ def compact(old, new):
         print("out of memory")
         sys.exit(7)
     with open(new, "wb") as file:
+        if os.path.exists(old + ".slow"):
+            time.sleep(1000)
         file.write(b"PUBSUBJ1 compacted")
     sys.exit(0)
 
@@ -144,9 +146,13 @@ def main():
         os.unlink(store + ".exit")
         print("report")
         sys.exit(status)
-    with open(store, "ab") as file:
-        if file.tell() == 0:
-            file.write(b"PUBSUBJ1" + b"x" * 100)
+    try:
+        with open(store, "ab") as file:
+            if file.tell() == 0:
+                file.write(b"PUBSUBJ1" + b"x" * 100)
+    except OSError:
+        print("open fault")
+        sys.exit(9)
     Service(service, store, streams).run()
 
 

@@ -321,6 +321,26 @@ class Personal(AdapterCase):
         self.assertEqual(["both" in lines[0], '"id":"1"' in lines[1], "remove" in lines[2], '"id":"2"' in lines[3]], [True] * 4)
         self.assertEqual(len(lines), 4)
 
+    async def test_who_comes_is_told_of_behind_the_contacts_of_those_who_may_show_him_items(self):
+        """Ann took bob out and let cid in, and said nothing since. Bob would be given her last items, and cid would not."""
+        cid = f"cid@{HOST}"
+        self.server.rosters = {ANN: [contact(BOB, "from")], BOB: [contact(ANN, "to")]}
+        await self.start()
+        self.server.send(presence(f"{ANN}/1"))
+        await self.until_kept("SELECT contact, sure FROM roster", (BOB, 1))
+        await self.stop()
+        self.server.rosters = {ANN: [contact(cid, "from")], cid: [contact(ANN, "to")]}
+        await self.start()
+        self.server.send(presence(f"{BOB}/1"))
+        await self.until_told(f'"from":"{BOB}/1"')
+        asked = self.server.roster_questions
+        self.server.send(presence(f"{cid}/1"))
+        await self.until_told(f'"from":"{cid}/1"')
+        self.assertEqual(self.server.roster_questions, asked + 1)  # of ann it was told that she lets cid see her
+        lines = [line for line in self.told() if "jabber:iq:roster" in line or '"n":"presence"' in line]
+        self.assertEqual(sorted("remove" in line for line in lines[:2]), [False, True])
+        self.assertEqual([f'"from":"{BOB}/1"' in lines[2], f'"from":"{cid}/1"' in lines[3]], [True, True])
+
     async def test_requests_that_come_meanwhile_share_the_question(self):
         self.server.answers_rosters = False
         await self.start()

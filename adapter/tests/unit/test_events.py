@@ -11,6 +11,8 @@ import unittest
 from .fakes import ADAPTER, HOST, SERVICE, AdapterCase, condition, contact, delegated, kill_service, request
 from .test_duties import ANN, BOB, CAPS, presence
 
+from pubsubd_xmpp.spool import Spool
+
 
 class Server(AdapterCase):
     async def test_a_server_that_goes_is_connected_to_again(self):
@@ -102,6 +104,11 @@ class Killed(AdapterCase):
         self.assertEqual(self.runs(), 2)
 
 
+def is_alive(pid):
+    words = pathlib.Path(f"/proc/{pid}/cmdline")
+    return words.exists() and words.read_bytes() != b""
+
+
 class KilledEarly(AdapterCase):
     def configure(self, *_):
         program = self.root / "sleeper"
@@ -117,7 +124,16 @@ class KilledEarly(AdapterCase):
         await self.server.until(lambda: pathlib.Path(f"/proc/{child}/cmdline").read_bytes() == b"sleep\x001000\0", "the program")
         self.adapter.kill()
         await self.adapter.wait()
-        await self.server.until(lambda: not pathlib.Path(f"/proc/{child}/cmdline").exists() or not pathlib.Path(f"/proc/{child}/cmdline").read_bytes())
+        await self.server.until(lambda: not is_alive(child))
+
+    async def test_an_adapter_that_stops_does_not_wait_for_a_store_that_is_still_being_read(self):
+        await self.start(wait=False)
+        children = pathlib.Path(f"/proc/{self.adapter.pid}/task/{self.adapter.pid}/children")
+        child = (await self.server.until(lambda: children.read_text().split()))[0]
+        await self.server.until(lambda: self.server.is_up)
+        self.assertEqual(await self.stop(), 0)
+        self.assertIn("killed by SIGKILL", self.said())
+        self.assertFalse(is_alive(child))
 
 
 class Limits(AdapterCase):
@@ -230,6 +246,8 @@ class FullDisk(AdapterCase):
         self.assertEqual(condition(reply.child("delegation").find("forwarded", "iq")), ("remote-server-timeout", "wait"))
         self.assertIn("the state can't be written", self.said())
         self.assertFalse([line for line in self.told() if "jabber:iq:roster" in line])
+        with self.assertRaises(OSError):  # not a signal that ends the adapter
+            Spool(self.disk / "0.out").give(1)
         (self.disk / "full").unlink()
         self.server.send(delegated("d2", request("2", sender=f"{BOB}/1", to=ANN)))
         reply = await self.server.reply("d2")
@@ -272,11 +290,49 @@ class Compacting(AdapterCase):
         await self.start()
         before = self.store.read_bytes()
         self.adapter.send_signal(signal.SIGUSR2)
-        await self.until_said("not compacted status=7")
+        await self.until_said("not compacted why=\"status 7: had not enough memory\"")
         await self.until_said("service started", 2)
         self.assertEqual(self.store.read_bytes(), before)
         self.server.send(request("1"))
         await self.server.reply("1")
+
+    async def test_where_it_failed_it_is_not_tried_at_each_start(self):
+        (self.root / "state" / "store.fail").write_text("")
+        self.store.write_bytes(b"PUBSUBJ1" + b"x" * 2000)
+        await self.start()
+        kill_service(self)
+        await self.until_said("service started", 2)
+        self.assertEqual(self.said().count("not compacted"), 1)
+
+    async def test_told_while_no_service_runs_it_is_done_before_the_next(self):
+        await self.start()
+        (self.root / "state" / "store.exit").write_text("7")
+        self.server.send(request("1", "exit 7"))
+        await self.until_said("service ended", 2)
+        self.adapter.send_signal(signal.SIGUSR2)
+        await self.until_said("compacted bytes_before")
+        await self.until_said("service started", 2)
+
+    async def test_a_disk_that_refuses_the_new_store_is_said_and_the_old_one_serves(self):
+        await self.start()
+        (self.root / "state" / "store.before").mkdir()  # a place that can't be had
+        self.adapter.send_signal(signal.SIGUSR2)
+        await self.until_said("not compacted why=")
+        (self.root / "state" / "store.before").rmdir()
+        await self.until_said("service started", 2)
+        self.server.send(request("1"))
+        await self.server.reply("1")
+        self.assertFalse((self.root / "state" / "store.new").exists())
+
+    async def test_an_adapter_that_stops_does_not_wait_for_it(self):
+        (self.root / "state" / "store.slow").write_text("")
+        await self.start()
+        before = self.store.read_bytes()
+        self.adapter.send_signal(signal.SIGUSR2)
+        await self.until_said("service ended")
+        await self.server.until(lambda: (self.root / "state" / "store.new").exists())
+        self.assertEqual(await self.stop(), 0)
+        self.assertEqual((self.store.read_bytes(), (self.root / "state" / "store.new").exists(), self.runs()), (before, False, 1))
 
     async def test_a_new_store_that_is_found_damaged_is_put_back(self):
         await self.start()
@@ -371,6 +427,19 @@ class Signals(AdapterCase):
         bad = await asyncio.create_subprocess_exec(*words, stderr=asyncio.subprocess.PIPE)
         _, said = await bad.communicate()
         self.assertEqual((bad.returncode, b"the secret can't be read" in said), (2, True))
+
+    async def test_a_store_that_can_not_be_opened_is_for_the_service_to_say(self):
+        self.store.mkdir()
+        await self.start(wait=False)
+        self.assertEqual(await self.ended(), 9)
+        self.assertIn("not started again status=9 meaning=\"couldn't open a file", self.said())
+
+    async def test_what_the_machine_refuses_is_said(self):
+        (self.root / "state" / "adapter.sqlite").mkdir()
+        await self.start(wait=False)
+        self.assertEqual(await self.ended(), 9)
+        self.assertIn("the state can't be used", self.said())
+        self.assertNotIn("Traceback", self.said())
 
     async def test_a_program_that_is_not_there_is_said(self):
         self.configure(program=self.root / "none")

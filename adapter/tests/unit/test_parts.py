@@ -246,6 +246,7 @@ class KeptThings(InAFolder):
         kept.intend("a@b", [("c@b", row), ("d@b", Row("from"))])
         other = self.open()
         self.assertEqual(other.roster("a@b"), {"c@b": Told(row, False), "d@b": Told(Row("from"), False)})
+        self.assertEqual((other.owners("c@b"), other.owners("a@b")), ({"a@b"}, set()))
         kept.settle("a@b", "c@b", row)
         self.assertEqual([contact for _, contact, _ in kept.unsure()], ["d@b"])
         self.assertEqual(self.open().roster("a@b")["c@b"], Told(row, True))
