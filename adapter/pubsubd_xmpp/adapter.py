@@ -238,7 +238,7 @@ class Adapter:
         run = Run(self._config, self._config.run / f"run-{self._number}", self._watch)
         self._turning.clear()
         try:
-            run.make(self._wake, self._flush_kept)
+            run.make(self._wake, self._flush_kept, self._turning.set)
             self._starting = run
             opened = await run.start()
         except OSError as why:
@@ -268,7 +268,10 @@ class Adapter:
         return status
 
     async def _attend(self, run: Run) -> None:
-        """Lets requests through until the service ends, or it is to end."""
+        """Lets requests through until the service ends, or it is to end.
+
+        A service that says what failed goes on with the streams that didn't, and tells its status once all inputs have ended. So they are ended then.
+        """
         self._run = run
         self._served_at = time.monotonic()
         self._compaction.opened()

@@ -2,6 +2,7 @@
 
 from __future__ import annotations
 
+import contextlib
 import json
 import sqlite3
 from collections.abc import Iterable
@@ -51,7 +52,9 @@ class Kept:
         self._facts: dict[str, int] = {}
 
     def close(self) -> None:
-        self.flush()
+        """Writes what was gathered, if the disk takes it: without it notices may come twice, and rows are told again."""
+        with contextlib.suppress(sqlite3.Error):
+            self.flush()
         self._base.close()
 
     # Rosters
@@ -103,8 +106,9 @@ class Kept:
         self._settled[account, contact] = row
 
     def unsure(self) -> list[tuple[str, str, Row]]:
-        """The rows that were told, and not answered."""
-        self.flush()
+        """The rows that were told, and not answered. Where the disk takes nothing now, some that were answered are among them."""
+        with contextlib.suppress(sqlite3.Error):
+            self.flush()
         found = self._base.execute("SELECT account, contact, subscription, groups FROM roster WHERE sure = 0").fetchall()
         return [(account, contact, Row(state, tuple(json.loads(groups)))) for account, contact, state, groups in found]
 

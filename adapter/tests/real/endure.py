@@ -1,4 +1,5 @@
-"""The service killed in mid-load, the adapter killed, the server restarted, the store compacted: no acknowledged item is lost, and each event comes once and in order.
+"""The service killed in mid-load, the adapter killed, the store compacted, its disk full, the server restarted: no acknowledged item is lost, and each event comes once
+and in order.
 
 Usage: endure.py SERVER PROGRAM [KILLS]      SERVER is prosody or ejabberd
 """
@@ -185,6 +186,23 @@ async def compact(load):
         raise Wrong(f"{load.denied - before} requests were not answered by a result over a compaction")
 
 
+async def fill_disk(load):
+    """Until the service ended for it, and a while longer; then there is room again."""
+    ended = load.plant.said().count("service ended status=4")
+    full = load.plant.disk / "full"
+    with open(full, "wb", buffering=0) as file:
+        try:
+            while True:
+                file.write(b"x" * 512)
+        except OSError:
+            pass
+    until = time.monotonic() + SECONDS
+    await load.run(lambda: load.plant.said().count("service ended status=4") > ended + 1 or time.monotonic() > until, width=2)
+    full.unlink()
+    if time.monotonic() > until:
+        raise Wrong("a full disk ends no service")
+
+
 async def restart_server(load):
     """Clients come again; what was acknowledged stands, and what is published then is heard of."""
     for client in (load.ann, load.bob, load.cid):
@@ -215,12 +233,17 @@ async def main(plant, kills):
     await load.check(f"the adapter killed {max(1, kills // 5)} times")
     await compact(load)
     await load.check("the store compacted twice")
+    if plant.disk is None:
+        print("ok   no disk can be mounted here, so none was full")
+    else:
+        await fill_disk(load)
+        await load.check("the disk was full")
     await restart_server(load)
     await load.check("the server restarted")
 
 
 if __name__ == "__main__":
-    with Plant(sys.argv[1], sys.argv[2]) as here:
+    with Plant(sys.argv[1], sys.argv[2], disk="16m") as here:
         try:
             asyncio.run(main(here, int(sys.argv[3]) if len(sys.argv) > 3 else 20))
         except BaseException:

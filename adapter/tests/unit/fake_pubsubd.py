@@ -36,7 +36,7 @@ class Service:
     """One run."""
 
     def __init__(self, service, store, streams):
-        self.service, self.store = service, store
+        self.service, self.store, self.status = service, store, 0
         self.told = open(store + ".told", "a", encoding="utf-8", buffering=1)
         self.told.write("start\n")
         self.hosts = {}
@@ -111,6 +111,9 @@ class Service:
             print("store fault" if rest == "4" else "report")
             sys.stdout.flush()
             os._exit(int(rest))
+        elif verb == "fault":
+            print("pubsubd: store: No space left on device (os error 28)", file=sys.stderr, flush=True)
+            self.status = 4
         elif verb == "close":
             self.hosts[fd][1].close()
         elif verb == "refuse":
@@ -153,7 +156,9 @@ def main():
     except OSError:
         print("open fault")
         sys.exit(9)
-    Service(service, store, streams).run()
+    served = Service(service, store, streams)
+    served.run()
+    sys.exit(served.status)
 
 
 if __name__ == "__main__":

@@ -222,6 +222,17 @@ class End(AdapterCase):
         self.server.send(request("2"))
         self.assertEqual((await self.server.reply("2")).get("type"), "result")
 
+    async def test_a_service_that_says_what_failed_is_ended_and_tells_its_status(self):
+        """It would go on with its other streams, and answer nothing on this one."""
+        await self.start()
+        self.server.send(request("1", "fault"))
+        self.assertEqual(condition(await self.server.reply("1")), ("internal-server-error", "wait"))
+        self.assertIn("service ended status=4", self.said())
+        self.assertNotIn("it doesn't answer", self.said())
+        await self.until_said("service started", 2)
+        self.server.send(request("2"))
+        self.assertEqual((await self.server.reply("2")).get("type"), "result")
+
     async def test_the_adapter_stops_in_good_order(self):
         await self.start()
         self.server.send(request("1", "held"))

@@ -248,6 +248,10 @@ class FullDisk(AdapterCase):
         self.assertFalse([line for line in self.told() if "jabber:iq:roster" in line])
         with self.assertRaises(OSError):  # not a signal that ends the adapter
             Spool(self.disk / "0.out").give(1)
+        self.server.send(request("n", f"notice 1 {SERVICE}"))  # its number can't be written
+        await self.server.message(id="n-1")
+        kill_service(self)
+        await self.until_said("service started", 2)
         (self.disk / "full").unlink()
         self.server.send(delegated("d2", request("2", sender=f"{BOB}/1", to=ANN)))
         reply = await self.server.reply("d2")
@@ -438,7 +442,7 @@ class Signals(AdapterCase):
         (self.root / "state" / "adapter.sqlite").mkdir()
         await self.start(wait=False)
         self.assertEqual(await self.ended(), 9)
-        self.assertIn("the state can't be used", self.said())
+        self.assertIn("the state can't be opened", self.said())
         self.assertNotIn("Traceback", self.said())
 
     async def test_a_program_that_is_not_there_is_said(self):

@@ -1,6 +1,8 @@
 """The parts that need nothing else: trees and their spellings, forms, errors, notices, what is kept, spools, the configuration, times."""
 
+import contextlib
 import datetime
+import io
 import os
 import pathlib
 import tempfile
@@ -17,6 +19,7 @@ from pubsubd_xmpp.grants import Grants, asks_features, unwrap, wrap
 from pubsubd_xmpp.install import configuration, ejabberd_part, prosody_part
 from pubsubd_xmpp.kept import Kept, Row, Told
 from pubsubd_xmpp.lines import NotALine, from_line, to_line
+from pubsubd_xmpp.log import Rarely
 from pubsubd_xmpp.names import canonical, host_of, is_full
 from pubsubd_xmpp.notices import Notices
 from pubsubd_xmpp.presences import Presences
@@ -373,6 +376,19 @@ class Configurations(InAFolder):
         self.assertNotIn("example.org", ejabberd_part("pubsub.a.example", "geheim"))
         self.assertIn("hosts = a.example b.example\n", configuration("pubsub.a.example", ["a.example", "b.example"], "prosody"))
         self.assertIn("\nkeep_presences = yes\n", configuration("pubsub.a.example", ["a.example"], "ejabberd"))
+
+
+class Log(unittest.TestCase):
+    def test_what_fails_each_second_is_no_line_each_second(self):
+        said = io.StringIO()
+        with contextlib.redirect_stderr(said):
+            rarely = Rarely()
+            for why in ("full", "full", "full", "gone", "full"):
+                rarely.say("not written", why=OSError(why))
+            rarely.forget("not written")
+            rarely.say("not written", why=OSError("full"))
+        words = [line.rpartition("why=")[2] for line in said.getvalue().splitlines()]
+        self.assertEqual(words, ["full", "gone", "full", "full"])
 
 
 class Times(unittest.TestCase):
