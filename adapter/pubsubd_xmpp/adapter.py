@@ -355,9 +355,10 @@ class Adapter:
         """Compacts at the times of the configuration."""
         if self._config.compact_at is None:
             return
+        due = datetime.datetime.now()
         while True:
-            now = datetime.datetime.now()
-            await asyncio.sleep((next_time(self._config.compact_at, now) - now).total_seconds())
+            due = next_time(self._config.compact_at, max(due, datetime.datetime.now()))
+            await asyncio.sleep((due - datetime.datetime.now()).total_seconds())
             self._ask_compaction()
 
     def _flush_kept(self) -> None:

@@ -145,6 +145,16 @@ class Serving(AdapterCase):
         self.assertIn('"id":"n-4"', line)
         self.assertIn('"type":"result"', line)
 
+    async def test_who_goes_is_told_of_behind_his_presence(self):
+        await self.start()
+        self.server.send(presence(f"{ANN}/1") + presence(f"{ANN}/1", kind="unavailable"))
+        await self.until_told("unavailable")
+        self.server.send(presence(f"{BOB}/1", kind="unavailable") + request("1"))  # who wasn't there doesn't go
+        await self.server.reply("1")
+        lines = [line for line in self.told() if '"n":"presence"' in line]
+        self.assertEqual(["unavailable" in line for line in lines][-1], True)
+        self.assertNotIn(BOB, "".join(lines))
+
     async def test_who_is_not_told_again_when_the_server_comes_back_is_gone(self):
         await self.start()
         self.server.send(presence(f"{ANN}/1") + presence(f"{BOB}/1"))

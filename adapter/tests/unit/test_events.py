@@ -169,6 +169,21 @@ class Limits(AdapterCase):
         self.assertIn('"from":"ann@a.example/Res"', "".join(self.told()))
 
 
+class LargeRequests(AdapterCase):
+    settings = "[limits]\nopen_bytes = 262144\n"
+
+    async def test_more_bytes_than_may_be_open_are_refused_for_now(self):
+        await self.start()
+        large = "x" * 100000  # as a tree and as a line: twice these bytes
+        self.server.send(request("0", "held") + request("1", large) + request("2", large) + request("3"))
+        self.assertEqual(condition(await self.server.reply("3")), ("resource-constraint", "wait"))
+        self.let_go()
+        for name in ("0", "1", "2"):
+            self.assertEqual((await self.server.reply(name)).get("type"), "result")
+        self.server.send(request("4"))
+        self.assertEqual((await self.server.reply("4")).get("type"), "result")
+
+
 class Hosts(AdapterCase):
     hosts = "a.example, b.example"
 

@@ -1,16 +1,20 @@
 """The parts that need nothing else: trees and their spellings, forms, errors, notices, what is kept, spools, the configuration, times."""
 
+import asyncio
 import contextlib
 import datetime
 import io
 import os
 import pathlib
 import tempfile
+import types
 import unittest
+from unittest import mock
 
 from . import fakes  # noqa: F401  (puts the package on the path)
 
 from pubsubd_xmpp import errors
+from pubsubd_xmpp.adapter import Adapter
 from pubsubd_xmpp.asked import Asked, Envelope
 from pubsubd_xmpp.compaction import next_time
 from pubsubd_xmpp.config import BadConfig, When, read_config
@@ -389,6 +393,34 @@ class Log(unittest.TestCase):
             rarely.say("not written", why=OSError("full"))
         words = [line.rpartition("why=")[2] for line in said.getvalue().splitlines()]
         self.assertEqual(words, ["full", "gone", "full", "full"])
+
+
+class Schedule(unittest.IsolatedAsyncioTestCase):
+    async def test_each_time_that_comes_is_once(self):
+        """A clock that is a little early doesn't make a time come twice."""
+        asked = []
+        here = Adapter.__new__(Adapter)
+        here._config = types.SimpleNamespace(compact_at=When(4, 30))
+        here._ask_compaction = lambda: asked.append(True)
+        steps = iter((datetime.datetime(2026, 12, 2, 4, 29, 59), datetime.datetime(2026, 12, 2, 4, 29, 59, 900000)))
+        slept = []
+
+        class Clock(datetime.datetime):
+            @classmethod
+            def now(cls):
+                return next(steps, datetime.datetime(2026, 12, 2, 4, 29, 59, 950000))
+
+        async def sleep(seconds):
+            slept.append(seconds)
+            if len(slept) == 2:
+                raise asyncio.CancelledError
+
+        with mock.patch("pubsubd_xmpp.adapter.datetime.datetime", Clock), mock.patch("pubsubd_xmpp.adapter.asyncio.sleep", sleep):
+            with self.assertRaises(asyncio.CancelledError):
+                await here._schedule()
+        self.assertEqual(len(asked), 1)
+        self.assertLess(slept[0], 1)
+        self.assertGreater(slept[1], 86000)
 
 
 class Times(unittest.TestCase):
