@@ -38,6 +38,7 @@ class Adapter:
         self._router = Router(config, kept)
         self._session = Session(config, self)
         self._router.session = self._session
+        self._router.opened = self._opened
         self._watch = Watch()
         self._compaction = Compaction(config, kept)
         self._reading: dict[str, deque[Stream]] = {host: deque() for host in config.hosts}
@@ -51,7 +52,7 @@ class Adapter:
         self._run: Run | None = None
         self._starting: Run | None = None
         self._number = 0
-        self._served_at = 0.0
+        self._began_at = self._served_at = 0.0  # when the last run began, and when one last had its store
         self._connections = 0
         self._starts = 0
         self._began = time.monotonic()
@@ -273,16 +274,21 @@ class Adapter:
         A service that says what failed goes on with the streams that didn't, and tells its status once all inputs have ended. So they are ended then.
         """
         self._run = run
-        self._served_at = time.monotonic()
-        self._compaction.opened()
+        self._began_at = time.monotonic()
         self._router.begin(run.streams)
-        notify("READY=1", "STATUS=serving" if self._session.is_up else "STATUS=waiting for the server")
         assert run.process is not None
         waits = [asyncio.create_task(self._stopping.wait()), asyncio.create_task(self._turning.wait())]
         await asyncio.wait([run.process.ended, *waits], return_when=asyncio.FIRST_COMPLETED)
         for one in waits:
             one.cancel()
         self._router.pause()
+
+    def _opened(self) -> None:
+        """The service has read its store, and serves."""
+        self._served_at = time.monotonic()
+        self._compaction.opened()
+        say("service serves", seconds=f"{self._served_at - self._began_at:.3f}")
+        notify("READY=1", "STATUS=serving" if self._session.is_up else "STATUS=waiting for the server")
 
     def _turn(self, why: str) -> None:
         """Ends this run, for another to begin."""
@@ -305,8 +311,9 @@ class Adapter:
         self._router.stopping = True
         self._stopping.set()
         self._compaction.give_up()
-        if self._starting is not None and self._starting.process is not None:
-            self._starting.process.kill()  # a store that is being read is changed by nothing
+        opening = self._starting if self._run is None else self._run if not self._router.open_since else None
+        if opening is not None and opening.process is not None:
+            opening.process.kill()  # a store that is being read is changed by nothing
 
     async def _end_session(self) -> None:
         """Gives the server what is still to be given, and ends the stream."""
@@ -339,6 +346,8 @@ class Adapter:
                 self._session.read_on(True)
             if self._router.silence() > self._config.answer_seconds:
                 self._turn("it doesn't answer")
+            elif self._run is not None and not self._router.open_since and time.monotonic() - self._began_at > self._config.open_seconds:
+                self._turn("it doesn't come to the end of its store")
             elif self._router.out_of_step:
                 self._turn("its replies fit no requests")
             elif any(stream.broken for stream in (self._run.streams if self._run else ())):

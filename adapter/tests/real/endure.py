@@ -148,9 +148,9 @@ async def kill_service(load, kills):
         for count in range(kills):
             await asyncio.sleep(0.3 + 0.07 * (count % 7))
             load.plant.kill_service()
-            await asyncio.to_thread(load.plant.wait_said, "service started", started + count + 1)
+            await asyncio.to_thread(load.plant.wait_said, "service serves", served + count + 1)
 
-    started = load.plant.said().count("service started")
+    served = load.plant.said().count("service serves")
     killing = asyncio.create_task(killer())
     await load.run(killing.done, width=4)
     await killing

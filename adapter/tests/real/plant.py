@@ -68,7 +68,7 @@ class Plant:
 
     def start_adapter(self) -> None:
         """Starts the adapter, and waits until it serves and the server has granted."""
-        words = ("service started", self.granted, "granted by=")
+        words = ("service serves", self.granted, "granted by=")
         before = [self.said().count(one) for one in words]
         with open(self.log, "ab") as log:
             command = [*self.python, str(ADAPTER / "pubsubd-xmpp"), "--config", str(self.folder / "conf")]

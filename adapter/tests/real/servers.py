@@ -138,7 +138,6 @@ class Prosody(Server):
         return ["prosody", "--config", str(self.config), "-F"]
 
 
-# What stands above the parts of the example, and what goes into two of them.
 EJABBERD = """
 loglevel: info
 log_rotate_count: 0
@@ -146,8 +145,7 @@ hosts: [{hosts}]
 auth_password_format: plain
 auth_method: internal
 registration_timeout: infinity
-"""
-EJABBERD_CLIENTS = """listen:
+listen:
   -
     port: {client}
     ip: "127.0.0.1"
@@ -156,15 +154,15 @@ EJABBERD_CLIENTS = """listen:
     starttls: false
     access: all
     shaper: none
-"""
-EJABBERD_MODULES = """modules:
-  mod_disco: {}
-  mod_caps: {}
-  mod_roster: {}
-  mod_ping: {}
+modules:
+  mod_disco: {{}}
+  mod_caps: {{}}
+  mod_roster: {{}}
+  mod_ping: {{}}
   mod_register:
     ip_access: all
     access: all
+include_config_file: {folder}/pubsubd.yml
 """
 
 
@@ -179,8 +177,8 @@ class Ejabberd(Server):
         self.config = self.folder / "ejabberd.yml"
         names = ", ".join(f'"{host}"' for host in HOSTS)
         parts = ejabberd_part(SERVICE, SECRET).replace("port: 5347", f"port: {self.component_port}")
-        parts = parts.replace("listen:\n", EJABBERD_CLIENTS.format(client=self.client_port)).replace("\nmodules:\n", "\n" + EJABBERD_MODULES)
-        self.config.write_text(EJABBERD.format(hosts=names) + parts)
+        (self.folder / "pubsubd.yml").write_text(parts)
+        self.config.write_text(EJABBERD.format(hosts=names, client=self.client_port, folder=self.folder))
 
     def environment(self) -> dict[str, str]:
         return dict(os.environ) | {

@@ -1,7 +1,8 @@
 #!/usr/bin/python3
 """A stand-in for the service: it opens its streams as pubsubd does, keeps a list of all that it was told, and does what the node of a request asks for.
 
-Beside the store it writes STORE.told: `start` at each start, then `HOST LINE` for each line. A file STORE.exit with a number makes a start end with that status.
+Beside the store it writes STORE.told: `start` at each start, then `HOST LINE` for each line. A file STORE.early with a number makes a start end with that status before its
+streams are open, STORE.exit as it reads its store; STORE.long has the seconds that it reads.
 A request whose node is `held` is answered once there is a file `go` beside the store, and nothing is read meanwhile.
 """
 import json
@@ -141,14 +142,26 @@ class Service:
             self.result(fd, a)
 
 
+def take(name):
+    """What stands in that file, once."""
+    if not os.path.exists(name):
+        return None
+    with open(name, encoding="utf-8") as file:
+        found = file.read()
+    os.unlink(name)
+    return found
+
+
 def main():
     service, store, streams = words()
-    if os.path.exists(store + ".exit"):
-        with open(store + ".exit", encoding="utf-8") as file:
-            status = int(file.read())
-        os.unlink(store + ".exit")
+    status = take(store + ".early")
+    if status is not None:
+        sys.exit(int(status))
+    served = Service(service, store, streams)
+    status = take(store + ".exit")
+    if status is not None:
         print("report")
-        sys.exit(status)
+        sys.exit(int(status))
     try:
         with open(store, "ab") as file:
             if file.tell() == 0:
@@ -156,7 +169,7 @@ def main():
     except OSError:
         print("open fault")
         sys.exit(9)
-    served = Service(service, store, streams)
+    time.sleep(float(take(store + ".long") or 0))
     served.run()
     sys.exit(served.status)
 

@@ -17,10 +17,11 @@ class Start(AdapterCase):
     """What is done at each start of the service."""
 
     async def test_a_service_that_ends_before_its_pipes_are_open_is_no_endless_wait(self):
-        (self.root / "state" / "store.exit").write_text("9")
+        (self.root / "state" / "store.early").write_text("9")
         await self.start(wait=False)
         self.assertEqual(await self.ended(), 9)
         self.assertIn("not started again status=9", self.said())
+        self.assertNotIn("service started", self.said())
 
     async def test_lines_are_counted_from_one_in_each_run(self):
         await self.start()

@@ -136,6 +136,40 @@ class KilledEarly(AdapterCase):
         self.assertFalse(is_alive(child))
 
 
+class LongStores(AdapterCase):
+    """The service opens its streams, reads its store, and then answers."""
+
+    settings = "answer_seconds = 1\nopen_seconds = 600\n"
+
+    async def test_a_store_that_takes_long_to_read_is_no_silence(self):
+        (self.root / "state" / "store.long").write_text("4")
+        await self.start()
+        self.server.send(request("1"))
+        self.assertEqual((await self.server.reply("1")).get("type"), "result")
+        self.assertNotIn("it doesn't answer", self.said())
+        self.assertEqual(self.runs(), 1)
+
+    async def test_nobody_is_told_that_it_serves_before_and_a_stop_does_not_wait(self):
+        (self.root / "state" / "store.long").write_text("1000")
+        await self.start()
+        self.server.send(request("1"))
+        await self.until_taken()
+        self.assertNotIn("service serves", self.said())
+        self.assertEqual(await self.stop(), 0)
+        self.assertIn("killed by SIGKILL", self.said())
+        self.assertNotIn("service killed", self.said())
+
+
+class EndlessStores(AdapterCase):
+    settings = "stop_seconds = 1\nopen_seconds = 1\n"
+
+    async def test_a_service_that_never_comes_to_the_end_of_its_store_is_started_anew(self):
+        (self.root / "state" / "store.long").write_text("1000")
+        await self.start()
+        await self.until_said("it doesn't come to the end of its store")
+        await self.until_said("service serves")
+
+
 class Limits(AdapterCase):
     settings = "[limits]\nopen_requests = 5\n"
 
@@ -425,6 +459,7 @@ class Signals(AdapterCase):
             os.environ["NOTIFY_SOCKET"] = str(self.root / "notify")
             try:
                 await self.start()
+                await self.until_said("service serves")
                 await self.stop()
             finally:
                 del os.environ["NOTIFY_SOCKET"]
@@ -434,7 +469,7 @@ class Signals(AdapterCase):
                     told.append(end.recv(4096).decode())
                 except BlockingIOError:
                     break
-        self.assertTrue(any(one.startswith("READY=1") for one in told), told)
+        self.assertEqual([one.split("\n")[0] for one in told if one.startswith("READY")], ["READY=1"])
         self.assertEqual(told[-1], "STOPPING=1")
 
     async def test_a_configuration_is_judged(self):

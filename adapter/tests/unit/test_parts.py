@@ -20,7 +20,7 @@ from pubsubd_xmpp.compaction import next_time
 from pubsubd_xmpp.config import BadConfig, When, read_config
 from pubsubd_xmpp.forms import draw, mend
 from pubsubd_xmpp.grants import Grants, asks_features, unwrap, wrap
-from pubsubd_xmpp.install import configuration, ejabberd_part, prosody_part
+from pubsubd_xmpp.install import CantSetUp, configuration, ejabberd_part, prosody_part, set_up
 from pubsubd_xmpp.kept import Kept, Row, Told
 from pubsubd_xmpp.lines import NotALine, from_line, to_line
 from pubsubd_xmpp.log import Rarely
@@ -380,6 +380,20 @@ class Configurations(InAFolder):
         self.assertNotIn("example.org", ejabberd_part("pubsub.a.example", "geheim"))
         self.assertIn("hosts = a.example b.example\n", configuration("pubsub.a.example", ["a.example", "b.example"], "prosody"))
         self.assertIn("\nkeep_presences = yes\n", configuration("pubsub.a.example", ["a.example"], "ejabberd"))
+
+    def test_setup_writes_all_or_nothing(self):
+        for server, name in (("prosody", "prosody/conf.d/pubsubd.cfg.lua"), ("ejabberd", "ejabberd/pubsubd.yml")):
+            etc = self.folder / server
+            with mock.patch("pubsubd_xmpp.install.shutil.chown"), mock.patch("pubsubd_xmpp.install._restart"), contextlib.redirect_stdout(io.StringIO()):
+                with self.assertRaisesRegex(CantSetUp, f"install {server} first"):
+                    set_up(server, ["a.example"], etc)
+                (etc / name).parent.mkdir(parents=True)
+                set_up(server, ["a.example"], etc)
+                self.assertIn((etc / "pubsubd" / "secret").read_text().strip(), (etc / name).read_text())
+                (etc / "pubsubd" / "secret").unlink()
+                with self.assertRaisesRegex(CantSetUp, "is there already"):
+                    set_up(server, ["a.example"], etc)
+                self.assertFalse((etc / "pubsubd" / "secret").exists())
 
 
 class Log(unittest.TestCase):
