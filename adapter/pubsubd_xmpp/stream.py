@@ -13,8 +13,6 @@ from .spool import Spool
 
 # What the service takes: who writes more lines than this ahead stops reading from the server.
 MANY_LINES = 20000
-# What a pipe of Linux holds.
-PIPE = 65536
 
 
 class Stream:
@@ -58,36 +56,19 @@ class Stream:
             return
         blocked = False
         try:
-            while not blocked and (lines := self._next_lines()):
-                blocked = not self._write(lines)
+            while self.out and len(self.open) < self._in_flight:
+                line, asked = self.out[0]
+                sent = os.write(self._fd, line[self._part :] if self._part else line)
+                self._part += sent
+                if self._part < len(line):
+                    blocked = True
+                    break
+                self._written(asked)
         except BlockingIOError:
             blocked = True
         except OSError:
             self.broken = True
         self._watch(blocked and not self.broken)
-
-    def _next_lines(self) -> list[bytes]:
-        """What may be written now: as many lines as a pipe holds, and as many requests as may be open."""
-        lines: list[bytes] = []
-        room, size = self._in_flight - len(self.open), 0
-        for line, asked in self.out:
-            if room <= 0 or size >= PIPE:
-                break
-            room -= asked is not None
-            size += len(line)
-            lines.append(line)
-        return lines
-
-    def _write(self, lines: list[bytes]) -> bool:
-        """Writes them at once. Whether the pipe took all."""
-        data = b"".join(lines)[self._part :]
-        sent = os.write(self._fd, data)
-        left = self._part + sent
-        while self.out and left >= len(self.out[0][0]):
-            left -= len(self.out[0][0])
-            self._written(self.out[0][1])
-        self._part = left
-        return sent == len(data)
 
     def _written(self, asked: Asked | None) -> None:
         self.out.popleft()
