@@ -38,7 +38,6 @@ class Adapter:
         self._router = Router(config, kept)
         self._session = Session(config, self)
         self._router.session = self._session
-        self._router.opened = self._opened
         self._watch = Watch()
         self._compaction = Compaction(config, kept)
         self._reading: dict[str, deque[Stream]] = {host: deque() for host in config.hosts}
@@ -116,6 +115,8 @@ class Adapter:
     # What the service writes
 
     def _wake(self, stream: Stream, closed: bool) -> None:
+        if self._is_opening and self._run is not None and stream in self._run.streams and stream.spool.size:
+            self._opened()
         if closed and self._run is not None and stream in self._run.streams and stream.is_open:
             self._loop.call_later(2.0, self._check_closed, self._run)
         self._pump_host(stream.host)
@@ -283,6 +284,11 @@ class Adapter:
             one.cancel()
         self._router.pause()
 
+    @property
+    def _is_opening(self) -> bool:
+        """Whether the service reads its store: it opens its streams before, and writes to none of them until it has."""
+        return self._served_at <= self._began_at
+
     def _opened(self) -> None:
         """The service has read its store, and serves."""
         self._served_at = time.monotonic()
@@ -311,7 +317,7 @@ class Adapter:
         self._router.stopping = True
         self._stopping.set()
         self._compaction.give_up()
-        opening = self._starting if self._run is None else self._run if not self._router.open_since else None
+        opening = self._starting if self._run is None else self._run if self._is_opening else None
         if opening is not None and opening.process is not None:
             opening.process.kill()  # a store that is being read is changed by nothing
 
@@ -344,10 +350,11 @@ class Adapter:
                 self._excuse()
             elif not self._router.is_flooded:
                 self._session.read_on(True)
-            if self._router.silence() > self._config.answer_seconds:
+            if self._run is not None and self._is_opening:
+                if time.monotonic() - self._began_at > self._config.open_seconds:
+                    self._turn("it doesn't come to the end of its store")
+            elif self._router.silence(self._served_at) > self._config.answer_seconds:
                 self._turn("it doesn't answer")
-            elif self._run is not None and not self._router.open_since and time.monotonic() - self._began_at > self._config.open_seconds:
-                self._turn("it doesn't come to the end of its store")
             elif self._router.out_of_step:
                 self._turn("its replies fit no requests")
             elif any(stream.broken for stream in (self._run.streams if self._run else ())):

@@ -39,8 +39,6 @@ class Router:
         self.waiting: dict[str, deque[tuple[bytes, Asked | None]]] = {host: deque() for host in config.hosts}
         self.out_of_step = False  # a reply came that fits no request
         self.serves = False  # the service is there, and knows who is
-        self.opened: Callable[[], None] = lambda: None  # called when it has answered for the first time in its run
-        self.open_since = 0.0  # when that was; nothing while it reads its store
         self.stopping = False
         self.features: list[Elem] | None = None
         self._features_wanted: list[Elem] = []
@@ -90,7 +88,6 @@ class Router:
     def begin(self, streams: list[Stream]) -> None:
         """A run began: the rows that aren't sure, and once they are answered who is there, and then the requests that wait."""
         self.out_of_step = False
-        self.open_since = 0.0
         for stream in streams:
             self.streams[stream.host] = stream
         self._ask_features()
@@ -125,15 +122,12 @@ class Router:
             self._dirty.add(stream.host)
 
     def _ask_features(self) -> None:
-        """Asks the service what it does for accounts, which the server then tells of them. It opens its streams, reads its store, and then answers."""
+        """Asks the service what it does for accounts, which the server then tells of them. So it has something to answer once it has read its store."""
         host = self._config.hosts[0]
         head = {"from": host, "to": f"account@{host}", "id": "features", "type": "get"}
         question = elem("iq", CLIENT, head, elem("query", INFO))
 
         def take(reply: Elem | None) -> None:
-            if reply is not None:
-                self.open_since = time.monotonic()
-                self.opened()
             query = reply.child("query", INFO) if reply is not None else None
             if query is not None:
                 self.features = list(query.elements())
@@ -445,7 +439,7 @@ class Router:
         since = [stream.open[0].since for stream in self.streams.values() if stream is not None and stream.open]
         return time.monotonic() - min(since) if since else 0.0
 
-    def silence(self) -> float:
-        """How long the service has owed a reply and written nothing to that stream, in seconds, since it read its store."""
-        since = [max(stream.open[0].since, stream.read_at, self.open_since) for stream in self.streams.values() if stream is not None and stream.open]
-        return time.monotonic() - min(since) if since and self.open_since else 0.0
+    def silence(self, served_at: float) -> float:
+        """How long the service, which serves since then, has owed a reply and written nothing to that stream, in seconds."""
+        since = [max(stream.open[0].since, stream.read_at, served_at) for stream in self.streams.values() if stream is not None and stream.open]
+        return time.monotonic() - min(since) if since else 0.0

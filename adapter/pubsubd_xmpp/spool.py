@@ -144,6 +144,11 @@ class Spool:
             self.at = start + piece.find(b"\n") + 1 if b"\n" in piece else start + len(piece)
 
     @property
+    def size(self) -> int:
+        """The bytes that were written to it."""
+        return os.fstat(self._fd).st_size
+
+    @property
     def room(self) -> int:
         """The bytes that the file takes on the disk."""
         return os.fstat(self._fd).st_blocks * 512

@@ -5,7 +5,7 @@ Usage: bench/adapter/run.py PROGRAM [SCALE [profile]]
 
 Prosody's own is taken twice: over SQLite, which syncs (wants Debian's lua-dbi-sqlite3), and over its files, which it doesn't sync. SCALE (1 unless named) multiplies
 the number of publishes. It tells the rates, ours beside each of prosody's own, the processor's time by process, and the memory. With `profile` only ours is taken, with
-the adapter's functions that take most of its time (cProfile, which slows it down to a half).
+the adapter's functions that take most of its time (cProfile, with which it takes about twice as long).
 """
 
 from __future__ import annotations

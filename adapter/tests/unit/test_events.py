@@ -48,8 +48,10 @@ class Server(AdapterCase):
         await self.server.message(id="n-1")
 
     async def test_a_wrong_secret_is_said(self):
+        """The service serves meanwhile."""
         self.server.secret = "another"
         await self.start(wait=False)
+        await self.until_said("service serves")
         await self.until_said("the server refuses the secret")
         self.server.secret = "not a secret"
         await self.server.until(lambda: self.server.is_up)
