@@ -17,6 +17,8 @@ from servers import HOSTS, SECRET, SERVERS, SERVICE, die_with
 ADAPTER = pathlib.Path(__file__).resolve().parent.parent.parent
 # How long is waited for what has to come.
 SECONDS = 120
+# A shell that starts a test in the background has it ignored, and then nothing would be taken down.
+signal.signal(signal.SIGINT, signal.default_int_handler)
 
 
 class Plant:
