@@ -153,7 +153,7 @@ class LongStores(AdapterCase):
 
     async def test_nobody_is_told_that_it_serves_before_and_a_stop_does_not_wait(self):
         (self.root / "state" / "store.long").write_text("1000")
-        await self.start()
+        await self.start(words="service started")
         self.server.send(request("1"))
         await self.until_taken()
         self.assertNotIn("service serves", self.said())
@@ -167,7 +167,7 @@ class EndlessStores(AdapterCase):
 
     async def test_a_service_that_never_comes_to_the_end_of_its_store_is_started_anew(self):
         (self.root / "state" / "store.long").write_text("1000")
-        await self.start()
+        await self.start(words="service started")
         await self.until_said("it doesn't come to the end of its store")
         await self.until_said("service serves")
 
@@ -461,7 +461,6 @@ class Signals(AdapterCase):
             os.environ["NOTIFY_SOCKET"] = str(self.root / "notify")
             try:
                 await self.start()
-                await self.until_said("service serves")
                 await self.stop()
             finally:
                 del os.environ["NOTIFY_SOCKET"]
