@@ -49,7 +49,7 @@ pub enum EntriesRefusal {
 
 impl<D: Disk> Journal<D> {
     ghost use Rattle.std.specs.Prelude.{◌≡◌, ◌≢◌, ◌++◌, ◌+◌, ◌≤◌, ◌↔◌, [], List, ℕ, None};
-    ghost use Rattle.std.specs.Prelude.{true, IfOk, IfErr, OnOk, IsErrOf, MatchResult};
+    ghost use Rattle.std.specs.Prelude.{true, IfOk, IfErr, OnErr, OnOk, IsErrOf, MatchResult};
     ghost use Rattle.ps_base.specs.Causes.{Rose};
     ghost use Rattle.ps_types.specs.declared.entry.Entry.{Entry};
     ghost use Rattle.ps_disk.specs.Disk.{LeavesOnly};
@@ -61,7 +61,8 @@ impl<D: Disk> Journal<D> {
     ghost use Rattle.ps_journal.specs.Journal.{disk_of, length_of, broken_of, seen_in, synced_in, written_in, faults_in};
     ghost use Rattle.ps_journal.specs.Journal.{IsBroken, IsWhole, Has, StaysBroken, IsUntouched, HasFault, KeepsFirstFault};
     ghost use Rattle.ps_journal.specs.Journal.{IsAsLongAs, IsLongerBy, IsBegunIn, WouldPass, CrashLeaves, Keeps, Leaves, IsFrontIn};
-    ghost use Rattle.ps_journal.specs.Left.{IsWithOrWithout, LeavesAtLeast};
+    ghost use Rattle.ps_journal.specs.Journal.{IsTornBy, KeepsAtLeast};
+    ghost use Rattle.ps_journal.specs.Left.{IsWithOrWithout};
 
     /// Opens the store on a disk, begins an unbegun one, and upgrades one of version 1. It answers the entries with their offsets.
     /// It begins with a sync.
@@ -113,7 +114,7 @@ impl<D: Disk> Journal<D> {
         ensures value { result ≡ length_of self.now }
         ensures bytes { D.tells → IsWhole self.now → IsAsLongAs self.now result }
         // Whether or not the disk has failed, no crash leaves a shorter store.
-        ensures floor { D.tells → LeavesAtLeast (synced_in self.now) (written_in self.now) (length_of self.now) }
+        ensures floor { D.tells → KeepsAtLeast self.now (length_of self.now) }
     {
         self.length
     }
@@ -153,6 +154,10 @@ impl<D: Disk> Journal<D> {
         // Then the bytes spell the entries before and those of the batch, and so does what a crash leaves.
         ensures entries { D.tells → (E : List Entry) → Has self.old E → OnOk result (Has self.new (E ++ batch.now)) }
         ensures durable { D.tells → (E : List Entry) → Has self.old E → OnOk result (Keeps self.new (E ++ batch.now)) }
+        // No crash leaves a store that is shorter than the length; after a fault one may leave a longer one, with the batch.
+        ensures floor { D.tells → KeepsAtLeast self.new (length_of self.new) }
+        ensures torn { D.tells → IsWhole self.old → (E : List Entry) → Has self.old E
+            → OnErr result (IsTornBy self.old E batch.now self.new) }
         // A crash at any moment of the call leaves the entries before, or those and the whole batch.
         ensures any_moment { D.tells → IsWhole self.old → (E : List Entry) → Has self.old E
             → Leaves self.old self.new (IsWithOrWithout E batch.now) }
