@@ -42,6 +42,8 @@ FIRST, REPLY = notice(BOB, 1, "news", "i1"), result("ann@a.example/1", 1)
 MIRRORED = {
     "told twice, and a reply": ("10", [FIRST, FIRST, REPLY], 0, ["i1"]),
     "another item where one stays": ("1", [FIRST, FIRST, REPLY, notice(BOB, 2, "news", "i2")], 0, ["i2"]),
+    "another item where two stay": ("2", [FIRST, notice(BOB, 2, "news", "i2")], 0, ["i1", "i2"]),
+    "an item of another node": ("10", [notice(BOB, 1, "olds", "i1")] * 2 + [REPLY], 0, []),
     "told again after it was retracted": ("10", [FIRST, retracted(2, "i1"), FIRST], 0, []),
     "no items stay": ("0", [FIRST], 2, None),
     "more than 1000 stay": ("1001", [FIRST], 2, None),
@@ -70,8 +72,20 @@ def expect(what, came, wanted):
 
 def usage(program, folder):
     """Words that are no command."""
+    serve = ("serve", "--service", SERVICE, "--store")
     for told in (
         (),
+        ("",),
+        ("serve", "--store", "s"),
+        (*serve, "s"),
+        ("rehearse", "0"),
+        ("serve", "--service", "a.example", "--store", "s", "A.EXAMPLE", "i1", "o1"),
+        (*serve, "s", "ann@a.example", "i1", "o1"),
+        (*serve, "s", "a.example/1", "i1", "o1"),
+        (*serve, "i1", "a.example", "i1", "o1"),
+        (*serve, "s", "a.example", "i1", "o1", "b.example", "i2", "i1"),
+        (*serve, "s", "a.example", "i1", "o1", "A.example", "i2", "o2"),
+        (*serve, "s", "a.example", "i1", "o1", "b.example", "i2"),
         ("explain", "s", "ann@a.example", "pubsub.example"),
         ("readers", "s", "pubsub.example/1", "news"),
         ("feed", "s", "18446744073709551616", "o"),
@@ -81,6 +95,9 @@ def usage(program, folder):
         ("mirror", SERVICE, "news", BOB, "10"),
     ):
         expect(told, command(program, *told), (2, USAGE, b""))
+    with open("/dev/full", "wb") as full:
+        done = subprocess.run([program], stdout=full, stderr=subprocess.PIPE, timeout=60, check=False)
+    expect("a usage that can't be written", done.returncode, 2)
 
 
 def mirrored(program, folder):
@@ -90,6 +107,7 @@ def mirrored(program, folder):
         source.write_bytes(b"".join(line + b"\n" for line in lines))
         report = USAGE if names is None else b"".join(shown(name) + b"\n" for name in names)
         expect(case, command(program, "mirror", SERVICE, "news", BOB, most, source), (status, report, b""))
+    expect("a folder as its source", command(program, "mirror", SERVICE, "news", BOB, "10", folder)[:2], (3, b"stream fault\n"))
 
 
 def missing(program, folder):
