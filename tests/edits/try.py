@@ -306,7 +306,8 @@ def try_crate(rt, edits):
     with tempfile.TemporaryDirectory(prefix="edits-") as kept:
         for group in groups:
             tries(rt, group, kept)
-    print(f"{edits[0].crate.name}: {len(edits)} edits by {len(groups)} checks in {time.monotonic() - began:.0f} s", flush=True)
+    told = [f"{edits[0].crate.name}: {len(edits)} edits by {len(groups)} checks in {time.monotonic() - began:.0f} s"]
+    print("\n".join(told + [f"{edit.name}: {edit.said}" for edit in edits]), flush=True)
 
 
 def main(names):
@@ -319,14 +320,14 @@ def main(names):
     edits = [Edit(rt, crates, it) for it in names or TRIED]
     by_crate = {}
     for edit in edits:
-        if not edit.said:
+        if edit.said:
+            print(f"{edit.name}: {edit.said}", flush=True)
+        else:
             by_crate.setdefault(edit.crate.name, []).append(edit)
     # Those with most below them take longest, and begin first.
     order = sorted(by_crate.values(), key=lambda it: -len(it[0].crate.below()))
     with ThreadPoolExecutor(LANES) as pool:
         list(pool.map(lambda it: try_crate(rt, it), order))
-    for edit in edits:
-        print(f"{edit.name}: {edit.said}")
     refused = sum(it.is_refused for it in edits)
     print(f"{len(edits)} edits, {refused} refused")
     return 0 if edits and refused == len(edits) else 1
