@@ -1,11 +1,11 @@
-use Rattle.std.proofs.Common.{ℕ, ◌≡◌, inl, [], refl, ap, arith}
+use Rattle.std.proofs.Common.{◌≡◌, ap, arith}
 use Rattle.ps_twin.specs.Seats.{number_of, seen_of}
 use Rattle.ps_wire.specs.Reading.{given_of, rest_of, source_of}
 use Rattle.ps_wire.proofs.Gaining.{gave_none}
 use Rattle.ps_hall.specs.declared.answers.EndCause.TheVariants.{Memory, WriteFault}
 use Rattle.ps_streams.specs.Reading.{says_gone}
-use Rattle.ps_streams.proofs.Looping.{begun-whole, speaks-end}
 use Rattle.ps_workers.proofs.Jobs.{did_read, did_write, may_read, may_write}
+use Rattle.ps_workers.proofs.Unread.{speaks-none}
 use Rattle.ps_workers.proofs.work.leave.Goals as goal
 
 pub leave_unread-requires-clause-reader : goal.leave_unread-requires-clause-reader
@@ -36,14 +36,10 @@ returns-in-Writer g c =
     let o = g.B.Opening.origin in
     let p = c.args.worker.now.pass in
     let sink = c.in-Writer.field-0 in
-    let k = number_of p.seat in
-    let seen = seen_of p.seat in
-    let told = g.K.Sink.written sink in
     let may = may_write o c.args.hall.now.twin c.args.worker.now c.requires.ready sink c.in-Writer.why c.in-Writer.is in
     record {
       did = did_write o c.args.hall.now.twin c.args.worker.now c.requires.ready (λ x. g.C.Clock.faults x) (λ x. g.C.Clock.told x) (λ x. g.K.Sink.faults x) (λ x. g.K.Sink.written x) c.writer_ended.new.pass
           sink sink c.in-Writer.why Memory c.in-Writer.is e.writer (record { at = e.same.0; host = e.same.1 })
-          (speaks-end o k k p.host seen seen (seen_of c.writer_ended.new.pass.seat) told told (Memory ≡ WriteFault) refl
-          (record { whole = []; last = []; spoke = (begun-whole o k seen told may.writer.pass.owned).spoke; cut = inl refl }) e.ended)
+          (speaks-none o p.host (number_of p.seat) (seen_of p.seat) (seen_of c.writer_ended.new.pass.seat) (g.K.Sink.written sink) (Memory ≡ WriteFault) may.writer.pass.owned e.ended)
           (λ x. absurd (cc x)) (omega arith) (λ x. absurd (cc x)) (λ x. absurd (cc x)) (λ x. absurd (cc x));
     }
