@@ -86,8 +86,8 @@ fn leave<B: Opening, D: Disk, R: Wait + Threads + Sync, S: Source, C: Clock, K: 
             *end = leave_unread(rt, hall, &mut worker.pass);
         }
         Work::Writer(_, why) => {
-            *why = EndCause::Memory;
             hall.writer_ended(rt, &mut worker.pass, EndCause::Memory);
+            *why = EndCause::Memory;
         }
     }
 }
