@@ -14,8 +14,8 @@ from stanzas import SERVICE, asked, create, is_notice, item, publish, subscribe
 
 ANN, BOB = "ann@a.example/1", "bob@b.example/1"
 HOSTS = ("a.example", "b.example")
-# A run takes a fraction of a second; one that takes so many seconds hangs.
-SECONDS = 20
+# A run takes a fraction of a second; one that takes so many seconds hangs, unless the machine is busy or the program slow.
+SECONDS = int(os.environ.get("RUN_SECONDS", "20"))
 
 
 class Wrong(Exception):
