@@ -184,6 +184,7 @@ TRIED = [
     "ps_workers/failed_source_told_as_read",
     "ps_workers/last_frame_left_out",
     "ps_workers/passes_of_a_host_swapped",
+    "ps_workers/unread_source_told_as_read",
 ]
 
 
