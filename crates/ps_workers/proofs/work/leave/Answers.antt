@@ -15,8 +15,8 @@ leave_unread-requires-clause-reader g c κs within =
 pub leave_unread-requires-clause-fresh : goal.leave_unread-requires-clause-fresh
 leave_unread-requires-clause-fresh g c κs within = c.requires.ready.fresh
 
-pub writer_ended-requires-clause-writer : goal.writer_ended-requires-clause-writer
-writer_ended-requires-clause-writer g c κs within = (may_write g.B.Opening.origin c.args.hall.now.twin c.args.worker.now c.requires.ready c.in-Writer.field-0 c.in-Writer.why c.in-Writer.is).writer
+pub writer_ended-requires : goal.writer_ended-requires
+writer_ended-requires g c = record { writer = (may_write g.B.Opening.origin c.args.hall.now.twin c.args.worker.now c.requires.ready c.in-Writer.field-0 c.in-Writer.why c.in-Writer.is).writer }
 
 pub returns-in-Reader : goal.returns-in-Reader
 returns-in-Reader g c =
