@@ -45,10 +45,9 @@ def conditions():
     rows = []
     for doc, name in variants("Condition"):
         match = re.fullmatch(r"`([\w-]+)`(?: with `([\w-]+)`)? of type `(\w+)`: (.*)", doc)
-        when, source = split_source(match[4])
-        sections = ", ".join(it for it in source.replace("XEP-0060 ", "").split(", ") if not it.startswith("RFC 6120 §8.3.3"))
-        rows.append([name, ", ".join(filter(None, [match[1], match[2]])), match[3], when, sections])
-    return table(["", "Condition", "Type", "When", "Standard"], rows)
+        when, _ = split_source(match[4])
+        rows.append([name, ", ".join(filter(None, [match[1], match[2]])), match[3], when])
+    return table(["", "Condition", "Type", "When"], rows)
 
 
 def refusals():
