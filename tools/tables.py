@@ -45,9 +45,9 @@ def conditions():
     rows = []
     for doc, name in variants("Condition"):
         match = re.fullmatch(r"`([\w-]+)`(?: with `([\w-]+)`)? of type `(\w+)`: (.*)", doc)
-        when, source = split_source(match[4])
-        rows.append([name, match[1], match[2] or "", match[3], when, source])
-    return table(["", "Condition", "Special condition", "Type", "When", "Standard"], rows)
+        when, _ = split_source(match[4])
+        rows.append([name, ", ".join(filter(None, [match[1], match[2]])), match[3], when])
+    return table(["", "Condition", "Type", "When"], rows)
 
 
 def refusals():
@@ -55,8 +55,8 @@ def refusals():
     for doc, name in variants("LineRefusal"):
         word, _, when = doc.partition(": ")
         when, source = split_source(when)
-        rows.append([name, word, when, source])
-    return table(["", "`why`", "When", "Standard"], rows)
+        rows.append([name, word, f"{when} ({source})" if source else when])
+    return table(["", "`why`", "When"], rows)
 
 
 # ---- configurations
@@ -101,8 +101,8 @@ def config():
     for kind, var, rest in re.findall(r'(\w+_row) \(codes "(\w+)"\)(.*)', body):
         name = re.search(rf"{var}", var)[0]
         both = default_of(text, service[name]), default_of(text, account.get(name, service[name]))
-        rows.append([f"`pubsub#{var}`", values_of(text, kind, rest), both[0], both[1] if both[1] != both[0] else "the same"])
-    return table(["Field", "Values", "Default at the service host", "At an account"], rows)
+        rows.append([f"`{var}`", values_of(text, kind, rest), both[0] if both[1] == both[0] else f"{both[0]}; at an account {both[1]}"])
+    return table(["Field, after `pubsub#`", "Values", "Default"], rows)
 
 
 # ---- discovery

@@ -3,8 +3,8 @@
 
     claims.py [FILE..]      FILE: docs/claims.md where none is given
 
-A reference reads `crate/src/file.rt` `function`: `clause`, `clause`; one without clauses names a function whose one
-clause has no name, or a test. A relation of specs is named as `crate/specs/File.antt` `Word`.
+A reference reads `crate/file` `function`: `clause`, `clause`, with the file in the crate's src; one without clauses names a
+function whose one clause has no name. A relation of specs is named as `crate/File` `Word`, with the file in the crate's specs.
 """
 
 import pathlib
@@ -12,7 +12,7 @@ import re
 import sys
 
 ROOT = pathlib.Path(__file__).resolve().parents[2]
-REFERENCE = re.compile(r"`([\w/]+\.(?:rt|antt))`((?:\s*(?:,|and)?\s*`[\w:]+`(?::\s*`\w+`(?:,\s*`\w+`)*)?)+)")
+REFERENCE = re.compile(r"`(\w+/\w+)`((?:\s*(?:,|and)?\s*`[\w:]+`(?::\s*`\w+`(?:,\s*`\w+`)*)?)+)")
 NAMED = re.compile(r"`([\w:]+)`(?::\s*((?:`\w+`(?:,\s*)?)+))?")
 
 
@@ -29,11 +29,13 @@ def contracts_of(text):
 
 def lacks(reference, names):
     """Lists what a reference names and its file lacks."""
-    path = ROOT / "crates" / reference
+    crate, file = reference.split("/")
+    is_spec = file[0].isupper()
+    path = ROOT / "crates" / crate / (f"specs/{file}.antt" if is_spec else f"src/{file}.rt")
     if not path.is_file():
         return [f"{reference}: no such file"]
     text = path.read_text()
-    if reference.endswith(".antt"):
+    if is_spec:
         return [f"{reference}: no {word}" for word, _ in NAMED.findall(names) if not re.search(rf"\b{word}\b", text)]
     contracts, missing = contracts_of(text), []
     for function, clauses in NAMED.findall(names):

@@ -163,7 +163,7 @@ class Errors(unittest.TestCase):
         rows = table("conditions", "| C")
         self.assertGreaterEqual(len(rows), 28)
         for row in rows:
-            self.assertIn(row[3].strip() or row[2].strip(), errors.TEXTS)
+            self.assertIn(row[2].split(",")[-1].strip(), errors.TEXTS)
 
     def test_each_refusal_of_a_line_has_an_answer(self):
         words = {row[2].strip().strip("`") for row in table("refusals", "| L")}
