@@ -18,6 +18,7 @@ from servers import HOSTS, PASSWORD, SERVICE
 from pubsubd_xmpp.names import PUBSUB
 
 A, B = HOSTS
+KEPT = 1000  # items: the most that a node keeps
 PAYLOAD = "<entry xmlns='urn:t'>words</entry>"
 CONFIG = (
     f"<configure><x xmlns='jabber:x:data' type='submit'><field var='FORM_TYPE'><value>{PUBSUB}#node_config</value></field>"
@@ -122,16 +123,20 @@ class Load:
                 await asyncio.sleep(0.05)
 
     async def check(self, what):
-        """The items that were acknowledged stand, and each of them that stands was heard of once, in the order in which they stand."""
+        """The items that were acknowledged are there, and each was heard of once, in their order; of a node that has evicted some, the newest are compared."""
         await self.settle()
         for node, to in (("news", SERVICE), ("urn:mine", self.ann.bare)):
             stand = await self.ann.items(node, to)
             lost = set(self.made[node]) - set(stand)
-            if lost and len(stand) < 1000:
+            if lost and len(stand) < KEPT:
                 raise Wrong(f"{what}: {node}: acknowledged, and lost: {sorted(lost)}")
             wanted = [one for one in stand if one != "first"]
             for who in self.heard:
                 heard = [item for at, item in self.heard[who] if at == node]
+                if len(stand) >= KEPT:
+                    if set(self.made[node]) - set(heard) or len(set(heard)) < len(heard):
+                        raise Wrong(f"{what}: {who} heard of {node}: {difference(self.made[node], heard)}")
+                    heard = heard[len(heard) - len(wanted) :]
                 if heard != wanted:
                     raise Wrong(f"{what}: {who} heard of {node}: {difference(wanted, heard)}")
         total = sum(map(len, self.made.values()))
