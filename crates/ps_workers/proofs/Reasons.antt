@@ -16,7 +16,6 @@ use Rattle.ps_model.proofs.TheLaws.{the-laws}
 use Rattle.ps_world.proofs.Kept.{few_left}
 use Rattle.ps_world.proofs.Lists.{assoc}
 use Rattle.ps_twin.specs.declared.twin.TwinSeat.{TwinSeat}
-use Rattle.ps_trace.specs.Did.{HasInHand}
 use Rattle.ps_trace.specs.Own.{AllDiffer, AreOwned, deeds}
 use Rattle.ps_trace.specs.declared.deed.Deed.{Deed}
 use Rattle.ps_trace.proofs.Doing.{world-append}
@@ -85,17 +84,17 @@ module _ {V J D : Type 0} {g : Ghosts D} (o : Origin) (v : State) (y : Store D g
         f.before f.closed (d.once tt) (d.done.over.readers i h here)
 
     -- nothing of the writer's own came after the Record that found no room
-    still-in-hand : (to : Jid) → HasInHand h to (world_at o seen_too) → ((world_at o ended.log).addresses to).flight ≡ Unrecorded
-    still-in-hand to had =
+    still-in-hand : (to : Jid) → to.host ≡ h → ((world_at o seen_too).addresses to).flight ≡ Unrecorded → ((world_at o ended.log).addresses to).flight ≡ Unrecorded
+    still-in-hand to here_is had =
         let after = owned-behind o.hosts seen_too kept_too.after (subst (AreOwned o.hosts) kept_too.is ended.owned) in
         ap (λ (l : List Deed). ((world_at o l).addresses to).flight) kept_too.is
         ∙ (ap (λ (w : World). (w.addresses to).flight) (world-append the_core the-laws o.boot o.list o.hosts seen_too kept_too.after)
-        ∙ (still-run the_core o.boot o.hosts differ h (i + i + 1) (i, here, refl) to had.host (world_at o seen_too) kept_too.after after kept_too.none (inr had.this) ∙ had.this))
+        ∙ (still-run the_core o.boot o.hosts differ h (i + i + 1) (i, here, refl) to here_is (world_at o seen_too) kept_too.after after kept_too.none (inr had) ∙ had))
 
     lacks-record : HadNoRoom o h seen_too → LacksRecord o.limits.whole (v.length + 5) (world_at o ended.log).entries h
     lacks-record f =
         let w = world_at o ended.log in
-        let flying = still-in-hand f.to f.hand in
+        let flying = still-in-hand f.to f.here f.hand in
         record {
           to = f.to;
           here = f.here;
