@@ -52,7 +52,7 @@ module _ (o : Origin) (k : ℕ) where
   tells-broken found new (inr added) = ap (λ (w : World). w.broken) (did-world the_core the-laws o.boot o.list o.hosts k found new added ∙ ap (run the_core o.boot (at (found ++ added.between))) added.does)
 
   module _ (T : Type 0) (h : List ℕ) (hand now : List Jid) (old new : List Deed) where
-  -- the disk failed
+    -- the disk failed
     store-is : hand ≢ [] → HasHanded {T = T} o k h hand now old new (Err Store) → (at new).broken ≡ true
     store-is some (inl did) = ap (λ (w : World). w.broken) (quiet-world old new did did.does.2) ∙ did.does.0
     store-is some (inr h) = let n = h.1.recorded.after in tells-broken n.found new n.fault

@@ -16,6 +16,7 @@
 #![tactic(auto)]
 
 mod idle;
+mod put;
 mod read;
 mod write;
 

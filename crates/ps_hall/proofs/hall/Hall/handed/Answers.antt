@@ -39,8 +39,11 @@ returns-in-Err-clause-handed g c =
     let does = rw c.in_ok-count.was at x.does in
     let mid = c.record-recorded.new.seat in
     let new = c.flush_seat.new.seat in
-    inr (refl, record {
-      rest = drop c.in_ok-count.count c.args.pass.now.in_hand.items;
-      recorded = record { mid = seen_of mid; recorded = does; after = subst (λ (k : ℕ). NotFlushed o k (seen_of mid) (seen_of new)) x.number c.in-Err.ensures.err };
-      still = refl;
-    })
+    inr (
+      refl,
+      record {
+        rest = drop c.in_ok-count.count c.args.pass.now.in_hand.items;
+        recorded = record { mid = seen_of mid; recorded = does; after = subst (λ (k : ℕ). NotFlushed o k (seen_of mid) (seen_of new)) x.number c.in-Err.ensures.err };
+        still = refl;
+      },
+    )
