@@ -30,7 +30,7 @@ use Rattle.ps_hall_state.specs.Rows.{names}
 use Rattle.ps_hall_state.specs.Stand.{Stands}
 use Rattle.ps_hall_state.specs.declared.state.State.{State}
 use Rattle.ps_hall_state.proofs.OneRow.{named}
-use Rattle.ps_hall_state.proofs.Recording.{held_for}
+use Rattle.ps_hall_state.proofs.Recording.{held_bare, held_for}
 use Rattle.ps_hall_store.specs.Stand.{broken_in}
 use Rattle.ps_hall_store.specs.declared.store.Store.{Store}
 use Rattle.ps_streams.specs.Speaking.{HadNoRoom}
@@ -43,7 +43,9 @@ use Rattle.ps_workers.proofs.Heading.{HasSeen}
 
 -- an address in flight for a host that no step has recorded is a bare one
 bare-in-hand : (v : State) (w : World) (i : ℕ) (h : List ℕ) → Stands v w → slice_get (names v.rows.items) i ≡ Some h → (a : Jid) → a.host ≡ h → (w.addresses a).flight ≡ Unrecorded → IsBare a
-bare-in-hand v w i h stands here a there flying = let r = named v.rows.items i h here in (held_for v w i r.0 a stands r.1 (there ∙ sym r.2) flying).bare
+bare-in-hand v w i h stands here a there flying =
+    let r = named v.rows.items i h here in
+    held_bare v w i r.0 a stands r.1 (held_for v w i r.0 a stands r.1 (there ∙ sym r.2) flying)
 
 module _ {V J D : Type 0} {g : Ghosts D} (o : Origin) (v : State) (y : Store D g) (seats : List (TwinSeat V J Deed)) (ended : HasEnded o v y seats) where
   -- a fault that a pass saw told is the store's
