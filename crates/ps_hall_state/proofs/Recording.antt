@@ -14,6 +14,7 @@ use Rattle.ps_types.specs.declared.entry.Notice.{Notice}
 use Rattle.ps_types.specs.declared.jid.Jid.{Jid}
 use Rattle.ps_model.specs.After.{after}
 use Rattle.ps_model.specs.Core.{handed}
+use Rattle.ps_model.specs.Entries.{IsBare}
 use Rattle.ps_model.specs.Machine.{counted, happens, records}
 use Rattle.ps_model.specs.Replay.{accepted, replay}
 use Rattle.ps_model.specs.TheCore.{the_core}
@@ -111,13 +112,16 @@ handed_accepted v at a e here is hand kind =
     let s = is.1 in
     ap (λ x. accepted x e) s.state ∙ (ap (λ x. accepted (replay w.entries) x) kind ∙ (sym (core-accepted w.entries (Handed a)) ∙ the-laws.handed_ok w.entries a s.sound.lawful s.sound.boot (few-is v w at t.0 a s t.1 (hand t.0 t.1))))
 
+-- whose address is a bare one
+pub held_bare : (v : State) (w : World) (at : ℕ) (row : HostRow) (a : Jid) → Stands v w → slice_get v.rows.items at ≡ Some row → IsHeldFor v a row → IsBare a
+held_bare v w at row a is was own =
+    let one = there (the_core.notices w.entries a) (handed w.entries a) (few-is v w at row a is was own) in
+    record { address = address-is w a (handed w.entries a) one.0 is.sound own.bare one.1; bare = own.bare }
+
 pub handed_sketch : (v : State) (at : ℕ) (a : Jid) (e : Entry) → at < length v.rows.items → IsStanding v → ((row : HostRow) → slice_get v.rows.items at ≡ Some row → IsHeldFor v a row) → e ≡ Handed a → IsSketch e
 handed_sketch v at a e here is hand kind =
     let t = there v.rows.items at here in
-    let own = hand t.0 t.1 in
-    let w = is.0 in
-    let one = there (the_core.notices w.entries a) (handed w.entries a) (few-is v w at t.0 a is.1 t.1 own) in
-    subst IsSketch (sym kind) (record { address = address-is w a (handed w.entries a) one.0 is.1.sound own.bare one.1; bare = own.bare })
+    subst IsSketch (sym kind) (held_bare v is.0 at t.0 a is.1 t.1 (hand t.0 t.1))
 
 pub held_there : (v : State) (at : ℕ) (a : Jid) → at < length v.rows.items → ((row : HostRow) → slice_get v.rows.items at ≡ Some row → IsHeldFor v a row) → (a.resource ≡ []) × (is_known a v.queues.held ≡ true)
 held_there v at a here hand = let t = there v.rows.items at here in let own = hand t.0 t.1 in (own.bare, own.held)

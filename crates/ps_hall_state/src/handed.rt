@@ -1,7 +1,8 @@
 // A notice in a writer's hand is recorded.
-ghost use Rattle.std.specs.Prelude.{◌≡◌, ◌<◌, ◌^◌, true, false, IfErr, IfOk, OnOk, length};
+ghost use Rattle.std.specs.Prelude.{◌≡◌, ◌<◌, ◌^◌, [], true, false, IfErr, IfOk, OnOk, length};
 ghost use Rattle.ps_types.specs.declared.entry.Entry.{Entry};
 ghost use Rattle.ps_types.specs.declared.jid.Jid.{Jid};
+ghost use Rattle.ps_outbox.specs.Boxes.{is_known};
 ghost use Rattle.ps_hall_state.specs.Gone.{IsHeldFor, IsRecordingOf, NotRecordsHanded, RecordsHanded};
 ghost use Rattle.ps_hall_state.specs.Stand.{IsStanding};
 ghost use Rattle.ps_hall_state.specs.Steps.{KeepsNumbers};
@@ -10,8 +11,9 @@ ghost use Rattle.ps_hall_state.specs.Rows.{AtRow};
 use crate::adding::take_entry;
 use crate::answers::HandedRefusal;
 use crate::rows::land_at;
-use crate::state::State;
+use crate::state::{HostRow, State};
 use ps_base::Memory;
+use ps_outbox::Outboxes;
 use ps_types::{Entry, Jid};
 use std::thread::Threads;
 
@@ -31,6 +33,15 @@ fn recording_of(to: &Jid) -> Result<Recording, Memory>
         held: to.clone()?,
         entry: Entry::Handed { to: to.clone()? },
     })
+}
+
+// Whether this is a bare address of the row's host that is held.
+fn is_held_for(queues: &Outboxes, row: &HostRow, to: &Jid) -> bool
+    ensures bare { result ≡ true → to.now.resource ≡ [] }
+    ensures here { result ≡ true → to.now.host ≡ row.now.host }
+    ensures held { result ≡ true → is_known to.now queues.now.held ≡ true }
+{
+    to.resource.is_empty() && to.host == row.host && queues.is_held(to)
 }
 
 impl State {
@@ -73,7 +84,7 @@ impl State {
         ensures yes { AtRow self.now at (λ row. result ≡ true → IsHeldFor self.now to.now row) }
     {
         let row = &self.rows[at];
-        to.resource.is_empty() && to.host == row.host && self.queues.is_held(to)
+        is_held_for(&self.queues, row, to)
     }
 
     /// A notice in hand is recorded: its Handed waits to be written, and once that step is flushed nothing to its address is in flight. After a refusal the

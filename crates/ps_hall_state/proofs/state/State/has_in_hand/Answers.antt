@@ -1,9 +1,11 @@
-use Rattle.std.proofs.Common.{◌≡◌, subst}
-use Rattle.ps_hall_state.specs.Gone.{IsHeldFor}
+use Rattle.std.proofs.Common.{◌≡◌, ◌∙◌, ap}
 use Rattle.ps_hall_state.specs.declared.state.HostRow.{HostRow}
 use Rattle.ps_hall_state.proofs.OneRow.{row_is}
 use Rattle.ps_hall_state.proofs.state.State.has_in_hand.Goals as goal
 
--- By `row_is` the row that is read is the one at the place; the three tests say the three fields.
 pub returns : goal.returns
-returns c = record { yes = λ row was held. ? }
+returns c = record {
+  yes = λ row was t. (
+      let same : c.index-row.result.now ≡ row = row_is c.args.self.now.rows.items c.args.at c.index-row.result.now row c.requires.here c.index-row.ensures was in
+      record { bare = c.is_held_for.ensures.bare t; here = c.is_held_for.ensures.here t ∙ ap (λ (r : HostRow). r.host) same; held = c.is_held_for.ensures.held t });
+}
