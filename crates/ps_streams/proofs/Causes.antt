@@ -1,5 +1,7 @@
 -- Why a writer ended.
 use Rattle.std.proofs.Common.{◌≡◌, ◌≢◌, ℕ, ◌⊎◌, ⊎_elim, inl, inr, Bool, true, false, List, [], ◌∷◌, ◌++◌, Result, Ok, Err, refl, ap, sym, ◌∙◌, subst}
+use Rattle.std.specs.Prelude.{◌||◌}
+use Rattle.ps_types.proofs.Same.{same_jid-Decides}
 use Rattle.ps_types.specs.declared.entry.Arrival.{Arrival}
 use Rattle.ps_types.specs.declared.jid.Jid.{Jid}
 use Rattle.ps_types.specs.declared.entry.Entry.TheVariants.{Handed}
@@ -20,12 +22,12 @@ use Rattle.ps_hall_state.specs.declared.answers.ArriveRefusal.{ArriveRefusal}
 use Rattle.ps_hall_state.specs.declared.answers.ArriveRefusal.TheVariants.{Store as NoStore}
 use Rattle.ps_hall_state.specs.declared.answers.HandedRefusal.{HandedRefusal}
 use Rattle.ps_hall_state.specs.declared.answers.HandedRefusal.TheVariants.{Store}
-use Rattle.ps_hall.specs.Calls.{HasGone, HasHanded, IsGone, LayDoes}
+use Rattle.ps_hall.specs.Calls.{FoundOver, HasGone, HasHanded, IsGone, LayDoes, OfFirst}
 use Rattle.ps_hall_flush.specs.Doing.{Adds, Does, Passes}
 use Rattle.ps_hall_flush.specs.Flush.{Flushes, TellsFault}
 use Rattle.ps_hall_flush.specs.Homes.{world_at}
 use Rattle.ps_hall_flush.specs.Origin.{Origin}
-use Rattle.ps_streams.specs.Speaking.{HasLanded}
+use Rattle.ps_streams.specs.Speaking.{HadNoRoom, HasLanded}
 use Rattle.ps_streams.proofs.Looping.{the_err}
 
 -- what is in hand was not recorded, and nothing else of the host is in flight
@@ -39,6 +41,13 @@ hand-landed hand h w is a here = by (is_in a hand) refl
 -- the notice to an address that is in hand is in flight, and has no Handed
 pub hand-flies : (o : Origin) (seen : List Deed) (hand : List Jid) (to : Jid) (h : List ℕ) → is_in to hand ≡ true → HasInHand h hand (world_at o seen) → ((world_at o seen).addresses to).flight ≡ Unrecorded
 hand-flies o seen hand to h is had = had.these to is
+
+-- there was no room for the first in hand, which is so still
+pub no-room : (o : Origin) (h : List ℕ) (hand now : List Jid) (seen : List Deed) (Found : Type 0) → hand ≢ [] → now ≡ hand → HasInHand h now (world_at o seen) → OfFirst hand (λ a. Found → FoundOver o (Handed a) seen) → Found → HadNoRoom o h seen
+no-room o h [] now seen Found some still held over full = absurd (some refl)
+no-room o h (a ∷ hand) now seen Found some still held over full =
+    let has = subst (λ (l : List Jid). HasInHand h l (world_at o seen)) still held in
+    record { to = a; here = has.are.0; hand = has.these a (ap (λ b. b || is_in a hand) ((same_jid-Decides a a).1 refl)); over = over full }
 
 module _ (o : Origin) (k : ℕ) where
   abbrev at : List Deed → World

@@ -83,6 +83,10 @@ module _ (o : Origin) where
     cut = inl refl;
   }
 
+  -- by another name of the cut
+  pub speaks-cut : (k : ℕ) (hand : List Jid) (old new : List Deed) (before now : Option (List ℕ)) (Cut Cut' : Type 0) → (Cut → Cut') → SpeaksOn o k hand old new before now Cut → SpeaksOn o k hand old new before now Cut'
+  speaks-cut k hand old new before now Cut Cut' f a = record { whole = a.whole; last = a.last; spoke = a.spoke; cut = elim a.cut [ inl e ↦ inl e | inr c ↦ inr (f c) ] }
+
   -- that the writer has ended says nothing
   pub speaks-end : (k j : ℕ) (h : List ℕ) (old mid new : List Deed) (before now : Option (List ℕ)) (Cut : Type 0) → j ≡ k → Speaks o k old mid before now Cut → Adds o j mid new (Ended h Writer) → Speaks o k old new before now Cut
   speaks-end k j h old mid new before now Cut same a added =

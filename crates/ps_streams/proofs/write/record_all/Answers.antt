@@ -1,9 +1,10 @@
 use Rattle.std.proofs.Common.{◌≢◌, ℕ, ◌+◌, List, [], Bool, Err, length, refl, sym, ap, ◌∙◌, subst}
 use Rattle.ps_twin.specs.Seats.{number_of, seen_of}
 use Rattle.ps_hall_flush.specs.Homes.{world_at}
+use Rattle.ps_hall_state.specs.declared.answers.HandedRefusal.{HandedRefusal}
 use Rattle.ps_hall.specs.declared.answers.EndCause.{EndCause}
 use Rattle.ps_streams.specs.Speaking.{HasLanded}
-use Rattle.ps_streams.proofs.Causes.{hand-landed, handed-store}
+use Rattle.ps_streams.proofs.Causes.{hand-landed, handed-store, no-room}
 use Rattle.ps_streams.proofs.Ending.{goes-handed, handed-ends}
 use Rattle.ps_streams.proofs.Looping.{err-same, the_err}
 use Rattle.ps_streams.proofs.Moving.{handed-not, handed-on, recorded-none, some-held}
@@ -44,6 +45,13 @@ pub returns-in-Err-clause-store : goal.returns-in-Err-clause-store
 returns-in-Err-clause-store g c = λ e.
     handed-store g.B.Opening.origin (number_of c.args.pass.now.seat) (Unit {0}) c.args.pass.now.host c.args.pass.now.in_hand.items c.handed.new.pass.in_hand.items (seen_of c.args.pass.now.seat) (seen_of c.handed.new.pass.seat)
     (some-held c.args.pass.now.in_hand.items c.in_hand-held.result c.in_hand-held.ensures c.if-held-eq0.false) c.in-Err.refusal (c.end_of.ensures.store (err-same c.end_of.result _ e)) c.in-Err.ensures.handed
+
+pub returns-in-Err-clause-full : goal.returns-in-Err-clause-full
+returns-in-Err-clause-full g c = λ e.
+    (let full = c.end_of.ensures.full (err-same c.end_of.result _ e) in
+    no-room g.B.Opening.origin c.args.pass.now.host c.args.pass.now.in_hand.items c.handed.new.pass.in_hand.items (seen_of c.handed.new.pass.seat) _
+    (some-held c.args.pass.now.in_hand.items c.in_hand-held.result c.in_hand-held.ensures c.if-held-eq0.false) c.in-Err.ensures.still (c.in-Err.ensures.kept (λ s. absurd (cc (sym full ∙ s)))) c.in-Err.ensures.over
+    (ap (λ (x : HandedRefusal). the_err (Unit {0}) x) full))
 
 pub returns-in-Err-clause-going : goal.returns-in-Err-clause-going
 returns-in-Err-clause-going g c = λ no none.
