@@ -1,5 +1,5 @@
 -- What holdings of a pass leave of what it said and recorded.
-use Rattle.std.proofs.Common.{◌≡◌, ◌≢◌, ℕ, suc, ◌+◌, ◌≤◌, inl, inr, Bool, true, false, cond, List, [], ◌∷◌, ◌++◌, length, Result, Ok, Err, refl, ap, sym, ◌∙◌, subst, arith}
+use Rattle.std.proofs.Common.{◌≡◌, ◌≢◌, ℕ, suc, ◌+◌, ◌<◌, ◌≤◌, inl, inr, Bool, true, false, cond, List, [], ◌∷◌, ◌++◌, length, length-append, Result, Ok, Err, refl, ap, sym, ◌∙◌, subst, arith}
 use Rattle.ps_types.specs.Same.{same_jid}
 use Rattle.ps_types.specs.declared.jid.Jid.{Jid}
 use Rattle.ps_model.specs.Machine.{happens}
@@ -22,7 +22,7 @@ use Rattle.ps_hall_flush.specs.Doing.{Does, Passes}
 use Rattle.ps_hall_flush.specs.Flush.{Flushes, FlushesAll, NotFlushed, TellsFault}
 use Rattle.ps_hall_flush.specs.Homes.{world_at}
 use Rattle.ps_hall_flush.specs.Origin.{Origin}
-use Rattle.ps_streams.specs.Speaking.{Recorded, said_in, times}
+use Rattle.ps_streams.specs.Speaking.{AreFewer, Recorded, said_in, times}
 
 -- the pass said these words, and made at most so many Records of each address
 pub record Moved (o : Origin) (k : ℕ) (old new : List Deed) (ws : List Word) (rs : Jid → ℕ) : Type 0 where
@@ -49,6 +49,11 @@ times-append a (b ∷ one) two = more-times (same_jid b a) (times a (one ++ two)
 -- some are in hand
 pub some-held : (hand : List Jid) (n : ℕ) → n ≡ length hand → n ≢ 0 → hand ≢ []
 some-held hand n size some none = some (size ∙ ap length none)
+
+-- or none is
+pub none-held : (hand : List Jid) (n : ℕ) → n ≡ length hand → n ≡ 0 → hand ≡ []
+none-held [] n size none = refl
+none-held (a ∷ hand) n size none = absurd (let z : suc (length hand) ≡ 0 = sym size ∙ none in cc z)
 
 says-records : (boot : List ℕ) (w : World) (hand : List Jid) → says the_core boot w (records_of hand) ≡ []
 says-records boot w [] = refl
@@ -141,3 +146,13 @@ module _ (o : Origin) (k : ℕ) where
   handed-not host hand now old new e (inr h) =
       let r = h.1.recorded in
       recorded-less hand h.1.rest old new (recorded-by hand r.recorded.does.2.done h.1.rest old new r.recorded.does.2.split (moved-recorded host hand h.1.rest old new (NotFlushed o k) (λ mid f. moved-not-flushed mid new f) r))
+
+-- the rest is shorter
+more-than : (done rest : List Jid) → done ≢ [] → length rest < length (done ++ rest)
+more-than [] rest some = absurd (some refl)
+more-than (a ∷ done) rest some = let l = length-append done rest in omega (arith, l)
+
+pub fewer-left : {T : Type 0} (o : Origin) (k : ℕ) (host : List ℕ) (hand now : List Jid) (old new : List Deed) (t : T) → HasHanded o k host hand now old new (Ok t) → AreFewer hand now
+fewer-left o k host hand now old new t h some =
+    let r = h.recorded.does.2 in
+    subst (λ (l : List Jid). length now < length l) (sym r.split) (more-than r.done now r.some)

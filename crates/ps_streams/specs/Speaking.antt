@@ -1,5 +1,5 @@
 -- What a writer did.
-use Rattle.std.specs.Prelude.{◌≡◌, ◌⊎◌, ℕ, suc, ◌+◌, ◌≤◌, ◌++◌, ◌∷◌, [], cond, List, Option, length, true}
+use Rattle.std.specs.Prelude.{◌≡◌, ◌≢◌, ◌⊎◌, ℕ, suc, ◌+◌, ◌<◌, ◌≤◌, ◌++◌, ◌∷◌, [], cond, List, Option, length, true}
 use Rattle.std.specs.Io.KnownBytes.{Appends}
 use Rattle.ps_types.specs.declared.entry.Entry.TheVariants.{Handed}
 use Rattle.ps_types.specs.Same.{same_jid}
@@ -87,6 +87,10 @@ pub record Recorded (o : Origin) (k : ℕ) (hand rest : List Jid) (old new : Lis
   pub records : (a : Jid)
       → records_in a (own_steps k new) + times a rest ≤ records_in a (own_steps k old) + times a hand
   pub owned : AreOwned o.hosts new
+
+-- of those in hand some were recorded, if there were any
+abbrev pub AreFewer : List Jid → List Jid → Type 0
+AreFewer hand rest = hand ≢ [] → length rest < length hand
 
 -- each word was written whole
 pub record SpokeWhole (o : Origin) (k : ℕ) (hand rest : List Jid) (old new : List Deed) (before now : Option (List ℕ)) : Type 0 where

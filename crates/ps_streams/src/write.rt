@@ -3,7 +3,7 @@ ghost use Rattle.std.specs.Prelude.{◌≡◌, ◌≢◌, ◌≤◌, [], true, I
 ghost use Rattle.ps_base.specs.Causes.{Rose};
 ghost use Rattle.ps_trace.specs.Own.{AllDiffer};
 ghost use Rattle.ps_hall.specs.Calls.{IsWriter};
-ghost use Rattle.ps_streams.specs.Speaking.{FindsBroken, FindsLanded, FindsOver, FoundNoRoom, IsSamePass, IsWriterDone, MaySpeak, MayTell, SeatEndsOnce, SeatGoesOn, SeatRecords, SeatSpeaks, SeatSpeaksOn, SeatSpokeWhole};
+ghost use Rattle.ps_streams.specs.Speaking.{AreFewer, FindsBroken, FindsLanded, FindsOver, FoundNoRoom, IsSamePass, IsWriterDone, MaySpeak, MayTell, SeatEndsOnce, SeatGoesOn, SeatRecords, SeatSpeaks, SeatSpeaksOn, SeatSpokeWhole};
 
 use crate::idle::{FOR_LINES, await_news};
 use crate::put::put_line;
@@ -163,6 +163,7 @@ fn record_all<B: Opening, D: Disk, R: Wait + Threads + Sync>(
     ensures ready { OnOk result (MayTell B.origin hall.now.twin pass.new) }
     ensures quiet { OnOk result (SeatRecords B.origin pass.old.in_hand.items pass.new.in_hand.items
         pass.old.seat pass.new.seat) }
+    ensures fewer { OnOk result (AreFewer pass.old.in_hand.items pass.new.in_hand.items) }
     ensures refused { OnErr result (SeatRecords B.origin pass.old.in_hand.items [] pass.old.seat pass.new.seat) }
     ensures written { IsErrOf result EndCause.WriteFault → ⊥ }
     ensures unfinished { IsErrOf result EndCause.Finished → ⊥ }

@@ -7,13 +7,16 @@ use Rattle.ps_streams.specs.Speaking.{HasLanded}
 use Rattle.ps_streams.proofs.Causes.{hand-landed, handed-store, no-room}
 use Rattle.ps_streams.proofs.Ending.{goes-handed, handed-ends}
 use Rattle.ps_streams.proofs.Looping.{err-same, the_err}
-use Rattle.ps_streams.proofs.Moving.{handed-not, handed-on, recorded-none, some-held}
+use Rattle.ps_streams.proofs.Moving.{fewer-left, handed-not, handed-on, none-held, recorded-none, some-held}
 use Rattle.ps_streams.proofs.write.record_all.Goals as goal
 
 -- nothing is in hand
 
 pub returns-then-held-eq0-clause-quiet : goal.returns-then-held-eq0-clause-quiet
 returns-then-held-eq0-clause-quiet g c = recorded-none g.B.Opening.origin (number_of c.args.pass.now.seat) c.args.pass.now.in_hand.items (seen_of c.args.pass.now.seat) c.requires.ready.writer.pass.owned
+
+pub returns-then-held-eq0-clause-fewer : goal.returns-then-held-eq0-clause-fewer
+returns-then-held-eq0-clause-fewer g c = λ some. absurd (some (none-held c.args.pass.now.in_hand.items c.in_hand-held.result c.in_hand-held.ensures c.if-held-eq0.true))
 
 pub returns-then-held-eq0-clause-landed : goal.returns-then-held-eq0-clause-landed
 returns-then-held-eq0-clause-landed g c = λ no. hand-landed c.args.pass.now.in_hand.items c.args.pass.now.host (world_at g.B.Opening.origin (seen_of c.args.pass.now.seat)) c.requires.ready.hand
@@ -26,6 +29,10 @@ handed-requires-clause-some g c κs within = some-held c.args.pass.now.in_hand.i
 pub returns-in-Ok-clause-quiet : goal.returns-in-Ok-clause-quiet
 returns-in-Ok-clause-quiet g c =
     handed-on g.B.Opening.origin (number_of c.args.pass.now.seat) c.args.pass.now.host c.args.pass.now.in_hand.items c.handed.new.pass.in_hand.items (seen_of c.args.pass.now.seat) (seen_of c.handed.new.pass.seat) c.in-Ok.field-0 c.in-Ok.ensures.handed
+
+pub returns-in-Ok-clause-fewer : goal.returns-in-Ok-clause-fewer
+returns-in-Ok-clause-fewer g c =
+    fewer-left g.B.Opening.origin (number_of c.args.pass.now.seat) c.args.pass.now.host c.args.pass.now.in_hand.items c.handed.new.pass.in_hand.items (seen_of c.args.pass.now.seat) (seen_of c.handed.new.pass.seat) c.in-Ok.field-0 c.in-Ok.ensures.handed
 
 pub returns-in-Ok-clause-going : goal.returns-in-Ok-clause-going
 returns-in-Ok-clause-going g c = λ no none.
