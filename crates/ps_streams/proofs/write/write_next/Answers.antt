@@ -129,8 +129,7 @@ returns-in_err-record_all-clause-full g c = λ e.
     subst (λ (x : List ℕ). FoundNoRoom g.B.Opening.origin x c.record_all.new.pass.seat) c.say_next.ensures.same.host (c.in_err-record_all.ensures.full (ap (λ (w : EndCause). the_err (Unit {0}) w) (err-same c.in_err-record_all.field-0 Full e)))
 
 pub returns-in_err-record_all-clause-going : goal.returns-in_err-record_all-clause-going
-returns-in_err-record_all-clause-going g c = λ no none.
-(
+returns-in_err-record_all-clause-going g c = λ no none. (
     let o = g.B.Opening.origin in
     let k = number_of c.args.pass.now.seat in
     let j = number_of c.say_next.new.pass.seat in
@@ -145,8 +144,7 @@ returns-in_err-record_all-clause-going g c = λ no none.
     goes-as j k mid new same (c.in_err-record_all.ensures.going (λ e. no (ap (λ (w : EndCause). the_err Bool w) (err-same c.in_err-record_all.field-0 Full e)))) (c.say_next.ensures.going none))
 
 pub returns-in_err-record_all-clause-ended : goal.returns-in_err-record_all-clause-ended
-returns-in_err-record_all-clause-ended g c = λ e.
-(
+returns-in_err-record_all-clause-ended g c = λ e. (
     let o = g.B.Opening.origin in
     let k = number_of c.args.pass.now.seat in
     let j = number_of c.say_next.new.pass.seat in
@@ -194,8 +192,7 @@ returns-clause-spoke g c =
     speaks-whole o k hand rest old new (g.K.Sink.written c.args.sink.now) (g.K.Sink.written c.say_next.new.sink) _ (returns-clause-whole g c)
 
 pub returns-clause-going : goal.returns-clause-going
-returns-clause-going g c = λ no none.
-(
+returns-clause-going g c = λ no none. (
     let o = g.B.Opening.origin in
     let k = number_of c.args.pass.now.seat in
     let j = number_of c.say_next.new.pass.seat in
