@@ -43,7 +43,7 @@ fn has_ended(why: EndCause) -> bool
 // So many lines a writer writes behind a notice at most, or so many bytes, before it records what it has in hand.
 const MOST_LINES: u64 = 512;
 
-const MOST_BYTES: u64 = 65_536;
+const MOST_BYTES: u64 = 262_144;
 
 // What a writer did.
 #[derive(Clone, Copy)]
