@@ -86,11 +86,11 @@ TakesFirst text old new =
     (x : Waiting) × (rest : List Waiting) × (old.waiting.items ≡ x ∷ rest) × (x.reply ≡ text) × RowTakes old new rest
 
 -- a row whose writer recorded a notice
-pub record RowLands (old new : HostRow) (landing : Landing) : Type 0 where
+pub record RowLands (old new : HostRow) (last : Landing) : Type 0 where
   pub host : new.host ≡ old.host
   pub line : new.line ≡ old.line
   pub waiting : new.waiting.items ≡ old.waiting.items
-  pub landing : new.landing ≡ Some landing
+  pub landing : new.landing ≡ Some last
   pub reader : new.reader_ended ≡ old.reader_ended
   pub writer : new.writer_ended ≡ old.writer_ended
   pub room : vec_capacity new.waiting ≡ vec_capacity old.waiting

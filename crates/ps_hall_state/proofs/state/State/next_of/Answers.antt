@@ -19,8 +19,8 @@ tell-requires-clause-shown c = λ row was.
     let same : t.held ≡ t.to = subst (λ (o : Option Telling). IfSome o (λ t. t.held ≡ t.to)) c.in-Some.is c.requires.held in
     subst (λ (a : Jid). IsShown v.queues.waiting v.queues.held row.host v.durable a t.line) (sym same) s
 
-pub returns-in-Some-clause-ok : goal.returns-in-Some-clause-ok
-returns-in-Some-clause-ok c = λ row was service some w is.
+pub returns-in_ok-tell-in-Some-clause-ok : goal.returns-in_ok-tell-in-Some-clause-ok
+returns-in_ok-tell-in-Some-clause-ok c = λ row was service some w is.
     let v = c.args.self.now in
     let t = c.in-Some.telling in
     let s = subst (λ (o : Option Telling). IfSome o (λ t. IsShown v.queues.waiting v.queues.held row.host v.durable t.to t.line)) c.in-Some.is (c.requires.shown row was) in
@@ -29,7 +29,7 @@ returns-in-Some-clause-ok c = λ row was service some w is.
       no_reply v w c.args.at row is was (c.requires.waits row was),
       notice-is v w row.host t.to t.line is s,
       idle-is v w c.args.at row t.to is was (c.requires.landed row was) s.here (λ empty. s.apart),
-      subst (λ (a : Jid). Stands c.tell.new.self (run the_core service w (Emit a ∷ []))) same (c.in_ok-tell.ensures.ok service some w is),
+      subst (λ (a : Jid). Stands c.tell.new.self (run the_core service w (Emit a ∷ []))) same (c.in_ok-tell-in-Some.ensures.ok service some w is),
     )
 
 pub none_now-requires-clause-none : goal.none_now-requires-clause-none
