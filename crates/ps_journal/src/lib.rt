@@ -18,10 +18,14 @@ mod laws;
 mod listing;
 mod loading;
 mod opening;
+mod taker;
+mod trail;
 mod upgrading;
 mod writing;
 
 pub use journal::{AppendRefusal, EntriesRefusal, Journal, JournalRefusal};
 pub use judging::{Placed, Verdict, judge};
 pub use laws::{damaged_spells_nothing, one_damage, one_list, unbegun_spells};
-pub use opening::{JournalWhy, look};
+pub use opening::{JournalWhy, look, look_giving};
+pub use taker::Taker;
+pub use trail::Trail;

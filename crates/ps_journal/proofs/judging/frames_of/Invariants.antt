@@ -3,7 +3,7 @@ use Rattle.ps_journal.proofs.Verdicts.{FramesSoFar}
 use Rattle.ps_journal.proofs.judging.frames_of.Given as goal
 
 abbrev pub invariant-frames : goal.invariant-frames
-invariant-frames l = FramesSoFar l.bytes l.placed.items l.stop l.rest
+invariant-frames g l = FramesSoFar g.T.Taker.refused l.bytes l.trail.items l.stop l.rest × g.T.Taker.stands l.taker l.trail.items
 
 abbrev pub decreases-frames : goal.decreases-frames
-decreases-frames l = length l.rest
+decreases-frames g l = length l.rest

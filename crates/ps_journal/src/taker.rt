@@ -1,0 +1,37 @@
+// What is given the entries of a store as they are read.
+ghost use Rattle.std.specs.Prelude.{◌≡◌, ◌≢◌, ◌∷◌, ◌++◌, [], List, Ok, true, false};
+ghost use Rattle.ps_model.specs.Entries.{IsEntry};
+ghost use Rattle.ps_types.specs.declared.entry.Entry.{Entry};
+ghost use Rattle.ps_journal.specs.declared.judging.Placed.{Placed};
+
+use crate::judging::Placed;
+use ps_base::Memory;
+
+/// What is given the entries of a store one after the other, as they are read, and may refuse one.
+pub trait Taker {
+    /// These are the entries that it has taken.
+    ghost stands: { Self → List Placed → Type 0 };
+
+    /// An entry that it refuses after these.
+    ghost refused: { List Placed → Placed → Type 0 };
+
+    /// Takes an entry, or refuses it and answers `false`.
+    fn take(&mut self, one: Placed) -> Result<bool, Memory>
+        requires entry { IsEntry one.entry }
+        ensures took { (placed : List Placed) → stands self.old placed
+            → result ≡ Ok true → stands self.new (placed ++ one ∷ []) }
+        // It stays where it refuses one.
+        ensures refuses { (placed : List Placed) → stands self.old placed
+            → result ≡ Ok false → refused placed one × stands self.new placed };
+}
+
+impl Taker for Vec<Placed> {
+    ghost stands = { λ v placed. v.items ≡ placed };
+
+    ghost refused = { λ _ _. ⊥ };
+
+    fn take(&mut self, one: Placed) -> Result<bool, Memory> {
+        self.push(one)?;
+        Ok(true)
+    }
+}
