@@ -1,9 +1,8 @@
 // A store is opened to read it: its header is upgraded, and no entry is added.
-ghost use Rattle.std.specs.Prelude.{◌≡◌, ◌<◌, ◌≤◌, ◌^◌, List, true, length, IfErr, IfOk, MatchResult, OnOk};
+ghost use Rattle.std.specs.Prelude.{◌≡◌, ◌<◌, ◌≤◌, ◌^◌, List, true, length, IfErr, IfOk, MatchResult};
 ghost use Rattle.ps_disk.specs.Disk.{LeavesOnly};
 ghost use Rattle.ps_journal.specs.Left.{LeavesList};
 ghost use Rattle.ps_journal.specs.Opened.{HasHeader, HasNoHeader, IsShortIfUnbegun, LeftOrHas, Upgrades};
-ghost use Rattle.ps_journal.specs.Places.{entries_in};
 ghost use Rattle.ps_model.specs.At.{IsStore};
 ghost use Rattle.ps_model.specs.Entries.{AreEntries};
 ghost use Rattle.ps_model.specs.Replay.{lawful};
@@ -11,62 +10,28 @@ ghost use Rattle.ps_model.specs.Store.{is_second, spelled};
 ghost use Rattle.ps_types.specs.declared.entry.Entry.{Entry};
 ghost use Rattle.ps_hall_open.specs.OpenRead.{AreShort, IfFoundDamaged, IsBegunEmpty, StaysOrUpgrades};
 ghost use Rattle.ps_hall_open.specs.Reads.{ReadNot};
-ghost use Rattle.ps_hall_open.specs.Refused.{IfDamaged};
-ghost use Rattle.ps_hall_open.specs.Replayed.{IsFresh, StopsAt};
+ghost use Rattle.ps_hall_open.specs.Replayed.{IsFresh};
 
 use crate::opened::{ReadOnly, ReadOnlyRefusal, ReadWhy, Rebuilt};
 use crate::reading::why_not;
 use crate::readying::nothing;
-use crate::replaying::take_all;
+use crate::replaying::ReplayAll;
 use ps_base::Memory;
 use ps_disk::Disk;
-use ps_journal::{Journal, JournalRefusal, Placed};
+use ps_journal::{Journal, JournalRefusal};
 use ps_types::Entry;
 use std::alloc::Global;
 use std::random::RandomSource;
 use std::thread::Threads;
-
-// The entries without their offsets.
-fn without_places(alloc: Global, placed: Vec<Placed>) -> Result<Vec<Entry>, Memory>
-    ensures { IfOk result (λ v. v.items ≡ entries_in placed.items) }
-{
-    let mut entries = Vec::with_capacity(alloc, placed.len())?;
-    for one in placed {
-        let Placed { at: _, entry } = one;
-        entries.push(entry)?;
-    }
-    Ok(entries)
-}
-
-// Takes the entries, and gives them without their offsets.
-fn taken<R: Threads + Sync>(
-    rt: &R,
-    alloc: Global,
-    rebuilt: &mut Rebuilt,
-    placed: Vec<Placed>,
-) -> Result<Vec<Entry>, ReadWhy>
-    requires entries { AreEntries (entries_in placed.items) }
-    requires fresh { IsFresh rebuilt.old }
-    ensures entries { IfOk result (λ v. v.items ≡ entries_in placed.items) }
-    ensures lawful { OnOk result (lawful (entries_in placed.items)) }
-    ensures few { OnOk result (length (entries_in placed.items) < 2 ^ 61) }
-    ensures err { IfErr result (λ why. IfDamaged why (StopsAt placed.items)) }
-{
-    take_all(rt, alloc, rebuilt, &placed)?;
-    match without_places(alloc, placed) {
-        Ok(entries) => Ok(entries),
-        Err(Memory) => Err(ReadWhy::Memory),
-    }
-}
 
 // Opens the store, for whose entries all is ready.
 fn open_taken<R: Threads + Sync, D: Disk>(
     rt: &R,
     alloc: Global,
     disk: D,
-    rebuilt: &mut Rebuilt,
+    rebuilt: Rebuilt,
 ) -> Result<ReadOnly<D>, ReadOnlyRefusal<D>>
-    requires fresh { IsFresh rebuilt.old }
+    requires fresh { IsFresh rebuilt }
     ensures store { D.tells → IfOk result (λ r. IsStore (D.seen disk) r.entries.items) }
     ensures lawful { IfOk result (λ r. lawful r.entries.items) }
     ensures entries { IfOk result (λ r. AreEntries r.entries.items) }
@@ -92,18 +57,27 @@ fn open_taken<R: Threads + Sync, D: Disk>(
         (λ r. LeavesOnly D.moment D.left_since disk r.disk (LeftOrHas (D.synced disk) (D.written disk) E))
         (λ e. LeavesOnly D.moment D.left_since disk e.disk (LeftOrHas (D.synced disk) (D.written disk) E)) }
 {
-    match Journal::open(alloc, disk) {
+    let mut all = ReplayAll {
+        rt,
+        alloc,
+        rebuilt,
+        entries: Vec::new(alloc),
+    };
+    match Journal::open_giving(alloc, disk, &mut all) {
         Err(refusal) => {
             let JournalRefusal { disk, why } = refusal;
-            let why = why_not(rt, alloc, rebuilt, why);
+            let why = why_not(why);
             Err(ReadOnlyRefusal { disk, why })
         }
-        Ok((journal, placed)) => {
+        Ok((journal, _)) => {
             let disk = journal.close();
-            match taken(rt, alloc, rebuilt, placed) {
-                Ok(entries) => Ok(ReadOnly { disk, entries }),
-                Err(why) => Err(ReadOnlyRefusal { disk, why }),
-            }
+            let ReplayAll {
+                rt: _,
+                alloc: _,
+                rebuilt: _,
+                entries,
+            } = all;
+            Ok(ReadOnly { disk, entries })
         }
     }
 }
@@ -150,9 +124,6 @@ pub fn open_read<R: RandomSource + Threads + Sync, D: Disk>(
             disk,
             why: ReadWhy::Memory,
         }),
-        Ok(rebuilt) => {
-            let mut rebuilt = rebuilt;
-            open_taken(rt, alloc, disk, &mut rebuilt)
-        }
+        Ok(rebuilt) => open_taken(rt, alloc, disk, rebuilt),
     }
 }

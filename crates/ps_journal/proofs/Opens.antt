@@ -5,11 +5,13 @@ use Rattle.std.proofs.lemmas.List.{map-append}
 use Rattle.ps_disk.specs.Disk.{MayLeave}
 use Rattle.ps_types.specs.declared.entry.Entry.{Entry}
 use Rattle.ps_model.specs.Entries.{IsEntry, AreEntries, AreEntriesIn, spelling, body}
-use Rattle.ps_model.specs.Damage.{NoEntry}
+use Rattle.ps_model.specs.Damage.{BadFrame, BadHeader, NoEntry}
 use Rattle.ps_model.specs.Store.{is_header, is_second, is_unbegun, gate_at, Begun, Lists, spelled, joined, AreBodies, AreParts}
 use Rattle.ps_journal.specs.Settled.{IsSettledAt, IsSettled, IsUpgrading}
 use Rattle.ps_journal.specs.Judged.{IsDamaged, IsFound, IsStopped, IsRefused, StopsBefore, FramesRead, BadEntry, StoppedAt}
-use Rattle.ps_journal.specs.Opened.{ArePlaced, HasLength}
+use Rattle.ps_journal.specs.Opened.{ArePlaced, HasLength, IsWhyDamaged, IsWhyStopped}
+use Rattle.ps_journal.specs.declared.opening.JournalWhy.{JournalWhy}
+use Rattle.ps_journal.specs.declared.opening.JournalWhy.TheVariants as whys
 use Rattle.ps_journal.specs.Places.{places_in, places, entries_in}
 use Rattle.ps_journal.specs.declared.judging.Placed.{Placed}
 use Rattle.ps_journal.proofs.Bodies.{size_of}
@@ -77,6 +79,15 @@ stopped_there taken refused bytes placed at gate stands read =
       stands = stands;
     }
 
+-- the header is damaged, or a frame
+pub bad_stopped : (taken : List Placed → Type 0) (refused : List Placed → Placed → Type 0) (bytes : List ℕ) (at : ℕ) (before : List Placed) → before ≡ [] → BadHeader bytes at ⊎ BadFrame bytes at → IsStopped taken refused bytes at before
+bad_stopped taken refused bytes at before none (inl header) = inl (header, none)
+bad_stopped taken refused bytes at before none (inr frame) = inr (inl (frame, none))
+
+pub bad_damaged : (bytes : List ℕ) (at : ℕ) (before : List Placed) → before ≡ [] → BadHeader bytes at ⊎ BadFrame bytes at → IsDamaged bytes at before
+bad_damaged bytes at before none (inl header) = inl (header, none)
+bad_damaged bytes at before none (inr frame) = inr (inl (frame, none))
+
 -- where nothing is refused, an entry isn't spelled
 module _ (taken : List Placed → Type 0) where
   not_spelled : (second : Bool) (before : List Placed) (behind : List ℕ) → StopsBefore (λ ps p. ⊥) second before behind → NoEntry second behind
@@ -90,6 +101,12 @@ module _ (taken : List Placed → Type 0) where
   is_damaged bytes at before (inl header) = inl header
   is_damaged bytes at before (inr (inl frame)) = inr (inl frame)
   is_damaged bytes at before (inr (inr entry)) = inr (inr (bad_entry bytes at before entry))
+
+-- so a store whose entries none refuses isn't opened for damage alone
+pub why_damaged : (taken : List Placed → Type 0) (bytes : List ℕ) (why : JournalWhy) → IsWhyStopped taken (λ ps p. ⊥) bytes why → IsWhyDamaged bytes why
+why_damaged taken bytes (whys.Damaged at before) stopped = is_damaged taken bytes at before.items stopped
+why_damaged taken bytes whys.Store stopped = tt
+why_damaged taken bytes whys.Memory stopped = tt
 
 pub none_before : (bytes : List ℕ) (E : List Entry) → is_header (take 8 bytes) ≡ false → is_unbegun bytes ≡ true → spelled bytes E → E ≡ []
 none_before bytes E header unbegun spells = one_list bytes E [] spells (inr (header, unbegun, refl))

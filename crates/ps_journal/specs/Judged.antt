@@ -146,7 +146,7 @@ IsBadAt bytes stops.Memory = Unit {0}
 
 -- what was found of the bytes, where all entries were taken that are answered
 abbrev pub IsJudgement : (List Placed → Type 0) → (List Placed → Placed → Type 0) → List ℕ → Judgement → Type 0
-IsJudgement taken refused bytes judgements.Unbegun = (is_header (take 8 bytes) ≡ false) × (is_unbegun bytes ≡ true)
+IsJudgement taken refused bytes judgements.Unbegun = (is_header (take 8 bytes) ≡ false) × (is_unbegun bytes ≡ true) × taken []
 IsJudgement taken refused bytes (judgements.Begun found gate) = IsFound bytes found.items gate × taken found.items
 IsJudgement taken refused bytes (judgements.Bad at) = BadHeader bytes at ⊎ BadFrame bytes at
 IsJudgement taken refused bytes (judgements.Stopped at before) = StoppedAt taken refused bytes at before.items

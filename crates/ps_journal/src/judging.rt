@@ -1,5 +1,5 @@
 // Judging the bytes of a store.
-ghost use Rattle.std.specs.Prelude.{◌≡◌, ◌≢◌, ◌++◌, ◌∷◌, ◌+◌, ◌<◌, ◌≤◌, ◌^◌, [], List, ℕ, true, length, take, map, option_map, IfOk, IfErr, IsTrue};
+ghost use Rattle.std.specs.Prelude.{◌≡◌, ◌≢◌, ◌++◌, ◌∷◌, ◌+◌, ◌<◌, ◌≤◌, ◌^◌, [], List, ℕ, true, length, take, map, option_map, IfOk, IfErr, IsTrue, OnOk};
 ghost use Rattle.ps_model.specs.Entries.{in_version};
 ghost use Rattle.ps_model.specs.Store.{is_header, is_second, gate_at};
 ghost use Rattle.ps_journal.specs.Judged.{Walked, Judged, FramesRead, IsBadAt, IsJudgement, IsVerdict};

@@ -78,22 +78,14 @@ pub fn look_giving<D: Disk, T: Taker>(
         Err(LoadRefusal::Memory) => Err(JournalWhy::Memory),
         Ok(bytes) => match judge_giving(alloc, &bytes, taker) {
             Judgement::Memory => Err(JournalWhy::Memory),
-            Judgement::Bad(at) => Err(bad_at(at)),
+            Judgement::Bad(at) => Err(JournalWhy::Damaged {
+                at,
+                before: Trail::new(),
+            }),
             Judgement::Stopped(at, before) => Err(JournalWhy::Damaged { at, before }),
             Judgement::Begun(trail, _) => Ok(trail),
             Judgement::Unbegun => Ok(Trail::new()),
         },
-    }
-}
-
-// The header is damaged, or a frame.
-fn bad_at(at: u64) -> JournalWhy
-    ensures { IfWhyDamaged result (λ there before. (there ≡ at) × (before ≡ [])) }
-    ensures store { result ≡ JournalWhy.Store → ⊥ }
-{
-    JournalWhy::Damaged {
-        at,
-        before: Trail::new(),
     }
 }
 
@@ -152,7 +144,10 @@ pub(crate) fn open_store<D: Disk, T: Taker>(alloc: Global, disk: &mut D, taker: 
         Err(LoadRefusal::Memory) => Opening::Refused(JournalWhy::Memory),
         Ok(bytes) => match judge_giving(alloc, &bytes, taker) {
             Judgement::Memory => Opening::Refused(JournalWhy::Memory),
-            Judgement::Bad(at) => Opening::Refused(bad_at(at)),
+            Judgement::Bad(at) => Opening::Refused(JournalWhy::Damaged {
+                at,
+                before: Trail::new(),
+            }),
             Judgement::Stopped(at, before) => Opening::Refused(JournalWhy::Damaged { at, before }),
             Judgement::Begun(trail, gate) => match upgrade(disk, &bytes) {
                 Err(Failed) => Opening::Refused(JournalWhy::Store),

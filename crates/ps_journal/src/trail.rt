@@ -1,6 +1,8 @@
 // Entries with their offsets, as a list that only proofs read.
 ghost use Rattle.std.specs.Prelude.{◌≡◌, ◌∷◌, ◌++◌, [], List};
 ghost use Rattle.std.specs.Borrow.{ftrue};
+ghost use Rattle.std.specs.Coded.{coded_list};
+ghost use Rattle.ps_journal.specs.contracts.judging.Placed as placed;
 ghost use Rattle.ps_journal.specs.declared.judging.Placed.{Placed};
 
 use crate::judging::Placed;
@@ -9,7 +11,7 @@ use std::marker::Model;
 /// A list of entries with their offsets, which takes no memory and of which a program reads nothing. A contract reads it as `items`.
 #[derive(Drop)]
 pub struct Trail {
-    pub ghost items: { List Placed },
+    pub ghost items: { List Placed } by { coded_list placed.the_row.coded },
 }
 
 impl Model for Trail {
