@@ -12,8 +12,8 @@
 //! [`read_store`] reads and replays likewise, and writes nothing: no header, no Boot. It answers what the entries leave, the service and the queues
 //! (`specs/Reads.antt`, `IsKept`). The entries that an answer has are a list that only proofs read.
 //!
-//! [`open_read`] opens a store as [`open`] does, header and all, takes its entries, and adds none: it answers the entries and the disk
-//! (`specs/OpenRead.antt`). Whoever replays them begins with [`fresh_service`].
+//! [`observe`] opens a store as [`open`] does, header and all, takes its entries, and adds none: an [`Observer`] sees each, and it answers the service after
+//! them and the disk (`specs/OpenRead.antt`). [`open_read`] answers the list of the entries. Whoever replays them begins with [`fresh_service`].
 #![tactic(auto)]
 
 mod beginning;
@@ -26,9 +26,11 @@ mod replaying;
 mod restoring;
 
 pub use opened::{
-    Kept, OpenRefusal, OpenWhy, Opened, ReadOnly, ReadOnlyRefusal, ReadWhy, Rebuilt, StoreRead,
+    Kept, Observed, OpenRefusal, OpenWhy, Opened, ReadOnly, ReadOnlyRefusal, ReadWhy, Rebuilt,
+    StoreRead,
 };
 pub use opening::open;
-pub use read_only::open_read;
+pub use read_only::{observe, open_read};
 pub use reading::read_store;
 pub use readying::fresh_service;
+pub use replaying::{Nobody, Observer};

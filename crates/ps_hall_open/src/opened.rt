@@ -1,4 +1,5 @@
 // What comes of an opening.
+use crate::replaying::Observer;
 use ps_base::Memory;
 use ps_disk::Disk;
 use ps_hall_state::{Service, State};
@@ -36,6 +37,14 @@ pub enum ReadWhy {
     /// The disk failed.
     Store,
     Memory,
+}
+
+/// The disk of a store that was opened to read it, the service after its entries, what saw them, and the entries, which only proofs read.
+pub struct Observed<D: Disk, O: Observer + Drop> {
+    pub disk: D,
+    pub service: Service,
+    pub observer: O,
+    pub entries: Trail,
 }
 
 /// The disk of a store that was opened to read it, and its entries.

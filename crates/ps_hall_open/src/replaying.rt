@@ -1,12 +1,15 @@
 // The entries of a store are taken one after the other.
 ghost use Rattle.std.specs.Prelude.{◌≡◌, ◌<◌, ◌^◌, ◌++◌, ◌∷◌, [], List, Ok, true, false, IfOk, OnOk};
 ghost use Rattle.ps_model.specs.Entries.{IsEntry};
+ghost use Rattle.ps_model.specs.Replay.{lawful, replay};
 ghost use Rattle.ps_journal.specs.Places.{entries_in};
 ghost use Rattle.ps_journal.specs.declared.judging.Placed.{Placed};
+ghost use Rattle.ps_types.specs.declared.entry.Entry.{Entry};
 ghost use Rattle.ps_hall_open.specs.Replayed.{HasTaken, IsTaken, is_refused, unhanded};
 
 use crate::opened::Rebuilt;
 use ps_base::Memory;
+use ps_hall_state::Service;
 use ps_journal::{Placed, Taker};
 use ps_outbox::Outboxes;
 use ps_types::{Entry, Notice};
@@ -87,7 +90,7 @@ pub(crate) struct Replay<'a, R: Threads + Sync> {
 }
 
 impl<'a, R: Threads + Sync> Taker for Replay<'a, R> {
-    ghost stands = { λ replay placed. HasTaken placed replay.rebuilt };
+    ghost stands = { λ _ replay placed. HasTaken placed replay.rebuilt };
 
     ghost refused = { is_refused };
 
@@ -96,17 +99,51 @@ impl<'a, R: Threads + Sync> Taker for Replay<'a, R> {
     }
 }
 
-/// The same, and it keeps the entries.
+/// What sees the entries of a store one after the other, as they are taken.
+pub trait Observer {
+    /// These are the entries that the second has seen since it was the first.
+    ghost saw: { Self → Self → List Entry → Type 0 };
+
+    /// Sees an entry, after which the service is at this State.
+    fn see(&mut self, service: &Service, entry: Entry) -> Result<(), Memory>
+        requires entry { IsEntry entry }
+        ensures saw { (start : Self) (E : List Entry) → saw start self.old E → lawful (E ++ entry ∷ [])
+            → service.now.state ≡ replay (E ++ entry ∷ []) → OnOk result (saw start self.new (E ++ entry ∷ [])) };
+}
+
+impl Observer for Vec<Entry> {
+    ghost saw = { λ _ v entries. v.items ≡ entries };
+
+    fn see(&mut self, _service: &Service, entry: Entry) -> Result<(), Memory> {
+        self.push(entry)?;
+        Ok(())
+    }
+}
+
+/// An observer that needs none of them.
 #[derive(Drop)]
-pub(crate) struct ReplayAll<'a, R: Threads + Sync> {
+pub struct Nobody {}
+
+impl Observer for Nobody {
+    ghost saw = { λ _ _ _. Unit {0} };
+
+    fn see(&mut self, _service: &Service, _entry: Entry) -> Result<(), Memory> {
+        Ok(())
+    }
+}
+
+/// The same, and an observer sees the entries.
+#[derive(Drop)]
+pub(crate) struct Watched<'a, R: Threads + Sync, O: Observer + Drop> {
     pub rt: &'a R,
     pub alloc: Global,
     pub rebuilt: Rebuilt,
-    pub entries: Vec<Entry>,
+    pub observer: O,
 }
 
-impl<'a, R: Threads + Sync> Taker for ReplayAll<'a, R> {
-    ghost stands = { λ all placed. HasTaken placed all.rebuilt × (all.entries.items ≡ entries_in placed) };
+impl<'a, R: Threads + Sync, O: Observer + Drop> Taker for Watched<'a, R, O> {
+    ghost stands = { λ start it placed. HasTaken placed it.rebuilt
+        × O.saw start.observer it.observer (entries_in placed) };
 
     ghost refused = { is_refused };
 
@@ -115,7 +152,7 @@ impl<'a, R: Threads + Sync> Taker for ReplayAll<'a, R> {
             return Ok(false);
         }
         let Placed { at: _, entry } = one;
-        self.entries.push(entry)?;
+        self.observer.see(&self.rebuilt.service, entry)?;
         Ok(true)
     }
 }

@@ -56,6 +56,14 @@ pub record IsRefused (refused : List Placed → Placed → Type 0) (second : Boo
 abbrev pub StopsBefore : (List Placed → Placed → Type 0) → Bool → List Placed → List ℕ → Type 0
 StopsBefore refused second before behind = NoEntry second behind ⊎ IsRefused refused second before behind
 
+-- what was taken since some start
+abbrev pub Stands : {T : Type 0} → (T → T → List Placed → Type 0) → T → List Placed → Type 0
+Stands {T} stands now taken = (start : T) × stands start now taken
+
+-- since whichever start these were taken, those are now
+abbrev pub Follows : {T : Type 0} → (T → T → List Placed → Type 0) → T → List Placed → T → List Placed → Type 0
+Follows {T} stands old before now after = (start : T) → stands start old before → stands start now after
+
 -- one body, read entry by entry: all of it, or up to an entry that isn't spelled, or is refused
 pub record BodyRead (second : Bool) (at : ℕ) (bytes : List ℕ) (old new : List Placed) : Type 0 where
   pub entries : List Entry

@@ -72,8 +72,8 @@ impl<D: Disk> Journal<D> {
         disk: D,
         taker: &mut T,
     ) -> Result<(Journal<D>, Trail), JournalRefusal<D>>
-        requires stands { T.stands taker.old [] }
-        ensures taken { IfOk result (λ r. T.stands taker.new r.1.items) }
+        requires stands { T.stands taker.old taker.old [] }
+        ensures taken { IfOk result (λ r. T.stands taker.old taker.new r.1.items) }
         // The bytes spell the entries, and still do, as a store of version 2.
         ensures entries { D.tells → IfOk result (λ r. IsOpened (D.seen disk) r.1.items) }
         ensures same { D.tells → IfOk result (λ r. Has r.0 (entries_in r.1.items)) }
@@ -90,7 +90,7 @@ impl<D: Disk> Journal<D> {
         ensures durable { D.tells → IfOk result (λ r. Keeps r.0 (entries_in r.1.items)) }
         ensures whole { IfOk result (λ r. IsWhole r.0) }
         // A damaged store is as before, and one of which an entry is refused.
-        ensures stopped { D.tells → IfErr result (λ e. IsWhyStopped (T.stands taker.new) T.refused (D.seen disk) e.why) }
+        ensures stopped { D.tells → IfErr result (λ e. IsWhyStopped (T.stands taker.old taker.new) T.refused (D.seen disk) e.why) }
         // The entries before are such as a store may hold.
         ensures before { IfErr result (λ e. IfWhyDamaged e.why (λ at before. AreEntries (entries_in before))) }
         ensures untouched { D.tells → IfErr result (λ e. StaysIfDamaged e.why (D.seen disk) (D.seen e.disk)) }

@@ -2,7 +2,7 @@
 ghost use Rattle.std.specs.Prelude.{◌≡◌, ◌≢◌, ◌++◌, ◌∷◌, ◌+◌, ◌<◌, ◌≤◌, ◌^◌, [], List, ℕ, true, length, take, map, option_map, IfOk, IfErr, IsTrue, OnOk};
 ghost use Rattle.ps_model.specs.Entries.{in_version};
 ghost use Rattle.ps_model.specs.Store.{is_header, is_second, gate_at};
-ghost use Rattle.ps_journal.specs.Judged.{Walked, Judged, FramesRead, IsBadAt, IsJudgement, IsVerdict};
+ghost use Rattle.ps_journal.specs.Judged.{Walked, Judged, Follows, FramesRead, IsBadAt, IsJudgement, IsVerdict, Stands};
 ghost use Rattle.ps_journal.specs.declared.judging.Placed.{Placed};
 
 use crate::frames::{Step, step_of};
@@ -44,10 +44,10 @@ fn entries_of<T: Taker>(
     trail: &mut Trail,
 ) -> Result<Option<u64>, Memory>
     requires room { at + length body.now < 2 ^ 64 }
-    requires stands { T.stands taker.old trail.old.items }
+    requires stands { Stands T.stands taker.old trail.old.items }
     ensures walked { IfOk result
         (λ stop. Walked T.refused second at body.now trail.old.items trail.new.items stop) }
-    ensures stands { OnOk result (T.stands taker.new trail.new.items) }
+    ensures stands { OnOk result (Follows T.stands taker.old trail.old.items taker.new trail.new.items) }
 {
     let mut from = 0;
     while from < body.len() as u64 {
@@ -85,10 +85,10 @@ fn more_entries<T: Taker>(
     stop: Option<u64>,
 ) -> Result<Option<u64>, Memory>
     requires room { at + length body.now < 2 ^ 64 }
-    requires stands { T.stands taker.old trail.old.items }
+    requires stands { Stands T.stands taker.old trail.old.items }
     ensures judged { (bs : List (List ℕ)) → Judged T.refused second bs trail.old.items stop → at ≡ gate_at bs + 5
         → IfOk result (λ next. Judged T.refused second (bs ++ body.now ∷ []) trail.new.items next) }
-    ensures stands { OnOk result (T.stands taker.new trail.new.items) }
+    ensures stands { OnOk result (Follows T.stands taker.old trail.old.items taker.new trail.new.items) }
 {
     match stop {
         Some(stop) => Ok(Some(stop)),
@@ -135,9 +135,9 @@ fn frames_of<T: Taker>(
 ) -> Result<(Trail, Option<u64>, u64), Stop>
     requires long { 8 ≤ length bytes.now }
     requires header { is_header (take 8 bytes.now) ≡ true }
-    requires stands { T.stands taker.old [] }
+    requires stands { Stands T.stands taker.old [] }
     ensures read { IfOk result (λ r. FramesRead T.refused bytes.now r.0.items r.1 r.2) }
-    ensures stands { IfOk result (λ r. T.stands taker.new r.0.items) }
+    ensures stands { IfOk result (λ r. Follows T.stands taker.old [] taker.new r.0.items) }
     ensures bad { IfErr result (IsBadAt bytes.now) }
 {
     let second = is_second(bytes);
@@ -194,8 +194,8 @@ pub(crate) enum Judgement {
 
 /// Judges the bytes of a store, and gives its entries to the taker.
 pub(crate) fn judge_giving<T: Taker>(alloc: Global, bytes: &[u8], taker: &mut T) -> Judgement
-    requires stands { T.stands taker.old [] }
-    ensures { IsJudgement (T.stands taker.new) T.refused bytes.now result }
+    requires stands { T.stands taker.old taker.old [] }
+    ensures { IsJudgement (T.stands taker.old taker.new) T.refused bytes.now result }
 {
     if !has_header(bytes) {
         if is_unbegun(bytes) {

@@ -58,11 +58,11 @@ pub fn look_giving<D: Disk, T: Taker>(
     disk: &mut D,
     taker: &mut T,
 ) -> Result<Trail, JournalWhy>
-    requires stands { T.stands taker.old [] }
+    requires stands { T.stands taker.old taker.old [] }
     ensures entries { D.tells → IfOk result (λ placed. IsOpened (D.seen disk.old) placed.items) }
-    ensures taken { IfOk result (λ placed. T.stands taker.new placed.items) }
+    ensures taken { IfOk result (λ placed. T.stands taker.old taker.new placed.items) }
     ensures each { IfOk result (λ placed. ArePlaced placed.items) }
-    ensures stopped { D.tells → IfErr result (IsWhyStopped (T.stands taker.new) T.refused (D.seen disk.old)) }
+    ensures stopped { D.tells → IfErr result (IsWhyStopped (T.stands taker.old taker.new) T.refused (D.seen disk.old)) }
     ensures before { IfErr result (λ why. IfWhyDamaged why (λ at before. AreEntries (entries_in before))) }
     ensures store { IsErrOf result JournalWhy.Store → Rose (D.faults disk.old) (D.faults disk.new) }
     ensures later { D.faults disk.old ≤ D.faults disk.new }
@@ -113,9 +113,9 @@ pub fn look<D: Disk>(alloc: Global, disk: &mut D) -> Result<Vec<Placed>, Journal
 
 /// Opens the store on a disk, and gives its entries to a taker. It begins an unbegun one, and upgrades one of version 1.
 pub(crate) fn open_store<D: Disk, T: Taker>(alloc: Global, disk: &mut D, taker: &mut T) -> Opening
-    requires stands { T.stands taker.old [] }
+    requires stands { T.stands taker.old taker.old [] }
     ensures opened { D.tells → IfOpened result (λ placed len. IsOpened (D.seen disk.old) placed) }
-    ensures taken { IfOpened result (λ placed len. T.stands taker.new placed) }
+    ensures taken { IfOpened result (λ placed len. T.stands taker.old taker.new placed) }
     ensures spells { D.tells → IfOpened result (λ placed len. spelled (D.seen disk.new) (entries_in placed)) }
     ensures upgraded { D.tells → is_header (take 8 (D.seen disk.old)) ≡ true
         → IfOpened result (λ placed len. Holds (D.seen disk.old) 7 (50 ∷ []) (D.seen disk.new)) }
@@ -128,7 +128,7 @@ pub(crate) fn open_store<D: Disk, T: Taker>(alloc: Global, disk: &mut D, taker: 
         (λ placed len. IsSettled (D.seen disk.new) (D.synced disk.new) (D.written disk.new) len) }
     ensures some { IfOpened result (λ placed len. 1 ≤ len) }
     ensures stopped { D.tells → IfDamaged result
-        (λ at before. IsStopped (T.stands taker.new) T.refused (D.seen disk.old) at before) }
+        (λ at before. IsStopped (T.stands taker.old taker.new) T.refused (D.seen disk.old) at before) }
     ensures before { IfDamaged result (λ at before. AreEntries (entries_in before)) }
     ensures untouched { D.tells → IfDamaged result (λ at before. D.seen disk.new ≡ D.seen disk.old) }
     ensures store { IsStoreFault result → Rose (D.faults disk.old) (D.faults disk.new) }

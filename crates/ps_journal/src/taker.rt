@@ -9,8 +9,8 @@ use ps_base::Memory;
 
 /// What is given the entries of a store one after the other, as they are read, and may refuse one.
 pub trait Taker {
-    /// These are the entries that it has taken.
-    ghost stands: { Self → List Placed → Type 0 };
+    /// These are the entries that the second has taken since it was the first.
+    ghost stands: { Self → Self → List Placed → Type 0 };
 
     /// An entry that it refuses after these.
     ghost refused: { List Placed → Placed → Type 0 };
@@ -18,15 +18,15 @@ pub trait Taker {
     /// Takes an entry, or refuses it and answers `false`.
     fn take(&mut self, one: Placed) -> Result<bool, Memory>
         requires entry { IsEntry one.entry }
-        ensures took { (placed : List Placed) → stands self.old placed
-            → result ≡ Ok true → stands self.new (placed ++ one ∷ []) }
+        ensures took { (start : Self) (placed : List Placed) → stands start self.old placed
+            → result ≡ Ok true → stands start self.new (placed ++ one ∷ []) }
         // It stays where it refuses one.
-        ensures refuses { (placed : List Placed) → stands self.old placed
-            → result ≡ Ok false → refused placed one × stands self.new placed };
+        ensures refuses { (start : Self) (placed : List Placed) → stands start self.old placed
+            → result ≡ Ok false → refused placed one × stands start self.new placed };
 }
 
 impl Taker for Vec<Placed> {
-    ghost stands = { λ v placed. v.items ≡ placed };
+    ghost stands = { λ _ v placed. v.items ≡ placed };
 
     ghost refused = { λ _ _. ⊥ };
 

@@ -1,13 +1,12 @@
-use Rattle.std.proofs.Common.{◌≡◌, [], List, sym, subst}
-use Rattle.ps_types.specs.declared.entry.Entry.{Entry}
+use Rattle.std.proofs.Common.{[], sym, subst, arith}
+use Rattle.std.proofs.lemmas.List.{length-map}
 use Rattle.ps_disk.specs.Disk.{LeavesOnly}
 use Rattle.ps_journal.specs.Opened.{LeftOrHas}
-use Rattle.ps_model.specs.At.{IsStore}
-use Rattle.ps_model.specs.Entries.{AreEntries}
-use Rattle.ps_hall_open.specs.OpenRead.{AreShort, IfFoundDamaged, StaysOrUpgrades}
+use Rattle.ps_journal.specs.Places.{entries_in}
+use Rattle.ps_journal.specs.declared.judging.Placed.{Placed}
+use Rattle.ps_hall_open.specs.OpenRead.{IfFoundDamaged, StaysOrUpgrades}
 use Rattle.ps_hall_open.specs.Reads.{ReadNot}
 use Rattle.ps_hall_open.specs.Replayed.{HasTaken}
-use Rattle.ps_journal.specs.Places.{entries_in}
 use Rattle.ps_hall_open.specs.declared.opened.ReadWhy.{ReadWhy}
 use Rattle.ps_hall_open.proofs.OpenRead.{read-stays, short-entries}
 use Rattle.ps_hall_open.proofs.Refusals.{read_refused}
@@ -16,14 +15,15 @@ use Rattle.ps_hall_open.proofs.Timely.{placed_entries}
 use Rattle.ps_hall_open.proofs.read_only.open_taken.Goals as goal
 
 pub open_giving-requires-clause-stands : goal.open_giving-requires-clause-stands
-open_giving-requires-clause-stands g c κs within = (taken_nothing c.args.rebuilt c.requires.fresh, c.new.ensures.items)
+open_giving-requires-clause-stands g c κs within = (taken_nothing c.args.rebuilt c.requires.fresh, c.requires.saw)
 
 pub returns-in-Err-clause-refused : goal.returns-in-Err-clause-refused
 returns-in-Err-clause-refused g c =
     let D = g.D.Disk in
     let e = c.in-Err.ensures in
+    let all = c.open_giving.new.taker in
     subst (ReadNot D.tells (D.seen c.args.disk) (D.faults c.args.disk) (D.faults c.in-Err.refusal.disk)) (sym c.why_not-why.ensures)
-    (read_refused D.tells (D.seen c.args.disk) [] (D.faults c.args.disk) (D.faults c.in-Err.refusal.disk) 0 (λ ps. HasTaken ps c.open_giving.new.taker.rebuilt × (c.open_giving.new.taker.entries.items ≡ entries_in ps)) (λ ps t. t.0.replayed.each) c.in-Err.refusal.why (λ tells. e.stopped tells) e.store)
+    (read_refused D.tells (D.seen c.args.disk) [] (D.faults c.args.disk) (D.faults c.in-Err.refusal.disk) 0 (λ ps. HasTaken ps all.rebuilt × g.O.Observer.saw c.args.observer all.observer (entries_in ps)) (λ ps t. t.0.replayed.each) c.in-Err.refusal.why (λ tells. e.stopped tells) e.store)
 
 pub returns-in-Err-clause-untouched : goal.returns-in-Err-clause-untouched
 returns-in-Err-clause-untouched g c tells =
@@ -32,16 +32,26 @@ returns-in-Err-clause-untouched g c tells =
     let new = D.seen c.in-Err.refusal.disk in
     subst (λ (w : ReadWhy). IfFoundDamaged w (StaysOrUpgrades old new)) (sym c.why_not-why.ensures) (read-stays old new c.in-Err.refusal.why (c.in-Err.ensures.untouched tells))
 
+pub returns-in-Ok-clause-state : goal.returns-in-Ok-clause-state
+returns-in-Ok-clause-state g c = c.in-Ok.ensures.taken.0.replayed.state
+
+pub returns-in-Ok-clause-few : goal.returns-in-Ok-clause-few
+returns-in-Ok-clause-few g c =
+    let size = length-map c.in-Ok.entries.items (λ (p : Placed). p.entry) in
+    let few = c.in-Ok.ensures.taken.0.few in
+    omega (arith, size, few)
+
 pub returns-in-Ok-clause-store : goal.returns-in-Ok-clause-store
-returns-in-Ok-clause-store g c tells =
-    let seen = g.D.Disk.seen c.args.disk in
-    subst (IsStore seen) (sym c.in-Ok.ensures.taken.1) (opened_store seen c.in-Ok.field-1.items (c.in-Ok.ensures.entries tells) c.in-Ok.ensures.taken.0.replayed.each)
+returns-in-Ok-clause-store g c tells = opened_store (g.D.Disk.seen c.args.disk) c.in-Ok.entries.items (c.in-Ok.ensures.entries tells) c.in-Ok.ensures.taken.0.replayed.each
+
+pub returns-in-Ok-clause-lawful : goal.returns-in-Ok-clause-lawful
+returns-in-Ok-clause-lawful g c = c.in-Ok.ensures.taken.0.replayed.each
 
 pub returns-in-Ok-clause-entries : goal.returns-in-Ok-clause-entries
-returns-in-Ok-clause-entries g c = subst AreEntries (sym c.in-Ok.ensures.taken.1) (placed_entries c.in-Ok.field-1.items c.in-Ok.ensures.each)
+returns-in-Ok-clause-entries g c = placed_entries c.in-Ok.entries.items c.in-Ok.ensures.each
 
 pub returns-in-Ok-clause-short : goal.returns-in-Ok-clause-short
-returns-in-Ok-clause-short g c = subst AreShort (sym c.in-Ok.ensures.taken.1) (short-entries c.in-Ok.field-1.items c.in-Ok.ensures.each)
+returns-in-Ok-clause-short g c = short-entries c.in-Ok.entries.items c.in-Ok.ensures.each
 
 pub returns-in-Ok-clause-any_moment : goal.returns-in-Ok-clause-any_moment
 returns-in-Ok-clause-any_moment g c tells E spells few =

@@ -19,5 +19,5 @@ frames-preserved g c =
     let next = c.in-Ok.ensures.judged s.bodies judged (ap (λ (n : ℕ). n + 5) (stands refused bytes c.frames.trail.items c.frames.stop rest c.requires.header s)) in (
       one_more refused bytes c.frames.trail.items c.frames.stop rest c.requires.header s c.in-Frame.body.now c.in-Frame.after.now c.more_entries-next.new.trail.items c.in-Ok.next fits (sym c.in-Frame.ensures)
           (subst (λ (b : Bool). Judged refused b (s.bodies ++ c.in-Frame.body.now ∷ []) c.more_entries-next.new.trail.items c.in-Ok.next) second next),
-      c.in-Ok.ensures.stands,
+      λ start s. c.in-Ok.ensures.stands start (c.frames.invariant.1 start s),
     )

@@ -90,16 +90,16 @@ pub returns-in-Bad-clause-stopped : goal.returns-in-Bad-clause-stopped
 returns-in-Bad-clause-stopped g c tells =
     let t = g.T.Taker in
     let same = c.deref.ensures.value ∙ c.in-Ok.ensures.bytes tells in
-    subst (λ (l : List ℕ). IsStopped (t.stands c.judge_giving.new.taker) t.refused l c.in-Bad.at c.new.result.items) same
-    (bad_stopped (t.stands c.judge_giving.new.taker) t.refused c.deref.result.now c.in-Bad.at c.new.result.items c.new.ensures c.in-Bad.ensures)
+    subst (λ (l : List ℕ). IsStopped (t.stands c.args.taker.now c.judge_giving.new.taker) t.refused l c.in-Bad.at c.new.result.items) same
+    (bad_stopped (t.stands c.args.taker.now c.judge_giving.new.taker) t.refused c.deref.result.now c.in-Bad.at c.new.result.items c.new.ensures c.in-Bad.ensures)
 
 pub returns-in-Stopped-clause-stopped : goal.returns-in-Stopped-clause-stopped
 returns-in-Stopped-clause-stopped g c tells =
     let t = g.T.Taker in
     let same = c.deref.ensures.value ∙ c.in-Ok.ensures.bytes tells in
-    inr (inr (subst (λ (l : List ℕ). StoppedAt (t.stands c.judge_giving.new.taker) t.refused l c.in-Stopped.at c.in-Stopped.before.items) same c.in-Stopped.ensures))
+    inr (inr (subst (λ (l : List ℕ). StoppedAt (t.stands c.args.taker.now c.judge_giving.new.taker) t.refused l c.in-Stopped.at c.in-Stopped.before.items) same c.in-Stopped.ensures))
 
 pub returns-in-Stopped-clause-before : goal.returns-in-Stopped-clause-before
 returns-in-Stopped-clause-before g c =
     let t = g.T.Taker in
-    stopped_before (t.stands c.judge_giving.new.taker) t.refused c.deref.result.now c.in-Stopped.at c.in-Stopped.before.items (inr (inr c.in-Stopped.ensures))
+    stopped_before (t.stands c.args.taker.now c.judge_giving.new.taker) t.refused c.deref.result.now c.in-Stopped.at c.in-Stopped.before.items (inr (inr c.in-Stopped.ensures))
