@@ -1,6 +1,6 @@
 // The entries of a store are taken one after the other.
-ghost use Rattle.std.specs.Prelude.{◌≡◌, ◌<◌, ◌^◌, ◌++◌, ◌∷◌, [], List, Ok, true, false, IfOk, OnOk};
-ghost use Rattle.ps_model.specs.Entries.{IsEntry};
+ghost use Rattle.std.specs.Prelude.{◌≡◌, ◌<◌, ◌^◌, ◌++◌, ◌∷◌, [], List, Ok, true, false, length, IfOk, OnOk};
+ghost use Rattle.ps_model.specs.Entries.{IsEntry, spelling};
 ghost use Rattle.ps_model.specs.Replay.{lawful, replay};
 ghost use Rattle.ps_journal.specs.Places.{entries_in};
 ghost use Rattle.ps_journal.specs.declared.judging.Placed.{Placed};
@@ -107,6 +107,7 @@ pub trait Observer {
     /// Sees an entry, after which the service is at this State.
     fn see(&mut self, service: &Service, entry: Entry) -> Result<(), Memory>
         requires entry { IsEntry entry }
+        requires short { length (spelling entry) < 2 ^ 32 }
         ensures saw { (start : Self) (E : List Entry) → saw start self.old E → lawful (E ++ entry ∷ [])
             → service.now.state ≡ replay (E ++ entry ∷ []) → OnOk result (saw start self.new (E ++ entry ∷ [])) };
 }

@@ -206,15 +206,22 @@ module _ (refused : List Placed → Placed → Type 0) (bytes : List ℕ) (found
     stands = stands;
   }
 
-  pub one_more : (b after : List ℕ) (newer : List Placed) (next : Option ℕ) → IsBytes bytes → stride_at rest ≡ whole b after → Judged refused (is_second bytes) (s.bodies ++ b ∷ []) newer next → FramesSoFar refused bytes newer next after
-  one_more b after newer next fits stands_there judged =
-      let frame_there = at_frame rest b after stands_there in
-      let tail = frame_there.tail in
-      let is : rest ≡ 1 ∷ tail = frame_there.is in
+  -- a frame stands there
+  there : (b after : List ℕ) → IsBytes bytes → (e : stride_at rest ≡ whole b after) → IsWhole (at_frame rest b after e).tail b after
+  there b after fits e =
+      let frame_there = at_frame rest b after e in
       let rest_is : drop (gate_at s.bodies) bytes ≡ rest =
       ap (λ (l : List ℕ). drop (gate_at s.bodies) l) s.split ∙ drop_at (take 8 bytes ++ frames s.bodies) rest (gate_at s.bodies) (omega (arith, length-append (take 8 bytes) (frames s.bodies), header_size bytes header)) in
-      let tail_fits : IsBytes tail = IsBytes-rest 1 tail (subst IsBytes (rest_is ∙ is) (IsBytes-drop (gate_at s.bodies) bytes fits)) in
-      let w = whole_takes tail (b, after) tail_fits frame_there.found in
+      let tail_fits : IsBytes frame_there.tail = IsBytes-rest 1 frame_there.tail (subst IsBytes (rest_is ∙ frame_there.is) (IsBytes-drop (gate_at s.bodies) bytes fits)) in
+      whole_takes frame_there.tail (b, after) tail_fits frame_there.found
+
+  pub frame_fits : (b after : List ℕ) → IsBytes bytes → stride_at rest ≡ whole b after → length b < 2 ^ 32
+  frame_fits b after fits e = (there b after fits e).is.fits
+
+  pub one_more : (b after : List ℕ) (newer : List Placed) (next : Option ℕ) → IsBytes bytes → stride_at rest ≡ whole b after → Judged refused (is_second bytes) (s.bodies ++ b ∷ []) newer next → FramesSoFar refused bytes newer next after
+  one_more b after newer next fits stands_there judged =
+      let is : rest ≡ 1 ∷ (at_frame rest b after stands_there).tail = (at_frame rest b after stands_there).is in
+      let w = there b after fits stands_there in
       let whole_rest : rest ≡ frame b ++ after = is ∙ ap (λ (l : List ℕ). 1 ∷ l) w.split in
       record {
         bodies = s.bodies ++ b ∷ [];

@@ -44,6 +44,7 @@ fn entries_of<T: Taker>(
     trail: &mut Trail,
 ) -> Result<Option<u64>, Memory>
     requires room { at + length body.now < 2 ^ 64 }
+    requires fits { length body.now < 2 ^ 32 }
     requires stands { Stands T.stands taker.old trail.old.items }
     ensures walked { IfOk result
         (λ stop. Walked T.refused second at body.now trail.old.items trail.new.items stop) }
@@ -85,6 +86,7 @@ fn more_entries<T: Taker>(
     stop: Option<u64>,
 ) -> Result<Option<u64>, Memory>
     requires room { at + length body.now < 2 ^ 64 }
+    requires fits { length body.now < 2 ^ 32 }
     requires stands { Stands T.stands taker.old trail.old.items }
     ensures judged { (bs : List (List ℕ)) → Judged T.refused second bs trail.old.items stop → at ≡ gate_at bs + 5
         → IfOk result (λ next. Judged T.refused second (bs ++ body.now ∷ []) trail.new.items next) }

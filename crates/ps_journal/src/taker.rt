@@ -1,6 +1,6 @@
 // What is given the entries of a store as they are read.
-ghost use Rattle.std.specs.Prelude.{◌≡◌, ◌≢◌, ◌∷◌, ◌++◌, [], List, Ok, true, false};
-ghost use Rattle.ps_model.specs.Entries.{IsEntry};
+ghost use Rattle.std.specs.Prelude.{◌≡◌, ◌<◌, ◌^◌, ◌∷◌, ◌++◌, [], List, length, Ok, true, false};
+ghost use Rattle.ps_model.specs.Entries.{IsEntry, spelling};
 ghost use Rattle.ps_types.specs.declared.entry.Entry.{Entry};
 ghost use Rattle.ps_journal.specs.declared.judging.Placed.{Placed};
 
@@ -18,6 +18,7 @@ pub trait Taker {
     /// Takes an entry, or refuses it and answers `false`.
     fn take(&mut self, one: Placed) -> Result<bool, Memory>
         requires entry { IsEntry one.entry }
+        requires short { length (spelling one.entry) < 2 ^ 32 }
         ensures took { (start : Self) (placed : List Placed) → stands start self.old placed
             → result ≡ Ok true → stands start self.new (placed ++ one ∷ []) }
         // It stays where it refuses one.

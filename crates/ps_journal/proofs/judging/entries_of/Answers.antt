@@ -1,8 +1,16 @@
-use Rattle.std.proofs.Common.{◌≡◌, ◌∙◌, List, Ok, true, ap, sym, subst, rules}
+use Rattle.std.proofs.Common.{◌≡◌, ◌∙◌, List, Ok, true, ap, sym, subst, arith, rules}
 use Rattle.ps_model.specs.Entries.{in_version}
 use Rattle.ps_journal.specs.declared.judging.Placed.{Placed}
 use Rattle.ps_journal.proofs.Walks.{one_further}
 use Rattle.ps_journal.proofs.judging.entries_of.Goals as goal
+
+pub take-requires-clause-short : goal.take-requires-clause-short
+take-requires-clause-short g c κs inside =
+    let e = c.in-Ok.ensures.entry in
+    let next = e.2 in
+    let within = e.3 in
+    let fits = c.requires.fits in
+    omega (arith, next, within, fits)
 
 pub loop-from-preserved : goal.loop-from-preserved
 loop-from-preserved g c =

@@ -1,11 +1,16 @@
 use Rattle.std.proofs.Common.{◌+◌, ℕ, Bool, [], ◌∷◌, ◌++◌, ap, sym, subst, arith}
 use Rattle.ps_record.proofs.Pieces.{IsBytes}
 use Rattle.ps_journal.specs.Judged.{Judged}
-use Rattle.ps_journal.proofs.Verdicts.{stands, bad_frame, one_more}
+use Rattle.ps_journal.proofs.Verdicts.{stands, bad_frame, frame_fits, one_more}
 use Rattle.ps_journal.proofs.judging.frames_of.Goals as goal
 
 pub returns-in-Bad-clause-bad : goal.returns-in-Bad-clause-bad
 returns-in-Bad-clause-bad g c = bad_frame g.T.Taker.refused c.args.bytes.now c.frames.trail.items c.frames.stop c.frames.rest.now c.requires.header c.frames.invariant.0 (sym c.in-Bad.ensures)
+
+pub more_entries-next-requires-clause-fits : goal.more_entries-next-requires-clause-fits
+more_entries-next-requires-clause-fits g c κs within =
+    let fits : IsBytes c.args.bytes.now = λ i. omega (arith, c.type_inv.bytes i) in
+    frame_fits g.T.Taker.refused c.args.bytes.now c.frames.trail.items c.frames.stop c.frames.rest.now c.requires.header c.frames.invariant.0 c.in-Frame.body.now c.in-Frame.after.now fits (sym c.in-Frame.ensures)
 
 pub frames-preserved : goal.frames-preserved
 frames-preserved g c =
