@@ -1,5 +1,5 @@
 -- How long what a crash leaves of a store is, beside its number of entries.
-use Rattle.std.proofs.Common.{◌≡◌, ◌⊎◌, ⊎_elim, inl, inr, ℕ, ◌+◌, ◌≤◌, List, ◌++◌, length, length-append, ap, ◌∙◌, arith}
+use Rattle.std.proofs.Common.{◌≡◌, ⊎_elim, inl, inr, ℕ, ◌+◌, ◌≤◌, List, ◌++◌, length, length-append, ap, ◌∙◌, arith}
 use Rattle.ps_types.specs.declared.entry.Entry.{Entry}
 use Rattle.ps_disk.specs.declared.device.Disk.{Ghosts}
 use Rattle.ps_disk.specs.Disk.{MayLeave}
