@@ -5,7 +5,7 @@ use Rattle.ps_journal.proofs.Walks.{one_further}
 use Rattle.ps_journal.proofs.judging.entries_of.Goals as goal
 
 pub take-requires-clause-short : goal.take-requires-clause-short
-take-requires-clause-short g c κs inside =
+take-requires-clause-short g c =
     let e = c.in-Ok.ensures.entry in
     let next = e.2 in
     let within = e.3 in

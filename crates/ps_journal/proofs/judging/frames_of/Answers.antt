@@ -8,7 +8,7 @@ pub returns-in-Bad-clause-bad : goal.returns-in-Bad-clause-bad
 returns-in-Bad-clause-bad g c = bad_frame g.T.Taker.refused c.args.bytes.now c.frames.trail.items c.frames.stop c.frames.rest.now c.requires.header c.frames.invariant.0 (sym c.in-Bad.ensures)
 
 pub more_entries-next-requires-clause-fits : goal.more_entries-next-requires-clause-fits
-more_entries-next-requires-clause-fits g c κs within =
+more_entries-next-requires-clause-fits g c =
     let fits : IsBytes c.args.bytes.now = λ i. omega (arith, c.type_inv.bytes i) in
     frame_fits g.T.Taker.refused c.args.bytes.now c.frames.trail.items c.frames.stop c.frames.rest.now c.requires.header c.frames.invariant.0 c.in-Frame.body.now c.in-Frame.after.now fits (sym c.in-Frame.ensures)
 
