@@ -1,12 +1,9 @@
 -- The notice in hand is recorded, in the state and in the world.
-use Rattle.std.proofs.Common.{◌≡◌, ℕ, zero, suc, ◌+◌, ◌<◌, Bool, true, false, cond, List, [], ◌∷◌, ◌++◌, Option, Some, None, length, drop, refl, ap, sym, ◌∙◌, subst, arith, append-nil}
-use Rattle.std.specs.Prelude.{slice_get, slice_set, if◌then◌else◌}
-use Rattle.std.specs.Prelude.{bytes_eq}
-use Rattle.std.proofs.lemmas.Bool.{and_parts, true≢false}
-use Rattle.std.proofs.lemmas.Slice.Eq.{bytes_eq-Decides}
+use Rattle.std.proofs.Common.{◌≡◌, ℕ, zero, suc, ◌+◌, ◌<◌, Bool, true, false, cond, List, [], ◌∷◌, ◌++◌, Some, length, drop, refl, ap, sym, ◌∙◌, subst, arith, append-nil}
+use Rattle.std.specs.Prelude.{slice_get, slice_set}
+use Rattle.std.proofs.lemmas.Bool.{true≢false}
 use Rattle.ps_base.specs.Rows.{without, without_first}
 use Rattle.ps_rows.proofs.Sought.{bare_of_jid}
-use Rattle.ps_types.proofs.Same.{same_parts}
 use Rattle.ps_types.specs.Same.{same_bare, same_jid}
 use Rattle.ps_types.specs.declared.entry.Entry.{Entry}
 use Rattle.ps_types.specs.declared.entry.Entry.TheVariants.{Handed}
@@ -18,7 +15,7 @@ use Rattle.ps_model.specs.Entries.{IsBare}
 use Rattle.ps_model.specs.Machine.{counted, happens, records}
 use Rattle.ps_model.specs.Replay.{accepted, replay}
 use Rattle.ps_model.specs.TheCore.{the_core}
-use Rattle.ps_model.specs.World.{AddressPart, Nothing, Recorded, Unrecorded, World, at_address}
+use Rattle.ps_model.specs.World.{AddressPart, Recorded, Unrecorded, World, at_address}
 use Rattle.ps_model.specs.declared.steps.Step.TheVariants.{Record}
 use Rattle.ps_model.proofs.TheLaws.{the-laws}
 use Rattle.ps_outbox.specs.Boxes.{is_known, is_to, queue}

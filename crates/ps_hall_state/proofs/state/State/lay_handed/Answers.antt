@@ -1,4 +1,4 @@
-use Rattle.std.proofs.Common.{◌≡◌, ◌≤◌, ◌+◌, ◌++◌, ◌∙◌, ap, subst, sym, arith, append-nil, Some, ℕ}
+use Rattle.std.proofs.Common.{◌≡◌, ◌≤◌, ◌+◌, ◌++◌, ◌∙◌, ap, subst, arith, append-nil, Some, ℕ}
 use Rattle.ps_base.specs.Rows.{without, without_first}
 use Rattle.ps_types.specs.Same.{same_bare}
 use Rattle.ps_types.specs.declared.entry.Entry.{Entry}
