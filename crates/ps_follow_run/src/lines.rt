@@ -24,7 +24,9 @@ use std::thread::Threads;
 
 fn end_of_lines(why: NextLineRefusal) -> FollowEnd
     ensures fault { result ≡ FollowEnd.Fault → why ≡ NextLineRefusal.ReadFault }
+    ensures from_fault { why ≡ NextLineRefusal.ReadFault → result ≡ FollowEnd.Fault }
     ensures long { result ≡ FollowEnd.Long → why ≡ NextLineRefusal.Long }
+    ensures from_long { why ≡ NextLineRefusal.Long → result ≡ FollowEnd.Long }
     ensures only { (result ≡ FollowEnd.Fault) ⊎ ((result ≡ FollowEnd.Long) ⊎ (result ≡ FollowEnd.Memory)) }
 {
     match why {

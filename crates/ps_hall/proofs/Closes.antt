@@ -17,11 +17,13 @@ use Rattle.ps_hall_store.specs.Stand.{IsKept, OpenedAt, disk_in}
 use Rattle.ps_hall_store.specs.declared.store.Store.{Store}
 use Rattle.ps_hall_store.proofs.Keeping.{kept_on}
 use Rattle.ps_hall.specs.Closed.{HasClosed}
-use Rattle.ps_hall_flush.specs.Homes.{ArchiveStands, HomeStands, maker_of, state_mark, store_mark, world_at}
+use Rattle.ps_hall_flush.specs.Homes.{ArchiveHolds, HomeStands, bytes_in, maker_of, state_mark, store_mark, world_at}
 use Rattle.ps_hall_flush.specs.Origin.{Origin}
 use Rattle.ps_hall_flush.proofs.Closing.{both_broken, same_numbers}
 use Rattle.ps_hall_flush.proofs.Framing.{broken_later}
 use Rattle.ps_hall_flush.proofs.Logs.{prefix_follows, same_cut}
+use Rattle.ps_hall_flush.proofs.Measuring.{each_lacks}
+use Rattle.ps_hall_flush.proofs.Ending.{all_within}
 
 -- fewer steps are counted on
 kept_less : {D : Type 0} (g : Ghosts D) (at : OpenedAt) (disk : D) (few firm : ℕ) (w : World) → few ≤ firm → IsKept g at disk firm w → IsKept g at disk few w
@@ -33,9 +35,11 @@ kept_less g at disk few firm w le is = record {
   since_start = is.since_start;
 }
 
-pub closed_ok : {V J D : Type 0} {g : Ghosts D} (o : Origin) (v : State) (y : Store D g) (log l : List Deed) (seats : List (TwinSeat V J Deed)) → HomeStands o v log → ArchiveStands o y l → Prefix l log → v.flushed ≤ store.firm_of y → state_mark v ≡ store_mark y
+pub closed_ok : {V J D : Type 0} {g : Ghosts D} (o : Origin) (v : State) (y : Store D g) (log l : List Deed) (seats : List (TwinSeat V J Deed)) → HomeStands o v log → ArchiveHolds o y l → Prefix l log → v.flushed ≤ store.firm_of y → state_mark v ≡ store_mark y
     → ((k : ℕ) (s : TwinSeat V J Deed) → slice_get seats k ≡ Some s → Later maker_of (number_of s) (seen_of s) log) → HasClosed o v y seats
-closed_ok {V} {J} {D} {g} o v y log l seats home archive front firm mark later =
+closed_ok {V} {J} {D} {g} o v y log l seats home holds front firm mark later =
+    let archive = holds.stands in
+    let measured = all_within o v y log l home holds front mark in
     let w = world_at o l in
     let u = world_at o log in
     let follows : Follows w u = prefix_follows o l log front home.owned in
@@ -54,6 +58,7 @@ closed_ok {V} {J} {D} {g} o v y log l seats home archive front firm mark later =
           let cut = same_cut b.begun w.entries (entries_of v.batch) follows.more (sym b.all ∙ follows.entries) (b.size ∙ (count ∙ whole.count)) in
           b.all ∙ ap (λ E. E ++ entries_of v.batch) cut.0);
       firm = firm;
+      room = λ tells. each_lacks o y w log (bytes_in v) (archive.sizes tells) home.full measured.0 measured.1;
       broken = both_broken o v y log l home archive front mark;
       mark = same_numbers o v y log l home archive front mark;
       later = later;

@@ -24,6 +24,7 @@ use Rattle.ps_hall_flush.specs.Origin.{Origin}
 use Rattle.ps_hall.specs.Steps.{is_full, lay_steps}
 use Rattle.ps_hall_flush.proofs.Homing.{Rooms}
 use Rattle.ps_hall_flush.proofs.Logs.{same_cut}
+use Rattle.ps_hall_flush.proofs.Measuring.{FindsNoRoom, early}
 use Rattle.ps_hall_flush.proofs.Quiet.{AreQuiet}
 
 full_is : (full : Bool) (reply : Option (List ℕ)) (entry : Option Entry) → is_full (outcome_of full reply entry) ≡ full
@@ -86,8 +87,14 @@ module _ (o : Origin) (v now : State) (log : List Deed) (is : HomeStands o v log
   lay_does (Ok r) ok err = (receipt_is r ok, refl)
   lay_does (Err e) ok err = (cause_is e (err w is.stands), refl)
 
+  -- and at the places of the frames that were begun none waits
+  finds_none : (full : Bool) → full ≡ lacks_room o.limits.changes v.length v.batch (entry_in w host arrival) → w.broken ≡ false → Stands now (run the_core o.boot w (Arrive host arrival full ∷ [])) → bytes_in v ≤ bytes_in now
+      → FindsNoRoom o.limits.changes now.count (now.length + 5) (bytes_in now) w (Arrive host arrival full)
+  finds_none false lacks quiet stands le = tt
+  finds_none true lacks quiet stands le = (no_room true lacks le, quiet, λ few. early o.boot now w host arrival stands few)
+
   pub lay_rooms : (by : ℕ) (result : Result Receipt ArriveRefusal) → IfOk result (λ r. Laid v now host arrival r) → bytes_in v ≤ bytes_in now → Rooms o w now by (lay_steps host arrival result)
-  lay_rooms by (Ok r) ok le = ((omega arith, no_room (is_full r.outcome) (lacks_same r ok) le), tt)
+  lay_rooms by (Ok r) ok le = ((omega arith, finds_none (is_full r.outcome) (lacks_same r ok) (laid_in r ok).is_open.unbroken (lay_stands (Ok r) ok tt) le), tt)
   lay_rooms by (Err e) ok le = tt
 
 -- ---- how long the store then is

@@ -10,7 +10,7 @@ use Rattle.ps_hall_flush.specs.Origin.{Origin}
 use Rattle.ps_hall.specs.Start.{MayStart}
 
 pub no_deeds : {D : Type 0} {g : Ghosts D} (o : Origin) (v : State) (y : Store D g) (hosts : List (List ℕ)) → MayStart o v y hosts → HomeStands o v []
-no_deeds o v y hosts may = record { lawful = may.lawful; named = may.named; hosts = may.rows ∙ sym may.hosts_are; limits = may.limits; owned = tt; full = tt; stands = may.state }
+no_deeds o v y hosts may = record { lawful = may.lawful; named = may.named; hosts = may.rows ∙ sym may.hosts_are; limits = may.limits; owned = tt; full = tt; begun = tt; stands = may.state }
 
 -- neither tells of a fault, and so their marks are one
 pub one_mark : {D : Type 0} {g : Ghosts D} (o : Origin) (v : State) (y : Store D g) (hosts : List (List ℕ)) → MayStart o v y hosts → state_mark v ≡ store_mark y

@@ -10,7 +10,7 @@ use Rattle.ps_hall_state.specs.Stand.{entries_of}
 use Rattle.ps_hall_state.specs.declared.state.State.{State}
 use Rattle.ps_hall_store.specs.Stand.{IsKept, broken_in, disk_in, firm_of, mark_of}
 use Rattle.ps_hall_store.specs.declared.store.Store.{Store}
-use Rattle.ps_hall_flush.specs.Homes.{ArchiveStands, HomeStands, maker_of, numbers_of, world_at}
+use Rattle.ps_hall_flush.specs.Homes.{ArchiveStands, EachLacksRoom, HomeStands, maker_of, numbers_of, world_at}
 use Rattle.ps_hall_flush.specs.Origin.{Origin}
 
 -- The state stands for the deeds of all passes, and the store for a beginning of them. What each pass has seen is a beginning too, behind which nothing is
@@ -28,6 +28,8 @@ pub record HasClosed {V J D : Type 0} {g : Ghosts D} (o : Origin) (v : State) (y
   pub whole : (world_at o log).broken ≡ false → (world_at o log).entries ≡ (world_at o list).entries ++ entries_of v.batch
   -- what the state counts as flushed the store has made durable
   pub firm : v.flushed ≤ firm_of y
+  -- Whatever a crash may leave, what the disk has among it: each line that found no room, at a place that these bytes have, would find none behind them.
+  pub room : g.tells → EachLacksRoom o (g.synced (disk_in y)) (g.written (disk_in y)) log
   -- both tell of a fault, or neither; and then both have begun the same frames
   pub broken : v.broken ≡ is_some (broken_in y)
   pub mark : v.broken ≡ false → numbers_of v ≡ mark_of y

@@ -16,7 +16,7 @@
 //!   the steps of one holding by its answer, with the cause of each refusal; `Arrived`, `HasHanded` and `HasGone`, whole calls; `FoundOver`, that a deed tells
 //!   how long the store was where an entry found no room.
 //! - `specs/Start.antt`: what a hall is opened over. `specs/Passes.antt`: the passes of all hosts, from [`Hall::new`] to [`Hall::close`].
-//! - `specs/Closed.antt`: what the two values say together once all passes are back.
+//! - `specs/Closed.antt`: what the two values say together once all passes are back, and that a line which found no room finds none behind what a crash leaves.
 //!
 //! Nothing is promised of waiting: not that a caller's turn comes, nor when.
 #![tactic(auto)]

@@ -15,7 +15,7 @@ use Rattle.ps_hall_flush.proofs.Logs.{prefix_follows}
 use Rattle.ps_hall_flush.proofs.Marking.{flags_same, quiet_mark, whole_mark}
 
 -- a store has so few entries that they can be counted
-few_entries : (o : Origin) (v : State) (log : List Deed) → HomeStands o v log → length (world_at o log).entries ≤ 2 ^ 61 + 2 ^ 30
+pub few_entries : (o : Origin) (v : State) (log : List Deed) → HomeStands o v log → length (world_at o log).entries ≤ 2 ^ 61 + 2 ^ 30
 few_entries o v log is =
     let s = is.stands in
     let count : v.service.state.count ≡ length (world_at o log).entries = ap (λ b. b.count) s.state ∙ count-is (world_at o log).entries in
@@ -33,7 +33,7 @@ few_begun o v log is =
     omega (arith, few, all, parts, size)
 
 module _ {D : Type 0} {g : Ghosts D} (o : Origin) (v : State) (y : Store D g) (log list : List Deed) where
-  few_kept : HomeStands o v log → ArchiveStands o y list → Prefix list log → is_some (broken_in y) ≡ false → y.count < 18446744073709551615
+  pub few_kept : HomeStands o v log → ArchiveStands o y list → Prefix list log → is_some (broken_in y) ≡ false → y.count < 18446744073709551615
   few_kept home archive front whole =
       let later = prefix_follows o list log front home.owned in
       let few = few_entries o v log home in

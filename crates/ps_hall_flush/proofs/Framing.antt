@@ -1,9 +1,9 @@
 -- A frame that is begun, written, or failed.
-use Rattle.std.proofs.Common.{◌≡◌, ◌≢◌, ◌⊎◌, ⊎_elim, ℕ, ◌≤◌, Bool, true, false, List, [], ◌∷◌, ◌++◌, Option, Some, None, length, refl, ap, sym, ◌∙◌, subst, arith}
+use Rattle.std.proofs.Common.{◌≡◌, ◌≢◌, ◌⊎◌, ⊎_elim, ℕ, ◌+◌, ◌≤◌, Bool, true, false, List, [], ◌∷◌, ◌++◌, Option, Some, None, length, length-append, refl, ap, sym, ◌∙◌, subst, arith}
 use Rattle.std.specs.Prelude.{IfSome, is_some}
 use Rattle.std.proofs.lemmas.Bool.{false≢true}
 use Rattle.ps_disk.specs.declared.device.Disk.{Ghosts}
-use Rattle.ps_model.specs.Machine.{run}
+use Rattle.ps_model.specs.Machine.{run, start}
 use Rattle.ps_model.specs.TheCore.{the_core}
 use Rattle.ps_model.specs.World.{World, ends}
 use Rattle.ps_model.specs.declared.steps.Step.{Step}
@@ -25,16 +25,20 @@ use Rattle.ps_hall_state.proofs.Stepping.{count-is}
 use Rattle.ps_hall_store.specs.Frames.{Loaded, NotesFault, Tears, Writes}
 use Rattle.ps_hall_store.specs.Frames as frames
 use Rattle.ps_hall_store.specs.Stand as store
-use Rattle.ps_hall_store.specs.Stand.{StoreStands, broken_in}
+use Rattle.ps_hall_store.specs.Stand.{OpenedAt, StoreStands, broken_in, firm_of as firm_in, length_in}
 use Rattle.ps_hall_store.specs.declared.store.Frame.{Frame}
 use Rattle.ps_hall_store.specs.declared.store.Store.{Store}
 use Rattle.ps_hall_flush.specs.Doing.{Adds}
-use Rattle.ps_hall_flush.specs.Flush.{FrameBegun, FrameRefused, FrameSpared, HasToldFault, IsBrokenAt, IsFrameOf, IsWritten, NoFrame}
-use Rattle.ps_hall_flush.specs.Homes.{HomeStands, marked, state_mark, store_mark, world_at}
+use Rattle.ps_hall_flush.specs.Flush.{FrameBegun, FrameRefused, FrameSpared, HasToldFault, IsBrokenAt, IsFrameOf, IsMeasuredBy, IsWritten, NoFrame}
+use Rattle.ps_hall_flush.specs.Homes.{AreMeasured, HomeStands, WithinStore, marked, state_mark, store_mark, world_at}
 use Rattle.ps_hall_flush.specs.Origin.{Origin}
 use Rattle.ps_hall_flush.specs.Seat.{HasLeft, HoldsStore}
-use Rattle.ps_hall_flush.proofs.Logs.{prefix_follows, prefix_then, same_cut, steps_of}
+use Rattle.ps_hall_store.proofs.Sizing.{firm_made}
+use Rattle.ps_hall_flush.proofs.Closing.{few_entries, few_kept}
+use Rattle.ps_hall_flush.proofs.Homing.{begun_all}
+use Rattle.ps_hall_flush.proofs.Logs.{owned_behind, owned_calm, prefix_follows, prefix_then, same_cut, steps_of}
 use Rattle.ps_hall_flush.proofs.Marking.{broken_mark, counts_same, quiet_mark, whole_mark}
+use Rattle.ps_hall_flush.proofs.Measuring.{measured_as, none_begun, within_behind, within_both, within_late, within_more}
 use Rattle.ps_hall_flush.proofs.Seating.{firm_kept, journal_kept, list_kept}
 
 unbroken_before : (b c : Bool) → (b ≡ true → c ≡ true) → c ≡ false → b ≡ false
@@ -61,13 +65,18 @@ seen_as_was : {V J : Type 0} (t : Twin V J Deed) (s1 s2 : TwinSeat V J Deed) (v 
 seen_as_was t s1 s2 v left = left.seen ∙ nil-right (seen_of s1)
 
 module _ {D : Type 0} {g : Ghosts D} where
+  -- the state and the store have begun the same frames
+  pub same_begun : (at : OpenedAt) (v : State) (y : Store D g) (w u : World) → StoreStands at y w → Stands v u → Follows w u → state_mark v ≡ store_mark y → v.broken ≡ false → v.count ≡ y.count
+  same_begun at v y w u is stands later mark unbroken =
+      counts_same v.broken (is_some (broken_in y)) v.count y.count unbroken (sym is.broken ∙ broken_later w u later (sym stands.broken ∙ unbroken)) (ap (λ p. p.0) mark)
+
   pub loaded_ok : (o : Origin) (v now : State) (y : Store D g) (f : Frame) (w u : World) → StoreStands o.at y w → Stands v u → Follows w u → state_mark v ≡ store_mark y → v.broken ≡ false → IsFrameOf v now f → Loaded o.at y f w u
   loaded_ok o v now y f w u is stands later mark unbroken did =
       let quiet : u.broken ≡ false = sym stands.broken ∙ unbroken in
       let early = broken_later w u later quiet in
       let whole = is.whole early in
       let b = stands.batch in
-      let count : v.count ≡ y.count = counts_same v.broken (is_some (broken_in y)) v.count y.count unbroken (sym is.broken ∙ early) (ap (λ p. p.0) mark) in
+      let count : v.count ≡ y.count = same_begun o.at v y w u is stands later mark unbroken in
       let long : v.length ≡ y.length = ap (λ p. p.1) mark in
       let cut = same_cut b.begun w.entries (entries_of v.batch) later.more (sym b.all ∙ later.entries) (b.size ∙ (count ∙ whole.count)) in
       let bytes : bytes_of v.batch ≡ frames.bytes_of f.batch = same_bytes v.batch ∙ ap frames.bytes_of (sym did.batch) in
@@ -92,6 +101,7 @@ module _ {D : Type 0} {g : Ghosts D} where
         let l : list_of s2 ≡ list_of s0 = list_kept t s0 s1 s2 now [] took left in
         let loaded : Loaded o.at y f (world_at o (list_of s0)) (world_at o (seen_of s1)) =
         loaded_ok o v now y f (world_at o (list_of s0)) (world_at o (seen_of s1)) holds.stands stands.stands (prefix_follows o (list_of s0) (seen_of s1) front stands.owned) (mark ∙ holds.mark) unbroken did in
+        let count : v.count ≡ y.count = same_begun o.at v y (world_at o (list_of s0)) (world_at o (seen_of s1)) holds.stands stands.stands (prefix_follows o (list_of s0) (seen_of s1) front stands.owned) (mark ∙ holds.mark) unbroken in
         record {
           twin = left.twin;
           held = journal_kept t s0 s1 s2 now [] took left holds.held;
@@ -101,11 +111,14 @@ module _ {D : Type 0} {g : Ghosts D} where
           firm = firm_kept t s0 s1 s2 now [] took left ∙ holds.firm;
           mark = left.mark ∙ (quiet_mark now (did.kept.broken ∙ unbroken) ∙ did.mark);
           some = subst (λ (b : Option (List Entry)). IfSome b (λ es. es ≢ [])) (sym did.batch) stands.stands.batch.some;
+          few = (let n = loaded.count in let e = few_entries o v (seen_of s1) stands in omega (arith, n, e));
+          before = subst (λ (log : List Deed). AreMeasured o y.count y.length log) (sym seen) (measured_as o v.count v.length y.count y.length (seen_of s1) count (ap (λ p. p.1) (mark ∙ holds.mark)) stands.begun);
+          after = subst (λ (log : List Deed). AreMeasured o f.count f.length log) (sym seen) (begun_all o v f.count f.length (seen_of s1) stands did.longer);
         }
 
     -- and one in which none is
-    pub no_frame : (s0 s1 s2 : TwinSeat V J Deed) (v : State) (y : Store D g) → HoldsStore o t s0 y → TookState s0 s1 → Prefix (list_of s0) (seen_of s1) → state_mark v ≡ mark_of s0 → HasLeft t s1 s2 v [] → NoFrame o t s2 y
-    no_frame s0 s1 s2 v y holds took front mark left =
+    pub no_frame : (s0 s1 s2 : TwinSeat V J Deed) (v : State) (y : Store D g) → HoldsStore o t s0 y → TookState s0 s1 → HomeStands o v (seen_of s1) → Prefix (list_of s0) (seen_of s1) → state_mark v ≡ mark_of s0 → HasLeft t s1 s2 v [] → NoFrame o t s2 y
+    no_frame s0 s1 s2 v y holds took home front mark left =
         let seen = seen_as_was t s1 s2 v left in
         let l : list_of s2 ≡ list_of s0 = list_kept t s0 s1 s2 v [] took left in
         record {
@@ -113,20 +126,22 @@ module _ {D : Type 0} {g : Ghosts D} where
           held = journal_kept t s0 s1 s2 v [] took left holds.held;
           front = subst (λ (log : List Deed). Prefix (list_of s2) log) (sym seen) (subst (λ (log : List Deed). Prefix log (seen_of s1)) (sym l) front);
           stands = subst (λ (log : List Deed). StoreStands o.at y (world_at o log)) (sym l) holds.stands;
+          within = subst (λ (log : List Deed). WithinStore o y log) (sym l) holds.within;
+          few = few_kept o v y (seen_of s1) (list_of s0) home holds.stands front;
           firm = firm_kept t s0 s1 s2 v [] took left ∙ holds.firm;
           mark = left.mark ∙ (mark ∙ holds.mark);
         }
 
     pub frame_refused : (s0 s1 s2 : TwinSeat V J Deed) (v : State) (y : Store D g) → HoldsStore o t s0 y → TookState s0 s1 → HomeStands o v (seen_of s1) → Prefix (list_of s0) (seen_of s1) → state_mark v ≡ mark_of s0 → v.broken ≡ true → HasLeft t s1 s2 v [] → FrameRefused o t s2 y
     frame_refused s0 s1 s2 v y holds took stands front mark broken left = record {
-      as_was = no_frame s0 s1 s2 v y holds took front mark left;
+      as_was = no_frame s0 s1 s2 v y holds took stands front mark left;
       broken = ap (λ log. (world_at o log).broken) (seen_as_was t s1 s2 v left) ∙ (sym stands.stands.broken ∙ broken);
     }
 
     pub frame_spared : (s0 s1 s2 : TwinSeat V J Deed) (v : State) (y : Store D g) (m : ℕ) → HoldsStore o t s0 y → TookState s0 s1 → HomeStands o v (seen_of s1) → Prefix (list_of s0) (seen_of s1) → state_mark v ≡ mark_of s0 → v.broken ≡ false → m ≤ v.flushed → v.flushed ≤ known_of s1 → HasLeft t s1 s2 v [] → FrameSpared o t s2 y m
     frame_spared s0 s1 s2 v y m holds took stands front mark unbroken low firm left =
         let e : (world_at o (seen_of s2)).flushed ≡ v.flushed = ap (λ log. (world_at o log).flushed) (seen_as_was t s1 s2 v left) ∙ sym stands.stands.flushed in
-        record { as_was = no_frame s0 s1 s2 v y holds took front mark left; quiet = ap (λ log. (world_at o log).broken) (seen_as_was t s1 s2 v left) ∙ (sym stands.stands.broken ∙ unbroken); flushed = omega (arith, e, low); known = (let same = left.known in omega (arith, low, firm, same)) }
+        record { as_was = no_frame s0 s1 s2 v y holds took stands front mark left; quiet = ap (λ log. (world_at o log).broken) (seen_as_was t s1 s2 v left) ∙ (sym stands.stands.broken ∙ unbroken); flushed = omega (arith, e, low); known = (let same = left.known in omega (arith, low, firm, same)) }
 
     -- the frame has all steps that the seat has seen
     pub frame_steps : (s : TwinSeat V J Deed) (y : Store D g) (f : Frame) → FrameBegun o t s y f → f.steps ≡ length (seen_of s)
@@ -173,6 +188,55 @@ module _ {D : Type 0} {g : Ghosts D} where
     -- and its mark
     pub told_mark : (s s' : TwinSeat V J Deed) (new : Store D g) (mark : ℕ × ℕ) → StoreStands o.at new (world_at o (seen_of s')) → IsBrokenAt o (seen_of s') → HasToldFault s s' → marked true mark ≡ marked true (mark_of s) → store.mark_of new ≡ mark → store_mark new ≡ mark_of s'
     told_mark s s' new mark is broken told was same = broken_mark new mark (sym is.broken ∙ broken.broken) same ∙ (was ∙ sym told.mark)
+
+    -- once it is written, its numbers are those of all that was written
+    pub written_within : (s : TwinSeat V J Deed) (old new : Store D g) (f : Frame) → FrameBegun o t s old f → Writes old new f → store.mark_of new ≡ (f.count, f.length) → firm_in new ≡ f.steps → WithinStore o new (seen_of s)
+    written_within s old new f is writes mark firm =
+        let u = world_at o (seen_of s) in
+        let whole = (writes o.at (world_at o (list_of s)) u is.loaded).whole is.loaded.unbroken in
+        let made : ends (firm_in new) u.made ≡ length u.entries = all_entries u (firm_in new) is.loaded.sound (firm ∙ is.loaded.steps) in
+        let count : new.count ≡ f.count = ap (λ p. p.0) mark in
+        let long : new.length ≡ f.length = ap (λ p. p.1) mark in
+        record {
+          firm = measured_as o f.count f.length (ends (firm_in new) u.made) (length_in new) (seen_of s) (is.loaded.count ∙ sym made) (sym long ∙ whole.length_is) is.after;
+          begun = measured_as o f.count f.length new.count new.length (seen_of s) (sym count) (sym long) is.after;
+        }
+
+    -- by what was written before, as long as it is that of a store no shorter: behind the frame that was begun no line found no room in it
+    still_measured : (s : TwinSeat V J Deed) (old : Store D g) (f : Frame) (rest : List Deed) (least : ℕ) → FrameBegun o t s old f → AreOwned o.hosts (seen_of s ++ rest) → old.length ≤ least → AreMeasured o f.count f.length (seen_of s ++ rest) → AreMeasured o old.count least (seen_of s ++ rest)
+    still_measured s old f rest least is owned long all =
+        let first = start the_core o.boot o.list in
+        let w = world_at o (list_of s) in
+        let u = world_at o (seen_of s) in
+        let whole = is.loaded.stands.whole (broken_later w u is.loaded.follows is.loaded.unbroken) in
+        let count = is.loaded.count in
+        let had = whole.count in
+        let parts = ap length is.loaded.entries ∙ length-append w.entries (frames.entries_of f.batch) in
+        let longer = is.loaded.length_is in
+        within_both old.count (least + 5) o.boot first (seen_of s) rest (within_more old.count (old.length + 5) (least + 5) o.boot first (seen_of s) (omega (arith, long)) is.before)
+        (within_late f.count (f.length + 5) old.count (least + 5) o.boot u rest (owned_calm o.hosts rest (owned_behind o.hosts (seen_of s) rest owned)) (omega (arith, count, had, parts))
+        (λ same. let none = none_begun f.batch is.some (omega (arith, count, had, parts, same)) in omega (arith, none, longer, long))
+        (omega (arith, count)) (within_behind f.count (f.length + 5) o.boot first (seen_of s) rest all))
+
+    -- and where it failed, and that is told, those of the frames that were written before and of this one stand side by side
+    pub failed_within : (s s' : TwinSeat V J Deed) (old new : Store D g) (f : Frame) (k : ℕ) → FrameBegun o t s old f → firm_in new ≡ firm_in old → length_in old ≤ length_in new → store.mark_of new ≡ (f.count, f.length) → Adds o k (seen_of s) (seen_of s') Broken → IsMeasuredBy o (mark_of s) (seen_of s')
+        → WithinStore o new (seen_of s')
+    failed_within s s' old new f k is firm grows mark added told =
+        let w = world_at o (list_of s) in
+        let u = world_at o (seen_of s) in
+        let whole = is.loaded.stands.whole (broken_later w u is.loaded.follows is.loaded.unbroken) in
+        let grown : Prefix (seen_of s) (seen_of s') = prefix_then (seen_of s) (seen_of s ++ added.between) (seen_of s') (added.between, refl) (deeds k added.bytes added.steps, added.seen) in
+        let full : AreMeasured o f.count f.length (seen_of s') = (subst (λ (m : ℕ × ℕ). IsMeasuredBy o m (seen_of s')) is.mark told) is.few in
+        let long = whole.length_is in
+        let early : AreMeasured o old.count (length_in new) (seen_of s') =
+        subst (λ (l : List Deed). AreMeasured o old.count (length_in new) l) (sym grown.1)
+        (still_measured s old f grown.0 (length_in new) is (subst (AreOwned o.hosts) grown.1 added.owned) (omega (arith, long, grows)) (subst (λ (l : List Deed). AreMeasured o f.count f.length l) grown.1 full)) in
+        let made = firm_made w (world_at o (seen_of s')) (firm_in new) is.loaded.stands.sound (prefix_follows o (list_of s) (seen_of s') (prefix_then (list_of s) (seen_of s) (seen_of s') is.front grown) added.owned)
+        (firm ∙ (whole.firm ∙ is.loaded.stands.steps)) in
+        record {
+          firm = measured_as o old.count (length_in new) (ends (firm_in new) (world_at o (seen_of s')).made) (length_in new) (seen_of s') (whole.count ∙ sym made) refl early;
+          begun = measured_as o f.count f.length new.count new.length (seen_of s') (sym (ap (λ p. p.0) mark)) (sym (ap (λ p. p.1) mark)) full;
+        }
 
     pub failed_front : (s s' : TwinSeat V J Deed) (old : Store D g) (f : Frame) (k : ℕ) → FrameBegun o t s old f → list_of s' ≡ list_of s → Adds o k (seen_of s) (seen_of s') Broken → Prefix (list_of s') (seen_of s')
     failed_front s s' old f k is l added = subst (λ (log : List Deed). Prefix log (seen_of s')) (sym l) (prefix_then (list_of s) (seen_of s) (seen_of s') is.front (prefix_then (seen_of s) (seen_of s ++ added.between) (seen_of s') (added.between, refl) (deeds k added.bytes added.steps, added.seen)))

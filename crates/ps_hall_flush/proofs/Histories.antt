@@ -7,26 +7,30 @@ use Rattle.ps_disk.specs.declared.device.Disk.{Ghosts}
 use Rattle.ps_journal.specs.declared.journal.EntriesRefusal.{EntriesRefusal}
 use Rattle.ps_journal.specs.declared.journal.EntriesRefusal.TheVariants.{Memory, Store as NotStored}
 use Rattle.ps_types.specs.declared.entry.Entry.{Entry}
+use Rattle.ps_model.specs.World.{ends}
 use Rattle.ps_model.specs.declared.steps.Step.{Step}
 use Rattle.ps_model.specs.declared.steps.Step.TheVariants.{Broken}
 use Rattle.ps_twin.specs.declared.twin.TwinSeat.{TwinSeat}
 use Rattle.ps_twin.specs.declared.twin.Twin.{Twin}
-use Rattle.ps_twin.specs.Seats.{known_of, list_of, number_of, seen_of}
+use Rattle.ps_twin.specs.Seats.{known_of, list_of, mark_of as seat_mark, number_of, seen_of}
 use Rattle.ps_twin.specs.Twins.{Prefix}
 use Rattle.ps_world.proofs.Lists.{nil-right}
 use Rattle.ps_trace.specs.Own.{AreOwned, deeds}
 use Rattle.ps_trace.specs.declared.deed.Deed.{Deed}
 use Rattle.ps_hall_store.specs.Frames.{IsTorn, NotesFault, NotRead as NotReadOf}
-use Rattle.ps_hall_store.specs.Stand.{StoreStands, broken_in, firm_of}
+use Rattle.ps_hall_store.specs.Stand.{StoreStands, broken_in, firm_of, length_in, mark_of}
 use Rattle.ps_hall_store.specs.declared.store.Store.{Store}
+use Rattle.ps_hall_store.proofs.Sizing.{firm_made}
 use Rattle.ps_hall_flush.specs.Doing.{Adds, Passes}
-use Rattle.ps_hall_flush.specs.Flush.{Flushes, FlushesAll, IsBrokenAt, NoFrame, NotFlushed, SeatFlushes}
+use Rattle.ps_hall_flush.specs.Flush.{Flushes, FlushesAll, IsBrokenAt, IsMeasuredBy, NoFrame, NotFlushed, SeatFlushes}
 use Rattle.ps_hall_flush.specs.History.{HasHistory, NotRead, ReadOf, SeatHistory, SeatNoHistory, SeatNotRead, SeatRead}
-use Rattle.ps_hall_flush.specs.Homes.{world_at}
+use Rattle.ps_hall_flush.specs.Homes.{AreMeasured, WithinStore, world_at}
 use Rattle.ps_hall_flush.specs.Origin.{Origin}
 use Rattle.ps_hall_flush.proofs.Flushing.{fault_owned}
 use Rattle.ps_hall_flush.proofs.Framing.{adds_as}
 use Rattle.ps_hall_flush.proofs.Logs.{owned_front, prefix_follows, prefix_then, steps_of}
+use Rattle.ps_hall_flush.proofs.Marking.{whole_mark}
+use Rattle.ps_hall_flush.proofs.Measuring.{measured_as}
 
 -- of two fronts of a list the shorter is a front of the longer
 cut_front : {X : Type 0} (xs ys a b : List X) → xs ++ a ≡ ys ++ b → length xs ≤ length ys → Prefix xs ys
@@ -96,6 +100,30 @@ module _ {D : Type 0} {g : Ghosts D} {V J : Type 0} (o : Origin) (t : Twin V J D
       notes o.at (world_at o (list_of s)) (world_at o (seen_of s')) (torn_by s y torn is whole fails)
       (prefix_follows o (list_of s) (seen_of s') (prefix_then (list_of s) (seen_of s) (seen_of s') is.front (adds_front o k (seen_of s) (seen_of s') Broken added)) broken.owned) broken.sound broken.broken
       (count ∙ sym (steps_of o (seen_of s')))
+
+  -- a store that was read is measured as before
+  pub read_within : (s : TwinSeat V J Deed) (y new : Store D g) → NoFrame o t s y → firm_of new ≡ firm_of y → length_in new ≡ length_in y → mark_of new ≡ mark_of y → WithinStore o new (list_of s)
+  read_within s y new is firm long mark =
+      let made = (world_at o (list_of s)).made in
+      record {
+        firm = measured_as o (ends (firm_of y) made) (length_in y) (ends (firm_of new) made) (length_in new) (list_of s) (ap (λ n. ends n made) (sym firm)) (sym long) is.within.firm;
+        begun = measured_as o y.count y.length new.count new.length (list_of s) (ap (λ p. p.0) (sym mark)) (ap (λ p. p.1) (sym mark)) is.within.begun;
+      }
+
+  -- and one that wasn't, by all that was seen once that is told
+  pub told_within : (s s' : TwinSeat V J Deed) (y new : Store D g) (k : ℕ) → NoFrame o t s y → is_some (broken_in y) ≡ false → firm_of new ≡ firm_of y → length_in new ≡ length_in y → mark_of new ≡ mark_of y → Adds o k (seen_of s) (seen_of s') Broken → IsMeasuredBy o (seat_mark s) (seen_of s')
+      → WithinStore o new (seen_of s')
+  told_within s s' y new k is unbroken firm long mark added told =
+      let w = world_at o (list_of s) in
+      let whole = is.stands.whole (is.stands.broken ∙ unbroken) in
+      let numbers : seat_mark s ≡ (y.count, y.length) = is.mark ∙ whole_mark y unbroken in
+      let all : AreMeasured o y.count y.length (seen_of s') = (subst (λ (m : ℕ × ℕ). IsMeasuredBy o m (seen_of s')) numbers told) (is.few unbroken) in
+      let grown = prefix_then (list_of s) (seen_of s) (seen_of s') is.front (adds_front o k (seen_of s) (seen_of s') Broken added) in
+      let made = firm_made w (world_at o (seen_of s')) (firm_of new) is.stands.sound (prefix_follows o (list_of s) (seen_of s') grown added.owned) (firm ∙ (whole.firm ∙ is.stands.steps)) in
+      record {
+        firm = measured_as o y.count y.length (ends (firm_of new) (world_at o (seen_of s')).made) (length_in new) (seen_of s') (whole.count ∙ sym made) (whole.length_is ∙ sym long) all;
+        begun = measured_as o y.count y.length new.count new.length (seen_of s') (ap (λ p. p.0) (sym mark)) (ap (λ p. p.1) (sym mark)) all;
+      }
 
 -- a fault that is told, or was
 pub not_read : (o : Origin) (k k1 : ℕ) (old found new : List Deed) → k1 ≡ k → Passes o k old found → Adds o k1 found new Broken → NotFlushed o k old new

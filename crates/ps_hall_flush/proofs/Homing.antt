@@ -24,11 +24,12 @@ use Rattle.ps_hall_state.specs.declared.state.HostRow.{HostRow}
 use Rattle.ps_hall_state.specs.declared.state.State.{State}
 use Rattle.ps_hall_state.proofs.OneRow.{named, names-within}
 use Rattle.ps_hall_flush.specs.Doing.{Does, Passes}
-use Rattle.ps_hall_flush.specs.Homes.{HadNoRoom, HomeStands, bytes_in, maker_of, state_mark, world_at}
+use Rattle.ps_hall_flush.specs.Homes.{AllFoundWithin, AreMeasured, HadNoRoom, HomeStands, bytes_in, maker_of, state_mark, world_at}
 use Rattle.ps_hall_flush.specs.Origin.{Origin}
 use Rattle.ps_hall_flush.specs.Seat.{MayNote}
 use Rattle.ps_hall_flush.proofs.Logs.{all_by, body_grows, calm_of, length_deeds, none_of, owned_both, room_both, room_more, same_cut, steps_of, world_more}
 use Rattle.ps_hall_flush.proofs.Marking.{kept_mark}
+use Rattle.ps_hall_flush.proofs.Measuring.{AllFindNoRoom, measured_as, rooms_had, rooms_within, within_all, within_both}
 use Rattle.ps_hall_flush.proofs.Quiet.{AreQuiet, stays_quiet}
 
 pub home_standing : (o : Origin) (v : State) (log : List Deed) → HomeStands o v log → IsStanding v
@@ -90,24 +91,36 @@ bytes_given v now none longer = bytes_over v.batch now.batch v.length now.length
 -- ---- a call on the state
 
 -- after which it stands for these steps more
-pub home_on : (o : Origin) (v now : State) (log : List Deed) (by bytes : ℕ) (steps : List Step) → HomeStands o v log → names now.rows.items ≡ names v.rows.items → now.limits ≡ v.limits → bytes_in v ≤ bytes_in now → AreOwned o.hosts (deeds by bytes steps)
-    → HadNoRoom o.limits.changes (bytes_in now) o.boot (world_at o log) (deeds by bytes steps) → Stands now (run the_core o.boot (world_at o log) steps) → HomeStands o now (log ++ deeds by bytes steps)
-home_on o v now log by bytes steps is hosts limits grows owned room stands = record {
+pub home_on : (o : Origin) (v now : State) (log : List Deed) (by bytes : ℕ) (steps : List Step) → HomeStands o v log → names now.rows.items ≡ names v.rows.items → now.limits ≡ v.limits → bytes_in v ≤ bytes_in now → AreMeasured o now.count now.length log → AreOwned o.hosts (deeds by bytes steps)
+    → HadNoRoom o.limits.changes (bytes_in now) o.boot (world_at o log) (deeds by bytes steps) → AllFoundWithin now.count (now.length + 5) o.boot (world_at o log) (deeds by bytes steps) → Stands now (run the_core o.boot (world_at o log) steps)
+    → HomeStands o now (log ++ deeds by bytes steps)
+home_on o v now log by bytes steps is hosts limits grows begun owned room within stands = record {
   lawful = is.lawful;
   named = is.named;
   hosts = hosts ∙ is.hosts;
   limits = limits ∙ is.limits;
   owned = owned_both o.hosts log (deeds by bytes steps) is.owned owned;
   full = room_both o.limits.changes (bytes_in now) o.boot (start the_core o.boot o.list) log (deeds by bytes steps) (room_more o.limits.changes (bytes_in v) (bytes_in now) o.boot (start the_core o.boot o.list) log grows is.full) room;
+  begun = within_both now.count (now.length + 5) o.boot (start the_core o.boot o.list) log (deeds by bytes steps) begun within;
   stands = subst (Stands now) (sym (world_more o log by bytes steps)) stands;
 }
 
-pub home_as_was : (o : Origin) (v now : State) (log : List Deed) → HomeStands o v log → names now.rows.items ≡ names v.rows.items → now.limits ≡ v.limits → bytes_in v ≤ bytes_in now → Goes v now [] → HomeStands o now (log ++ [])
-home_as_was o v now log is hosts limits grows goes = home_on o v now log 0 0 [] is hosts limits grows tt tt (goes o.boot is.named (world_at o log) is.stands)
+pub home_as_was : (o : Origin) (v now : State) (log : List Deed) → HomeStands o v log → names now.rows.items ≡ names v.rows.items → now.limits ≡ v.limits → bytes_in v ≤ bytes_in now → AreMeasured o now.count now.length log → Goes v now [] → HomeStands o now (log ++ [])
+home_as_was o v now log is hosts limits grows begun goes = home_on o v now log 0 0 [] is hosts limits grows begun tt tt tt (goes o.boot is.named (world_at o log) is.stands)
 
--- of these steps no line found no room
+-- where the numbers of the frames are as they were
+pub begun_same : (o : Origin) (v now : State) (log : List Deed) → HomeStands o v log → now.count ≡ v.count → now.length ≡ v.length → AreMeasured o now.count now.length log
+begun_same o v now log is count long = measured_as o v.count v.length now.count now.length log (sym count) (sym long) is.begun
+
+-- and where a frame was begun with all that waited
+pub begun_all : (o : Origin) (v : State) (count long : ℕ) (log : List Deed) → HomeStands o v log → long ≡ v.length + bytes_of v.batch → AreMeasured o count long log
+begun_all o v count long log is longer =
+    let over = bytes_over v.batch None v.length long refl longer in
+    within_all o.limits.changes (bytes_in v) v.count (v.length + 5) count (long + 5) o.boot (start the_core o.boot o.list) log (omega (arith, over)) is.full is.begun
+
+-- what these steps find of room
 abbrev pub Rooms : Origin → World → State → ℕ → List Step → Type 0
-Rooms o w now by steps = HadNoRoom o.limits.changes (bytes_in now) o.boot w (deeds by (bytes_in now) steps)
+Rooms o w now by steps = AllFindNoRoom o.limits.changes (bytes_in now) now.count (now.length + 5) (bytes_in now) o.boot w steps
 
 module _ {V J : Type 0} where
   -- the state may be given back, with steps of the seat's own
@@ -120,7 +133,9 @@ module _ {V J : Type 0} where
         same = refl;
         twin = twin;
         held = held;
-        stands = home_on o v now (seen_of s) (number_of s) (bytes_in now) steps is hosts limits grows owned (room grows) stands;
+        stands = home_on o v now (seen_of s) (number_of s) (bytes_in now) steps is hosts limits grows (begun_same o v now (seen_of s) is count long) owned
+            (rooms_had o.limits.changes (bytes_in now) now.count (now.length + 5) (bytes_in now) o.boot (world_at o (seen_of s)) (number_of s) steps (room grows))
+            (rooms_within o.limits.changes (bytes_in now) now.count (now.length + 5) (bytes_in now) o.boot (world_at o (seen_of s)) (number_of s) steps (room grows)) stands;
         own = all_by (number_of s) (bytes_in now) steps;
         few = (let l = length_deeds (number_of s) (bytes_in now) steps in omega (arith, l, few));
         firm = firm;
@@ -136,13 +151,13 @@ module _ {V J : Type 0} where
       may_note o t s v now steps twin held is kept.hosts kept.limits kept.count kept.length_same (let f = kept.flushed in omega (arith, f, firm)) (inr (kept_mark v now kept same ∙ sym mark)) owned room few stands
 
   -- with no step
-  pub notes_none : (o : Origin) (t : Twin V J Deed) (s : TwinSeat V J Deed) (v now : State) → IsSeatOf t s → HasState s → HomeStands o v (seen_of s) → names now.rows.items ≡ names v.rows.items → now.limits ≡ v.limits → bytes_in v ≤ bytes_in now → now.flushed ≡ v.flushed → v.flushed ≤ known_of s
+  pub notes_none : (o : Origin) (t : Twin V J Deed) (s : TwinSeat V J Deed) (v now : State) → IsSeatOf t s → HasState s → HomeStands o v (seen_of s) → names now.rows.items ≡ names v.rows.items → now.limits ≡ v.limits → bytes_in v ≤ bytes_in now → AreMeasured o now.count now.length (seen_of s) → now.flushed ≡ v.flushed → v.flushed ≤ known_of s
       → HoldsJournal s ⊎ (state_mark now ≡ mark_of s) → Goes v now [] → MayNote o t s now [] []
-  notes_none o t s v now twin held is hosts limits grows flushed firm mark goes = record {
+  notes_none o t s v now twin held is hosts limits grows begun flushed firm mark goes = record {
     same = refl;
     twin = twin;
     held = held;
-    stands = home_as_was o v now (seen_of s) is hosts limits grows goes;
+    stands = home_as_was o v now (seen_of s) is hosts limits grows begun goes;
     own = λ k d l. absurd (omega arith);
     few = omega arith;
     firm = omega (arith, flushed, firm);
@@ -177,4 +192,5 @@ module _ {V J : Type 0} where
 pub broken_home : (o : Origin) (v now : State) (log : List Deed) (by : ℕ) → HomeStands o v log → KeepsNumbers v now → Goes v now (Broken ∷ []) → HomeStands o now (log ++ deeds by (bytes_in now) (Broken ∷ []))
 broken_home o v now log by is kept goes =
     let stands = goes o.boot is.named (world_at o log) is.stands in
-    home_on o v now log by (bytes_in now) (Broken ∷ []) is kept.hosts kept.limits (bytes_on o.boot v now (world_at o log) (Broken ∷ []) is.stands stands (tt, tt) kept.count kept.length_same) (tt, tt) ((omega arith, tt), tt) stands
+    home_on o v now log by (bytes_in now) (Broken ∷ []) is kept.hosts kept.limits (bytes_on o.boot v now (world_at o log) (Broken ∷ []) is.stands stands (tt, tt) kept.count kept.length_same)
+    (begun_same o v now log is kept.count kept.length_same) (tt, tt) ((omega arith, tt), tt) (tt, tt) stands

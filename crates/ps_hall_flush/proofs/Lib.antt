@@ -2,9 +2,11 @@ pub mod Lives
 pub mod Logs
 pub mod Quiet
 pub mod Marking
+pub mod Measuring
 pub mod Homing
 pub mod Seating
 pub mod Framing
 pub mod Flushing
 pub mod Histories
 pub mod Closing
+pub mod Ending

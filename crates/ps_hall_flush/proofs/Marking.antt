@@ -27,6 +27,14 @@ pub fault_mark : (v now : State) (mark : ℕ × ℕ) → KeepsNumbers v now → 
 fault_mark v now mark kept broken was =
     ap (λ b. marked b (numbers_of now)) broken ∙ (ap (λ (l : ℕ). marked true (0, l)) kept.length_same ∙ ap (λ (m : ℕ × ℕ). marked true m) was)
 
+-- no number of entries is the one that tells of a fault, so it is the state's
+count_marked : (b : Bool) (n m : ℕ) → numbered b n ≡ m → m < 18446744073709551615 → n ≡ m
+count_marked false n m same few = same
+count_marked true n m same few = absurd (let s : 18446744073709551615 ≡ m = same in omega (arith, s, few))
+
+pub mark_count : (v : State) (mark : ℕ × ℕ) → state_mark v ≡ mark → mark.0 < 18446744073709551615 → v.count ≡ mark.0
+mark_count v mark same few = count_marked v.broken v.count mark.0 (ap (λ m. m.0) same) few
+
 -- ---- of the store
 
 module _ {D : Type 0} {g : Ghosts D} where

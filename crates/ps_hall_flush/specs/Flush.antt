@@ -1,5 +1,5 @@
 -- A flush.
-use Rattle.std.specs.Prelude.{◌≡◌, ◌≢◌, ℕ, ◌+◌, ◌≤◌, ◌⊎◌, true, false, List, [], length, None, IfSome}
+use Rattle.std.specs.Prelude.{◌≡◌, ◌≢◌, ℕ, ◌+◌, ◌<◌, ◌≤◌, ◌⊎◌, true, false, List, [], length, None, IfSome, is_some}
 use Rattle.ps_disk.specs.declared.device.Disk.{Ghosts}
 use Rattle.ps_twin.specs.declared.twin.TwinSeat.{TwinSeat}
 use Rattle.ps_twin.specs.declared.twin.Twin.{Twin}
@@ -19,7 +19,7 @@ use Rattle.ps_hall_store.specs.declared.store.Frame.{Frame}
 use Rattle.ps_hall_store.specs.declared.store.Store.{Store}
 use Rattle.ps_world.specs.Sound.{Sound}
 use Rattle.ps_hall_flush.specs.Doing.{Adds, Passes}
-use Rattle.ps_hall_flush.specs.Homes.{marked, numbers_of, store_mark, world_at}
+use Rattle.ps_hall_flush.specs.Homes.{AreMeasured, WithinStore, marked, no_count, numbers_of, store_mark, world_at}
 use Rattle.ps_hall_flush.specs.Origin.{Origin}
 use Rattle.ps_hall_flush.specs.Seat.{MayCall}
 
@@ -49,6 +49,9 @@ module _ {V J : Type 0} where
     pub firm : firm_of s ≡ store.firm_of y
     pub mark : mark_of s ≡ (f.count, f.length)
     pub some : HasSome f
+    pub few : f.count < no_count
+    pub before : AreMeasured o y.count y.length (seen_of s)
+    pub after : AreMeasured o f.count f.length (seen_of s)
 
   -- no frame is begun, and the journal is as it was taken
   pub record NoFrame {D : Type 0} {g : Ghosts D} (o : Origin) (t : Twin V J Deed) (s : TwinSeat V J Deed) (y : Store D g) : Type 0 where
@@ -56,6 +59,8 @@ module _ {V J : Type 0} where
     pub held : HasJournal s
     pub front : Prefix (list_of s) (seen_of s)
     pub stands : store.StoreStands o.at y (world_at o (list_of s))
+    pub within : WithinStore o y (list_of s)
+    pub few : is_some (store.broken_in y) ≡ false → y.count < no_count
     pub firm : firm_of s ≡ store.firm_of y
     pub mark : mark_of s ≡ store_mark y
 
@@ -83,6 +88,10 @@ module _ {V J : Type 0} where
     pub list : list_of new ≡ list_of old
     pub firm : firm_of new ≡ firm_of old
     pub mark : mark_of new ≡ marked true (mark_of old)
+
+-- the deeds are measured by a mark that tells of no fault
+abbrev pub IsMeasuredBy : Origin → ℕ × ℕ → List Deed → Type 0
+IsMeasuredBy o mark log = mark.0 < no_count → AreMeasured o mark.0 mark.1 log
 
 -- the world of the deeds tells of a fault
 pub record IsBrokenAt (o : Origin) (log : List Deed) : Type 0 where

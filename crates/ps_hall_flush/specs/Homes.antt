@@ -1,12 +1,15 @@
 -- When the two values stand for a list of deeds.
 use Rattle.std.specs.Prelude.{◌≡◌, ◌≢◌, ℕ, ◌+◌, ◌<◌, ◌≤◌, Bool, true, false, List, [], ◌∷◌, length, Some, is_some}
 use Rattle.ps_types.specs.declared.entry.Entry.{Entry}
+use Rattle.ps_disk.specs.Disk.{MayLeave}
 use Rattle.ps_disk.specs.declared.device.Disk.{Ghosts}
+use Rattle.ps_journal.specs.Opened.{HasLength}
 use Rattle.ps_model.specs.CoreLaws.{IsLawful}
 use Rattle.ps_model.specs.Entries.{body, spelling}
 use Rattle.ps_model.specs.Machine.{happens, start}
 use Rattle.ps_model.specs.TheCore.{the_core}
-use Rattle.ps_model.specs.World.{World}
+use Rattle.ps_model.specs.Store.{spelled}
+use Rattle.ps_model.specs.World.{World, ends}
 use Rattle.ps_model.specs.declared.steps.Step.{Step}
 use Rattle.ps_model.specs.declared.steps.Step.TheVariants.{Arrive}
 use Rattle.ps_trace.specs.Did.{world_of}
@@ -16,7 +19,7 @@ use Rattle.ps_hall_state.specs.Arrive.{entry_in}
 use Rattle.ps_hall_state.specs.Rows.{names}
 use Rattle.ps_hall_state.specs.Stand.{Stands, entries_of}
 use Rattle.ps_hall_state.specs.declared.state.State.{State}
-use Rattle.ps_hall_store.specs.Stand.{StoreStands, broken_in, mark_of}
+use Rattle.ps_hall_store.specs.Stand.{StoreStands, broken_in, firm_of, length_in, mark_of}
 use Rattle.ps_hall_store.specs.declared.store.Store.{Store}
 use Rattle.ps_hall_flush.specs.Origin.{Origin}
 
@@ -43,6 +46,35 @@ abbrev pub HadNoRoom : ℕ → ℕ → List ℕ → World → List Deed → Type
 HadNoRoom limit upto boot w [] = Unit {0}
 HadNoRoom limit upto boot w (d ∷ log) = ((d.bytes ≤ upto) × NoRoom limit d.bytes w d.step) × HadNoRoom limit upto boot (happens the_core boot w d.step) log
 
+-- No fault had been told where a line found no room; and with no more than so many entries before it, its deed tells of at most these bytes.
+abbrev pub FoundWithin : ℕ → ℕ → ℕ → World → Step → Type 0
+FoundWithin count upto bytes w (Arrive host arrival true) = (w.broken ≡ false) × (length w.entries ≤ count → bytes ≤ upto)
+FoundWithin count upto bytes w _ = Unit {0}
+
+abbrev pub AllFoundWithin : ℕ → ℕ → List ℕ → World → List Deed → Type 0
+AllFoundWithin count upto boot w [] = Unit {0}
+AllFoundWithin count upto boot w (d ∷ log) = FoundWithin count upto d.bytes w d.step × AllFoundWithin count upto boot (happens the_core boot w d.step) log
+
+-- a line that found no room, with no more than so many entries before it, would find none behind so many bytes
+abbrev pub LacksRoom : ℕ → ℕ → ℕ → World → Step → Type 0
+LacksRoom limit bytes count w (Arrive host arrival true) = length w.entries ≤ count → NoRoom limit bytes w (Arrive host arrival true)
+LacksRoom limit bytes count w _ = Unit {0}
+
+abbrev pub AllLackRoom : ℕ → ℕ → ℕ → List ℕ → World → List Deed → Type 0
+AllLackRoom limit bytes count boot w [] = Unit {0}
+AllLackRoom limit bytes count boot w (d ∷ log) = LacksRoom limit bytes count w d.step × AllLackRoom limit bytes count boot (happens the_core boot w d.step) log
+
+-- The deeds of a store of so many entries and bytes: a line that found no room before one of these entries, or right behind them, found at most these bytes, with
+-- the gate and the length of a frame.
+abbrev pub AreMeasured : Origin → ℕ → ℕ → List Deed → Type 0
+AreMeasured o count bytes log = AllFoundWithin count (bytes + 5) o.boot (start the_core o.boot o.list) log
+
+-- Whatever a crash may leave: each line that found no room at a place that the bytes have would find none behind them.
+abbrev pub EachLacksRoom : Origin → List ℕ → List (ℕ × ℕ) → List Deed → Type 0
+EachLacksRoom o synced written log =
+    (c : List ℕ) → MayLeave synced written c → (n : ℕ) → HasLength c n → (E : List Entry) → spelled c E
+    → AllLackRoom o.limits.changes (n + 5) (length E) o.boot (start the_core o.boot o.list) log
+
 -- ---- the values
 
 -- the list at the opening is lawful, each deed is of the pass that may make it, and the state keeps what the world of the deeds holds
@@ -53,17 +85,31 @@ pub record HomeStands (o : Origin) (v : State) (log : List Deed) : Type 0 where
   pub limits : v.limits ≡ o.limits
   pub owned : AreOwned o.hosts log
   pub full : HadNoRoom o.limits.changes (bytes_in v) o.boot (start the_core o.boot o.list) log
+  pub begun : AreMeasured o v.count v.length log
   pub stands : Stands v (world_at o log)
 
 abbrev pub ArchiveStands : {D : Type 0} {g : Ghosts D} → Origin → Store D g → List Deed → Type 0
 ArchiveStands o y log = StoreStands o.at y (world_at o log)
 
+-- by the frames that were written, and by those that were begun
+pub record WithinStore {D : Type 0} {g : Ghosts D} (o : Origin) (y : Store D g) (log : List Deed) : Type 0 where
+  pub firm : AreMeasured o (ends (firm_of y) (world_at o log).made) (length_in y) log
+  pub begun : AreMeasured o y.count y.length log
+
+pub record ArchiveHolds {D : Type 0} {g : Ghosts D} (o : Origin) (y : Store D g) (log : List Deed) : Type 0 where
+  pub stands : ArchiveStands o y log
+  pub within : WithinStore o y log
+
 -- ---- marks
 
--- the number of entries of all frames that were begun; once a fault is told, the greatest number there is, which no store reaches
+-- the greatest number there is, which no store reaches
+abbrev pub no_count : ℕ
+no_count = 18446744073709551615
+
+-- the number of entries of all frames that were begun; once a fault is told, that one
 abbrev pub numbered : Bool → ℕ → ℕ
 numbered false count = count
-numbered true count = 18446744073709551615
+numbered true count = no_count
 
 -- the numbers of entries and of bytes of all frames that were begun, and whether a fault is told
 abbrev pub marked : Bool → ℕ × ℕ → ℕ × ℕ

@@ -10,7 +10,7 @@ use Rattle.ps_hall_state.specs.declared.state.State.{State}
 use Rattle.ps_hall_store.specs.Stand as store
 use Rattle.ps_hall_store.specs.declared.store.Store.{Store}
 use Rattle.ps_hall_flush.specs.Origin.{Origin}
-use Rattle.ps_hall_flush.specs.Homes.{maker_of, HomeStands, ArchiveStands, state_mark, store_mark}
+use Rattle.ps_hall_flush.specs.Homes.{maker_of, HomeStands, ArchiveStands, WithinStore, state_mark, store_mark}
 
 module _ {V J : Type 0} where
   -- a call may be made with the seat
@@ -44,5 +44,6 @@ module _ {V J : Type 0} where
     pub twin : IsSeatOf t s
     pub held : HasJournal s
     pub stands : ArchiveStands o y (list_of s)
+    pub within : WithinStore o y (list_of s)
     pub firm : firm_of s ≡ store.firm_of y
     pub mark : mark_of s ≡ store_mark y

@@ -2,9 +2,9 @@
 ghost use Rattle.std.specs.Prelude.{◌≡◌, ℕ, ◌≤◌, length, IfNone, IfOk, IfSome, OnOk, OnErr};
 ghost use Rattle.ps_model.specs.declared.steps.Step.{Step};
 ghost use Rattle.ps_hall_state.specs.Stand.{IsStanding};
-ghost use Rattle.ps_twin.specs.Seats.{seen_of, number_of, known_of, HasJournal, IsSeatOf};
+ghost use Rattle.ps_twin.specs.Seats.{seen_of, number_of, known_of, mark_of, HasJournal, IsSeatOf};
 ghost use Rattle.ps_hall_flush.specs.Doing.{MakesOne, Passes};
-ghost use Rattle.ps_hall_flush.specs.Flush.{FrameBegun, FrameRefused, FrameSpared, HasToldFault, IsBrokenAt, IsFrameOf, IsWritten, SeatFlushes, SeatNotFlushed};
+ghost use Rattle.ps_hall_flush.specs.Flush.{FrameBegun, FrameRefused, FrameSpared, HasToldFault, IsBrokenAt, IsFrameOf, IsMeasuredBy, IsWritten, SeatFlushes, SeatNotFlushed};
 ghost use Rattle.ps_hall_flush.specs.Seat.{HoldsStore, MayCall};
 
 use crate::home::{Archive, Home, Opening};
@@ -100,6 +100,7 @@ pub(crate) fn tell_fault<B: Opening, D: Disk, R: Wait>(
     ensures steps { result ≡ length (seen_of seat.new) }
     ensures added { MakesOne B.origin seat.old seat.new Step.Broken }
     ensures broken { IsBrokenAt B.origin (seen_of seat.new) }
+    ensures measured { IsMeasuredBy B.origin (mark_of seat.old) (seen_of seat.new) }
 {
     let mut home = twin.enter(rt, seat);
     home.state.fault();

@@ -113,12 +113,12 @@ impl<B: Opening, D: Disk> Archive<B, D> {
 }
 
 impl<B: Opening, D: Disk> Annals for Archive<B, D> {
-    ghost use Rattle.ps_hall_flush.specs.Homes.{ArchiveStands, store_mark};
+    ghost use Rattle.ps_hall_flush.specs.Homes.{ArchiveHolds, store_mark};
     ghost use Rattle.ps_hall_store.specs.Stand as store;
 
     type Item = Deed;
 
-    ghost stands = { λ archive log. ArchiveStands B.origin archive.store log };
+    ghost stands = { λ archive log. ArchiveHolds B.origin archive.store log };
 
     ghost maker = { λ deed. deed.by };
 

@@ -10,7 +10,8 @@
 //! - [`frame_of`] takes the entries that wait out of the state, as a frame.
 //! - [`read_seat`] reads the entries of all frames again, with the store in its hands.
 //!
-//! - `specs/Origin.antt`: what stood when the hall was opened, which [`Opening`] names. `specs/Homes.antt`: when the two values stand for a list of deeds.
+//! - `specs/Origin.antt`: what stood when the hall was opened, which [`Opening`] names. `specs/Homes.antt`: when the two values stand for a list of deeds;
+//!   each deed tells how long the store was then, and of a line that found no room each value keeps how long it was at most (`AreMeasured`).
 //! - `specs/Seat.antt`: what a seat has in hand, and what it may give back.
 //! - `specs/Doing.antt`: `Passes`, others added deeds; `Does` and `Adds`, and then the pass its own. `specs/Flush.antt`: `Flushes`, all that the pass
 //!   had seen is durable; `NotFlushed`, the disk failed. `specs/History.antt`: the entries as they are read again.

@@ -1,3 +1,4 @@
 pub mod Fronts
 pub mod Keeping
+pub mod Sizing
 pub mod Storing

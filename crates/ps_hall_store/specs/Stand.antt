@@ -11,7 +11,7 @@ use Rattle.ps_model.specs.Store.{spelled}
 use Rattle.ps_model.specs.TheCore.{the_core}
 use Rattle.ps_model.specs.World.{World, ends}
 use Rattle.ps_world.specs.Sound.{Sound}
-use Rattle.ps_hall_store.specs.Left.{IsFront}
+use Rattle.ps_hall_store.specs.Left.{IsFront, IsSized}
 use Rattle.ps_hall_store.specs.declared.store.Store.{Store}
 
 -- ---- what is seen of a store
@@ -74,11 +74,19 @@ pub record IsKept {D : Type 0} (g : Ghosts D) (at : OpenedAt) (disk : D) (firm :
   -- and what it left at any moment since before the opening
   pub since_start : IsShortIfUnbegun at.seen → SinceStart g at disk w
 
--- nothing has failed: the disk has all entries, after a crash too, and the numbers of the frames are the journal's
+-- What a crash leaves has at least the bytes of the frames that were written, and where it has more entries than the firm steps made, at least those of the
+-- frames that were begun.
+abbrev pub LeavesSized : {D : Type 0} {g : Ghosts D} → Store D g → World → Type 0
+LeavesSized {D} {g} y w =
+    (c : List ℕ) → MayLeave (g.synced (disk_in y)) (g.written (disk_in y)) c
+    → IsSized (ends (firm_of y) w.made) (length_in y) y.count y.length c
+
+-- nothing has failed: the disk has all entries, after a crash too, all steps are firm, and the numbers of the frames are the journal's
 pub record IsWhole {D : Type 0} {g : Ghosts D} (y : Store D g) (w : World) : Type 0 where
   pub unbroken : broken_in y ≡ None
   pub seen : g.tells → spelled (g.seen (disk_in y)) w.entries
   pub lasts : g.tells → LeavesList (g.synced (disk_in y)) (g.written (disk_in y)) w.entries
+  pub firm : y.firm ≡ y.steps
   pub count : y.count ≡ length w.entries
   pub length_is : y.length ≡ length_in y
 
@@ -94,6 +102,7 @@ pub record StoreStands {D : Type 0} {g : Ghosts D} (at : OpenedAt) (y : Store D 
   pub faults : at.faults ≤ g.faults (disk_in y)
   pub grows : at.bytes ≤ length_in y
   pub kept : g.tells → IsKept g at (disk_in y) y.firm w
+  pub sizes : g.tells → LeavesSized y w
 
 -- the journal was opened, and has the entries of a world of no step
 pub record IsOpened {D : Type 0} {g : Ghosts D} (journal : Journal D g) (w : World) : Type 0 where

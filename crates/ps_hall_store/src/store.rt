@@ -94,6 +94,7 @@ impl<D: Disk> Store<D> {
         ensures mark { mark_of self.new ≡ (frame.now.count, frame.now.length) }
         ensures firm { OnOk result (firm_of self.new ≡ frame.now.steps) }
         ensures firm_same { OnErr result (firm_of self.new ≡ firm_of self.old) }
+        ensures grows { length_in self.old ≤ length_in self.new }
         ensures later { D.faults (disk_in self.old) ≤ D.faults (disk_in self.new) }
     {
         self.count = frame.count;
@@ -121,6 +122,7 @@ impl<D: Disk> Store<D> {
         ensures mark { mark_of self.new ≡ mark_of self.old }
         ensures firm { firm_of self.new ≡ firm_of self.old }
         ensures disk { disk_in self.new ≡ disk_in self.old }
+        ensures length { length_in self.new ≡ length_in self.old }
     {
         self.steps = steps;
     }
@@ -133,6 +135,7 @@ impl<D: Disk> Store<D> {
         ensures mark { mark_of self.new ≡ mark_of self.old }
         ensures steps { steps_of self.new ≡ steps_of self.old }
         ensures firm { firm_of self.new ≡ firm_of self.old }
+        ensures length { length_in self.new ≡ length_in self.old }
         ensures later { D.faults (disk_in self.old) ≤ D.faults (disk_in self.new) }
     {
         match self.journal.entries(alloc) {

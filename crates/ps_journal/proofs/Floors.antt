@@ -15,6 +15,12 @@ pub length_is : (c : List ℕ) (bs : List (List ℕ)) (n : ℕ) → Begun c bs �
 length_is c bs n begun (inl (cs, other, is)) = is ∙ ap (λ (l : List (List ℕ)). gate_at l + 1) (one_list_of_frames c cs bs other begun)
 length_is c bs n begun (inr (none, is)) = absurd (cc (begun.header, none))
 
+-- and so have any bytes
+pub one_length : (c : List ℕ) (m n : ℕ) → HasLength c m → HasLength c n → m ≡ n
+one_length c m n (inl (bs, begun, is)) has = is ∙ sym (length_is c bs n begun has)
+one_length c m n (inr (none, is)) (inl (bs, begun, other)) = absurd (cc (begun.header, none))
+one_length c m n (inr (none, is)) (inr (too, other)) = is ∙ sym other
+
 module _ (seen synced : List ℕ) (written : List (ℕ × ℕ)) (len : ℕ) where
   rest_at : (bs : List (List ℕ)) → IsSettledAt bs seen synced written len → LeavesAtLeast synced written len
   rest_at bs s c may n has =

@@ -1,17 +1,17 @@
 -- What a journal that isn't broken knows of its disk, beside a list that the bytes spell.
-use Rattle.std.proofs.Common.{Bool, ◌≡◌, ◌⊎◌, inl, inr, ⊎_elim, ℕ, ◌+◌, ◌≤◌, true, List, [], ◌∷◌, ◌++◌, length, take, map, sym, ap, subst, ◌∙◌}
+use Rattle.std.proofs.Common.{Bool, ◌≡◌, ◌⊎◌, inl, inr, ⊎_elim, ℕ, ◌+◌, ◌≤◌, true, List, [], ◌∷◌, ◌++◌, length, take, map, sym, ap, subst, ◌∙◌, arith}
 use Rattle.ps_types.specs.declared.entry.Entry.{Entry}
 use Rattle.ps_model.specs.Entries.{body, AreEntries, AreEntriesIn}
 use Rattle.ps_disk.specs.Disk.{MayLeave}
 use Rattle.ps_disk.proofs.TornWrites.{only_synced}
 use Rattle.ps_model.specs.Store.{is_header, is_second, gate_at, Begun, Lists, AreParts, spelled}
 use Rattle.ps_journal.specs.Settled.{Stores, IsSettledAt, IsSettled, IsBeforeOrAfter}
-use Rattle.ps_journal.proofs.Bodies.{one_list_of_frames}
+use Rattle.ps_journal.proofs.Bodies.{gate_at_push, one_list_of_frames}
 use Rattle.ps_journal.proofs.Lists.{lists_push, lists_same, all_in_second}
 use Rattle.std.proofs.lemmas.List.{append-nil}
 use Rattle.ps_disk.specs.SeenLeft.{synced_left}
 use Rattle.ps_journal.specs.Settled.{MayStillLeave}
-use Rattle.ps_journal.specs.Left.{IsFrontOfLeft}
+use Rattle.ps_journal.specs.Left.{IsFrontOfLeft, IsLongWithOrWithout}
 use Rattle.ps_journal.proofs.Crash.{room}
 use denote.Struct.Props.{props}
 use mathlib.Core.Logic.{∥∥₁_elim, ∥∥₁_map}
@@ -84,6 +84,24 @@ module _ (seen synced : List ℕ) (written : List (ℕ × ℕ)) (len : ℕ) (set
     pub still_front : (s : List ℕ) (w : List (ℕ × ℕ)) (c : List ℕ) → MayStillLeave (map body lists.parts) (body es) s w c → IsFrontOfLeft s w c
     still_front s w c still =
         ⊎_elim (λ x. front_is E s w c still.0 still.1 (before c x.0) (before still.0 x.1)) (λ x. front_is (E ++ es) s w c still.0 still.1 (after c x.0) (after still.0 x.1)) still.2
+
+    -- and how long it is
+    before_long : (c : List ℕ) → Stores c (map body lists.parts) → IsLongWithOrWithout E es len c
+    before_long c stores = inl (before c stores, inl (map body lists.parts, stores.begun, known.ends))
+
+    after_long : (c : List ℕ) → Stores c (map body lists.parts ++ body es ∷ []) → IsLongWithOrWithout E es len c
+    after_long c stores =
+        let ends = known.ends in
+        let pushed = gate_at_push (map body lists.parts) (body es) in
+        inr (after c stores, inl (map body lists.parts ++ body es ∷ [], stores.begun, omega (arith, ends, pushed)))
+
+    pub either_long : (c : List ℕ) → IsBeforeOrAfter (map body lists.parts) (body es) c → IsLongWithOrWithout E es len c
+    either_long c outcome = ⊎_elim (λ b. before_long c b) (λ b. after_long c b) outcome
+
+    pub rest_long : (c : List ℕ) → MayLeave synced written c → IsLongWithOrWithout E es len c
+    rest_long c leaves =
+        let same : c ≡ synced = only_synced synced c (subst (λ (w : List (ℕ × ℕ)). MayLeave synced w c) known.nothing leaves) in
+        before_long c (subst (λ (l : List ℕ). Stores l (map body lists.parts)) (sym (same ∙ known.kept)) known.stores)
 
     module _ (new synced_new : List ℕ) (written_new : List (ℕ × ℕ)) (more : ℕ) (done : IsSettledAt (map body lists.parts ++ body es ∷ []) new synced_new written_new more) where
       pub appended : spelled new (E ++ es)

@@ -10,4 +10,4 @@ pub mod Upgrades
 pub mod Opens
 pub mod Damage
 pub mod Placing
-mod Floors
+pub mod Floors

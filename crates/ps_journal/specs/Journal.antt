@@ -6,7 +6,7 @@ use Rattle.ps_disk.specs.declared.device.Disk.{Ghosts}
 use Rattle.ps_types.specs.declared.entry.Entry.{Entry}
 use Rattle.ps_model.specs.Entries.{body}
 use Rattle.ps_model.specs.Store.{Begun, gate_at, spelled}
-use Rattle.ps_journal.specs.Left.{LeavesList, IsFrontOfLeft}
+use Rattle.ps_journal.specs.Left.{LeavesAtLeast, LeavesList, IsFrontOfLeft, IsLongWithOrWithout}
 use Rattle.ps_journal.specs.Opened.{IsBegunAnew}
 use Rattle.ps_journal.specs.declared.judging.Placed.{Placed}
 use Rattle.ps_journal.specs.declared.journal.Journal.{Journal}
@@ -83,6 +83,14 @@ IsBegunIn old placed journal = IsBegunAnew old placed (seen_in journal) (length_
 -- what a crash now may leave
 abbrev pub CrashLeaves : {D : Type 0} {g : Ghosts D} → Journal D g → List ℕ → Type 0
 CrashLeaves journal c = MayLeave (synced_in journal) (written_in journal) c
+
+-- what a crash now leaves has at least this many bytes up to the closed gate and with it
+abbrev pub KeepsAtLeast : {D : Type 0} {g : Ghosts D} → Journal D g → ℕ → Type 0
+KeepsAtLeast journal len = LeavesAtLeast (synced_in journal) (written_in journal) len
+
+-- a frame of this batch was not written whole: a crash now leaves the entries before, in as many bytes, or those and the batch in a frame more
+abbrev pub IsTornBy : {D : Type 0} {g : Ghosts D} → Journal D g → List Entry → List Entry → Journal D g → Type 0
+IsTornBy old E batch new = (c : List ℕ) → CrashLeaves new c → IsLongWithOrWithout E batch (length_of old) c
 
 -- a crash now leaves this list and no other
 abbrev pub Keeps : {D : Type 0} {g : Ghosts D} → Journal D g → List Entry → Type 0

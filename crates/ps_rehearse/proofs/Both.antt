@@ -20,7 +20,7 @@ use Rattle.ps_workers.specs.ReadEnd.TheVariants.{Ended as ReadAll, Store as Read
 use Rattle.ps_workers.specs.Limits.{Limits}
 use Rattle.ps_workers.specs.State.{State}
 use Rattle.ps_hall_store.specs.declared.store.Store.{Store}
-use Rattle.ps_workers.specs.Headline.{IsAllSaid, NoneBroke, Serves, ServesStream, Worked, base_of}
+use Rattle.ps_workers.specs.Headline.{IsAllSaid, LeftOf, NoneBroke, Serves, ServesStream, Worked, base_of}
 use Rattle.ps_rehearse_lines.specs.Counted.{how_many, is_error, is_notice, is_result}
 use Rattle.ps_rehearse_lines.specs.Dealing.{IsShort, dealt, lines_of}
 use Rattle.ps_rehearse_lines.proofs.Places.{dealt-length}
@@ -87,7 +87,7 @@ module _ {D : Type 0} {g : Ghosts D} (o : Origin) (v : State) (y : Store D g) (o
   begins = s.begins ∙ ap (λ (l : List Entry). l ++ s.since) base-is
 
   told : (h : List ℕ) (t : Worked) (trees : List Tree) (out : List ℕ)
-      → ((x : ServesStream o g.tells (v.length + 5) w h t) × (NoneBroke (one ∷ two ∷ []) → t.wrote ≡ Finished → IsAllSaid o g.tells w h (v.length + 5) t x))
+      → ((x : ServesStream o g.tells (LeftOf y) (v.length + 5) w h t) × (NoneBroke (one ∷ two ∷ []) → t.wrote ≡ Finished → IsAllSaid o g.tells (LeftOf y) w h (v.length + 5) t x))
       → NoneBroke (one ∷ two ∷ []) → IsStream t trees out → AllByRecursion IsShort trees → length trees < 2 ^ 64 - 1 → length h ≤ 100 → Told w h trees out
   told h t trees out p broke is short few name =
       let x = p.0 in

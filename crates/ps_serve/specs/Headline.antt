@@ -106,8 +106,8 @@ pub record HasEnded (tells : Type 0) (o : Origin) (w : World) (worked : List Wor
   pub served : IsServing status
 
 -- All streams were served over one list of entries, each as `ServesStream` says: its lines stand in the list in their order, and its sink has their replies and
--- the notices of its host, which are read back from its bytes. But for a fault of the disk all is said for each stream whose writer finished. An address of another
--- host keeps its notices.
+-- the notices of its host, which are read back from its bytes. A line that found the store full would find any store full that a crash may leave now, if it has the
+-- line's place. But for a fault of the disk all is said for each stream whose writer finished. An address of another host keeps its notices.
 pub record Headline (tells : Type 0) (service : List ℕ) (hosts : List (List ℕ)) (worked : List Worked)
     (old new : HeldStore) (left : ℕ → List ℕ → Type 0) (status : Status) : Type 0 where
   pub origin : Origin
@@ -118,8 +118,9 @@ pub record Headline (tells : Type 0) (service : List ℕ) (hosts : List (List �
   pub len : ℕ
   pub list : HasOneList tells origin world old new left
   pub streams : (i : ℕ) (h : List ℕ) (t : Worked) → slice_get hosts i ≡ Some h → slice_get worked i ≡ Some t
-      → (s : ServesStream origin tells (len + 5) world h t)
-      × (status ≢ StoreFault → t.wrote ≡ Finished → IsAllSaid origin tells world h (len + 5) t s)
+      → (s : ServesStream origin tells (MayLeave new.synced new.written) (len + 5) world h t)
+      × (status ≢ StoreFault → t.wrote ≡ Finished
+      → IsAllSaid origin tells (MayLeave new.synced new.written) world h (len + 5) t s)
   -- whatever a crash may leave now, of what a sink has got all but one notice an address is recorded in it
   pub again : tells → (i : ℕ) (h : List ℕ) (t : Worked)
       → (here : slice_get hosts i ≡ Some h) (there : slice_get worked i ≡ Some t) → (let s = (streams i h t here there).0 in

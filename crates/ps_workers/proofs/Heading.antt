@@ -4,11 +4,13 @@ use Rattle.std.specs.Prelude.{slice_get}
 use Rattle.ps_types.specs.declared.entry.Arrival.{Arrival}
 use Rattle.ps_types.specs.declared.entry.Entry.{Entry}
 use Rattle.ps_types.specs.declared.jid.Jid.{Jid}
+use Rattle.ps_journal.specs.Opened.{HasLength}
 use Rattle.ps_model.specs.Core.{handed}
 use Rattle.ps_model.specs.CoreLaws.{IsLawful}
 use Rattle.ps_model.specs.Entries.{AreEntries}
 use Rattle.ps_model.specs.Machine.{start}
 use Rattle.ps_model.specs.TheCore.{the_core}
+use Rattle.ps_model.specs.Store.{spelled}
 use Rattle.ps_model.specs.World.{World, durable}
 use Rattle.ps_model.specs.declared.steps.Role.TheVariants.{Writer}
 use Rattle.ps_model.specs.declared.steps.Step.TheVariants.{Ended as Ends}
@@ -27,7 +29,7 @@ use Rattle.ps_trace.proofs.Handing.{hands-none}
 use Rattle.ps_trace.proofs.Lining.{begun-lines, run-lines}
 use Rattle.ps_trace.proofs.Owning.{calm, own-append, own-arrivals, own-none, own-records, own-words, words-by-append, words-by-none}
 use Rattle.ps_trace.proofs.Wording.{recorded-few}
-use Rattle.ps_hall_flush.specs.Homes.{HadNoRoom, maker_of, world_at}
+use Rattle.ps_hall_flush.specs.Homes.{AllLackRoom, HadNoRoom, maker_of, world_at}
 use Rattle.ps_hall_flush.specs.Origin.{Origin}
 use Rattle.ps_hall.specs.declared.answers.EndCause.{EndCause}
 use Rattle.ps_hall.specs.declared.answers.EndCause.TheVariants.{Finished, WriteFault}
@@ -38,7 +40,7 @@ use Rattle.ps_workers.specs.Told.{AreBeforeGone, AreOurs, GoneIsLast, IsAcknowle
 use Rattle.ps_workers.specs.Working.{ReaderMade, WriterMade}
 use Rattle.ps_workers.proofs.Acknowledging.{acknowledged}
 use Rattle.ps_workers.proofs.Again.{again-durable}
-use Rattle.ps_workers.proofs.Filling.{full-run}
+use Rattle.ps_workers.proofs.Filling.{full-run, within-run}
 use Rattle.ps_workers.proofs.Leaving.{has-gone}
 use Rattle.ps_workers.proofs.Made.{run-grows}
 use Rattle.ps_workers.proofs.Ours.{words-ours}
@@ -91,16 +93,20 @@ module _ (o : Origin) (log : List Deed) (lawful : IsLawful the_core o.list) (nam
   said : (seen : List Deed) (whole : List Word) → HasSeen (i + i + 1) seen log → words_by the_core o.boot (i + i + 1) first seen ≡ whole → ws ≡ whole
   said seen whole kept spoke = sym (own-words o.hosts differ the_core o.boot h (i + i + 1) (i, here, refl) first log owned) ∙ (words_seen o (i + i + 1) seen log kept ∙ spoke)
 
+  -- what is left of the store has no room for a line that found none
+  abbrev EachLacks : (List ℕ → Type 0) → Type 0
+  EachLacks left = (c : List ℕ) → left c → (n : ℕ) → HasLength c n → (F : List Entry) → spelled c F → AllLackRoom o.limits.changes (n + 5) (length F) o.boot first log
+
   sound : Sound the_core at
   sound = world_kept the_core the-laws o.boot named o.list (steps_in log) lawful
 
   fits : durable at ≤ length at.entries
   fits = let n = ends-le at.flushed at.made in let m = sound.sizes in omega (arith, n, m)
 
-  pub serves_stream : (tells : Type 0) (spelled : tells → AreEntries (take (durable at) at.entries)) (t : Worked) (seen seen_too : List Deed) → ReaderMade o h (i + i) seen t.source t.source_now t.clock t.clock_now t.read → HasSeen (i + i) seen log
+  pub serves_stream : (tells : Type 0) (left : List ℕ → Type 0) (room : tells → EachLacks left) (are_spelled : tells → AreEntries (take (durable at) at.entries)) (t : Worked) (seen seen_too : List Deed) → ReaderMade o h (i + i) seen t.source t.source_now t.clock t.clock_now t.read → HasSeen (i + i) seen log
       → WriterMade o h (i + i + 1) seen_too t.sink t.sink_now t.wrote → HasSeen (i + i + 1) seen_too log
-      → (s : ServesStream o tells bytes at h t) × (AllRead the_core o.boot o.list o.hosts log → t.wrote ≡ Finished → IsAllSaid o tells at h bytes t s)
-  serves_stream tells spelled t seen seen_too r kept w kept_too =
+      → (s : ServesStream o tells left bytes at h t) × (AllRead the_core o.boot o.list o.hosts log → t.wrote ≡ Finished → IsAllSaid o tells left at h bytes t s)
+  serves_stream tells left room are_spelled t seen seen_too r kept w kept_too =
       let base = base_of o in
       let spoke = w.speaks.spoke in
       let whole = w.speaks.whole in
@@ -130,6 +136,7 @@ module _ (o : Origin) (log : List Deed) (lawful : IsLawful the_core o.list) (nam
           stand = stand;
           lined = subst (Lined t.read t.source.bytes t.source_now.bytes t.clock.told t.clock_now.told) arrivals r.read.lined;
           full = full-run o.limits.changes bytes h the-laws o.boot base first [] log quiet (begun-lines the_core h o.boot o.list) had;
+          full_left = λ tells_all c may n has F spells. within-run o.limits.changes (n + 5) (length F) h the-laws o.boot base first [] log quiet (begun-lines the_core h o.boot o.list) (room tells_all c may n has F spells);
           written = spoke.written;
           few = spoke.few;
           cut = w.speaks.cut;
@@ -140,7 +147,7 @@ module _ (o : Origin) (log : List Deed) (lawful : IsLawful the_core o.list) (nam
           acknowledged = acked;
           one_line = each-line base h at cs whole last (durable at) fits sound.lawful stand.lines front_is ours acked;
           reads_back = λ tells_all.
-              reads-back base h at cs whole last (durable at) fits sound.lawful stand.lines front_is ours acked recorded (spelled tells_all)
+              reads-back base h at cs whole last (durable at) fits sound.lawful stand.lines front_is ours acked recorded (are_spelled tells_all)
               t.sink.bytes t.sink_now.bytes spoke.few spoke.written;
           gone = λ says. (
               let g = r.gone says in
@@ -161,7 +168,7 @@ module _ (o : Origin) (log : List Deed) (lawful : IsLawful the_core o.list) (nam
             record {
               complete = complete;
               reads_whole = λ tells_all.
-                  reads-whole base h at cs whole last (durable at) fits sound.lawful stand.lines front_is ours acked recorded (spelled tells_all)
+                  reads-whole base h at cs whole last (durable at) fits sound.lawful stand.lines front_is ours acked recorded (are_spelled tells_all)
                   t.sink.bytes t.sink_now.bytes spoke.few spoke.written (none-left t.wrote last w.speaks.cut finished) complete;
             }),
       )

@@ -1,5 +1,5 @@
 -- The last frame, of what still waits.
-use Rattle.std.proofs.Common.{◌≡◌, ◌≢◌, ℕ, ◌+◌, ◌≤◌, true, false, List, [], Option, None, Result, Ok, Err, is_some, length, ap, sym, ◌∙◌, subst, arith}
+use Rattle.std.proofs.Common.{◌≡◌, ◌≢◌, ℕ, ◌+◌, ◌≤◌, true, false, List, [], Option, None, Result, Ok, Err, is_some, length, refl, ap, sym, ◌∙◌, subst, arith}
 use Rattle.std.specs.Prelude.{OnOk, OnErr, IfSome}
 use Rattle.std.proofs.lemmas.Bool.{false≢true}
 use Rattle.ps_base.specs.Causes.{Rose}
@@ -8,7 +8,7 @@ use Rattle.ps_disk.specs.declared.device.Disk.{Ghosts}
 use Rattle.ps_model.specs.Entries.{body}
 use Rattle.ps_model.specs.Machine.{start}
 use Rattle.ps_model.specs.TheCore.{the_core}
-use Rattle.ps_model.specs.World.{World}
+use Rattle.ps_model.specs.World.{World, ends}
 use Rattle.ps_world.proofs.Lists.{ends-mono}
 use Rattle.ps_twin.specs.declared.twin.TwinSeat.{TwinSeat}
 use Rattle.ps_trace.specs.declared.deed.Deed.{Deed}
@@ -18,14 +18,16 @@ use Rattle.ps_hall_store.specs.Frames.{IsTorn, Loaded, Tears, Writes}
 use Rattle.ps_hall_store.specs.Stand.{IsKept, IsWhole, OpenedAt, StoreStands, broken_in, disk_in, firm_of, length_in, mark_of}
 use Rattle.ps_hall_store.specs.declared.store.Frame.{Frame}
 use Rattle.ps_hall_store.specs.declared.store.Store.{Store}
+use Rattle.ps_hall_store.proofs.Sizing.{firm_made}
 use Rattle.ps_hall.specs.Closed.{HasClosed}
 use Rattle.ps_hall_flush.specs.Flush.{IsFrameOf}
-use Rattle.ps_hall_flush.specs.Homes.{bytes_in, world_at}
+use Rattle.ps_hall_flush.specs.Homes.{AreMeasured, EachLacksRoom, bytes_in, world_at}
 use Rattle.ps_hall_flush.specs.Origin.{Origin}
-use Rattle.ps_hall_flush.proofs.Framing.{loaded_ok}
-use Rattle.ps_hall_flush.proofs.Homing.{bytes_given}
+use Rattle.ps_hall_flush.proofs.Framing.{all_entries, loaded_ok}
+use Rattle.ps_hall_flush.proofs.Homing.{begun_all, bytes_given}
 use Rattle.ps_hall_flush.proofs.Logs.{prefix_follows, room_more}
 use Rattle.ps_hall_flush.proofs.Marking.{quiet_mark, whole_mark}
+use Rattle.ps_hall_flush.proofs.Measuring.{each_lacks, measured_as, within_more}
 use Rattle.ps_workers.specs.Closing.{HasEnded}
 
 -- fewer steps are counted on
@@ -57,15 +59,20 @@ module _ {V J D : Type 0} {g : Ghosts D} (o : Origin) (v now : State) (y : Store
       let none = ap (λ b. length (body (entries_of b))) did.none in
       omega (arith, given, none)
 
+  -- with the frame
+  begun : AreMeasured o f.count f.length closed.log
+  begun = begun_all o v f.count f.length closed.log closed.home did.longer
+
   -- what each store that is left at the end has to tell
-  ended : (z : Store D g) → (g.tells → IsKept g o.at (disk_in z) now.flushed after) → (now.broken ≡ false → broken_in z ≡ None → IsWhole z after) → (now.broken ≡ false → broken_in z ≡ None → now.length ≡ length_in z)
+  ended : (z : Store D g) → (g.tells → EachLacksRoom o (g.synced (disk_in z)) (g.written (disk_in z)) closed.log) → (g.tells → IsKept g o.at (disk_in z) now.flushed after) → (now.broken ≡ false → broken_in z ≡ None → IsWhole z after) → (now.broken ≡ false → broken_in z ≡ None → now.length ≡ length_in z)
       → (now.broken ≡ true → is_some (broken_in z) ≡ true) → (is_some (broken_in z) ≡ true → Rose o.at.faults (g.faults (disk_in z))) → o.at.faults ≤ g.faults (disk_in z) → o.at.bytes ≤ length_in z → HasEnded o now z seats
-  ended z kept whole length_is broken fault faults grows = record {
+  ended z room kept whole length_is broken fault faults grows = record {
     log = closed.log;
     lawful = closed.home.lawful;
     named = closed.home.named;
     owned = closed.home.owned;
     full = room_more o.limits.changes (bytes_in v) (now.length + 5) o.boot (start the_core o.boot o.list) closed.log fits closed.home.full;
+    room = room;
     stands = stands;
     rows = did.kept.hosts ∙ closed.home.hosts;
     limits = did.kept.limits ∙ closed.home.limits;
@@ -84,6 +91,7 @@ module _ {V J D : Type 0} {g : Ghosts D} (o : Origin) (v now : State) (y : Store
   ended_broken broken =
       let a = closed.archive in
       ended y
+      closed.room
       (λ tells. subst (λ n. IsKept g o.at (disk_in y) n after) (sym did.kept.flushed) (closed.kept tells))
       (λ quiet. absurd (false≢true (sym quiet ∙ broken)))
       (λ quiet. absurd (false≢true (sym quiet ∙ broken)))
@@ -103,7 +111,14 @@ module _ {V J D : Type 0} {g : Ghosts D} (o : Origin) (v now : State) (y : Store
   ended_written z quiet writes mark firm =
       let s : StoreStands o.at z after = writes o.at before after (loaded quiet) in
       let calm : after.broken ≡ false = sym stands.broken ∙ quiet in
+      let whole = s.whole calm in
+      let count : z.count ≡ f.count = ap (λ p. p.0) mark in
+      let length_is : z.length ≡ f.length = ap (λ p. p.1) mark in
+      let made = all_entries after (firm_of z) s.sound (whole.firm ∙ s.steps) ∙ sym whole.count in
+      let all : AreMeasured o z.count z.length closed.log = measured_as o f.count f.length z.count z.length closed.log (sym count) (sym length_is) begun in
       ended z
+      (λ tells. each_lacks o z after closed.log (bytes_in v) (s.sizes tells) closed.home.full
+      (measured_as o z.count z.length (ends (firm_of z) after.made) (length_in z) closed.log (sym made) whole.length_is all) all)
       (λ tells. kept_less g o.at (disk_in z) now.flushed (firm_of z) after (let a = stands.flushed in let b = stands.sound.flushed in let c = did.steps in let e = did.kept.steps in let h = stands.steps in omega (arith, a, b, c, e, h, firm)) (s.kept tells))
       (λ still none. s.whole calm)
       (λ still none. long ∙ (sym (ap (λ p. p.1) mark) ∙ (s.whole calm).length_is))
@@ -113,10 +128,22 @@ module _ {V J D : Type 0} {g : Ghosts D} (o : Origin) (v now : State) (y : Store
       s.grows
 
   -- the disk failed meanwhile
-  ended_torn : (z : Store D g) → now.broken ≡ false → Tears y z f → firm_of z ≡ firm_of y → HasEnded o now z seats
-  ended_torn z quiet tears firm =
+  ended_torn : (z : Store D g) → now.broken ≡ false → Tears y z f → mark_of z ≡ (f.count, f.length) → length_in y ≤ length_in z → firm_of z ≡ firm_of y → HasEnded o now z seats
+  ended_torn z quiet tears mark grows firm =
       let t : IsTorn o.at z after = (tears o.at before after (loaded quiet)).1 in
+      let was = closed.archive in
+      let still = sym did.kept.broken ∙ quiet in
+      let whole = was.whole (was.broken ∙ (sym closed.broken ∙ still)) in
+      let numbers = closed.mark still in
+      let on = prefix_follows o closed.list closed.log closed.front closed.home.owned in
+      let made : ends (firm_of z) after.made ≡ v.count = firm_made before after (firm_of z) was.sound on (firm ∙ (whole.firm ∙ was.steps)) ∙ (sym whole.count ∙ sym (ap (λ p. p.0) numbers)) in
+      let first = start the_core o.boot o.list in
+      let least : v.length + 5 ≤ length_in z + 5 = (let a = ap (λ p. p.1) numbers in let b = whole.length_is in omega (arith, a, b, grows)) in
+      let short : AreMeasured o v.count (length_in z) closed.log = within_more v.count (v.length + 5) (length_in z + 5) o.boot first closed.log least closed.home.begun in
       ended z
+      (λ tells. each_lacks o z after closed.log (bytes_in v) (t.sizes tells) closed.home.full
+      (measured_as o v.count (length_in z) (ends (firm_of z) after.made) (length_in z) closed.log (sym made) refl short)
+      (measured_as o f.count f.length z.count z.length closed.log (sym (ap (λ p. p.0) mark)) (sym (ap (λ p. p.1) mark)) begun))
       (λ tells. kept_less g o.at (disk_in z) now.flushed (firm_of z) after (let a = did.kept.flushed in let b = closed.firm in omega (arith, a, b, firm)) (t.kept tells))
       (λ still none. absurd (false≢true (sym (ap is_some none) ∙ t.broken)))
       (λ still none. absurd (false≢true (sym (ap is_some none) ∙ t.broken)))
@@ -125,9 +152,9 @@ module _ {V J D : Type 0} {g : Ghosts D} (o : Origin) (v now : State) (y : Store
       t.faults
       t.grows
 
-  pub ended_last : {T E : Type 0} (z : Store D g) (r : Result T E) → now.broken ≡ false → OnOk r (Writes y z f) → OnErr r (Tears y z f) → mark_of z ≡ (f.count, f.length) → OnOk r (firm_of z ≡ f.steps) → OnErr r (firm_of z ≡ firm_of y) → HasEnded o now z seats
-  ended_last z (Ok t) quiet writes tears mark firm same = ended_written z quiet writes mark firm
-  ended_last z (Err e) quiet writes tears mark firm same = ended_torn z quiet tears same
+  pub ended_last : {T E : Type 0} (z : Store D g) (r : Result T E) → now.broken ≡ false → OnOk r (Writes y z f) → OnErr r (Tears y z f) → mark_of z ≡ (f.count, f.length) → length_in y ≤ length_in z → OnOk r (firm_of z ≡ f.steps) → OnErr r (firm_of z ≡ firm_of y) → HasEnded o now z seats
+  ended_last z (Ok t) quiet writes tears mark grows firm same = ended_written z quiet writes mark firm
+  ended_last z (Err e) quiet writes tears mark grows firm same = ended_torn z quiet tears mark grows same
 
   -- a frame has entries, or there is none to write
   pub may_write : IfSome f.batch (λ es. es ≢ [])

@@ -31,7 +31,7 @@ use Rattle.ps_hall_state.specs.declared.state.State.{State}
 use Rattle.ps_hall_store.specs.Stand.{disk_in}
 use Rattle.ps_hall_store.specs.declared.store.Store.{Store}
 use Rattle.ps_workers.specs.Closing.{HasEnded}
-use Rattle.ps_workers.specs.Headline.{HasReasons, NoneBroke, Serves, Worked}
+use Rattle.ps_workers.specs.Headline.{HasReasons, LeftOf, NoneBroke, Serves, Worked}
 use Rattle.ps_workers.specs.Teams.{ArePaired, ended_in, passes_in, team, worked_of}
 use Rattle.ps_workers.specs.Working.{DidWork, IsReady, ReaderMade, WriterMade}
 use Rattle.ps_workers.specs.declared.serving.Ended.{Ended}
@@ -118,7 +118,7 @@ module _ {B D S C K : Type 0} {g : Ghosts D} {s : SourceGhosts S} (o : Origin) (
         streams = λ i h x here there.
             let m = made_at o t clock_of sink_of ps ports ws same all passes i x there in
             let host : m.0 ≡ h = some_same m.0 h (sym m.3.here ∙ here) in
-            let r = serves_stream o ended.log ended.lawful ended.named ended.owned differ (v.length + 5) ended.full i h here g.tells spelled x (seen_of m.1.reader.seat) (seen_of m.1.writer.seat)
+            let r = serves_stream o ended.log ended.lawful ended.named ended.owned differ (v.length + 5) ended.full i h here g.tells (LeftOf y) ended.room spelled x (seen_of m.1.reader.seat) (seen_of m.1.writer.seat)
             (subst (λ (k : List ℕ). ReaderMade o k (i + i) (seen_of m.1.reader.seat) x.source x.source_now x.clock x.clock_now x.read) host m.3.reader) (seen_reader i m.1 m.2)
             (subst (λ (k : List ℕ). WriterMade o k (i + i + 1) (seen_of m.1.writer.seat) x.sink x.sink_now x.wrote) host m.3.writer) (seen_writer i m.1 m.2) in
             (r.0, λ none finished. r.1 (all_read none) finished);

@@ -15,7 +15,7 @@ use Rattle.ps_hall_state.specs.Stand.{Stands}
 use Rattle.ps_hall_state.specs.declared.state.State.{State}
 use Rattle.ps_hall_store.specs.Stand.{IsKept, IsWhole, broken_in, disk_in, length_in}
 use Rattle.ps_hall_store.specs.declared.store.Store.{Store}
-use Rattle.ps_hall_flush.specs.Homes.{HadNoRoom, maker_of, world_at}
+use Rattle.ps_hall_flush.specs.Homes.{EachLacksRoom, HadNoRoom, maker_of, world_at}
 use Rattle.ps_hall_flush.specs.Origin.{Origin}
 
 -- The state stands for the deeds of all passes; where nothing failed the store has all their entries, and a fault that the state tells of is the store's; and what
@@ -26,6 +26,7 @@ pub record HasEnded {V J D : Type 0} {g : Ghosts D} (o : Origin) (v : State) (y 
   pub named : o.boot ≢ []
   pub owned : AreOwned o.hosts log
   pub full : HadNoRoom o.limits.changes (v.length + 5) o.boot (start the_core o.boot o.list) log
+  pub room : g.tells → EachLacksRoom o (g.synced (disk_in y)) (g.written (disk_in y)) log
   pub stands : Stands v (world_at o log)
   pub rows : names v.rows.items ≡ o.hosts
   pub limits : v.limits ≡ o.limits

@@ -7,6 +7,7 @@ use Rattle.ps_types.specs.declared.jid.Jid.{Jid}
 use Rattle.ps_types.specs.declared.entry.Entry.{Entry}
 use Rattle.ps_types.specs.declared.entry.Entry.TheVariants.{Boot, Gone, Handed}
 use Rattle.ps_wire.specs.AtEnd.{nothing_of}
+use Rattle.ps_disk.specs.Disk.{MayLeave}
 use Rattle.ps_disk.specs.declared.device.Disk.{Ghosts}
 use Rattle.ps_model.specs.Core.{handed}
 use Rattle.ps_model.specs.Entries.{AreEntries, IsBare, spelling}
@@ -31,7 +32,7 @@ use Rattle.ps_streams.specs.Speaking.{IsFew, Written}
 use Rattle.ps_streams.specs.declared.read.ReadEnd.{ReadEnd}
 use Rattle.ps_streams.specs.declared.read.ReadEnd.TheVariants.{Ended, Long, ReadFault, Closed, Store as ReaderStore, Full as ReaderFull}
 use Rattle.ps_workers.specs.Sinks.{OfGained, ReadsBack, ReadsWhole}
-use Rattle.ps_workers.specs.Told.{AreBeforeGone, AreFull, AreMadeFor, AreOurs, GoneIsLast, HasGoneBehind, IsAcknowledged, LacksAtMostOne}
+use Rattle.ps_workers.specs.Told.{AreBeforeGone, AreFull, AreMadeFor, AreOurs, EachIsFull, GoneIsLast, HasGoneBehind, IsAcknowledged, LacksAtMostOne}
 
 -- ---- a stream
 
@@ -85,10 +86,11 @@ pub record HasReasons {D : Type 0} {g : Ghosts D} (o : Origin) (v : State) (y : 
 abbrev pub base_of : Origin → List Entry
 base_of o = o.list ++ Boot o.boot ∷ []
 
-module _ (o : Origin) (tells : Type 0) where
+module _ (o : Origin) (tells : Type 0) (left : List ℕ → Type 0) where
   -- The stream's lines stand in the list in their order, each answered at its place; its sink has a front of their replies, and of each address's notices
   -- those after the ones that were recorded before, all that are recorded since and at most one more, and no notice to another host; and all that was written is
-  -- durable. Where the disk tells its bytes, what the sink has gained reads so.
+  -- durable. Where the disk tells its bytes, what the sink has gained reads so, and a line that found the store full would find any store full that a crash may
+  -- leave, if it has the line's place.
   pub record ServesStream (bytes : ℕ) (w : World) (h : List ℕ) (t : Worked) : Type 0 where
     pub lines : List Came
     pub whole : List Word
@@ -96,6 +98,7 @@ module _ (o : Origin) (tells : Type 0) where
     pub stand : HasLines the_core (base_of o) h w lines
     pub lined : Lined t.read t.source.bytes t.source_now.bytes t.clock.told t.clock_now.told (map (λ (c : Came). c.arrival) lines)
     pub full : AreFull o.limits.changes bytes w.entries h 1 lines
+    pub full_left : tells → EachIsFull left o.limits.changes w.entries h lines
     pub written : Written t.sink.bytes t.sink_now.bytes whole last
     pub few : IsFew last
     pub cut : (last ≡ []) ⊎ (t.wrote ≡ WriteFault)
@@ -123,6 +126,10 @@ module _ (o : Origin) (tells : Type 0) where
 abbrev pub NoneBroke : List Worked → Type 0
 NoneBroke worked = (i : ℕ) (t : Worked) → slice_get worked i ≡ Some t → (t.read ≢ ReaderStore) × (t.wrote ≢ WriterStore)
 
+-- what a crash may leave of the store
+abbrev pub LeftOf : {D : Type 0} {g : Ghosts D} → Store D g → List ℕ → Type 0
+LeftOf {D} {g} y c = MayLeave (g.synced (disk_in y)) (g.written (disk_in y)) c
+
 -- The list of entries is lawful and begins with what the store had and the Boot; all behind that was made for the hosts that are served. A crash leaves a front of
 -- it that has all durable entries, each of which has a spelling, and where nothing failed the store has all of it. Each stream is served so, and where no worker
 -- met a fault of the disk, all is said for a stream whose writer finished. Each worker's cause shows at the end. An address of a host that is not served keeps its
@@ -146,8 +153,8 @@ pub record Serves {D : Type 0} {g : Ghosts D} (o : Origin) (v : State) (y : Stor
   pub grows : o.at.bytes ≤ length_in y
   pub size : length worked ≡ length o.hosts
   pub streams : (i : ℕ) (h : List ℕ) (t : Worked) → slice_get o.hosts i ≡ Some h → slice_get worked i ≡ Some t
-      → (s : ServesStream o g.tells (v.length + 5) world h t)
-      × (NoneBroke worked → t.wrote ≡ Finished → IsAllSaid o g.tells world h (v.length + 5) t s)
+      → (s : ServesStream o g.tells (LeftOf y) (v.length + 5) world h t)
+      × (NoneBroke worked → t.wrote ≡ Finished → IsAllSaid o g.tells (LeftOf y) world h (v.length + 5) t s)
   pub reasons : (i : ℕ) (h : List ℕ) (t : Worked) → slice_get o.hosts i ≡ Some h → slice_get worked i ≡ Some t
       → HasReasons o v y world.entries h t
   pub others : (a : Jid) → (IsServed o.hosts a.host → ⊥) → handed world.entries a ≡ handed (base_of o) a

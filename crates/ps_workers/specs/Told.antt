@@ -6,7 +6,9 @@ use Rattle.ps_types.specs.declared.entry.Entry.{Entry}
 use Rattle.ps_types.specs.declared.entry.Entry.TheVariants.{Boot, Change, Handed, Gone, Base}
 use Rattle.ps_types.specs.declared.entry.Notice.{Notice}
 use Rattle.ps_model.specs.Core.{handed}
+use Rattle.ps_journal.specs.Opened.{HasLength}
 use Rattle.ps_model.specs.Entries.{spelling}
+use Rattle.ps_model.specs.Store.{spelled}
 use Rattle.ps_model.specs.TheCore.{the_core}
 use Rattle.ps_trace.specs.Lines.{Came}
 use Rattle.ps_trace.specs.Own.{IsServed}
@@ -22,6 +24,18 @@ pub record PassesLimit (limit bytes : ℕ) (E : List Entry) (h : List ℕ) (k : 
 abbrev pub AreFull : ℕ → ℕ → List Entry → List ℕ → ℕ → List Came → Type 0
 AreFull limit bytes E h k [] = Unit {0}
 AreFull limit bytes E h k (c ∷ cs) = (c.full ≡ true → PassesLimit limit bytes E h k c) × AreFull limit bytes E h (k + 1) cs
+
+-- so does each of these lines that did at a place that so many entries have
+abbrev pub AreFullWithin : ℕ → ℕ → ℕ → List Entry → List ℕ → ℕ → List Came → Type 0
+AreFullWithin limit bytes count E h k [] = Unit {0}
+AreFullWithin limit bytes count E h k (c ∷ cs) =
+    (c.full ≡ true → c.place ≤ count → PassesLimit limit bytes E h k c) × AreFullWithin limit bytes count E h (k + 1) cs
+
+-- Whatever is left of a store: each line that found it full, at a place that the bytes have, passes the limit behind them.
+abbrev pub EachIsFull : (List ℕ → Type 0) → ℕ → List Entry → List ℕ → List Came → Type 0
+EachIsFull left limit E h lines =
+    (c : List ℕ) → left c → (n : ℕ) → HasLength c n → (F : List Entry) → spelled c F
+    → AreFullWithin limit (n + 5) (length F) E h 1 lines
 
 -- those of the lines that got a reply
 abbrev pub if_replied : Option (List ℕ) → Came → List Came → List Came

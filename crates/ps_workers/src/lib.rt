@@ -12,8 +12,8 @@
 //!   spelling; where nothing failed the store has all of it.
 //! - `ServesStream`: the lines of a stream stand in the list in their order, each answered at its place; its sink has a front of their replies, and of each
 //!   address's notices those after the ones that were recorded before, all that are recorded since and at most one more; `IsAcknowledged`, all that was written
-//!   rests on durable entries; `AreFull`, a line that found no room would have passed the limit; `HasCauses`, why its workers ended,
-//!   by its objects.
+//!   rests on durable entries; `EachIsFull`, a line that found no room finds none behind whatever a crash may leave that has the line's place, and
+//!   `AreFull`, none behind the length that the state reckons with; `HasCauses`, why its workers ended, by its objects.
 //! - `HasReasons`: why they ended, by the state and the store at the end. So a worker's word for its cause is enough.
 //! - `ReadsBack`: where the disk and the sink tell, the replies that stand in the bytes that the sink has gained are a front of those of the lines, and the other
 //!   stanzas to each address of the host are just those notices. Each of both is one line.

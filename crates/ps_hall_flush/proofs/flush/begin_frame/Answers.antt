@@ -1,7 +1,7 @@
 use Rattle.std.proofs.Common.{refl, ap, ◌∙◌, arith, inl}
 use Rattle.ps_twin.specs.Seats.{seen_of}
 use Rattle.ps_hall_flush.proofs.Framing.{frame_begun, frame_refused, frame_spared}
-use Rattle.ps_hall_flush.proofs.Homing.{bytes_given, home_standing, notes_none, passed_by}
+use Rattle.ps_hall_flush.proofs.Homing.{begun_all, bytes_given, home_standing, notes_none, passed_by}
 use Rattle.ps_hall_flush.proofs.Seating.{holds_on}
 use Rattle.ps_world.proofs.Lists.{nil-right}
 use Rattle.ps_hall_flush.proofs.flush.begin_frame.Goals as goal
@@ -11,14 +11,14 @@ leave_as_was-requires-clause-may g c =
     let e = c.enter-home.ensures in
     let s = c.enter-home.new.seat in
     let v = c.enter-home.result.state in
-    notes_none g.B.Opening.origin c.args.twin.now s v v e.twin e.held e.value refl refl (omega arith) refl e.firm (inl (holds_on c.args.seat.now s e.hand c.requires.held.1)) (λ service some w is. is)
+    notes_none g.B.Opening.origin c.args.twin.now s v v e.twin e.held e.value refl refl (omega arith) e.value.begun refl e.firm (inl (holds_on c.args.seat.now s e.hand c.requires.held.1)) (λ service some w is. is)
 
 pub leave_as_was-requires-then-upto-home-clause-may : goal.leave_as_was-requires-then-upto-home-clause-may
 leave_as_was-requires-then-upto-home-clause-may g c =
     let e = c.enter-home.ensures in
     let s = c.enter-home.new.seat in
     let v = c.enter-home.result.state in
-    notes_none g.B.Opening.origin c.args.twin.now s v v e.twin e.held e.value refl refl (omega arith) refl e.firm (inl (holds_on c.args.seat.now s e.hand c.requires.held.1)) (λ service some w is. is)
+    notes_none g.B.Opening.origin c.args.twin.now s v v e.twin e.held e.value refl refl (omega arith) e.value.begun refl e.firm (inl (holds_on c.args.seat.now s e.hand c.requires.held.1)) (λ service some w is. is)
 
 pub frame_of-frame-requires : goal.frame_of-frame-requires
 frame_of-frame-requires g c = record { standing = home_standing g.B.Opening.origin c.enter-home.result.state (seen_of c.enter-home.new.seat) c.enter-home.ensures.value }
@@ -31,7 +31,7 @@ leave_as_was-requires-2-clause-may g c =
     let v = c.enter-home.result.state in
     let now = c.frame_of-frame.new.state in
     notes_none g.B.Opening.origin c.args.twin.now s v now e.twin e.held e.value x.kept.hosts x.kept.limits
-    (bytes_given v now x.none (ap (λ p. p.1) x.mark ∙ x.longer)) x.kept.flushed e.firm (inl (holds_on c.args.seat.now s e.hand c.requires.held.1)) x.goes
+    (bytes_given v now x.none (ap (λ p. p.1) x.mark ∙ x.longer)) (begun_all g.B.Opening.origin v now.count now.length (seen_of s) e.value (ap (λ p. p.1) x.mark ∙ x.longer)) x.kept.flushed e.firm (inl (holds_on c.args.seat.now s e.hand c.requires.held.1)) x.goes
 
 pub returns-clause-passed : goal.returns-clause-passed
 returns-clause-passed g c =

@@ -8,7 +8,7 @@ use Rattle.ps_hall_flush.proofs.flush.flush_seat.Goals as goal
 pub begin_frame-requires : goal.begin_frame-requires
 begin_frame-requires g c =
     let e = c.enter_journal-archive.ensures in
-    record { twin = e.twin; held = e.held; stands = e.list; firm = e.firm; mark = e.mark }
+    record { twin = e.twin; held = e.held; stands = e.list.stands; within = e.list.within; firm = e.firm; mark = e.mark }
 
 pub leave_journal-requires : goal.leave_journal-requires
 leave_journal-requires g c =
@@ -17,7 +17,7 @@ leave_journal-requires g c =
     record {
       twin = n.twin;
       held = n.held;
-      list = (list_of s, n.stands, ([], sym (nil-right (list_of s))), n.front);
+      list = (list_of s, record { stands = n.stands; within = n.within }, ([], sym (nil-right (list_of s))), n.front);
       firm = (let f = n.firm in omega (arith, f));
       mark = sym n.mark;
     }
@@ -29,7 +29,7 @@ leave_journal-requires-in-Err g c =
     record {
       twin = n.twin;
       held = n.held;
-      list = (list_of s, n.stands, ([], sym (nil-right (list_of s))), n.front);
+      list = (list_of s, record { stands = n.stands; within = n.within }, ([], sym (nil-right (list_of s))), n.front);
       firm = (let f = n.firm in omega (arith, f));
       mark = sym n.mark;
     }

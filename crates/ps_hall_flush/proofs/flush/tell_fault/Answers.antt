@@ -4,9 +4,10 @@ use Rattle.ps_trace.specs.Own.{deeds}
 use Rattle.ps_trace.specs.declared.deed.Deed.{Deed}
 use Rattle.ps_twin.specs.Seats.{seen_of, number_of, mark_of}
 use Rattle.ps_hall_flush.specs.Flush.{IsBrokenAt}
-use Rattle.ps_hall_flush.specs.Homes.{bytes_in, world_at}
+use Rattle.ps_hall_flush.specs.Homes.{AreMeasured, bytes_in, world_at}
 use Rattle.ps_hall_flush.proofs.Homing.{broken_home, did_by, home_few, home_steps, may_note}
-use Rattle.ps_hall_flush.proofs.Marking.{fault_mark}
+use Rattle.ps_hall_flush.proofs.Marking.{fault_mark, mark_count}
+use Rattle.ps_hall_flush.proofs.Measuring.{measured_as}
 use Rattle.ps_hall_flush.proofs.Seating.{firm_kept, holds_on, journal_kept, list_kept}
 use Rattle.ps_hall_flush.proofs.flush.tell_fault.Goals as goal
 
@@ -69,3 +70,15 @@ returns-clause-broken g c =
     let now = c.fault.new.self in
     let home = broken_home g.B.Opening.origin c.enter-home.result.state now (seen_of s) (number_of s) c.enter-home.ensures.value c.fault.ensures.kept c.fault.ensures.goes in
     subst (λ (log : List Deed). IsBrokenAt g.B.Opening.origin log) (sym c.leave_broken.ensures.seen) (record { owned = home.owned; broken = sym home.stands.broken ∙ c.fault.ensures.broken; sound = home.stands.sound })
+
+pub returns-clause-measured : goal.returns-clause-measured
+returns-clause-measured g c few =
+    let o = g.B.Opening.origin in
+    let s = c.enter-home.new.seat in
+    let v = c.enter-home.result.state in
+    let now = c.fault.new.self in
+    let mark = mark_of c.args.seat.now in
+    let marks = c.enter-home.ensures.marked c.requires.held.1 in
+    let home = broken_home o v now (seen_of s) (number_of s) c.enter-home.ensures.value c.fault.ensures.kept c.fault.ensures.goes in
+    subst (λ (log : List Deed). AreMeasured o mark.0 mark.1 log) (sym c.leave_broken.ensures.seen)
+    (measured_as o now.count now.length mark.0 mark.1 (seen_of s ++ deeds (number_of s) (bytes_in now) (Broken ∷ [])) (c.fault.ensures.kept.count ∙ mark_count v mark marks few) (c.fault.ensures.kept.length_same ∙ ap (λ m. m.1) marks) home.begun)

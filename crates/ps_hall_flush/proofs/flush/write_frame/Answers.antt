@@ -3,7 +3,7 @@ use Rattle.ps_model.specs.declared.steps.Step.TheVariants.{Flush}
 use Rattle.ps_twin.specs.Seats.{seen_of, number_of, list_of}
 use Rattle.ps_world.proofs.Lists.{nil-right}
 use Rattle.ps_hall_flush.specs.Homes.{marked, world_at}
-use Rattle.ps_hall_flush.proofs.Framing.{adds_as, failed_front, failed_stands, frame_steps, is_written, told_mark, written_firm, written_known, written_mark}
+use Rattle.ps_hall_flush.proofs.Framing.{adds_as, failed_front, failed_stands, failed_within, frame_steps, is_written, told_mark, written_firm, written_known, written_mark, written_within}
 use Rattle.ps_hall_flush.proofs.flush.write_frame.Goals as goal
 
 pub append-requires : goal.append-requires
@@ -18,7 +18,15 @@ leave_journal-requires g c =
     record {
       twin = r.twin;
       held = r.held;
-      list = (seen_of s, did.ok o.at (world_at o (list_of s)) (world_at o (seen_of s)) r.loaded, r.front, ([], sym (nil-right (seen_of s))));
+      list = (
+        seen_of s,
+        record {
+          stands = did.ok o.at (world_at o (list_of s)) (world_at o (seen_of s)) r.loaded;
+          within = written_within o c.args.twin.now s c.args.archive.store c.append.new.self c.args.frame r did.ok did.mark did.firm;
+        },
+        r.front,
+        ([], sym (nil-right (seen_of s))),
+      );
       firm = written_firm o c.args.twin.now s c.args.archive.store c.append.new.self c.args.frame r did.firm;
       mark = written_mark o c.args.twin.now s c.args.archive.store c.append.new.self c.args.frame r did.ok did.mark;
     }
@@ -59,7 +67,10 @@ leave_journal-requires-in-Err g c =
       held = n.held;
       list = (
         seen_of s',
-        stands,
+        record {
+          stands = stands;
+          within = failed_within o t s s' c.args.archive.store c.note.new.self f (number_of s) r (m.firm ∙ did.firm_same) (let a = did.grows in let b = m.length in omega (arith, a, b)) (m.mark ∙ did.mark) n.added n.measured;
+        },
         failed_front o t s s' c.args.archive.store f (number_of s) r n.hand.list n.added,
         ([], sym (nil-right (seen_of s'))),
       );

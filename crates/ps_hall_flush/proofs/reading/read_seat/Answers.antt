@@ -8,14 +8,14 @@ use Rattle.ps_hall_flush.specs.Doing.{Adds}
 use Rattle.ps_hall_store.specs.Stand.{mark_of}
 use Rattle.ps_hall_flush.specs.Homes.{marked, world_at}
 use Rattle.ps_hall_flush.proofs.Framing.{told_mark}
-use Rattle.ps_hall_flush.proofs.Histories.{list_long, not_read, passes_as, told_before, told_front, told_stands, was_told}
+use Rattle.ps_hall_flush.proofs.Histories.{list_long, not_read, passes_as, read_within, told_before, told_front, told_stands, told_within, was_told}
 use Rattle.ps_hall_flush.proofs.Marking.{same_store}
 use Rattle.ps_hall_flush.proofs.reading.read_seat.Goals as goal
 
 pub look-requires : goal.look-requires
 look-requires g c =
     let e = c.enter_journal-archive.ensures in
-    record { twin = e.twin; held = e.held; stands = e.list; firm = e.firm; mark = e.mark }
+    record { twin = e.twin; held = e.held; stands = e.list.stands; within = e.list.within; firm = e.firm; mark = e.mark }
 
 -- the journal is broken
 
@@ -26,7 +26,7 @@ leave_journal-requires g c =
     record {
       twin = n.twin;
       held = n.held;
-      list = (list_of s, n.stands, ([], sym (nil-right (list_of s))), n.front);
+      list = (list_of s, record { stands = n.stands; within = n.within }, ([], sym (nil-right (list_of s))), n.front);
       firm = (let f = n.firm in omega (arith, f));
       mark = sym n.mark;
     }
@@ -52,7 +52,12 @@ leave_journal-requires-in-Ok g c =
     record {
       twin = n.twin;
       held = n.held;
-      list = (list_of s, stands, ([], sym (nil-right (list_of s))), n.front);
+      list = (
+        list_of s,
+        record { stands = stands; within = read_within o c.args.twin.now s c.enter_journal-archive.result.store c.entries.new.self n x.firm x.length x.mark },
+        ([], sym (nil-right (list_of s))),
+        n.front,
+      );
       firm = (let f = n.firm in let h = x.firm in omega (arith, f, h));
       mark = same_store o.at (world_at o (list_of s)) c.enter_journal-archive.result.store c.entries.new.self n.stands stands x.mark ∙ sym n.mark;
     }
@@ -87,7 +92,12 @@ leave_journal-requires-in-Err-Memory g c =
     record {
       twin = n.twin;
       held = n.held;
-      list = (list_of s, stands, ([], sym (nil-right (list_of s))), n.front);
+      list = (
+        list_of s,
+        record { stands = stands; within = read_within o c.args.twin.now s c.enter_journal-archive.result.store c.entries.new.self n x.firm x.length x.mark },
+        ([], sym (nil-right (list_of s))),
+        n.front,
+      );
       firm = (let f = n.firm in let h = x.firm in omega (arith, f, h));
       mark = same_store o.at (world_at o (list_of s)) c.enter_journal-archive.result.store c.entries.new.self n.stands stands x.mark ∙ sym n.mark;
     }
@@ -117,7 +127,10 @@ leave_journal-requires-in-Err-Store g c =
       held = told.held;
       list = (
         seen_of s',
-        stands,
+        record {
+          stands = stands;
+          within = told_within o t s s' y c.note.new.self (number_of s) n (sym c.is_broken.ensures ∙ c.if-is_broken.false) (m.firm ∙ x.firm) (m.length ∙ x.length) (m.mark ∙ x.mark) told.added told.measured;
+        },
         told_front o t s s' y (number_of s) n told.hand.list told.added,
         ([], sym (nil-right (seen_of s'))),
       );

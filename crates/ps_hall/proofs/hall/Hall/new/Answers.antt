@@ -1,7 +1,7 @@
 use Rattle.std.proofs.Common.{◌≡◌, ◌+◌, [], length, ap, sym, ◌∙◌, subst, arith}
 use Rattle.ps_twin.specs.Seats.{seats_of}
 use Rattle.ps_hall_state.specs.declared.state.State.{State}
-use Rattle.ps_hall_flush.specs.Homes.{ArchiveStands, HomeStands, state_mark, store_mark}
+use Rattle.ps_hall_flush.specs.Homes.{ArchiveHolds, HomeStands, state_mark, store_mark}
 use Rattle.ps_hall.proofs.Starting.{no_deeds, one_mark}
 use Rattle.ps_hall.proofs.hall.Hall.new.Goals as goal
 
@@ -11,7 +11,7 @@ new-requires-3-clause-both g c =
     let home : HomeStands o c.args.state [] = no_deeds o c.args.state c.args.store c.args.hosts.now c.requires in
     record {
       empty = subst (λ (v : State). HomeStands o v []) (sym c.new.ensures) home;
-      journal_empty = subst (λ y. ArchiveStands o y []) (sym c.new-2.ensures) c.requires.archive;
+      journal_empty = subst (λ y. ArchiveHolds o y []) (sym c.new-2.ensures) (record { stands = c.requires.archive; within = record { firm = tt; begun = tt } });
       firm = ap (λ (v : State). v.flushed) c.new.ensures ∙ c.requires.flushed;
       mark = ap (λ (v : State). state_mark v) c.new.ensures ∙ (one_mark o c.args.state c.args.store c.args.hosts.now c.requires ∙ sym (ap (λ y. store_mark y) c.new-2.ensures));
     }

@@ -17,7 +17,7 @@ pub returns-in-Ok-clause-ok : goal.returns-in-Ok-clause-ok
 returns-in-Ok-clause-ok g c = λ at w v is.
     let e = c.in-Ok.ensures in
     written_ok g.met.D.Disk.seen_left g.met.D.Disk.counts_now at c.args.self.now _ c.args.frame.now c.in-Some.batch c.in-Some.is w v is
-    e.any_moment e.front e.later e.grows e.length.0 e.length.1 e.entries e.durable refl refl refl refl
+    e.any_moment e.front e.later e.grows e.floor e.length.0 e.length.1 e.entries e.durable refl refl refl refl
 
 pub returns-in-Err-clause-err : goal.returns-in-Err-clause-err
 returns-in-Err-clause-err g c = λ at w v is.
@@ -28,5 +28,5 @@ returns-in-Err-clause-err g c = λ at w v is.
     let rose = rose_or _ _ (e.store (ap (λ r. Err r) failed)) none in (
       rose,
       torn_ok g.met.D.Disk.seen_left g.met.D.Disk.counts_now at c.args.self.now _ c.args.frame.now c.in-Some.batch c.in-Some.is w v is
-          e.any_moment e.front e.later e.grows _ (e.first_fault none (ap (λ r. Err r) failed)) rose refl,
+          e.any_moment e.front e.later e.grows e.floor _ (e.first_fault none (ap (λ r. Err r) failed)) rose e.torn refl refl refl,
     )

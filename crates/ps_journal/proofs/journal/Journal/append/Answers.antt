@@ -3,7 +3,7 @@ use Rattle.ps_model.specs.Entries.{body}
 use Rattle.ps_disk.proofs.Moments.{started, weaker}
 use Rattle.ps_journal.specs.Left.{IsWithOrWithout, IsFrontOfLeft}
 use Rattle.ps_journal.proofs.Lists.{is_body}
-use Rattle.ps_journal.proofs.Known.{room_of, settled_grows, known, either, at_rest, rest_front, still_front, appended, appended_only, done_front}
+use Rattle.ps_journal.proofs.Known.{room_of, settled_grows, known, either, either_long, at_rest, rest_front, rest_long, still_front, appended, appended_only, done_front}
 use Rattle.ps_journal.specs.Settled.{IsSettled}
 use Rattle.ps_journal.proofs.Floors.{floor_at_rest, floor_torn}
 use Rattle.ps_journal.proofs.journal.Journal.append.Goals as goal
@@ -27,6 +27,12 @@ returns-then-limit-more-clause-front g c tells none E spells =
     let b = c.args.batch.now in
     started D.moment D.left_since d (IsFrontOfLeft (D.synced d) (D.written d))
     (λ f left. rest_front (D.seen d) (D.synced d) (D.written d) c.args.self.now.length (c.args.self.now.settled none tells) E b spells c.len-more.ensures.each f (g.met.D.Disk.only_now d f left))
+
+pub returns-then-limit-more-clause-torn : goal.returns-then-limit-more-clause-torn
+returns-then-limit-more-clause-torn g c tells none E spells f may =
+    let D = g.D.Disk in
+    let d = c.args.self.now.disk in
+    rest_long (D.seen d) (D.synced d) (D.written d) c.args.self.now.length (c.args.self.now.settled none tells) E c.args.batch.now spells c.len-more.ensures.each f may
 
 pub write_frame-requires-clause-within : goal.write_frame-requires-clause-within
 write_frame-requires-clause-within g c tells =
@@ -123,3 +129,13 @@ returns-in-Err-clause-front g c tells none E spells =
     let settled = c.args.self.now.settled none tells in
     let run = c.in-Err.ensures.still tells _ (body es) (known (D.seen d) (D.synced d) (D.written d) c.args.self.now.length settled E es spells c.len-more.ensures.each) (is_body es c.requires (fits c.len-more.ensures.length c.len-more.ensures.fits)) c.frame.ensures in
     weaker D.moment D.left_since d n _ (IsFrontOfLeft (D.synced n) (D.written n)) run (λ f left. still_front (D.seen d) (D.synced d) (D.written d) c.args.self.now.length settled E es spells c.len-more.ensures.each (D.synced n) (D.written n) f left)
+
+pub returns-in-Err-clause-torn : goal.returns-in-Err-clause-torn
+returns-in-Err-clause-torn g c tells none E spells f may =
+    let D = g.D.Disk in
+    let d = c.args.self.now.disk in
+    let n = c.write_frame.new.disk in
+    let es = c.args.batch.now in
+    let settled = c.args.self.now.settled none tells in
+    let run = c.in-Err.ensures.any_moment tells _ (body es) (known (D.seen d) (D.synced d) (D.written d) c.args.self.now.length settled E es spells c.len-more.ensures.each) (is_body es c.requires (fits c.len-more.ensures.length c.len-more.ensures.fits)) c.frame.ensures in
+    either_long (D.seen d) (D.synced d) (D.written d) c.args.self.now.length settled E es spells c.len-more.ensures.each f (run.each f (g.met.D.Disk.counts_now n (D.moment d) f run.later may))
