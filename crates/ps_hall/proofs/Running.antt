@@ -1,7 +1,7 @@
 -- The notices in a writer's hand, recorded one behind the other.
 use Rattle.std.proofs.Common.{◌≡◌, ◌≢◌, ℕ, zero, suc, ◌+◌, ◌<◌, ◌≤◌, ◌^◌, false, List, [], ◌∷◌, ◌++◌, Some, length, map, take, drop, refl, ap, sym, ◌∙◌, subst, arith}
 use Rattle.std.specs.Prelude.{slice_get}
-use Rattle.std.proofs.lemmas.List.{map-append}
+use Rattle.std.proofs.lemmas.List.{length-drop, map-append}
 use Rattle.ps_types.specs.declared.jid.Jid.{Jid}
 use Rattle.ps_model.specs.Machine.{run}
 use Rattle.ps_model.specs.TheCore.{the_core}
@@ -22,7 +22,8 @@ use Rattle.ps_hall_state.specs.declared.state.HostRow.{HostRow}
 use Rattle.ps_hall_state.specs.declared.state.State.{State}
 use Rattle.ps_hall_state.proofs.OneRow.{there}
 use Rattle.ps_hall_state.proofs.Recording.{held_for}
-use Rattle.ps_hall.specs.Ending.{IsHolding, RecordsFirst}
+use Rattle.ps_hall.specs.Calls.{OfFirst}
+use Rattle.ps_hall.specs.Ending.{EndsFor, IsHolding, RecordsFirst}
 use Rattle.ps_hall.proofs.Refusals.{refused_stands, row_kept}
 
 -- ---- lists
@@ -40,9 +41,21 @@ split_at (x ∷ hand) (suc n) a got = ap (λ l. x ∷ l) (split_at hand n a got)
 records_next : (hand : List Jid) (n : ℕ) (a : Jid) → slice_get hand n ≡ Some a → records_of (take (n + 1) hand) ≡ records_of (take n hand) ++ Record a ∷ []
 records_next hand n a got = ap records_of (take_next hand n a got) ∙ map-append (λ j. Record j) (take n hand) (a ∷ [])
 
-pub some_first : (hand : List Jid) → hand ≢ [] → (a : Jid) × (more : List Jid) × (hand ≡ a ∷ more)
-some_first [] some = absurd (some refl)
-some_first (a ∷ hand) some = (a, hand, refl)
+pub some_length : (hand : List Jid) → hand ≢ [] → 0 < length hand
+some_length [] some = absurd (some refl)
+some_length (a ∷ hand) some = omega arith
+
+-- the first so many are moved behind the others, and cut off
+take_front : (xs ys : List Jid) (n : ℕ) → n ≡ length xs → take n (xs ++ ys) ≡ xs
+take_front [] ys zero size = refl
+take_front [] ys (suc n) size = absurd (cc size)
+take_front (x ∷ xs) ys zero size = absurd (cc size)
+take_front (x ∷ xs) ys (suc n) size = ap (λ l. x ∷ l) (take_front xs ys n (omega (arith, size)))
+
+pub rest_left : (hand : List Jid) (count left : ℕ) (turned now : List Jid) → count ≤ length hand → left + count ≡ length hand → turned ≡ drop count hand ++ take count hand → now ≡ take left turned → now ≡ drop count hand
+rest_left hand count left turned now most size turns cuts =
+    let l = length-drop count hand in
+    cuts ∙ (ap (λ (l : List Jid). take left l) turns ∙ take_front (drop count hand) (take count hand) left (omega (arith, l, size)))
 
 -- ---- in the state
 
@@ -89,21 +102,23 @@ records_one first mid now hand n a is more got less few = record {
 }
 
 -- the first one is
-pub records_begin : (first now : State) (hand : List Jid) (a : Jid) (more : List Jid) → hand ≡ a ∷ more → RecordsHanded first now a → RecordsFirst first now hand 1
-records_begin first now hand a more split is = record {
-  some = omega arith;
-  most = (let l = ap length split in omega (arith, l));
-  few = omega arith;
-  goes = λ service some w stands.
-      (let one = is service some w stands in
-      record { unbroken = one.unbroken; stands = subst (λ (l : List Jid). Stands now (run the_core service w (records_of (take 1 l)))) (sym split) one.stands });
-}
+pub records_begin : (first now : State) (hand : List Jid) (a : Jid) → slice_get hand 0 ≡ Some a → RecordsHanded first now a → RecordsFirst first now hand 1
+records_begin first now hand a got is =
+    let split = split_at hand 0 a got in
+    record {
+      some = omega arith;
+      most = (let l = ap length split in omega (arith, l));
+      few = omega arith;
+      goes = λ service some w stands.
+          (let one = is service some w stands in
+          record { unbroken = one.unbroken; stands = subst (λ (l : List Jid). Stands now (run the_core service w (records_of (take 1 l)))) (sym split) one.stands });
+    }
 
 -- the first that is in hand
-pub first_held : (v : State) (at : ℕ) (row : HostRow) (hand : List Jid) (a : Jid) (more : List Jid) → hand ≡ a ∷ more → IsHolding v hand row → slice_get v.rows.items at ≡ Some row → IsHeldFor v a row
-first_held v at row hand a more split held was =
-    let all : HasInHand row.host (a ∷ more) held.0 = subst (λ (l : List Jid). HasInHand row.host l held.0) split held.2 in
-    let flies = left-flies the_core name row.host held.0 [] a more held.1.sound.flushed all in
+pub first_held : (v : State) (at : ℕ) (row : HostRow) (hand : List Jid) (a : Jid) → slice_get hand 0 ≡ Some a → IsHolding v hand row → slice_get v.rows.items at ≡ Some row → IsHeldFor v a row
+first_held v at row hand a got held was =
+    let all : HasInHand row.host (a ∷ drop 1 hand) held.0 = subst (λ (l : List Jid). HasInHand row.host l held.0) (split_at hand 0 a got) held.2 in
+    let flies = left-flies the_core name row.host held.0 [] a (drop 1 hand) held.1.sound.flushed all in
     held_for v held.0 at row a held.1 was all.are.0 flies
 
 -- one is refused
@@ -117,3 +132,8 @@ records_still first mid now hand n a why is refused = record {
       let v = run the_core service w (records_of (take n hand)) in
       record { unbroken = one.unbroken; stands = refused_stands mid now (Handed a) why v (refused v one.stands) });
 }
+
+-- the first is
+pub first_refused : (v now : State) (host : List ℕ) (hand : List Jid) (a : Jid) (why : HandedRefusal) → slice_get hand 0 ≡ Some a → EndsFor v now host a why → OfFirst hand (λ b. EndsFor v now host b why)
+first_refused v now host [] a why got ends = tt
+first_refused v now host (x ∷ hand) a why got ends = (let same : x ≡ a = cc got in subst (λ (b : Jid). EndsFor v now host b why) (sym same) ends)

@@ -51,13 +51,9 @@ fn let_go(hand: &mut Vec<Jid>, count: usize)
     requires most { count ≤ length hand.old.items }
     ensures { hand.new.items ≡ drop count hand.old.items }
 {
-    if count == hand.len() {
-        hand.clear();
-        return;
-    }
-    'gone: for _ in 0..count {
-        hand.remove(0);
-    }
+    let left = hand.len() - count;
+    hand.rotate_left(count);
+    hand.truncate(left);
 }
 
 impl<B: Opening, D: Disk> Hall<B, D> {

@@ -1,7 +1,7 @@
 // The opening of a hall.
 ghost use Rattle.std.specs.Prelude.{◌≡◌, ◌≤◌, ◌^◌, [], length, map, vec_capacity, IfErr, IfOk, None};
 ghost use Rattle.ps_twin.specs.Seats.{AreNew};
-ghost use Rattle.ps_hall.specs.Passes.{AreFresh, named};
+ghost use Rattle.ps_hall.specs.Passes.{AreFresh, IsPassOf, named};
 ghost use Rattle.ps_hall.specs.Start.{MayStart};
 
 use crate::bell::Bells;
