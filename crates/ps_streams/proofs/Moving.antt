@@ -42,8 +42,11 @@ more-times : (t : Bool) (n m o : ℕ) → n ≡ m + o → cond t (suc n) n ≡ c
 more-times true n m o e = omega (arith, e)
 more-times false n m o e = e
 
+add-none : (n : ℕ) → n ≡ 0 + n
+add-none n = omega arith
+
 pub times-append : (a : Jid) (one two : List Jid) → times a (one ++ two) ≡ times a one + times a two
-times-append a [] two = refl
+times-append a [] two = add-none (times a two)
 times-append a (b ∷ one) two = more-times (same_jid b a) (times a (one ++ two)) (times a one) (times a two) (times-append a one two)
 
 -- some are in hand
@@ -141,9 +144,9 @@ module _ (o : Origin) (k : ℕ) where
   pub handed-on : {T : Type 0} (host : List ℕ) (hand now : List Jid) (old new : List Deed) (t : T) → HasHanded o k host hand now old new (Ok t) → Recorded o k hand now old new
   handed-on host hand now old new t h = recorded-by hand h.recorded.does.2.done now old new h.recorded.does.2.split (moved-recorded host hand now old new (Flushes o k) (λ mid f. moved-flushes mid new f) h)
 
-  pub handed-not : {T : Type 0} (host : List ℕ) (hand now : List Jid) (old new : List Deed) (e : HandedRefusal) → HasHanded {T = T} o k host hand now old new (Err e) → Recorded o k hand [] old new
-  handed-not host hand now old new e (inl did) = recorded-less hand hand old new (recorded-by hand [] hand old new refl (moved-refused host hand now old new e did))
-  handed-not host hand now old new e (inr h) =
+  pub handed-not : (T : Type 0) (host : List ℕ) (hand now : List Jid) (old new : List Deed) (e : HandedRefusal) → HasHanded {T = T} o k host hand now old new (Err e) → Recorded o k hand [] old new
+  handed-not T host hand now old new e (inl did) = recorded-less hand hand old new (recorded-by hand [] hand old new refl (moved-refused host hand now old new e did))
+  handed-not T host hand now old new e (inr h) =
       let r = h.1.recorded in
       recorded-less hand h.1.rest old new (recorded-by hand r.recorded.does.2.done h.1.rest old new r.recorded.does.2.split (moved-recorded host hand h.1.rest old new (NotFlushed o k) (λ mid f. moved-not-flushed mid new f) r))
 

@@ -212,16 +212,22 @@ fn write_next<B: Opening, D: Disk, R: Wait + Threads + Sync, K: Sink>(
     ensures landed { (IsErrOf result EndCause.Store → ⊥) → FindsLanded B.origin pass.old.host pass.new.seat }
 {
     let heard = hall.news(pass);
-    let said = say_next(rt, hall, pass, sink)?;
-    if is_all(said) {
-        return Ok(false);
+    match say_next(rt, hall, pass, sink) {
+        Ok(said) => {
+            if is_all(said) {
+                return Ok(false);
+            }
+            if run.goes_on(said) {
+                return Ok(true);
+            }
+            rest_if_free(rt, hall, pass, heard, said);
+            match record_all(rt, hall, pass) {
+                Ok(()) => Ok(true),
+                Err(why) => Err(why),
+            }
+        }
+        Err(why) => Err(why),
     }
-    if run.goes_on(said) {
-        return Ok(true);
-    }
-    rest_if_free(rt, hall, pass, heard, said);
-    record_all(rt, hall, pass)?;
-    Ok(true)
 }
 
 // Writes lines until all is said. Where a Record found no room the writer has ended.

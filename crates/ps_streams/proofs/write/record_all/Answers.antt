@@ -46,7 +46,7 @@ returns-in-Ok-clause-landed g c = λ no. hand-landed c.handed.new.pass.in_hand.i
 
 pub returns-in-Err-clause-refused : goal.returns-in-Err-clause-refused
 returns-in-Err-clause-refused g c =
-    handed-not {T = Unit {0}} g.B.Opening.origin (number_of c.args.pass.now.seat) c.args.pass.now.host c.args.pass.now.in_hand.items c.handed.new.pass.in_hand.items (seen_of c.args.pass.now.seat) (seen_of c.handed.new.pass.seat) c.in-Err.refusal c.in-Err.ensures.handed
+    handed-not g.B.Opening.origin (number_of c.args.pass.now.seat) (Unit {0}) c.args.pass.now.host c.args.pass.now.in_hand.items c.handed.new.pass.in_hand.items (seen_of c.args.pass.now.seat) (seen_of c.handed.new.pass.seat) c.in-Err.refusal c.in-Err.ensures.handed
 
 pub returns-in-Err-clause-store : goal.returns-in-Err-clause-store
 returns-in-Err-clause-store g c = λ e.

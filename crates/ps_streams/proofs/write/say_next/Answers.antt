@@ -103,8 +103,8 @@ returns-in-Ok-Over-clause-spoke g c =
     let new = seen_of c.next.new.pass.seat in
     speaks-whole o k hand after old new (g.K.Sink.written c.args.sink.now) (g.K.Sink.written c.args.sink.now) _ (returns-in-Ok-Over-clause-whole g c)
 
-pub returns-in-Ok-Reply-clause-spoke : goal.returns-in-Ok-Reply-clause-spoke
-returns-in-Ok-Reply-clause-spoke g c =
+pub returns-in-Err-put_line-clause-spoke : goal.returns-in-Err-put_line-clause-spoke
+returns-in-Err-put_line-clause-spoke g c =
     let o = g.B.Opening.origin in
     let k = number_of c.args.pass.now.seat in
     let h = c.args.pass.now.host in
@@ -114,8 +114,8 @@ returns-in-Ok-Reply-clause-spoke g c =
     let new = seen_of c.next.new.pass.seat in
     reply-part o k h Memory hand after old new c.in-Ok-Reply.line (next-as o k h Memory hand after old new c.in-Ok-Reply.field-0 (Reply c.in-Ok-Reply.line) c.in-Ok-Reply.field-0-is c.in-Ok-Reply.ensures.does) refl (g.K.Sink.written c.args.sink.now) (g.K.Sink.written c.put_line.new.sink) c.put_line.ensures.part
 
-pub returns-in-Ok-Notice-clause-spoke : goal.returns-in-Ok-Notice-clause-spoke
-returns-in-Ok-Notice-clause-spoke g c =
+pub returns-in-Err-put_line-2-clause-spoke : goal.returns-in-Err-put_line-2-clause-spoke
+returns-in-Err-put_line-2-clause-spoke g c =
     let o = g.B.Opening.origin in
     let k = number_of c.args.pass.now.seat in
     let h = c.args.pass.now.host in
@@ -125,8 +125,8 @@ returns-in-Ok-Notice-clause-spoke g c =
     let new = seen_of c.next.new.pass.seat in
     note-part o k h Memory hand after old new c.in-Ok-Notice.line (next-as o k h Memory hand after old new c.in-Ok-Notice.field-0 (Notice c.in-Ok-Notice.line) c.in-Ok-Notice.field-0-is c.in-Ok-Notice.ensures.does) refl (g.K.Sink.written c.args.sink.now) (g.K.Sink.written c.put_line-in-Ok-Notice.new.sink) c.put_line-in-Ok-Notice.ensures.part
 
-pub returns-clause-spoke : goal.returns-clause-spoke
-returns-clause-spoke g c =
+pub returns-in-Err-clause-spoke : goal.returns-in-Err-clause-spoke
+returns-in-Err-clause-spoke g c =
     let o = g.B.Opening.origin in
     let k = number_of c.args.pass.now.seat in
     let h = c.args.pass.now.host in
@@ -152,16 +152,16 @@ pub returns-in-Ok-clause-going : goal.returns-in-Ok-clause-going
 returns-in-Ok-clause-going g c =
     goes-next g.B.Opening.origin (number_of c.args.pass.now.seat) c.args.pass.now.host c.args.pass.now.in_hand.items c.next.new.pass.in_hand.items (seen_of c.args.pass.now.seat) (seen_of c.next.new.pass.seat) c.next.result c.next.ensures.does
 
-pub returns-in-Ok-Reply-clause-going : goal.returns-in-Ok-Reply-clause-going
-returns-in-Ok-Reply-clause-going g c =
+pub returns-in-Err-put_line-clause-going : goal.returns-in-Err-put_line-clause-going
+returns-in-Err-put_line-clause-going g c =
     goes-next g.B.Opening.origin (number_of c.args.pass.now.seat) c.args.pass.now.host c.args.pass.now.in_hand.items c.next.new.pass.in_hand.items (seen_of c.args.pass.now.seat) (seen_of c.next.new.pass.seat) c.next.result c.next.ensures.does
 
 pub returns-in-Ok-put_line-clause-going : goal.returns-in-Ok-put_line-clause-going
 returns-in-Ok-put_line-clause-going g c =
     goes-next g.B.Opening.origin (number_of c.args.pass.now.seat) c.args.pass.now.host c.args.pass.now.in_hand.items c.next.new.pass.in_hand.items (seen_of c.args.pass.now.seat) (seen_of c.next.new.pass.seat) c.next.result c.next.ensures.does
 
-pub returns-in-Ok-Notice-clause-going : goal.returns-in-Ok-Notice-clause-going
-returns-in-Ok-Notice-clause-going g c =
+pub returns-in-Err-put_line-2-clause-going : goal.returns-in-Err-put_line-2-clause-going
+returns-in-Err-put_line-2-clause-going g c =
     goes-next g.B.Opening.origin (number_of c.args.pass.now.seat) c.args.pass.now.host c.args.pass.now.in_hand.items c.next.new.pass.in_hand.items (seen_of c.args.pass.now.seat) (seen_of c.next.new.pass.seat) c.next.result c.next.ensures.does
 
 pub returns-in-Ok-NotYet-clause-going : goal.returns-in-Ok-NotYet-clause-going
@@ -172,24 +172,24 @@ pub returns-in-Ok-Over-clause-going : goal.returns-in-Ok-Over-clause-going
 returns-in-Ok-Over-clause-going g c =
     goes-next g.B.Opening.origin (number_of c.args.pass.now.seat) c.args.pass.now.host c.args.pass.now.in_hand.items c.next.new.pass.in_hand.items (seen_of c.args.pass.now.seat) (seen_of c.next.new.pass.seat) c.next.result c.next.ensures.does
 
-pub returns-clause-going : goal.returns-clause-going
-returns-clause-going g c =
+pub returns-in-Err-clause-going : goal.returns-in-Err-clause-going
+returns-in-Err-clause-going g c =
     goes-next g.B.Opening.origin (number_of c.args.pass.now.seat) c.args.pass.now.host c.args.pass.now.in_hand.items c.next.new.pass.in_hand.items (seen_of c.args.pass.now.seat) (seen_of c.next.new.pass.seat) c.next.result c.next.ensures.does
 
 pub returns-in-Ok-clause-ready : goal.returns-in-Ok-clause-ready
 returns-in-Ok-clause-ready g c =
     record { writer = c.next.ensures.writer; hand = subst (λ (h : List ℕ). HandAt g.B.Opening.origin c.next.new.pass.in_hand.items h c.next.new.pass.seat) (sym c.next.ensures.same.1) c.next.ensures.hand }
 
-pub returns-in-Ok-Reply-clause-ready : goal.returns-in-Ok-Reply-clause-ready
-returns-in-Ok-Reply-clause-ready g c =
+pub returns-in-Err-put_line-clause-ready : goal.returns-in-Err-put_line-clause-ready
+returns-in-Err-put_line-clause-ready g c =
     record { writer = c.next.ensures.writer; hand = subst (λ (h : List ℕ). HandAt g.B.Opening.origin c.next.new.pass.in_hand.items h c.next.new.pass.seat) (sym c.next.ensures.same.1) c.next.ensures.hand }
 
 pub returns-in-Ok-put_line-clause-ready : goal.returns-in-Ok-put_line-clause-ready
 returns-in-Ok-put_line-clause-ready g c =
     record { writer = c.next.ensures.writer; hand = subst (λ (h : List ℕ). HandAt g.B.Opening.origin c.next.new.pass.in_hand.items h c.next.new.pass.seat) (sym c.next.ensures.same.1) c.next.ensures.hand }
 
-pub returns-in-Ok-Notice-clause-ready : goal.returns-in-Ok-Notice-clause-ready
-returns-in-Ok-Notice-clause-ready g c =
+pub returns-in-Err-put_line-2-clause-ready : goal.returns-in-Err-put_line-2-clause-ready
+returns-in-Err-put_line-2-clause-ready g c =
     record { writer = c.next.ensures.writer; hand = subst (λ (h : List ℕ). HandAt g.B.Opening.origin c.next.new.pass.in_hand.items h c.next.new.pass.seat) (sym c.next.ensures.same.1) c.next.ensures.hand }
 
 pub returns-in-Ok-NotYet-clause-ready : goal.returns-in-Ok-NotYet-clause-ready
@@ -200,6 +200,6 @@ pub returns-in-Ok-Over-clause-ready : goal.returns-in-Ok-Over-clause-ready
 returns-in-Ok-Over-clause-ready g c =
     record { writer = c.next.ensures.writer; hand = subst (λ (h : List ℕ). HandAt g.B.Opening.origin c.next.new.pass.in_hand.items h c.next.new.pass.seat) (sym c.next.ensures.same.1) c.next.ensures.hand }
 
-pub returns-clause-ready : goal.returns-clause-ready
-returns-clause-ready g c =
+pub returns-in-Err-clause-ready : goal.returns-in-Err-clause-ready
+returns-in-Err-clause-ready g c =
     record { writer = c.next.ensures.writer; hand = subst (λ (h : List ℕ). HandAt g.B.Opening.origin c.next.new.pass.in_hand.items h c.next.new.pass.seat) (sym c.next.ensures.same.1) c.next.ensures.hand }

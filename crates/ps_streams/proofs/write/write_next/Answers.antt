@@ -12,8 +12,8 @@ use Rattle.ps_streams.proofs.Looping.{err-same, speaks-cut, speaks-whole, the_er
 use Rattle.ps_streams.proofs.Saying.{recorded-as}
 use Rattle.ps_streams.proofs.write.write_next.Goals as goal
 
-pub returns-in_err-say_next-clause-spoke : goal.returns-in_err-say_next-clause-spoke
-returns-in_err-say_next-clause-spoke g c =
+pub returns-in-Err-clause-spoke : goal.returns-in-Err-clause-spoke
+returns-in-Err-clause-spoke g c =
     let o = g.B.Opening.origin in
     let k = number_of c.args.pass.now.seat in
     let j = number_of c.say_next.new.pass.seat in
@@ -22,34 +22,34 @@ returns-in_err-say_next-clause-spoke g c =
     let held = c.say_next.new.pass.in_hand.items in
     let old = seen_of c.args.pass.now.seat in
     let mid = seen_of c.say_next.new.pass.seat in
-    speaks-cut o k hand old mid (g.K.Sink.written c.args.sink.now) (g.K.Sink.written c.say_next.new.sink) _ _ (λ e. ap (λ (w : EndCause). the_err Bool w) (err-same c.in_err-say_next.field-0 WriteFault e)) c.in_err-say_next.ensures.spoke
+    speaks-cut o k hand old mid (g.K.Sink.written c.args.sink.now) (g.K.Sink.written c.say_next.new.sink) _ _ (λ e. ap (λ (w : EndCause). the_err Bool w) (err-same c.in-Err.why WriteFault e)) c.in-Err.ensures.spoke
 
-pub returns-in_err-say_next-clause-landed : goal.returns-in_err-say_next-clause-landed
-returns-in_err-say_next-clause-landed g c = λ no.
+pub returns-in-Err-clause-landed : goal.returns-in-Err-clause-landed
+returns-in-Err-clause-landed g c = λ no.
     subst (λ (x : List ℕ). FindsLanded g.B.Opening.origin x c.say_next.new.pass.seat) c.say_next.ensures.same.host (hand-landed c.say_next.new.pass.in_hand.items c.say_next.new.pass.host (world_at g.B.Opening.origin (seen_of c.say_next.new.pass.seat)) c.say_next.ensures.ready.hand)
 
-pub returns-in_err-say_next-clause-cause : goal.returns-in_err-say_next-clause-cause
-returns-in_err-say_next-clause-cause g c = λ e.
-    c.in_err-say_next.ensures.cause (ap (λ (w : EndCause). the_err Said w) (err-same c.in_err-say_next.field-0 WriteFault e))
+pub returns-in-Err-clause-cause : goal.returns-in-Err-clause-cause
+returns-in-Err-clause-cause g c = λ e.
+    c.in-Err.ensures.cause (ap (λ (w : EndCause). the_err Said w) (err-same c.in-Err.why WriteFault e))
 
-pub returns-in_err-say_next-clause-store : goal.returns-in_err-say_next-clause-store
-returns-in_err-say_next-clause-store g c = λ e.
-    absurd (c.in_err-say_next.ensures.store (ap (λ (w : EndCause). the_err Said w) (err-same c.in_err-say_next.field-0 Store e)))
+pub returns-in-Err-clause-store : goal.returns-in-Err-clause-store
+returns-in-Err-clause-store g c = λ e.
+    absurd (c.in-Err.ensures.store (ap (λ (w : EndCause). the_err Said w) (err-same c.in-Err.why Store e)))
 
-pub returns-in_err-say_next-clause-full : goal.returns-in_err-say_next-clause-full
-returns-in_err-say_next-clause-full g c = λ e.
-    absurd (c.in_err-say_next.ensures.full (ap (λ (w : EndCause). the_err Said w) (err-same c.in_err-say_next.field-0 Full e)))
+pub returns-in-Err-clause-full : goal.returns-in-Err-clause-full
+returns-in-Err-clause-full g c = λ e.
+    absurd (c.in-Err.ensures.full (ap (λ (w : EndCause). the_err Said w) (err-same c.in-Err.why Full e)))
 
-pub returns-in_err-say_next-clause-ended : goal.returns-in_err-say_next-clause-ended
-returns-in_err-say_next-clause-ended g c = λ e.
-    absurd (c.in_err-say_next.ensures.full (ap (λ (w : EndCause). the_err Said w) (err-same c.in_err-say_next.field-0 Full e)))
+pub returns-in-Err-clause-ended : goal.returns-in-Err-clause-ended
+returns-in-Err-clause-ended g c = λ e.
+    absurd (c.in-Err.ensures.full (ap (λ (w : EndCause). the_err Said w) (err-same c.in-Err.why Full e)))
 
-pub returns-in_err-say_next-clause-unfinished : goal.returns-in_err-say_next-clause-unfinished
-returns-in_err-say_next-clause-unfinished g c = λ e.
-    c.in_err-say_next.ensures.unfinished (ap (λ (w : EndCause). the_err Said w) (err-same c.in_err-say_next.field-0 Finished e))
+pub returns-in-Err-clause-unfinished : goal.returns-in-Err-clause-unfinished
+returns-in-Err-clause-unfinished g c = λ e.
+    c.in-Err.ensures.unfinished (ap (λ (w : EndCause). the_err Said w) (err-same c.in-Err.why Finished e))
 
-pub returns-in_err-say_next-clause-going : goal.returns-in_err-say_next-clause-going
-returns-in_err-say_next-clause-going g c = λ no.
+pub returns-in-Err-clause-going : goal.returns-in-Err-clause-going
+returns-in-Err-clause-going g c = λ no.
     c.say_next.ensures.going
 
 pub returns-then-is_all-clause-spoke : goal.returns-then-is_all-clause-spoke
@@ -62,7 +62,7 @@ returns-then-is_all-clause-spoke g c =
     let held = c.say_next.new.pass.in_hand.items in
     let old = seen_of c.args.pass.now.seat in
     let mid = seen_of c.say_next.new.pass.seat in
-    speaks-whole o k hand held old mid (g.K.Sink.written c.args.sink.now) (g.K.Sink.written c.say_next.new.sink) _ c.in_ok-said.ensures.whole
+    speaks-whole o k hand held old mid (g.K.Sink.written c.args.sink.now) (g.K.Sink.written c.say_next.new.sink) _ c.in-Ok.ensures.whole
 
 pub returns-then-is_all-clause-going : goal.returns-then-is_all-clause-going
 returns-then-is_all-clause-going g c = λ no.
@@ -82,7 +82,7 @@ returns-then-goes_on-clause-spoke g c =
     let held = c.say_next.new.pass.in_hand.items in
     let old = seen_of c.args.pass.now.seat in
     let mid = seen_of c.say_next.new.pass.seat in
-    speaks-whole o k hand held old mid (g.K.Sink.written c.args.sink.now) (g.K.Sink.written c.say_next.new.sink) _ c.in_ok-said.ensures.whole
+    speaks-whole o k hand held old mid (g.K.Sink.written c.args.sink.now) (g.K.Sink.written c.say_next.new.sink) _ c.in-Ok.ensures.whole
 
 pub returns-then-goes_on-clause-going : goal.returns-then-goes_on-clause-going
 returns-then-goes_on-clause-going g c = λ no.
@@ -94,10 +94,10 @@ returns-then-goes_on-clause-landed g c = λ no.
 
 pub returns-then-is_all-clause-over : goal.returns-then-is_all-clause-over
 returns-then-is_all-clause-over g c = λ no.
-    c.in_ok-said.ensures.over (c.is_all.ensures c.if-is_all.true)
+    c.in-Ok.ensures.over (c.is_all.ensures c.if-is_all.true)
 
-pub returns-in_err-record_all-clause-spoke : goal.returns-in_err-record_all-clause-spoke
-returns-in_err-record_all-clause-spoke g c =
+pub returns-in-Err-record_all-clause-spoke : goal.returns-in-Err-record_all-clause-spoke
+returns-in-Err-record_all-clause-spoke g c =
     let o = g.B.Opening.origin in
     let k = number_of c.args.pass.now.seat in
     let j = number_of c.say_next.new.pass.seat in
@@ -110,26 +110,26 @@ returns-in_err-record_all-clause-spoke g c =
     let rest = c.record_all.new.pass.in_hand.items in
     let new = seen_of c.record_all.new.pass.seat in
     speaks-whole o k hand [] old new (g.K.Sink.written c.args.sink.now) (g.K.Sink.written c.say_next.new.sink) _
-    (whole-recorded o k hand held [] old mid new (g.K.Sink.written c.args.sink.now) (g.K.Sink.written c.say_next.new.sink) c.in_ok-said.ensures.whole (recorded-as o j k held [] mid new same c.in_err-record_all.ensures.refused))
+    (whole-recorded o k hand held [] old mid new (g.K.Sink.written c.args.sink.now) (g.K.Sink.written c.say_next.new.sink) c.in-Ok.ensures.whole (recorded-as o j k held [] mid new same c.in-Err-record_all.ensures.refused))
 
-pub returns-in_err-record_all-clause-cause : goal.returns-in_err-record_all-clause-cause
-returns-in_err-record_all-clause-cause g c = λ e.
-    absurd (c.in_err-record_all.ensures.written (ap (λ (w : EndCause). the_err (Unit {0}) w) (err-same c.in_err-record_all.field-0 WriteFault e)))
+pub returns-in-Err-record_all-clause-cause : goal.returns-in-Err-record_all-clause-cause
+returns-in-Err-record_all-clause-cause g c = λ e.
+    absurd (c.in-Err-record_all.ensures.written (ap (λ (w : EndCause). the_err (Unit {0}) w) (err-same c.in-Err-record_all.why WriteFault e)))
 
-pub returns-in_err-record_all-clause-unfinished : goal.returns-in_err-record_all-clause-unfinished
-returns-in_err-record_all-clause-unfinished g c = λ e.
-    c.in_err-record_all.ensures.unfinished (ap (λ (w : EndCause). the_err (Unit {0}) w) (err-same c.in_err-record_all.field-0 Finished e))
+pub returns-in-Err-record_all-clause-unfinished : goal.returns-in-Err-record_all-clause-unfinished
+returns-in-Err-record_all-clause-unfinished g c = λ e.
+    c.in-Err-record_all.ensures.unfinished (ap (λ (w : EndCause). the_err (Unit {0}) w) (err-same c.in-Err-record_all.why Finished e))
 
-pub returns-in_err-record_all-clause-store : goal.returns-in_err-record_all-clause-store
-returns-in_err-record_all-clause-store g c = λ e.
-    c.in_err-record_all.ensures.store (ap (λ (w : EndCause). the_err (Unit {0}) w) (err-same c.in_err-record_all.field-0 Store e))
+pub returns-in-Err-record_all-clause-store : goal.returns-in-Err-record_all-clause-store
+returns-in-Err-record_all-clause-store g c = λ e.
+    c.in-Err-record_all.ensures.store (ap (λ (w : EndCause). the_err (Unit {0}) w) (err-same c.in-Err-record_all.why Store e))
 
-pub returns-in_err-record_all-clause-full : goal.returns-in_err-record_all-clause-full
-returns-in_err-record_all-clause-full g c = λ e.
-    subst (λ (x : List ℕ). FoundNoRoom g.B.Opening.origin x c.record_all.new.pass.seat) c.say_next.ensures.same.host (c.in_err-record_all.ensures.full (ap (λ (w : EndCause). the_err (Unit {0}) w) (err-same c.in_err-record_all.field-0 Full e)))
+pub returns-in-Err-record_all-clause-full : goal.returns-in-Err-record_all-clause-full
+returns-in-Err-record_all-clause-full g c = λ e.
+    subst (λ (x : List ℕ). FoundNoRoom g.B.Opening.origin x c.record_all.new.pass.seat) c.say_next.ensures.same.host (c.in-Err-record_all.ensures.full (ap (λ (w : EndCause). the_err (Unit {0}) w) (err-same c.in-Err-record_all.why Full e)))
 
-pub returns-in_err-record_all-clause-going : goal.returns-in_err-record_all-clause-going
-returns-in_err-record_all-clause-going g c = λ no none. (
+pub returns-in-Err-record_all-clause-going : goal.returns-in-Err-record_all-clause-going
+returns-in-Err-record_all-clause-going g c = λ no none. (
     let o = g.B.Opening.origin in
     let k = number_of c.args.pass.now.seat in
     let j = number_of c.say_next.new.pass.seat in
@@ -141,10 +141,10 @@ returns-in_err-record_all-clause-going g c = λ no none. (
     let same = c.say_next.ensures.ready.writer.number ∙ (ap (λ n. n + n + 1) c.say_next.ensures.same.at ∙ sym c.requires.ready.writer.number) in
     let rest = c.record_all.new.pass.in_hand.items in
     let new = seen_of c.record_all.new.pass.seat in
-    goes-as j k mid new same (c.in_err-record_all.ensures.going (λ e. no (ap (λ (w : EndCause). the_err Bool w) (err-same c.in_err-record_all.field-0 Full e)))) (c.say_next.ensures.going none))
+    goes-as j k mid new same (c.in-Err-record_all.ensures.going (λ e. no (ap (λ (w : EndCause). the_err Bool w) (err-same c.in-Err-record_all.why Full e)))) (c.say_next.ensures.going none))
 
-pub returns-in_err-record_all-clause-ended : goal.returns-in_err-record_all-clause-ended
-returns-in_err-record_all-clause-ended g c = λ e. (
+pub returns-in-Err-record_all-clause-ended : goal.returns-in-Err-record_all-clause-ended
+returns-in-Err-record_all-clause-ended g c = λ e. (
     let o = g.B.Opening.origin in
     let k = number_of c.args.pass.now.seat in
     let j = number_of c.say_next.new.pass.seat in
@@ -156,14 +156,14 @@ returns-in_err-record_all-clause-ended g c = λ e. (
     let same = c.say_next.ensures.ready.writer.number ∙ (ap (λ n. n + n + 1) c.say_next.ensures.same.at ∙ sym c.requires.ready.writer.number) in
     let rest = c.record_all.new.pass.in_hand.items in
     let new = seen_of c.record_all.new.pass.seat in
-    ends-after h k old mid new c.say_next.ensures.going (ends-as j k c.say_next.new.pass.host h mid new same c.say_next.ensures.same.host (c.in_err-record_all.ensures.ended (ap (λ (w : EndCause). the_err (Unit {0}) w) (err-same c.in_err-record_all.field-0 Full e)))))
+    ends-after h k old mid new c.say_next.ensures.going (ends-as j k c.say_next.new.pass.host h mid new same c.say_next.ensures.same.host (c.in-Err-record_all.ensures.ended (ap (λ (w : EndCause). the_err (Unit {0}) w) (err-same c.in-Err-record_all.why Full e)))))
 
-pub returns-in_err-record_all-clause-landed : goal.returns-in_err-record_all-clause-landed
-returns-in_err-record_all-clause-landed g c = λ no.
-    subst (λ (x : List ℕ). FindsLanded g.B.Opening.origin x c.record_all.new.pass.seat) c.say_next.ensures.same.host (c.in_err-record_all.ensures.landed (λ e. no (ap (λ (w : EndCause). the_err Bool w) (err-same c.in_err-record_all.field-0 Store e))))
+pub returns-in-Err-record_all-clause-landed : goal.returns-in-Err-record_all-clause-landed
+returns-in-Err-record_all-clause-landed g c = λ no.
+    subst (λ (x : List ℕ). FindsLanded g.B.Opening.origin x c.record_all.new.pass.seat) c.say_next.ensures.same.host (c.in-Err-record_all.ensures.landed (λ e. no (ap (λ (w : EndCause). the_err Bool w) (err-same c.in-Err-record_all.why Store e))))
 
-pub returns-clause-whole : goal.returns-clause-whole
-returns-clause-whole g c =
+pub returns-in-Ok-record_all-clause-whole : goal.returns-in-Ok-record_all-clause-whole
+returns-in-Ok-record_all-clause-whole g c =
     let o = g.B.Opening.origin in
     let k = number_of c.args.pass.now.seat in
     let j = number_of c.say_next.new.pass.seat in
@@ -175,10 +175,10 @@ returns-clause-whole g c =
     let same = c.say_next.ensures.ready.writer.number ∙ (ap (λ n. n + n + 1) c.say_next.ensures.same.at ∙ sym c.requires.ready.writer.number) in
     let rest = c.record_all.new.pass.in_hand.items in
     let new = seen_of c.record_all.new.pass.seat in
-    whole-recorded o k hand held rest old mid new (g.K.Sink.written c.args.sink.now) (g.K.Sink.written c.say_next.new.sink) c.in_ok-said.ensures.whole (recorded-as o j k held rest mid new same c.in_ok-record_all.ensures.quiet)
+    whole-recorded o k hand held rest old mid new (g.K.Sink.written c.args.sink.now) (g.K.Sink.written c.say_next.new.sink) c.in-Ok.ensures.whole (recorded-as o j k held rest mid new same c.in-Ok-record_all.ensures.quiet)
 
-pub returns-clause-spoke : goal.returns-clause-spoke
-returns-clause-spoke g c =
+pub returns-in-Ok-record_all-clause-spoke : goal.returns-in-Ok-record_all-clause-spoke
+returns-in-Ok-record_all-clause-spoke g c =
     let o = g.B.Opening.origin in
     let k = number_of c.args.pass.now.seat in
     let j = number_of c.say_next.new.pass.seat in
@@ -189,10 +189,10 @@ returns-clause-spoke g c =
     let mid = seen_of c.say_next.new.pass.seat in
     let rest = c.record_all.new.pass.in_hand.items in
     let new = seen_of c.record_all.new.pass.seat in
-    speaks-whole o k hand rest old new (g.K.Sink.written c.args.sink.now) (g.K.Sink.written c.say_next.new.sink) _ (returns-clause-whole g c)
+    speaks-whole o k hand rest old new (g.K.Sink.written c.args.sink.now) (g.K.Sink.written c.say_next.new.sink) _ (returns-in-Ok-record_all-clause-whole g c)
 
-pub returns-clause-going : goal.returns-clause-going
-returns-clause-going g c = λ no none. (
+pub returns-in-Ok-record_all-clause-going : goal.returns-in-Ok-record_all-clause-going
+returns-in-Ok-record_all-clause-going g c = λ no none. (
     let o = g.B.Opening.origin in
     let k = number_of c.args.pass.now.seat in
     let j = number_of c.say_next.new.pass.seat in
@@ -204,8 +204,8 @@ returns-clause-going g c = λ no none. (
     let same = c.say_next.ensures.ready.writer.number ∙ (ap (λ n. n + n + 1) c.say_next.ensures.same.at ∙ sym c.requires.ready.writer.number) in
     let rest = c.record_all.new.pass.in_hand.items in
     let new = seen_of c.record_all.new.pass.seat in
-    goes-as j k mid new same (c.in_ok-record_all.ensures.going (λ e. absurd (cc e))) (c.say_next.ensures.going none))
+    goes-as j k mid new same (c.in-Ok-record_all.ensures.going (λ e. absurd (cc e))) (c.say_next.ensures.going none))
 
-pub returns-clause-landed : goal.returns-clause-landed
-returns-clause-landed g c = λ no.
-    subst (λ (x : List ℕ). FindsLanded g.B.Opening.origin x c.record_all.new.pass.seat) c.say_next.ensures.same.host (c.in_ok-record_all.ensures.landed (λ e. absurd (cc e)))
+pub returns-in-Ok-record_all-clause-landed : goal.returns-in-Ok-record_all-clause-landed
+returns-in-Ok-record_all-clause-landed g c = λ no.
+    subst (λ (x : List ℕ). FindsLanded g.B.Opening.origin x c.record_all.new.pass.seat) c.say_next.ensures.same.host (c.in-Ok-record_all.ensures.landed (λ e. absurd (cc e)))
