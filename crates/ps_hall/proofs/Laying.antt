@@ -91,7 +91,7 @@ module _ (o : Origin) (v now : State) (log : List Deed) (is : HomeStands o v log
   finds_none : (full : Bool) → full ≡ lacks_room o.limits.changes v.length v.batch (entry_in w host arrival) → w.broken ≡ false → Stands now (run the_core o.boot w (Arrive host arrival full ∷ [])) → bytes_in v ≤ bytes_in now
       → FindsNoRoom o.limits.changes now.count (now.length + 5) (bytes_in now) w (Arrive host arrival full)
   finds_none false lacks quiet stands le = tt
-  finds_none true lacks quiet stands le = (no_room true lacks le, quiet, λ few. early o.boot now w host arrival stands few)
+  finds_none true lacks quiet stands le = (no_room true lacks le, (quiet, λ few. early o.boot now w host arrival stands few))
 
   pub lay_rooms : (by : ℕ) (result : Result Receipt ArriveRefusal) → IfOk result (λ r. Laid v now host arrival r) → bytes_in v ≤ bytes_in now → Rooms o w now by (lay_steps host arrival result)
   lay_rooms by (Ok r) ok le = ((omega arith, finds_none (is_full r.outcome) (lacks_same r ok) (laid_in r ok).is_open.unbroken (lay_stands (Ok r) ok tt) le), tt)

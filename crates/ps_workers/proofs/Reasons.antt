@@ -9,7 +9,7 @@ use Rattle.ps_disk.specs.declared.device.Disk.{Ghosts}
 use Rattle.ps_model.specs.Entries.{IsBare, spelling}
 use Rattle.ps_model.specs.Machine.{start}
 use Rattle.ps_model.specs.TheCore.{the_core}
-use Rattle.ps_model.specs.World.{Flight, Nothing, Unrecorded, World}
+use Rattle.ps_model.specs.World.{Nothing, Unrecorded, World}
 use Rattle.ps_model.specs.declared.steps.Role.TheVariants.{Writer}
 use Rattle.ps_model.specs.declared.steps.Step.TheVariants.{Ended}
 use Rattle.ps_model.proofs.TheLaws.{the-laws}

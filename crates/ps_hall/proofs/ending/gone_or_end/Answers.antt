@@ -1,4 +1,4 @@
-use Rattle.std.proofs.Common.{List, ℕ, [], ◌∷◌, subst}
+use Rattle.std.proofs.Common.{List, ℕ, subst}
 use Rattle.ps_types.specs.declared.entry.Entry.TheVariants.{Gone as GoneEntry}
 use Rattle.ps_model.specs.declared.steps.Role.TheVariants.{Reader}
 use Rattle.ps_model.specs.declared.steps.Step.TheVariants.{Ended}
