@@ -4,7 +4,7 @@ use Rattle.std.specs.Prelude.{slice_get}
 use Rattle.ps_disk.specs.declared.device.Disk.{Ghosts}
 use Rattle.ps_world.proofs.Lists.{get-snoc}
 use Rattle.ps_twin.specs.declared.twin.TwinSeat.{TwinSeat}
-use Rattle.ps_twin.specs.Seats.{AreNew, IsNew, seats_of}
+use Rattle.ps_twin.specs.Seats.{AreNew, IsNew, seats_of, seen_of}
 use Rattle.ps_types.specs.declared.jid.Jid.{Jid}
 use Rattle.ps_trace.specs.Did.{HasInHand}
 use Rattle.ps_trace.proofs.Flying.{hand-none}
@@ -135,7 +135,7 @@ module _ {B D : Type 0} {g : Ghosts D} (o : Origin) (t : OurTwin B D g) where
         subst (λ m. Dealt m ns ss) (sym size) e.3,
         subst (λ (l : List (HostPasses B D g)). FreshSoFar l) (sym is)
             (λ j q here. elim (get-snoc passes p j q here) [
-              | inl old ↦ so_far j p old.1
+              | inl old ↦ so_far j q old.1
               | inr new ↦ subst (λ x. AreFreshOf j x) new.1 (subst (λ m. AreFreshOf m p) (sym new.0) fresh)
             ]),
       )

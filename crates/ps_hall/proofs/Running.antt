@@ -28,7 +28,7 @@ use Rattle.ps_hall.proofs.Refusals.{refused_stands, row_kept}
 
 -- ---- lists
 
-take_next : (hand : List Jid) (n : ℕ) (a : Jid) → slice_get hand n ≡ Some a → take (n + 1) hand ≡ take n hand ++ a ∷ []
+take_next : (hand : List Jid) (n : ℕ) (a : Jid) → slice_get hand n ≡ Some a → take (suc n) hand ≡ take n hand ++ a ∷ []
 take_next [] n a got = absurd (cc got)
 take_next (x ∷ hand) zero a got = let same : x ≡ a = cc got in ap (λ j. j ∷ []) same
 take_next (x ∷ hand) (suc n) a got = ap (λ l. x ∷ l) (take_next hand n a got)
@@ -38,8 +38,11 @@ split_at [] n a got = absurd (cc got)
 split_at (x ∷ hand) zero a got = let same : x ≡ a = cc got in ap (λ j. j ∷ hand) same
 split_at (x ∷ hand) (suc n) a got = ap (λ l. x ∷ l) (split_at hand n a got)
 
+one_more : (n : ℕ) → n + 1 ≡ suc n
+one_more n = omega arith
+
 records_next : (hand : List Jid) (n : ℕ) (a : Jid) → slice_get hand n ≡ Some a → records_of (take (n + 1) hand) ≡ records_of (take n hand) ++ Record a ∷ []
-records_next hand n a got = ap records_of (take_next hand n a got) ∙ map-append (λ j. Record j) (take n hand) (a ∷ [])
+records_next hand n a got = ap (λ (m : ℕ). records_of (take m hand)) (one_more n) ∙ ap records_of (take_next hand n a got) ∙ map-append (λ j. Record j) (take n hand) (a ∷ [])
 
 pub some_length : (hand : List Jid) → hand ≢ [] → 0 < length hand
 some_length [] some = absurd (some refl)

@@ -78,13 +78,17 @@ pub(crate) fn record_or_end<R: Threads + Sync>(
     ensures does { AtRow state.old at (λ row. RecordsOrEnds state.old state.new row.host hand.now.items result) }
     ensures kept { KeepsNumbers state.old state.new }
 {
-    record_first(state, rt, at, &hand[0])?;
-    let mut done = 1;
-    'others: while done < hand.len() && done < MOST_AT_ONCE && state.steps < MOST_STEPS {
-        match state.record(rt, at, &hand[done]) {
-            Ok(()) => done += 1,
-            Err(_) => return Ok(done),
+    match record_first(state, rt, at, &hand[0]) {
+        Ok(()) => {
+            let mut done = 1;
+            'others: while done < hand.len() && done < MOST_AT_ONCE && state.steps < MOST_STEPS {
+                match state.record(rt, at, &hand[done]) {
+                    Ok(()) => done += 1,
+                    Err(_) => return Ok(done),
+                }
+            }
+            Ok(done)
         }
+        Err(refusal) => Err(refusal),
     }
-    Ok(done)
 }

@@ -32,8 +32,8 @@ returns-in-Ok-clause-handed g c =
     subst (λ (l : List Jid). HasHanded {T = Unit {0}} o (number_of old) c.args.pass.now.host hand l (seen_of old) (seen_of new) (Ok (tt {0}))) (sym c.let_go.ensures)
     (record { mid = seen_of mid; recorded = does; after = subst (λ (k : ℕ). Flushes o k (seen_of mid) (seen_of new)) x.number c.in-Ok.ensures.ok })
 
-pub returns-in-Err-clause-handed : goal.returns-in-Err-clause-handed
-returns-in-Err-clause-handed g c =
+pub returns-in-Err-Store-clause-handed : goal.returns-in-Err-Store-clause-handed
+returns-in-Err-Store-clause-handed g c =
     let o = g.B.Opening.origin in
     let x = c.record-recorded.ensures in
     let does = rw c.in_ok-count.was at x.does in
@@ -43,7 +43,7 @@ returns-in-Err-clause-handed g c =
       refl,
       record {
         rest = drop c.in_ok-count.count c.args.pass.now.in_hand.items;
-        recorded = record { mid = seen_of mid; recorded = does; after = subst (λ (k : ℕ). NotFlushed o k (seen_of mid) (seen_of new)) x.number c.in-Err.ensures.err };
+        recorded = record { mid = seen_of mid; recorded = does; after = subst (λ (k : ℕ). NotFlushed o k (seen_of mid) (seen_of new)) x.number c.in-Err-Store.ensures.err };
         still = refl;
       },
     )
