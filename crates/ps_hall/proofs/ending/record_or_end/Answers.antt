@@ -1,4 +1,4 @@
-use Rattle.std.proofs.Common.{◌≡◌, ◌≢◌, ℕ, ◌+◌, ◌<◌, List, [], ◌∷◌, Some, length, refl, sym, ◌∙◌, arith, subst}
+use Rattle.std.proofs.Common.{◌≡◌, ◌≢◌, ◌+◌, ◌<◌, List, [], ◌∷◌, Some, length, refl, sym, ◌∙◌, arith, subst}
 use Rattle.std.specs.Prelude.{slice_get}
 use Rattle.std.proofs.lemmas.Option.{slice_get_read}
 use Rattle.ps_types.specs.declared.jid.Jid.{Jid}
@@ -39,13 +39,13 @@ pub record-requires-clause-held : goal.record-requires-clause-held
 record-requires-clause-held g c κs within = λ r now.
     let t = there c.args.state.now.rows.items c.args.at c.requires.here in
     next_held c.args.state.now c.others.state c.args.at t.0 c.args.hand.now.items c.others.done c.index-in-others.result.now c.others.invariant.0 t.1 (c.requires.holding t.0 t.1) c.others.invariant.1
-    (slice_get_read c.args.hand.now.items _ c.others.done c.index-in-others.result.now refl (subst (λ (m : ℕ). c.others.done < m) c.len.ensures c.others-test.true) c.index-in-others.ensures) r now
+    (slice_get_read c.args.hand.now.items _ c.others.done c.index-in-others.result.now refl (let test = c.others-test.true in let size = c.len.ensures in let all = c.args.hand.now.ok.0 in omega (arith, test, size, all)) c.index-in-others.ensures) r now
 
 pub others-preserved : goal.others-preserved
 others-preserved g c = (
   kept_both c.args.state.now c.others.state c.record.new.self c.others.invariant.0 c.record.ensures.kept,
   records_one c.args.state.now c.others.state c.record.new.self c.args.hand.now.items c.others.done c.index-in-others.result.now c.others.invariant.1 c.in-Ok-record.ensures.ok
-      (slice_get_read c.args.hand.now.items _ c.others.done c.index-in-others.result.now refl (subst (λ (m : ℕ). c.others.done < m) c.len.ensures c.others-test.true) c.index-in-others.ensures) (subst (λ (m : ℕ). c.others.done < m) c.len.ensures c.others-test.true) c.if-done-lt-MOST_AT_ONCE.true,
+      (slice_get_read c.args.hand.now.items _ c.others.done c.index-in-others.result.now refl (let test = c.others-test.true in let size = c.len.ensures in let all = c.args.hand.now.ok.0 in omega (arith, test, size, all)) c.index-in-others.ensures) (let test = c.others-test.true in let size = c.len.ensures in let all = c.args.hand.now.ok.0 in omega (arith, test, size, all)) c.if-done-lt-MOST_AT_ONCE.true,
 )
 
 pub returns-in-Err-record-clause-kept : goal.returns-in-Err-record-clause-kept
