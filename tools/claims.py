@@ -1,15 +1,15 @@
 #!/usr/bin/env python3
-"""What docs/claims.md says that is made from the sources: what each crate promises, and each law. tables.py writes it there.
+"""The laws that the rows of docs/claims.md written by hand don't name. tables.py writes them there.
 
-A crate's promise is the first sentence of its src/lib.rt. A law is a public function with an empty body: the check proves its contract, which
-is all that it has; what it says is the first sentence of its doc comment.
+A law is a public function with an empty body: the check proves its contract, which is all that it has; what it says is the first sentence of its
+doc comment.
 """
 import pathlib
 import re
 
 ROOT = pathlib.Path(__file__).resolve().parents[1]
 CRATES = ROOT / "crates"
-LONG = 150
+LONG = 100
 
 
 def names():
@@ -33,17 +33,6 @@ def first_sentence(text):
     match = re.match(r"(.*?[.:])(?= [A-Z`]|$)", plain(text))
     found = (match[1] if match else plain(text)).rstrip(":").rstrip(".")
     return (re.split(r"[;:] ", found)[0] if len(found) > LONG else found) + "."
-
-
-def promise(name):
-    """The first sentence of what a crate says of itself."""
-    top = next(it for it in (CRATES / name / "src/lib.rt", CRATES / name / "src/main.rt") if it.is_file())
-    lines = []
-    for line in top.read_text().splitlines():
-        if not line.startswith("//!") or (lines and not line[3:].strip()):
-            break
-        lines.append(line[3:].strip())
-    return first_sentence(" ".join(lines))
 
 
 def functions_of(path):
@@ -76,21 +65,15 @@ def laws_of(name):
     return found
 
 
-def promises():
-    rows = ["| Crate | What it is |", "|---|---|"]
-    for name in names():
-        if not name.endswith(("_tests", "_cases", "_laws")):
-            rows.append(f"| `{name}` | {promise(name)} |")
-    return "\n".join(rows) + "\n"
+def new_laws(name, by_hand):
+    """The laws of a crate that the page doesn't name."""
+    return [it for it in laws_of(name) if f"`{it[1]}`" not in by_hand]
 
 
-def laws():
+def laws(by_hand):
     rows, last = ["| In | Law | What it says |", "|---|---|---|"], None
     for name in names():
-        if name.endswith(("_tests", "_cases")):
-            continue
-        for path, function, says in laws_of(name):
-            where = f"[{name}](../{path})" if path != last else ""
-            rows.append(f"| {where} | `{function}` | {says} |")
-            last = path
+        for _, function, says in new_laws(name, by_hand) if not name.endswith(("_tests", "_cases")) else ():
+            rows.append(f"| {f'`{name}`' if name != last else ''} | `{function}` | {says} |")
+            last = name
     return "\n".join(rows) + "\n"

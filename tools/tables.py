@@ -7,7 +7,7 @@
 conditions, refusals   from crates/ps_types/src/denial.rt: each variant's doc comment
 config                 from crates/ps_types/specs/Config.antt and Defaults.antt
 features               from crates/ps_model/specs/Discovery.antt
-promises, laws         from the crates' src/lib.rt and laws: claims.py
+laws                   from the crates' laws, those that the page names by hand left out: claims.py
 """
 import pathlib
 import re
@@ -116,18 +116,20 @@ def features():
     first = ["http://jabber.org/protocol/disco#info", "http://jabber.org/protocol/disco#items", "http://jabber.org/protocol/pubsub"]
     rows = [
         ["both", ", ".join(f"`{it}`" for it in first)],
-        ["both, behind `http://jabber.org/protocol/pubsub#`", ", ".join(f"`{it}`" for it in names if it not in accounts)],
-        ["accounts alone, behind the same", ", ".join(f"`{it}`" for it in accounts)],
+        ["both, with the prefix `http://jabber.org/protocol/pubsub#`", ", ".join(f"`{it}`" for it in names if it not in accounts)],
+        ["accounts alone, with the same prefix", ", ".join(f"`{it}`" for it in accounts)],
     ]
     return table(["Where", "Features"], rows)
 
 
-TABLES = {"conditions": conditions, "refusals": refusals, "config": config, "features": features, "promises": claims.promises, "laws": claims.laws}
+TABLES = {"conditions": conditions, "refusals": refusals, "config": config, "features": features}
 
 
 def made(text):
     """The page with its tables made anew."""
-    return MARK.sub(lambda match: match[1] + TABLES[match[2]]() + match[3], text)
+    by_hand = MARK.sub("", text)
+    makers = {**TABLES, "laws": lambda: claims.laws(by_hand)}
+    return MARK.sub(lambda match: match[1] + makers[match[2]]() + match[3], text)
 
 
 def main():

@@ -15,7 +15,7 @@ from .config import BadConfig, Config, check_folders, read_config
 from .install import CantSetUp, set_up
 from .kept import Kept
 from .log import say
-from .service import OPEN_FAULT, USAGE
+from .service import OPEN_FAULT, STORE_FAULT, STREAM_FAULT, USAGE
 
 
 def words() -> argparse.Namespace:
@@ -35,7 +35,11 @@ def lock(config: Config) -> int:
 
 
 async def serve(config: Config) -> int:
-    kept = Kept(config.state / "adapter.sqlite")
+    try:
+        kept = Kept(config.state / "adapter.sqlite")
+    except sqlite3.Error as why:
+        say("the state can't be opened", file=config.state / "adapter.sqlite", why=why)
+        return OPEN_FAULT
     try:
         return await Adapter(config, kept).run()
     finally:
@@ -75,8 +79,11 @@ def main() -> int:
     try:
         return asyncio.run(serve(config))
     except sqlite3.Error as why:
-        say("the state can't be opened", file=config.state / "adapter.sqlite", why=why)
-        return OPEN_FAULT
+        say("the state can't be used", file=config.state / "adapter.sqlite", why=why)
+        return STORE_FAULT
+    except OSError as why:
+        say("the machine refuses what the adapter needs", why=why)
+        return STREAM_FAULT
     finally:
         os.close(held)
 

@@ -46,10 +46,12 @@ class Adapter:
         self._stopping = asyncio.Event()
         self._turning = asyncio.Event()
         self._turn_why = ""
+        self._wants_compaction = False
         self._rarely = Rarely()
         self._run: Run | None = None
+        self._starting: Run | None = None
         self._number = 0
-        self._served_at = 0.0
+        self._began_at = self._served_at = 0.0  # when the last run began, and when one last had its store
         self._connections = 0
         self._starts = 0
         self._began = time.monotonic()
@@ -113,6 +115,8 @@ class Adapter:
     # What the service writes
 
     def _wake(self, stream: Stream, closed: bool) -> None:
+        if self._is_opening and self._run is not None and stream in self._run.streams and stream.spool.size:
+            self._opened()
         if closed and self._run is not None and stream in self._run.streams and stream.is_open:
             self._loop.call_later(2.0, self._check_closed, self._run)
         self._pump_host(stream.host)
@@ -203,12 +207,14 @@ class Adapter:
         return True
 
     async def _serve(self) -> int:
-        pause, want_compaction = 0.1, self._compaction.is_due()
-        while True:
-            if want_compaction:
+        pause = 0.1
+        self._wants_compaction = self._compaction.is_due()
+        while not self._stopping.is_set():
+            if self._wants_compaction:
+                self._wants_compaction = False
                 notify("STATUS=compacting")
                 await self._compaction.compact()
-            want_compaction = False
+                continue
             began = time.monotonic()
             status = await self._one_run()
             if self._stopping.is_set():
@@ -219,15 +225,14 @@ class Adapter:
                 say("not started again", status=status, meaning=meaning(status))
                 return status
             turned, self._turn_why = self._turn_why, ""
-            want_compaction = turned == "compaction" or self._compaction.is_due()
+            self._wants_compaction = self._wants_compaction or self._compaction.is_due()
             if turned:
                 pause = 0.1
                 continue
             served = self._served_at > began
             pause = 0.1 if time.monotonic() - began > 10 else min(2 * pause, 1.0 if served else 30.0)
             await self._sleep(pause)
-            if self._stopping.is_set():
-                return 0
+        return 0
 
     async def _one_run(self) -> int:
         """One run of the service, to its end."""
@@ -235,11 +240,14 @@ class Adapter:
         run = Run(self._config, self._config.run / f"run-{self._number}", self._watch)
         self._turning.clear()
         try:
-            run.make(self._wake, self._flush_kept)
+            run.make(self._wake, self._flush_kept, self._turning.set)
+            self._starting = run
             opened = await run.start()
         except OSError as why:
             say("the run folder can't be used", why=why)
             return self._abandon(run, STREAM_FAULT)
+        finally:
+            self._starting = None
         if run.process is None:
             return self._abandon(run, OPEN_FAULT)
         self._starts += 1
@@ -262,18 +270,31 @@ class Adapter:
         return status
 
     async def _attend(self, run: Run) -> None:
-        """Lets requests through until the service ends, or it is to end."""
+        """Lets requests through until the service ends, or it is to end.
+
+        A service that says what failed goes on with the streams that didn't, and tells its status once all inputs have ended. So they are ended then.
+        """
         self._run = run
-        self._served_at = time.monotonic()
-        self._compaction.opened()
+        self._began_at = time.monotonic()
         self._router.begin(run.streams)
-        notify("READY=1", "STATUS=serving" if self._session.is_up else "STATUS=waiting for the server")
         assert run.process is not None
         waits = [asyncio.create_task(self._stopping.wait()), asyncio.create_task(self._turning.wait())]
         await asyncio.wait([run.process.ended, *waits], return_when=asyncio.FIRST_COMPLETED)
         for one in waits:
             one.cancel()
         self._router.pause()
+
+    @property
+    def _is_opening(self) -> bool:
+        """Whether the service reads its store: it opens its streams before, and writes to none of them until it has."""
+        return self._served_at <= self._began_at
+
+    def _opened(self) -> None:
+        """The service has read its store, and serves."""
+        self._served_at = time.monotonic()
+        self._compaction.opened()
+        say("service serves", seconds=f"{self._served_at - self._began_at:.3f}")
+        notify("READY=1", "STATUS=serving" if self._session.is_up else "STATUS=waiting for the server")
 
     def _turn(self, why: str) -> None:
         """Ends this run, for another to begin."""
@@ -283,6 +304,8 @@ class Adapter:
             self._turning.set()
 
     def _ask_compaction(self) -> None:
+        """At once if the service runs, and before it runs again in any case."""
+        self._wants_compaction = True
         self._turn("compaction")
 
     def _stop(self) -> None:
@@ -293,6 +316,10 @@ class Adapter:
         notify("STOPPING=1")
         self._router.stopping = True
         self._stopping.set()
+        self._compaction.give_up()
+        opening = self._starting if self._run is None else self._run if self._is_opening else None
+        if opening is not None and opening.process is not None:
+            opening.process.kill()  # a store that is being read is changed by nothing
 
     async def _end_session(self) -> None:
         """Gives the server what is still to be given, and ends the stream."""
@@ -323,7 +350,10 @@ class Adapter:
                 self._excuse()
             elif not self._router.is_flooded:
                 self._session.read_on(True)
-            if self._router.silence() > self._config.answer_seconds:
+            if self._run is not None and self._is_opening:
+                if time.monotonic() - self._began_at > self._config.open_seconds:
+                    self._turn("it doesn't come to the end of its store")
+            elif self._router.silence(self._served_at) > self._config.answer_seconds:
                 self._turn("it doesn't answer")
             elif self._router.out_of_step:
                 self._turn("its replies fit no requests")
@@ -341,9 +371,10 @@ class Adapter:
         """Compacts at the times of the configuration."""
         if self._config.compact_at is None:
             return
+        due = datetime.datetime.now()
         while True:
-            now = datetime.datetime.now()
-            await asyncio.sleep((next_time(self._config.compact_at, now) - now).total_seconds())
+            due = next_time(self._config.compact_at, max(due, datetime.datetime.now()))
+            await asyncio.sleep((due - datetime.datetime.now()).total_seconds())
             self._ask_compaction()
 
     def _flush_kept(self) -> None:

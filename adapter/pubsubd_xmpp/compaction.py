@@ -2,6 +2,7 @@
 
 from __future__ import annotations
 
+import contextlib
 import datetime
 import os
 import time
@@ -33,6 +34,8 @@ class Compaction:
         self.store = config.store
         self.new = config.state / "store.new"
         self.before = config.state / "store.before"
+        self._process: Process | None = None
+        self._failed_at = 0  # the store's size when it last couldn't be compacted
 
     def size(self) -> int:
         try:
@@ -46,36 +49,48 @@ class Compaction:
         The program tells no such number. What a store took when it was last compacted is what its rows took then, and one look at the file's size tells the rest.
         """
         base = self._kept.fact(_BASE) or 0
-        return self.size() >= self._config.compact_bytes + self._config.compact_ratio * base
+        return self.size() >= max(self._config.compact_bytes + self._config.compact_ratio * base, 2 * self._failed_at)
 
     async def compact(self) -> bool:
         """Compacts the store, which nobody serves. Where it fails, the store stands as it was."""
         size, began = self.size(), time.monotonic()
         if size == 0:
             return False
-        self.new.unlink(missing_ok=True)
         try:
-            process = Process([*self._config.program, "compact", str(self.store), str(self.new)], "compact")
-        except OSError as why:
-            say("not compacted", why=why.strerror)
+            why = await self._write_new()
+            if not why:
+                self._put_in_place()
+        except OSError as fault:
+            why = str(fault)
+        if why:
+            self._failed_at = size
+            self.clean()
+            say("not compacted", why=why)
             return False
-        status = await process.ended
-        if status != 0 or not self._is_store():
-            self.new.unlink(missing_ok=True)
-            say("not compacted", status=status, meaning=meaning(status) if status else "what was written is no store")
-            return False
-        self._put_in_place()
+        self._failed_at = 0
         self._kept.keep_fact(_BASE, self.size())
         say("compacted", bytes_before=size, bytes_now=self.size(), seconds=f"{time.monotonic() - began:.3f}")
         return True
 
+    async def _write_new(self) -> str:
+        """Writes the new store, and has it on the disk. What went wrong, or nothing."""
+        self.new.unlink(missing_ok=True)
+        self._process = Process([*self._config.program, "compact", str(self.store), str(self.new)], "compact")
+        status = await self._process.ended
+        self._process = None
+        if status != 0:
+            return f"status {status}: {meaning(status)}"
+        return "" if self._is_store() else "what was written is no store"
+
+    def give_up(self) -> None:
+        """A compaction that runs is ended: the adapter stops."""
+        if self._process is not None:
+            self._process.kill()
+
     def _is_store(self) -> bool:
-        try:
-            with open(self.new, "rb") as file:
-                is_store = file.read(len(_HEADER)) == _HEADER
-                os.fsync(file.fileno())
-        except OSError:
-            return False
+        with open(self.new, "rb") as file:
+            is_store = file.read(len(_HEADER)) == _HEADER
+            os.fsync(file.fileno())
         return is_store
 
     def _put_in_place(self) -> None:
@@ -91,7 +106,8 @@ class Compaction:
 
     def opened(self) -> None:
         """A run opened the store: the old one isn't needed any more."""
-        self.before.unlink(missing_ok=True)
+        with contextlib.suppress(OSError):
+            self.before.unlink()
 
     def refused(self) -> bool:
         """A run found the store damaged. Whether there was one from before the compaction, which is put back."""

@@ -47,6 +47,7 @@ class Config:
     open_bytes: int = 67108864
     in_flight: int = 128
     answer_seconds: float = 60.0
+    open_seconds: float = 900.0
     stop_seconds: float = 45.0
     ping_seconds: float = 60.0
     roster_seconds: float = 10.0
@@ -70,6 +71,7 @@ _SETTINGS = {
     ("server", "presence_seconds"): "presence_seconds",
     ("server", "keep_presences"): "keep_presences",
     ("service", "answer_seconds"): "answer_seconds",
+    ("service", "open_seconds"): "open_seconds",
     ("service", "stop_seconds"): "stop_seconds",
     ("limits", "open_requests"): "open_requests",
     ("limits", "open_bytes"): "open_bytes",

@@ -75,19 +75,25 @@ def _restart(*units: str) -> None:
 
 
 def set_up(server: str, hosts: list[str], etc: Path = Path("/etc")) -> None:
-    """Writes all three. prosody reads its part by itself; ejabberd's has to be put into its one file by hand."""
+    """Writes all three, or nothing where one is there already. prosody reads its part by itself; ejabberd's is a file that its own includes."""
     if server not in SERVERS or not hosts:
         raise CantSetUp(f"say --setup and {' or '.join(SERVERS)}, then the virtual hosts")
-    service = f"pubsub.{hosts[0]}"
-    ours = etc / "pubsubd"
-    ours.mkdir(exist_ok=True)
-    secret = secrets.token_hex(24)
-    conf = configuration(service, hosts, server)
-    _write(ours / "xmpp.conf", conf, "pubsubd", 0o640)
-    _write(ours / "secret", secret + "\n", "pubsubd", 0o640)
+    service, secret, ours = f"pubsub.{hosts[0]}", secrets.token_hex(24), etc / "pubsubd"
     if server == "prosody":
-        _write(etc / "prosody" / "conf.d" / "pubsubd.cfg.lua", prosody_part(service, hosts, secret), "prosody", 0o640)
+        theirs, part = etc / "prosody" / "conf.d" / "pubsubd.cfg.lua", prosody_part(service, hosts, secret)
+    else:
+        theirs, part = etc / "ejabberd" / "pubsubd.yml", ejabberd_part(service, secret)
+    if not theirs.parent.is_dir():
+        raise CantSetUp(f"{theirs.parent} isn't there: install {server} first")
+    for path in (ours / "xmpp.conf", ours / "secret", theirs):
+        if path.exists():
+            raise CantSetUp(f"{path} is there already: change it by hand, or remove it")
+    ours.mkdir(exist_ok=True)
+    _write(ours / "xmpp.conf", configuration(service, hosts, server), "pubsubd", 0o640)
+    _write(ours / "secret", secret + "\n", "pubsubd", 0o640)
+    _write(theirs, part, server, 0o640)
+    if server == "prosody":
         _restart("prosody", "pubsubd-xmpp")
     else:
-        _write(ours / "ejabberd.yml", ejabberd_part(service, secret), "pubsubd", 0o640)
-        print(f"now: put the parts of {ours}/ejabberd.yml into /etc/ejabberd/ejabberd.yml, take mod_pubsub out there, and systemctl restart ejabberd pubsubd-xmpp")
+        print(f"now: put the line 'include_config_file: {theirs}' into {theirs.parent}/ejabberd.yml, take mod_pubsub and mod_avatar out there,")
+        print("and systemctl restart ejabberd pubsubd-xmpp")

@@ -2,6 +2,7 @@
 
 from __future__ import annotations
 
+import contextlib
 import json
 import sqlite3
 from collections.abc import Iterable
@@ -11,6 +12,7 @@ from pathlib import Path
 _TABLES = """
 CREATE TABLE IF NOT EXISTS roster (account TEXT, contact TEXT, subscription TEXT, groups TEXT, sure INTEGER, PRIMARY KEY (account, contact)) WITHOUT ROWID;
 CREATE INDEX IF NOT EXISTS unsure ON roster (account) WHERE sure = 0;
+CREATE INDEX IF NOT EXISTS contact ON roster (contact);
 CREATE TABLE IF NOT EXISTS notice (address TEXT PRIMARY KEY, number INTEGER) WITHOUT ROWID;
 CREATE TABLE IF NOT EXISTS presence (resource TEXT PRIMARY KEY, caps TEXT) WITHOUT ROWID;
 CREATE TABLE IF NOT EXISTS fact (name TEXT PRIMARY KEY, value INTEGER) WITHOUT ROWID;
@@ -47,9 +49,12 @@ class Kept:
         self._numbers: dict[str, int] = {}
         self._settled: dict[tuple[str, str], Row] = {}
         self._presences: dict[str, str | None] = {}
+        self._facts: dict[str, int] = {}
 
     def close(self) -> None:
-        self.flush()
+        """Writes what was gathered, if the disk takes it: without it notices may come twice, and rows are told again."""
+        with contextlib.suppress(sqlite3.Error):
+            self.flush()
         self._base.close()
 
     # Rosters
@@ -62,6 +67,14 @@ class Kept:
             known = {contact: Told(Row(state, tuple(json.loads(groups))), bool(sure)) for contact, state, groups, sure in found}
             self._rosters[account] = known
         return known
+
+    def owners(self, contact: str) -> set[str]:
+        """The accounts of which the service was told that this contact gets their presence. Where the disk doesn't tell, none."""
+        query = "SELECT account FROM roster WHERE contact = ? AND subscription IN ('from', 'both')"
+        try:
+            return {account for (account,) in self._base.execute(query, (contact,))}
+        except sqlite3.Error:
+            return set()
 
     def intend(self, account: str, rows: Iterable[tuple[str, Row]]) -> None:
         """Keeps rows that are about to be told, on the disk before it returns: whoever forgets what he told can't take it back."""
@@ -93,8 +106,9 @@ class Kept:
         self._settled[account, contact] = row
 
     def unsure(self) -> list[tuple[str, str, Row]]:
-        """The rows that were told, and not answered."""
-        self.flush()
+        """The rows that were told, and not answered. Where the disk takes nothing now, some that were answered are among them."""
+        with contextlib.suppress(sqlite3.Error):
+            self.flush()
         found = self._base.execute("SELECT account, contact, subscription, groups FROM roster WHERE sure = 0").fetchall()
         return [(account, contact, Row(state, tuple(json.loads(groups)))) for account, contact, state, groups in found]
 
@@ -140,15 +154,17 @@ class Kept:
     # Facts
 
     def fact(self, name: str) -> int | None:
+        if name in self._facts:
+            return self._facts[name]
         found = self._base.execute("SELECT value FROM fact WHERE name = ?", (name,)).fetchone()
         return found[0] if found else None
 
     def keep_fact(self, name: str, value: int) -> None:
-        self._base.execute("INSERT OR REPLACE INTO fact VALUES (?, ?)", (name, value))
+        self._facts[name] = value
 
     def flush(self) -> None:
         """Writes all that was gathered, in one transaction."""
-        if not (self._numbers or self._settled or self._presences):
+        if not (self._numbers or self._settled or self._presences or self._facts):
             return
         with self._base:
             self._base.execute("BEGIN")
@@ -159,9 +175,11 @@ class Kept:
             there = [(resource, caps) for resource, caps in self._presences.items() if caps is not None]
             self._base.executemany("DELETE FROM presence WHERE resource = ?", gone)
             self._base.executemany("INSERT OR REPLACE INTO presence VALUES (?, ?)", there)
+            self._base.executemany("INSERT OR REPLACE INTO fact VALUES (?, ?)", list(self._facts.items()))
         self._numbers.clear()
         self._settled.clear()
         self._presences.clear()
+        self._facts.clear()
 
     def _write_settled(self, account: str, contact: str, row: Row) -> None:
         key = (account, contact, row.subscription)

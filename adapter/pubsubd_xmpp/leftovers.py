@@ -22,7 +22,7 @@ async def wait_for_store(store: Path, seconds: float) -> bool:
     while True:
         try:
             fd = os.open(store, os.O_RDWR | os.O_CLOEXEC)
-        except FileNotFoundError:
+        except OSError:  # it isn't there, or can't be opened, which the service then says
             return True
         try:
             fcntl.flock(fd, fcntl.LOCK_EX | fcntl.LOCK_NB)

@@ -22,11 +22,11 @@ class Rarely:
     """Says the same event again only when its facts changed, or a number of times went by: what fails each second isn't worth a line each."""
 
     def __init__(self) -> None:
-        self._last: dict[str, tuple[object, ...]] = {}
+        self._last: dict[str, list[str]] = {}
         self._passed: dict[str, int] = {}
 
     def say(self, event: str, **facts: object) -> None:
-        key = tuple(facts.items())
+        key = [str(fact) for fact in facts.values()]
         passed = self._passed.get(event, 0) + 1
         if self._last.get(event) == key and passed < 100:
             self._passed[event] = passed

@@ -2,6 +2,7 @@
 
 The service has no request that reads or empties a roster, and neither server tells a component of changes. So an account's contacts are asked for before each request
 to its nodes, and before each presence of its own. A request that comes while a question is open waits for that answer, which the server gives later than it sent the request.
+Who comes is given last items of others at once. His own contacts tell whose presence he gets: where that isn't what the service was told, those others' contacts are asked for too.
 
 An account's rows go on the stream of its own host, and a request on that of its sender's. Streams are served beside one another, so a request waits until the service
 has answered the rows that came before it.
@@ -33,6 +34,7 @@ class _Question:
     account: str
     timer: asyncio.TimerHandle
     waiting: list[Then] = field(default_factory=list)
+    sees: set[str] | None = None  # whose presence the account gets, where the server told
     told: bool | None = None  # the server's answer came, and could be told
 
 
@@ -47,8 +49,8 @@ class _Account:
 class Rosters:
     """Questions that are open, and rows that were told."""
 
-    def __init__(self, config: Config, kept: Kept, ask: Callable[[Elem], None], put: Put):
-        self._config, self._kept, self._ask, self._put = config, kept, ask, put
+    def __init__(self, config: Config, kept: Kept, ask: Callable[[Elem], None], put: Put, may_ask: Callable[[str], bool]):
+        self._config, self._kept, self._ask, self._put, self._may_ask = config, kept, ask, put, may_ask
         self._loop = asyncio.get_running_loop()
         self._by_id: dict[str, _Question] = {}
         self._accounts: dict[str, _Account] = {}
@@ -57,12 +59,33 @@ class Rosters:
 
     # Who waits
 
-    def first(self, account: str, then: Then) -> None:
+    def first(self, account: str, then: Then) -> _Question:
         """Lets `then` go once the account's contacts were told as they are now."""
         questions = self._accounts.setdefault(account, _Account()).questions
         if not questions or questions[-1].told is not None:
             questions.append(self._question(account))
         questions[-1].waiting.append(then)
+        return questions[-1]
+
+    def before_presence(self, account: str, then: Then) -> None:
+        """Lets `then` go once the account's contacts were told, and those of the owners whose last items it may be given as it comes."""
+        question = self.first(account, lambda _: self._first_owners(account, question.sees, then))
+
+    def _first_owners(self, account: str, sees: set[str] | None, then: Then) -> None:
+        """Asks those who let the account see them and of whom that wasn't told, and those of whom it was told and who don't."""
+        owners = [] if sees is None else [owner for owner in sees ^ self._kept.owners(account) if self._may_ask(owner)]
+        left = len(owners)
+        if not owners:
+            then(True)
+
+        def count(_: bool) -> None:
+            nonlocal left
+            left -= 1
+            if left == 0:
+                then(True)
+
+        for owner in owners:
+            self.first(owner, count)
 
     def behind(self, account: str, then: Then) -> None:
         """Lets `then` go behind what waits for that account's contacts, or at once."""
@@ -113,6 +136,7 @@ class Rosters:
         question.told = True
         query = stanza.child("query", ROSTER)
         if stanza.get("type") == "result" and query is not None:
+            question.sees = {item.get("jid").lower() for item in query.children("item") if item.get("subscription") in ("to", "both")}
             question.told = self._tell(question.account, query)
         elif stanza.get("type") == "error":
             self._rarely.say("a roster is refused", account=question.account)

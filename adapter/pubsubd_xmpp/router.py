@@ -33,7 +33,7 @@ class Router:
         self.session: Session
         self.grants = Grants(config.hosts)
         self.presences = Presences(config.host, kept if config.keep_presences else None, self._tell_presence)
-        self.rosters = Rosters(config, kept, self._to_server, self.put)
+        self.rosters = Rosters(config, kept, self._to_server, self.put, self._may_ask)
         self.counts: Counter[str] = Counter()
         self.streams: dict[str, Stream | None] = dict.fromkeys(config.hosts)
         self.waiting: dict[str, deque[tuple[bytes, Asked | None]]] = {host: deque() for host in config.hosts}
@@ -122,7 +122,7 @@ class Router:
             self._dirty.add(stream.host)
 
     def _ask_features(self) -> None:
-        """Asks the service what it does for accounts, which the server then tells of them."""
+        """Asks the service what it does for accounts, which the server then tells of them. So it has something to answer once it has read its store."""
         host = self._config.hosts[0]
         head = {"from": host, "to": f"account@{host}", "id": "features", "type": "get"}
         question = elem("iq", CLIENT, head, elem("query", INFO))
@@ -204,7 +204,8 @@ class Router:
         account = bare_of(sender)
         if kind == "":
             if self.presences.take(sender, stanza):
-                self._with_roster(host, account, lambda _: self.presences.tell_there(sender))
+                behind = self.rosters.before_presence if self._may_ask(account) else self.rosters.behind
+                behind(account, lambda _: self.presences.tell_there(sender))
         elif self._remove(sender):
             self.rosters.behind(account, lambda _: self.presences.tell_gone(sender))
 
@@ -263,7 +264,8 @@ class Router:
         if account == self._config.host:
             self.rosters.behind(bare_of(stanza.get("from")), lambda _: self._go(host, line, asked, True))
         else:
-            self._with_roster(host_of(account), account, lambda told: self._go(host, line, asked, told))
+            behind = self.rosters.first if self._may_ask(account) else self.rosters.behind
+            behind(account, lambda told: self._go(host, line, asked, told))
 
     def _refusal(self, stanza: Elem, host: str) -> tuple[str, str, str] | None:
         """Why the adapter itself refuses the request: the condition, its type and a text."""
@@ -279,11 +281,9 @@ class Router:
             return "resource-constraint", "wait", errors.BUSY
         return None
 
-    def _with_roster(self, host: str, account: str, then: Callable[[bool], None]) -> None:
-        if host in self._config.hosts and account.isascii() and self.grants.has(host, "roster"):
-            self.rosters.first(account, then)
-        else:
-            self.rosters.behind(account, then)
+    def _may_ask(self, account: str) -> bool:
+        """Whether the server tells that account's contacts."""
+        return "@" in account and account.isascii() and self.grants.has(host_of(account), "roster")
 
     def _go(self, host: str, line: bytes, asked: Asked, told: bool) -> None:
         if told:
@@ -439,7 +439,7 @@ class Router:
         since = [stream.open[0].since for stream in self.streams.values() if stream is not None and stream.open]
         return time.monotonic() - min(since) if since else 0.0
 
-    def silence(self) -> float:
-        """How long the service has owed a reply and written nothing to that stream, in seconds."""
-        since = [max(stream.open[0].since, stream.read_at) for stream in self.streams.values() if stream is not None and stream.open]
+    def silence(self, served_at: float) -> float:
+        """How long the service, which serves since then, has owed a reply and written nothing to that stream, in seconds."""
+        since = [max(stream.open[0].since, stream.read_at, served_at) for stream in self.streams.values() if stream is not None and stream.open]
         return time.monotonic() - min(since) if since else 0.0

@@ -58,9 +58,10 @@ def die_with(parent: int) -> Callable[[], None]:
 class Process:
     """A child whose end is seen without waiting, and whose words go to the log."""
 
-    def __init__(self, words: list[str], name: str):
+    def __init__(self, words: list[str], name: str, complained: Callable[[], None] = lambda: None):
+        """`complained` is called when it writes a line to standard error."""
         self._loop = asyncio.get_running_loop()
-        self._name = name
+        self._name, self._complained = name, complained
         self.ended: asyncio.Future[int] = self._loop.create_future()
         self._child = subprocess.Popen(
             words,
@@ -88,6 +89,8 @@ class Process:
         *lines, self._rests[fd] = (self._rests[fd] + data).split(b"\n")
         for line in lines:
             say(self._name, says=line.decode(errors="replace"))
+        if lines and self._child.stderr is not None and fd == self._child.stderr.fileno():
+            self._complained()
         if not data:
             self._loop.remove_reader(fd)
         return bool(data)
@@ -116,9 +119,11 @@ class Run:
         self.streams: list[Stream] = []
         self.process: Process | None = None
         self._watched: list[int] = []
+        self._complained: Callable[[], None] = lambda: None
 
-    def make(self, wake: Callable[[Stream, bool], None], before_cut: Callable[[], None]) -> None:
-        """Makes the pipes and the sinks. `wake` is told the stream that was written to."""
+    def make(self, wake: Callable[[Stream, bool], None], before_cut: Callable[[], None], complained: Callable[[], None]) -> None:
+        """Makes the pipes and the sinks. `wake` is told the stream that was written to, and `complained` called when the program says what failed."""
+        self._complained = complained
         self._folder.mkdir(mode=0o700)
         for at, host in enumerate(self._config.hosts):
             os.mkfifo(self._folder / f"{at}.in", 0o600)
@@ -134,7 +139,7 @@ class Run:
             words += [host, str(self._folder / f"{at}.in"), str(self._folder / f"{at}.out")]
         began = time.monotonic()
         try:
-            self.process = Process(words, "service")
+            self.process = Process(words, "service", self._complained)
         except OSError as why:
             say("the service can't be started", program=self._config.program[0], why=why.strerror)
             return False

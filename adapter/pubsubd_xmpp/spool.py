@@ -67,9 +67,16 @@ class Spool:
         self.path = path
         self._fd = os.open(path, os.O_RDWR | os.O_CREAT | os.O_CLOEXEC, 0o600)
         cell = os.open(path.with_suffix(".at"), os.O_RDWR | os.O_CREAT | os.O_CLOEXEC, 0o600)
-        os.ftruncate(cell, _CELL.size)
-        self._cell = mmap.mmap(cell, _CELL.size)
-        os.close(cell)
+        try:
+            # Written, and not only made longer: a mapped page for which a full disk has no room would end the process.
+            if os.fstat(cell).st_size < _CELL.size:
+                os.pwrite(cell, bytes(_CELL.size), 0)
+            self._cell = mmap.mmap(cell, _CELL.size)
+        except OSError:
+            os.close(self._fd)
+            raise
+        finally:
+            os.close(cell)
         self._before_cut = before_cut
         self._cut = 0
         self._half = b""
@@ -135,6 +142,11 @@ class Spool:
                 if not more:
                     break
             self.at = start + piece.find(b"\n") + 1 if b"\n" in piece else start + len(piece)
+
+    @property
+    def size(self) -> int:
+        """The bytes that were written to it."""
+        return os.fstat(self._fd).st_size
 
     @property
     def room(self) -> int:

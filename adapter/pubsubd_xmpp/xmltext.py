@@ -13,6 +13,7 @@ from .trees import Elem
 # What XML 1.0 has no way to write.
 _BAD = re.compile("[^\t\n\r\u0020-\ud7ff\ue000-\ufffd\U00010000-\U0010ffff]")
 _SPECIAL = re.compile("[&<>]")
+_PLAIN = re.compile("[ !#-%(-;=?-~]*")
 _NAMED = {"&": "&amp;", "<": "&lt;", ">": "&gt;"}
 # What lies deeper is left out. The service refuses trees of more than 32 levels, and an envelope has three.
 MAX_DEPTH = 64
@@ -30,7 +31,7 @@ def escape(text: str) -> str:
 
 def attribute(text: str) -> str:
     """The value of an attribute with its quotes."""
-    if text.isalnum():
+    if _PLAIN.fullmatch(text):
         return f"'{text}'"
     return quoteattr(_BAD.sub("\ufffd", text))
 

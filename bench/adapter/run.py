@@ -1,10 +1,11 @@
 #!/usr/bin/python3
 """Publishes and notices through prosody, the adapter and the service, beside prosody's own pubsub in the same server and run.
 
-Usage: bench/adapter/run.py PROGRAM [SCALE]
+Usage: bench/adapter/run.py PROGRAM [SCALE [profile]]
 
 Prosody's own is taken twice: over SQLite, which syncs (wants Debian's lua-dbi-sqlite3), and over its files, which it doesn't sync. SCALE (1 unless named) multiplies
-the number of publishes. It tells the rates, ours beside each of prosody's own, the processor's time by process, and the memory.
+the number of publishes. It tells the rates, ours beside each of prosody's own, the processor's time by process, and the memory. With `profile` only ours is taken, with
+the adapter's functions that take most of its time (cProfile, with which it takes about twice as long).
 """
 
 from __future__ import annotations
@@ -12,9 +13,11 @@ from __future__ import annotations
 import asyncio
 import os
 import pathlib
+import pstats
 import statistics
 import subprocess
 import sys
+import tempfile
 import time
 
 TOP = pathlib.Path(__file__).resolve().parents[2]
@@ -163,11 +166,25 @@ def show(measure: Measure, places):
     print(f"One sync of the disk: {syncs(measure.plant.folder):.2f} ms; load {os.getloadavg()[0]:.1f}")
 
 
+def profiled(program, scale):
+    """Ours alone, and where the adapter's time goes."""
+    with tempfile.TemporaryDirectory() as folder:
+        Plant.python = [sys.executable, "-m", "cProfile", "-o", f"{folder}/profile"]
+        with Plant("prosody", program) as plant:
+            measure = Measure(plant, scale)
+            asyncio.run(rounds(measure, [OURS]))
+            show(measure, [OURS])
+        pstats.Stats(f"{folder}/profile").strip_dirs().sort_stats("tottime").print_stats(30)
+
+
 def main():
     program, scale = sys.argv[1], float(sys.argv[2]) if len(sys.argv) > 2 else 1.0
     wrong = packages.install(packages.missing(["prosody", "prosody-modules"]), 300)
     if wrong:
         sys.exit(wrong)
+    if sys.argv[3:] == ["profile"]:
+        profiled(program, scale)
+        return
     sql = not packages.install(packages.missing(["lua-dbi-sqlite3"]), 120)
     places = [OURS, *([SYNCED] if sql else []), FILES]
     servers.Prosody.own_pubsub = OWN if sql else OWN[OWN.index('Component "files') :]

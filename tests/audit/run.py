@@ -4,7 +4,8 @@
 Usage: run.py PROGRAM
 
 Requests are served first, and the reports of the store that they leave are compared line by line: a node of the service, a personal one, one that never was, one that was made
-twice. Then the store itself: one of version 1, an empty file, a damaged one, one that isn't there, one that is held; a report that nobody takes; words that are no command.
+twice; each access model, each publish model and each rule; two hundred drawn requests, beside a second reckoning of the access rules. Then the store itself: one of version 1, an empty
+file, a damaged one, one that isn't there, one that is held, one that can't be read; a report that nobody takes; words that are no command.
 """
 import os
 import pathlib
@@ -13,7 +14,8 @@ import sys
 import tempfile
 
 TESTS = pathlib.Path(__file__).resolve().parent.parent
-sys.path[:0] = [str(TESTS / "operating"), str(TESTS / "lines")]
+sys.path[:0] = [str(TESTS / "operating"), str(TESTS / "lines"), str(TESTS / "memory")]
+from cases import compiled
 from notation import NAMESPACES, Element
 from operating import LINE, Wrong, refuses, reply_in, words
 from stanzas import OWNER, SERVICE, asked, create, iq, publish
@@ -31,8 +33,9 @@ def expect(what, came, wanted):
         raise Wrong(f"{what}: came {came!r}, wanted {wanted!r}")
 
 
-def command(program, *told, sink=subprocess.PIPE):
-    done = subprocess.run([program, *map(str, told)], stdout=sink, stderr=subprocess.PIPE, timeout=60, check=False)
+def command(program, *told, sink=subprocess.PIPE, more=()):
+    """Runs a command, with more of the environment."""
+    done = subprocess.run([program, *map(str, told)], stdout=sink, stderr=subprocess.PIPE, timeout=60, check=False, env={**os.environ, **dict(more)})
     return done.returncode, done.stdout, done.stderr
 
 
@@ -67,6 +70,28 @@ def befriend(number, who):
 
 def whitelisted(number, node):
     return asked(ANN, number, "set", f"create{{node={node}}} configure({LIST})")
+
+
+def made(number, field, value):
+    """The node w, with a field of its configuration."""
+    return asked(ANN, number, "set", f"create{{node=w}} configure(@node_config{{{field}={value}}})")
+
+
+def configured(number, field, value):
+    return asked(ANN, number, "set", f"configure{{node=w}}(@node_config{{{field}={value}}})", OWNER)
+
+
+def affiliated(number, affiliation):
+    return affiliate(number, "w", BOB, affiliation)
+
+
+def subscribed(number, who, state):
+    return asked(ANN, number, "set", f"subscriptions{{node=w}}(subscription{{jid={who} subscription={state}}})", OWNER)
+
+
+def contact(number, state, group):
+    """Bob in the roster of ann."""
+    return iq(ANN, number, "set", f'query:RO(item{{jid={BOB} subscription={state}}}(group("{group}")))', "ann@a.example")
 
 
 # ---- nodes
@@ -110,6 +135,175 @@ def made_twice(program, folder):
     reports(program, ("readers", store, SERVICE, "w"), ["ann@a.example granted affiliation", "others granted open"])
 
 
+# Requests at the node w, an address, and what is reported of it and of those who read the node: a verdict by another rule is a line.
+RULES = {
+    "a whitelist, and a member": (
+        [(made, "access_model", "whitelist"), (affiliated, "member")],
+        BOB,
+        [
+            "0 no node",
+            "2 read denied 17, subscribe denied 17, publish denied 11, own denied 11",
+            "3 read granted affiliation, subscribe granted affiliation, publish denied 11, own denied 11",
+        ],
+        ["ann@a.example granted affiliation", f"{BOB} granted affiliation", "others denied 17"],
+    ),
+    "everyone reads and publishes, until one is cast out": (
+        [(made, "access_model", "open"), (configured, "publish_model", "open"), (affiliated, "publisher"), (affiliated, "outcast")],
+        BOB,
+        [
+            "0 no node",
+            f"2 {OPEN}",
+            "3 read granted open, subscribe granted open, publish granted publish-model, own denied 11",
+            "4 read granted affiliation, subscribe granted affiliation, publish granted affiliation, own denied 11",
+            "5 read denied 11, subscribe denied 11, publish denied 11, own denied 11",
+        ],
+        ["ann@a.example granted affiliation", f"{BOB} denied 11", "others granted open"],
+    ),
+    "the roster of the node's maker lets in, by a group and by presence": (
+        [
+            (made, "access_model", "roster"),
+            (configured, "roster_groups_allowed", "g"),
+            (contact, "both", "g"),
+            (configured, "access_model", "presence"),
+            (contact, "to", "g"),
+        ],
+        f"{BOB}/desk",
+        [
+            "0 no node",
+            "2 read denied 19, subscribe denied 19, publish denied 11, own denied 11",
+            "4 read granted group, subscribe granted group, publish denied 11, own denied 11",
+            "5 read granted presence, subscribe granted presence, publish denied 11, own denied 11",
+            "6 read denied 18, subscribe denied 18, publish denied 11, own denied 11",
+        ],
+        ["ann@a.example granted affiliation", f"{BOB} denied 18", "others denied 18"],
+    ),
+    "who is subscribed reads, whatever the resource, and publishes where subscribers do": (
+        [(made, "access_model", "authorize"), (subscribed, f"{BOB}/desk", "subscribed"), (configured, "publish_model", "subscribers")],
+        BOB,
+        [
+            "0 no node",
+            "2 read denied 20, subscribe pending, publish denied 11, own denied 11",
+            "3 read granted subscription, subscribe pending, publish denied 11, own denied 11",
+            "4 read granted subscription, subscribe pending, publish granted publish-model, own denied 11",
+        ],
+        ["ann@a.example granted affiliation", f"{BOB} granted subscription", "others denied 20"],
+    ),
+}
+
+
+def by_each_rule(program, folder):
+    for case, (requests, who, explained, read) in RULES.items():
+        (folder / "store").unlink(missing_ok=True)
+        store = serve(program, folder, [request(number, *words) for number, (request, *words) in enumerate(requests, 1)])
+        reports(program, ("explain", store, who, SERVICE, "w"), explained)
+        reports(program, ("readers", store, SERVICE, "w"), read)
+
+
+# ---- drawn requests, beside a second reckoning of the access rules (XEP-0060 §4.1, §4.5)
+
+MODELS = ("open", "presence", "roster", "authorize", "whitelist")
+PUBLISHING = ("publishers", "subscribers", "open")
+AFFILIATIONS = ("owner", "publisher", "publish-only", "member", "none", "outcast")
+STATES = ("none", "to", "from", "both")
+
+
+class Seen:
+    """What the requests have come to for bob at the node w, by the words of the protocol: its models, his affiliation, whether he is subscribed, his state in the roster of ann, his group."""
+
+    def __init__(self):
+        self.access, self.publish, self.affiliation, self.is_subscribed, self.contact, self.group = "roster", "publishers", "none", False, "", ""
+
+    def stranger(self):
+        """The same for an address that no row names."""
+        other = Seen()
+        other.access, other.publish = self.access, self.publish
+        return other
+
+    def is_named(self):
+        return self.affiliation != "none" or self.is_subscribed or self.contact != ""
+
+    def read(self):
+        if self.affiliation in ("owner", "publisher", "member"):
+            return "granted affiliation"
+        if self.affiliation != "none":
+            return "denied 11"
+        by_model = {
+            "open": (True, "open", ""),
+            "presence": (self.contact in ("from", "both"), "presence", "18"),
+            "roster": (self.group == "g", "group", "19"),
+            "authorize": (self.is_subscribed, "subscription", "20"),
+            "whitelist": (False, "", "17"),
+        }
+        granted, rule, condition = by_model[self.access]
+        return f"granted {rule}" if granted else f"denied {condition}"
+
+    def verdicts(self):
+        subscribe = "pending" if self.affiliation == "none" and self.access == "authorize" else self.read()
+        publish = "denied 11"
+        if self.affiliation in ("owner", "publisher", "publish-only"):
+            publish = "granted affiliation"
+        elif self.affiliation != "outcast" and (self.publish == "open" or (self.publish == "subscribers" and self.is_subscribed)):
+            publish = "granted publish-model"
+        own = "granted affiliation" if self.affiliation == "owner" else "denied 11"
+        return f"read {self.read()}, subscribe {subscribe}, publish {publish}, own {own}"
+
+
+class Draws:
+    """The numbers of a seed (Knuth's MMIX)."""
+
+    def __init__(self, seed):
+        self.state = seed
+
+    def below(self, most):
+        self.state = (self.state * 6364136223846793005 + 1442695040888963407) % 2**64
+        return (self.state >> 33) % most
+
+    def one_of(self, words):
+        return words[self.below(len(words))]
+
+
+def drawn_setting(draws, seen):
+    """A request on the node itself, or none where it changes nothing."""
+    if draws.below(2) == 0:
+        before, seen.access = seen.access, draws.one_of(MODELS)
+        return (configured, "access_model", seen.access) if seen.access != before else None
+    before, seen.publish = seen.publish, draws.one_of(PUBLISHING)
+    return (configured, "publish_model", seen.publish) if seen.publish != before else None
+
+
+def drawn_row(draws, seen):
+    """A request on what stands for bob."""
+    kind = draws.below(3)
+    if kind == 0:
+        before, seen.affiliation = seen.affiliation, draws.one_of(AFFILIATIONS)
+        return (affiliated, seen.affiliation) if seen.affiliation != before else None
+    if kind == 1:
+        seen.is_subscribed = not seen.is_subscribed
+        return (subscribed, BOB, "subscribed" if seen.is_subscribed else "none")
+    before = seen.contact, seen.group
+    seen.contact, seen.group = draws.one_of(STATES), draws.one_of(("g", "h"))
+    return (contact, seen.contact, seen.group) if (seen.contact, seen.group) != before else None
+
+
+def of_drawn_requests(program, folder):
+    draws, seen = Draws(20241201), Seen()
+    requests = [(made, "access_model", "roster"), (configured, "roster_groups_allowed", "g")]
+    lines = [(0, "no node"), (2, seen.verdicts())]
+    for _ in range(200):
+        request = (drawn_setting if draws.below(5) < 2 else drawn_row)(draws, seen)
+        if request:
+            requests.append(request)
+            if seen.verdicts() != lines[-1][1]:
+                # The first entry is the boot.
+                lines.append((1 + len(requests), seen.verdicts()))
+    if len(lines) <= 20:
+        raise Wrong(f"{len(lines)} lines are too few")
+    store = serve(program, folder, [request(number, *words) for number, (request, *words) in enumerate(requests, 1)])
+    reports(program, ("explain", store, BOB, SERVICE, "w"), [f"{at} {words}" for at, words in lines])
+    named = [f"{BOB} {seen.read()}"] if seen.is_named() else []
+    reports(program, ("readers", store, SERVICE, "w"), ["ann@a.example granted affiliation", *named, f"others {seen.stranger().read()}"])
+
+
 # ---- the store
 
 
@@ -117,9 +311,23 @@ def audits(store):
     return [("explain", store, BOB, SERVICE, "news"), ("readers", store, SERVICE, "news")]
 
 
+def frame_of(*lines):
+    """A frame with a boot, the changes of these lines, without moments, and the end of their host."""
+    host = b"\0\x09a.example"
+    changes = [b"\x01" + host + number.to_bytes(8, "big") + len(line).to_bytes(4, "big") + line for number, line in enumerate(lines, 1)]
+    body = b"\0\0\x0epubsub.example" + b"".join(changes) + b"\x03" + host
+    return b"\x01" + len(body).to_bytes(4, "big") + body + b"\0"
+
+
 def upgraded(program, folder):
     """The header of version 1 becomes that of version 2, and no other byte changes. An empty file is begun. A store of version 2 stays as it is."""
     store = folder / "store"
+    requests, _, _, read = RULES["a whitelist, and a member"]
+    frame = frame_of(*(request(number, *words) for number, (request, *words) in enumerate(requests, 1)))
+    for version in (b"1", b"2"):
+        store.write_bytes(b"PUBSUBJ" + version + frame)
+        reports(program, ("readers", store, SERVICE, "w"), read)
+        expect("the store", store.read_bytes(), b"PUBSUBJ2" + frame)
     second = b"PUBSUBJ2" + BOOTED[HEADER:]
     for told, line in zip(audits(store), ("0 no node", "no node")):
         for before, after in ((BOOTED, second), (second, second), (b"", b"PUBSUBJ2\0")):
@@ -129,9 +337,10 @@ def upgraded(program, folder):
 
 
 def damaged(program, folder):
-    """A damaged store is named with the byte, and stays as it is."""
+    """A damaged store is named with the byte, and stays as it is. Nothing is accepted before the first boot."""
     store = folder / "store"
-    for bad, at in ((BOOTED[:13] + b"\x09" + BOOTED[14:], 13), (b"no store at all", 0)):
+    gone_first = b"PUBSUBJ2\x01\0\0\0\x1d\x03\0\x09a.example\0\0\x0epubsub.example\0"
+    for bad, at in ((BOOTED[:13] + b"\x09" + BOOTED[14:], 13), (gone_first, 13), (b"no store at all", 0)):
         for told in audits(store):
             store.write_bytes(bad)
             expect(told, command(program, *told), (5, f"store damaged at {at}\n".encode(), b""))
@@ -164,6 +373,16 @@ def held(program, folder):
     reports(program, read, ["ann@a.example granted affiliation", "others granted open"])
 
 
+def unread(program, folder):
+    """A store of which a call fails."""
+    store, library = folder / "store", compiled(TESTS / "faults" / "fail.c", folder)
+    for told in audits(store):
+        for call in (1, 2):
+            store.write_bytes(BOOTED)
+            failing = {"LD_PRELOAD": library, "FAIL_FILE": str(store), "FAIL_CALL": str(call)}
+            expect((call, *told), command(program, *told, more=failing)[:2], (4, b"store fault\n"))
+
+
 def untaken(program, folder):
     """A report that nobody takes."""
     store = folder / "store"
@@ -188,11 +407,14 @@ def no_commands(program, folder):
     expect("what is there", list(folder.iterdir()), [])
 
 
+PARTS = (of_the_service, of_an_account, that_never_was, made_twice, by_each_rule, of_drawn_requests, upgraded, damaged, missing, held, unread, untaken, no_commands)
+
+
 def main():
     if len(sys.argv) != 2:
         sys.exit(__doc__.strip())
     program = str(pathlib.Path(sys.argv[1]).resolve())
-    for part in (of_the_service, of_an_account, that_never_was, made_twice, upgraded, damaged, missing, held, untaken, no_commands):
+    for part in PARTS:
         with tempfile.TemporaryDirectory() as folder:
             try:
                 part(program, pathlib.Path(folder))

@@ -8,8 +8,9 @@ paths        each path in code marks (`tests/..`, `crates/..`) is there, and eac
 crates       each crate that a page names is there
 definitions  in docs/model.md: each `Name.word` is defined, each `crate/file` is code, each test is there
 lines        each line of JSON is one that a test compares byte for byte (tests/lines, examples, walk.py), but for numbers as ids
+notices      docs/router.md has a line for the notice of each event, and for the result of each request that has a child
 statuses     the table of docs/operator.md, and its synopsis, are those of the enum Status (src/status.rt)
-sizes        README.md has 6 KB at most
+sizes        README.md has 6,000 bytes at most
 """
 import json
 import pathlib
@@ -157,7 +158,36 @@ def examples(known):
     return check
 
 
-# ---- numbers that stand twice
+# What tells the notice of an event from the others, by the event's name in crates/ps_types/src/event.rt.
+NOTICES = {
+    "Items": '"n":"item"',
+    "Retract": '"n":"retract"',
+    "Purge": '"n":"purge"',
+    "Delete": '"n":"delete"',
+    "Configuration": '"n":"configuration"',
+    "Associate": '"n":"associate"',
+    "Approval": "#subscribe_authorization",
+    "Told": '"n":"subscription"',
+    "Last": '"n":"delay"',
+    "Question": '"type":"get"',
+}
+CHILDREN = ["publish", "items", "subscription", "options", "affiliations", "subscriptions", "query"]
+
+
+def notices(page, text):
+    if page.name != "router.md":
+        return
+    lines = [line for block in BLOCK.findall(text) for line in block.splitlines() if line.startswith("{")]
+    source = re.search(r"pub enum Event \{\n(.*?)\n\}", (CRATES / "ps_types/src/event.rt").read_text(), re.S)[1]
+    for event in re.findall(r"^    (\w+) \{", source, re.M):
+        if not any('"id":"n-' in line and NOTICES.get(event, event) in line for line in lines):
+            yield f"no line has the notice of {event}"
+    for child in CHILDREN:
+        if not any('"type":"result"' in line and f'"n":"{child}"' in line for line in lines):
+            yield f"no line has a result with {child}"
+
+
+# ---- numbers that are in two places
 
 
 def statuses(page, text):
@@ -183,12 +213,12 @@ def statuses(page, text):
 
 
 def sizes(page, text):
-    if page == ROOT / "README.md" and len(text.encode()) > 6144:
-        yield f"{len(text.encode())} bytes, more than 6,144"
+    if page == ROOT / "README.md" and len(text.encode()) > 6000:
+        yield f"{len(text.encode())} bytes, more than 6,000"
 
 
 def main():
-    checks = [links, paths, crates, definitions, examples(corpus()), statuses, sizes]
+    checks = [links, paths, crates, definitions, examples(corpus()), notices, statuses, sizes]
     wrong, count = [], 0
     for page in pages():
         text = page.read_text()

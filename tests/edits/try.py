@@ -67,6 +67,7 @@ TRIED = [
     "ps_disco/the_target_is_asked=ps_disco::listed::check",
     "ps_disk/lost_is_whole",
     "ps_effects/all_items_stay",
+    "ps_effects/any_answer_is_kept",
     "ps_effects/retract_purges",
     "ps_endpoints/clock_not_given_back",
     "ps_endpoints/ports_given_back_in_reverse",
@@ -75,6 +76,7 @@ TRIED = [
     "ps_events/last_item_again",
     "ps_events/publishers_are_asked",
     "ps_events/retract_is_told_anyway",
+    "ps_fanout/contact_that_only_gives_presence",
     "ps_fanout/leaf_is_not_asked",
     "ps_fanout/nearest_is_passed_over",
     "ps_filter/another_resource_wants=ps_filter::asks::WantOfAskWant::passes",
@@ -84,9 +86,11 @@ TRIED = [
     "ps_follow/other_bytes_are_passed_over",
     "ps_follow/repeated_is_taken_twice",
     "ps_forms/form_of_any_type",
+    "ps_hall/arrives_without_a_flush",
     "ps_hall/handed_before_it_is_durable",
     "ps_hall/lines_are_refused_with_room",
     "ps_hall/over_while_a_reader_runs",
+    "ps_hall/writer_of_the_first_host_ends",
     "ps_hall_flush/fault_is_passed_over_where_all_is_flushed",
     "ps_hall_flush/leaves_what_is_not_flushed",
     "ps_hall_flush/mark_of_the_state_tells_no_fault=ps_hall_flush::home::HomeAnnals::mark",
@@ -99,6 +103,7 @@ TRIED = [
     "ps_hall_open/unlawful_store_opens",
     "ps_hall_state/fault_told_as_full",
     "ps_hall_state/notices_are_lost",
+    "ps_hall_state/reply_taken_before_it_is_flushed",
     "ps_hall_state/shown_before_it_is_durable",
     "ps_hall_store/answers_ok_after_a_fault",
     "ps_hall_store/claims_more_than_it_wrote",
@@ -106,6 +111,8 @@ TRIED = [
     "ps_io/fault_not_counted",
     "ps_items/evicts_the_newest",
     "ps_items/keeps_one_more",
+    "ps_items/replaced_item_keeps_its_place",
+    "ps_journal/a_gate_of_2_is_open",
     "ps_journal/gate_before_the_sync",
     "ps_journal/kept_though_cut_short",
     "ps_journal/not_broken",
@@ -124,6 +131,7 @@ TRIED = [
     "ps_nodes/made_where_it_stands",
     "ps_notices/addresses_are_not_merged",
     "ps_notices/id_is_not_the_number",
+    "ps_notices/one_counter_for_all_addresses",
     "ps_outbox/always_in_order",
     "ps_outbox/ready_at_another_host=ps_outbox::asks::ReadyAtAskAddress::passes",
     "ps_outbox/shown_before_it_is_durable",
@@ -146,18 +154,26 @@ TRIED = [
     "ps_secrecy_step/other_entry_is_not_taken",
     "ps_secrecy_step/refused_in_one_refused_in_both",
     "ps_serve/a_second_boot",
+    "ps_serve/always_open_fault",
+    "ps_serve/always_store_damaged",
+    "ps_serve/always_stream_fault",
+    "ps_serve/always_usage",
     "ps_serve/damaged_store_is_written_over",
     "ps_serve/store_full_before_a_line",
     "ps_streams/ends_while_a_reader_runs",
     "ps_streams/full_store_told_as_memory",
     "ps_streams/gone_is_not_said",
+    "ps_streams/line_without_room_is_dropped",
     "ps_streams/notice_is_not_recorded",
+    "ps_streams/notice_is_recorded_before_it_is_written",
     "ps_streams/refusal_taken_as_the_end",
     "ps_streams/waits_for_room_before_it_flushes",
     "ps_turn/draws_two_tickets",
+    "ps_turn/gives_the_opening_value",
     "ps_turn/leaves_with_no_count",
     "ps_turn/serves_another_first",
     "ps_twin/gives_into_the_other_slot",
+    "ps_twin/gives_the_opening_value",
     "ps_twin/raises_no_firm_word",
     "ps_twin/waits_in_the_other_line",
     "ps_types/bare_keeps_resource",
@@ -168,6 +184,7 @@ TRIED = [
     "ps_workers/failed_source_told_as_read",
     "ps_workers/last_frame_left_out",
     "ps_workers/passes_of_a_host_swapped",
+    "ps_workers/unread_source_told_as_read",
 ]
 
 
@@ -306,7 +323,8 @@ def try_crate(rt, edits):
     with tempfile.TemporaryDirectory(prefix="edits-") as kept:
         for group in groups:
             tries(rt, group, kept)
-    print(f"{edits[0].crate.name}: {len(edits)} edits by {len(groups)} checks in {time.monotonic() - began:.0f} s", flush=True)
+    told = [f"{edits[0].crate.name}: {len(edits)} edits by {len(groups)} checks in {time.monotonic() - began:.0f} s"]
+    print("\n".join(told + [f"{edit.name}: {edit.said}" for edit in edits]), flush=True)
 
 
 def main(names):
@@ -319,14 +337,14 @@ def main(names):
     edits = [Edit(rt, crates, it) for it in names or TRIED]
     by_crate = {}
     for edit in edits:
-        if not edit.said:
+        if edit.said:
+            print(f"{edit.name}: {edit.said}", flush=True)
+        else:
             by_crate.setdefault(edit.crate.name, []).append(edit)
     # Those with most below them take longest, and begin first.
     order = sorted(by_crate.values(), key=lambda it: -len(it[0].crate.below()))
     with ThreadPoolExecutor(LANES) as pool:
         list(pool.map(lambda it: try_crate(rt, it), order))
-    for edit in edits:
-        print(f"{edit.name}: {edit.said}")
     refused = sum(it.is_refused for it in edits)
     print(f"{len(edits)} edits, {refused} refused")
     return 0 if edits and refused == len(edits) else 1

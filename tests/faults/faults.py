@@ -5,8 +5,8 @@
 
 It is counted how often a case's run seeks, reads, writes and syncs on the file; then it is run once for each number, of many for 80 among them, and that call is failed by
 fail.c, which is loaded before the C library. A fault of the store ends a run with status 4, one of a source or a sink with 3; a call that didn't come this time, with 0. What
-the sinks then hold is a front of what they hold else, and the other streams' sinks miss nothing. The store opens afterwards, holds a front of each
-host's changes with each one that was answered, and the notices of both runs are those of the whole run, where at most one an address comes again.
+the sinks then hold is a front of what they hold else. After a fault of a stream the other streams' sinks miss nothing, and the store has the end of each host. It opens
+afterwards, holds a front of each host's changes with each one that was answered, and the notices of both runs are those of the whole run, where at most one an address comes again.
 """
 import collections
 import os
@@ -18,12 +18,14 @@ from concurrent.futures import ThreadPoolExecutor
 
 HERE = pathlib.Path(__file__).resolve().parent
 sys.path.insert(0, str(HERE.parent / "memory"))
-from cases import CASES, HOSTS, Whole, Wrong, compiled, parted, told
+from cases import CASES, HOSTS, Whole, Wrong, compiled, ends_in, parted, told
 
 STREAM, STORE = 3, 4
 # So many calls on one file are failed at most, where there are more: some evenly among them.
 MOST = 80
-TRIED = ("an opening over a boot", "a subscription that waits", "an approval", "three notices", "notices that wait", "an audience", "two creates at once")
+TRIED = (
+    "an opening over a boot", "a node whose subscribers wait", "a subscription that waits", "an approval", "three notices", "notices that wait", "an audience", "two creates at once"
+)
 
 
 class Case(Whole):
@@ -54,6 +56,7 @@ class Case(Whole):
                 raise Wrong(f"ended with {status}")
             self.must_be_front(status, came)
             self.must_serve_others(status, came)
+            self.must_end_each(status, came, room)
             self.must_be_kept(status, came, room)
             self.must_hand_on(status, came, room)
             return status
@@ -67,6 +70,11 @@ class Case(Whole):
             for got, whole in parts[: 2 if self.kind == "sink" else 1]:
                 if got != whole:
                     raise Wrong(f"a fault of {self.host}'s {self.kind}, and {host} was told {got}")
+
+    def must_end_each(self, status, came, room):
+        """A fault of a stream keeps no host's end from the store."""
+        if status in (0, STREAM) and sorted(ends_in(room.store.read_bytes())) != sorted(came):
+            raise Wrong(f"status {status}, and the ends are {ends_in(room.store.read_bytes())}")
 
     def must_hand_on(self, status, came, room):
         """The next run hands out the notices that are left, and of each address once more at most one that was written."""

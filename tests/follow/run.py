@@ -241,6 +241,7 @@ def refused(program, room, seed):
         "not accepted": HEAD.pack(next_place, len(nobody)) + nobody,
         "a gap": HEAD.pack(next_place + 1, len(entry)) + entry,
         "another entry": HEAD.pack(0, len(other)) + other,
+        "no entry at a place that is there": HEAD.pack(0, 1) + b"\x09",
     }
     for what, record in tries.items():
         follower = Follower(program, room)

@@ -17,7 +17,7 @@ def answers(program, room, given):
     """What the program writes for the lines."""
     (room / "in").write_bytes(given)
     words = [program, "serve", "--service", lines.SERVICE, "--store", room / "store", lines.HOST, room / "in", room / "out"]
-    subprocess.run(words, check=True, timeout=120)
+    subprocess.run(words, check=True, timeout=600)
     return (room / "out").read_bytes()
 
 

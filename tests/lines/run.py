@@ -57,7 +57,7 @@ def ran(program):
         folder = pathlib.Path(room)
         (folder / "in.txt").write_bytes(LINES.read_bytes())
         for again in (False, True):
-            run = subprocess.run([program, *WORDS], cwd=folder, stdin=subprocess.DEVNULL, capture_output=True, timeout=120)
+            run = subprocess.run([program, *WORDS], cwd=folder, stdin=subprocess.DEVNULL, capture_output=True, timeout=600)
             if run.returncode != 0 or run.stdout:
                 return f"ended with {run.returncode}, and reported {run.stdout!r}"
             why = None if again else difference((folder / "out.txt").read_bytes())

@@ -14,8 +14,8 @@ from stanzas import SERVICE, asked, create, is_notice, item, publish, subscribe
 
 ANN, BOB = "ann@a.example/1", "bob@b.example/1"
 HOSTS = ("a.example", "b.example")
-# A run takes a fraction of a second; one that takes so many seconds hangs.
-SECONDS = 20
+# A run takes a fraction of a second; one that takes so many seconds hangs, unless the machine is busy or the program slow.
+SECONDS = int(os.environ.get("RUN_SECONDS", "20"))
 
 
 class Wrong(Exception):
@@ -59,6 +59,10 @@ CASES = {
         [([create(ANN, 1, "news")], []), ([], [subscribe(BOB, 1, "news")])],
         ([publish(ANN, number, "news", f"i{number}") for number in (1, 2, 3)], []),
     ),
+    "three notices, of which the second can't be written": (
+        [([create(ANN, 1, "news")], []), ([], [subscribe(BOB, 1, "news")])],
+        ([publish(ANN, number, "news", f"i{number}") for number in (1, 2, 3)], []),
+    ),
     "notices that wait": (
         [([create(ANN, 1, "news")], []), ([], [subscribe(BOB, 1, "news")]), ([publish(ANN, 1, "news", "i1"), publish(ANN, 2, "news", "i2")], None)],
         ([], []),
@@ -73,24 +77,40 @@ CASES = {
     "forty bookmarks": ([], ([bookmark(number) for number in range(1, 41)], [])),
     "two creates at once": ([], ([create(ANN, 1, "news")], [create(BOB, 1, "other")])),
 }
+# Of these a call on a file fails in the whole run too, which so ends with status 3: the file, its host, and the number of the call, as fail.c of tests/faults counts.
+FAILING = {"three notices, of which the second can't be written": ("sink", "b.example", 4)}
+STREAM = 3
 
 
-def changes_in(store):
-    """The host and the line of each change of a store."""
+def entries_in(store):
+    """The entries of a store: of each its tag, its host or address, and the line of a change."""
     at, found = 8, []
     while store[at : at + 1] == b"\1":
         at, end = at + 5, at + 5 + int.from_bytes(store[at + 1 : at + 5], "big")
         while at < end:
             tag = store[at]
             size = int.from_bytes(store[at + 1 : at + 3], "big")
-            text = store[at + 3 : at + 3 + size].decode()
+            text, line = store[at + 3 : at + 3 + size].decode(), None
             at += 3 + size
             if tag in (1, 4):
                 line = int.from_bytes(store[at : at + 8], "big")
                 at += 8 * (2 if tag == 4 else 1)
                 at += 4 + int.from_bytes(store[at : at + 4], "big")
-                found.append((text, line))
+            found.append((tag, text, line))
     return found
+
+
+def changes_in(store):
+    """The host and the line of each change of a store."""
+    return [(text, line) for tag, text, line in entries_in(store) if tag in (1, 4)]
+
+
+def ends_in(store):
+    """The hosts whose end the last run recorded."""
+    ends = []
+    for tag, text, _ in entries_in(store):
+        ends = [] if tag == 0 else ends + [text] * (tag == 3)
+    return ends
 
 
 class Room:
@@ -141,19 +161,29 @@ def answered(lines):
 class Whole:
     """A case: the store before it, and what its whole run says and leaves."""
 
-    def __init__(self, name, program, folder):
-        """Runs what stands before it, and then it, in this folder, which is empty."""
-        self.name, self.program = name, program
+    def __init__(self, name, program, folder, libraries=()):
+        """Runs what stands before it, and then it, in this folder, which is empty. The libraries are loaded before the C library."""
+        self.name, self.program, self.libraries = name, program, libraries
         before, self.lines = CASES[name]
         room = Room(program, folder)
         for lines in before:
             if room.run(lines)[0]:
                 raise Wrong(f"{name}: the runs before it")
         self.before = room.store.read_bytes() if before else b""
-        status, self.came = room.run(self.lines)
-        if status:
-            raise Wrong(f"{name}: the whole run ended with {status}")
+        self.status, self.came = room.run(self.lines, self.environment(room))
+        self.must_be_whole(self.status)
         self.changes = self.new_changes(room)
+
+    def environment(self, room, **more):
+        """The environment of a run of the case."""
+        if self.name in FAILING:
+            kind, host, number = FAILING[self.name]
+            more.update(FAIL_FILE=str(getattr(room, kind)(host)), FAIL_CALL=str(number))
+        return {"LD_PRELOAD": ":".join(self.libraries), **more}
+
+    def must_be_whole(self, status):
+        if status != (STREAM if self.name in FAILING else 0):
+            raise Wrong(f"{self.name}: the whole run ended with {status}")
 
     def room(self, folder):
         """A folder with the store that stands before the case."""

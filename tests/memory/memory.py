@@ -27,16 +27,13 @@ FAULTS = (3, 4, 9)
 class Case(Whole):
     """A case with the number of its growths, each of which can be refused."""
 
-    def __init__(self, name, program, library):
-        self.library = library
+    def __init__(self, name, program, libraries):
         with tempfile.TemporaryDirectory(prefix="pubsubd-memory-") as folder:
-            super().__init__(name, program, folder)
+            super().__init__(name, program, folder, libraries)
         with tempfile.TemporaryDirectory(prefix="pubsubd-memory-") as folder:
             room = self.room(folder)
             count = room.folder / "count"
-            status, _ = room.run(self.lines, {"LD_PRELOAD": library, "REFUSE": "0", "REFUSE_COUNT": str(count)})
-            if status:
-                raise Wrong(f"{name}: the whole run ended with {status}")
+            self.must_be_whole(room.run(self.lines, self.environment(room, REFUSE="0", REFUSE_COUNT=str(count)))[0])
             self.growths = int(count.read_text()) if count.exists() else 0
         if not self.growths:
             raise Wrong(f"{name}: no growth was counted: an unproved build has a malloc of its own, so this wants a proved one")
@@ -45,7 +42,7 @@ class Case(Whole):
         """Runs it with that growth refused, and returns its status."""
         with tempfile.TemporaryDirectory(prefix="pubsubd-memory-") as folder:
             room = self.room(folder)
-            status, came = room.run(self.lines, {"LD_PRELOAD": self.library, "REFUSE": str(number)})
+            status, came = room.run(self.lines, self.environment(room, REFUSE=str(number)))
             if status not in (0, MEMORY, *FAULTS):
                 raise Wrong(f"ended with {status}")
             self.must_be_front(status, came)
@@ -87,11 +84,11 @@ def told(case, came):
 def main(words):
     program, most, failed = str(pathlib.Path(words[0]).resolve()), int(words[1]) if len(words) > 1 else 2000, 0
     with tempfile.TemporaryDirectory(prefix="pubsubd-refuse-") as folder:
-        library = compiled(HERE / "refuse.c", folder)
+        libraries = [compiled(it, folder) for it in (HERE / "refuse.c", HERE.parent / "faults" / "fail.c")]
         for name in words[2:] or CASES:
             began = time.monotonic()
             try:
-                case = Case(name, program, library)
+                case = Case(name, program, libraries)
             except Wrong as wrong:
                 sys.exit(str(wrong))
             failed += told(case, refused(case, most))

@@ -30,8 +30,8 @@ ANN = "ann@a.example/1"
 # The sizes of the address space that are tried, how far they lie apart, and the load.
 SIZES, STEP, PUBLISHES, PAYLOAD = 20, 2 << 20, 400, 16_000
 MOST = 1 << 36
-# Seconds in which a run without lines ends, and one under load.
-SHORT, LONG = 10, 300
+# Seconds in which a run without lines ends, also where a thread is refused, and one under load.
+SHORT, LONG = 30, 300
 MEMORY = 7
 PUBLISHED = re.compile(rb'"type":"result"}.*"a":{"id":"(i\d+)"}')
 

@@ -1,5 +1,5 @@
 #!/usr/bin/env python3
-"""What an operator meets at the commands that read a store, follow a feed or mirror a node: the usage line, a mirror's reports, what isn't there, a damaged store, one of version 1, and one that is held.
+"""What an operator meets at the commands that read a store, follow a feed or mirror a node: words that are none, words spelled otherwise, a mirror's reports, what isn't there, a damaged store, one of version 1, and one that is held.
 
 Usage: commands.py PROGRAM
 """
@@ -8,6 +8,7 @@ import pathlib
 import subprocess
 import sys
 import tempfile
+import time
 
 sys.path.insert(0, str(pathlib.Path(__file__).resolve().parent.parent / "lines"))
 from notation import NAMESPACES, PUBSUB, Element, line_of
@@ -42,14 +43,86 @@ FIRST, REPLY = notice(BOB, 1, "news", "i1"), result("ann@a.example/1", 1)
 MIRRORED = {
     "told twice, and a reply": ("10", [FIRST, FIRST, REPLY], 0, ["i1"]),
     "another item where one stays": ("1", [FIRST, FIRST, REPLY, notice(BOB, 2, "news", "i2")], 0, ["i2"]),
+    "another item where two stay": ("2", [FIRST, notice(BOB, 2, "news", "i2")], 0, ["i1", "i2"]),
+    "an item of another node": ("10", [notice(BOB, 1, "olds", "i1")] * 2 + [REPLY], 0, []),
     "told again after it was retracted": ("10", [FIRST, retracted(2, "i1"), FIRST], 0, []),
     "no items stay": ("0", [FIRST], 2, None),
     "more than 1000 stay": ("1001", [FIRST], 2, None),
 }
 
 
-def command(program, *told):
-    done = subprocess.run([program, *map(str, told)], capture_output=True, timeout=60, check=False)
+# Words that are no command, a line each; two spaces that follow one another, or one at the end, have an empty word behind them.
+USAGES = """
+
+serve --store s
+serve --service pubsub.example --store s
+serve --store s --service pubsub.example a.example i1 o1
+serve --service a.example --store s A.EXAMPLE i1 o1
+serve --service pubsub.example --store s ann@a.example i1 o1
+serve --service pubsub.example --store s a.example/1 i1 o1
+serve --service pubsub.example --store s a..example i1 o1
+serve --service pubsub.example --store i1 a.example i1 o1
+serve --service pubsub.example --store s a.example i1 i1
+serve --service pubsub.example --store s a.example i1 
+serve --service pubsub.example --store s a.example i1 o1 b.example i2
+serve --service pubsub.example --store s a.example i1 o1 A.example i2 o2
+serve --service pubsub.example --store s a.example i1 o1 b.example i1 o2
+serve --service pubsub.example --store s a.example i1 o1 b.example i2 o1
+serve --service pubsub.example --store s a.example i1 o1 b.example i2 i1
+serve --service pubsub.example --store s a.example i1 o1 b.example o1 o2
+serve --service pubsub.example --store s a.example i1 o1 b.example i2 s
+rehearse 0
+rehearse 0 4 1
+rehearse 0 0
+rehearse 0 100001
+rehearse 18446744073709551616 4
+rehearse 000000000000000000001 4
+rehearse  4
+rehearse +1 4
+rehearse 1 4x
+rehearsal 0 4
+compact s s
+compact s 
+compact s
+compact s t u
+explain s bob@b.example pubsub.example
+explain s bob@b.example pubsub.example w x
+explain  bob@b.example pubsub.example w
+explain s bob@b.example pubsub.example 
+explain s @b.example pubsub.example w
+explain s bob@b.example pubsub.example/1 w
+readers s pubsub.example
+readers  pubsub.example w
+readers s pubsub.example 
+readers s pubsub.example/1 news
+readers s ann@a.example/1 w
+feed s 0
+feed s 0 s
+feed  0 o
+feed s 0 
+feed s  o
+feed s -1 o
+feed s 18446744073709551616 o
+feed s 000000000000000000001 o
+follow a.example f i
+follow a.example f f o
+follow a.example f i f
+follow a.example f i i
+follow a.example  i o
+follow ann@a.example f i o
+follow a.example/1 f i o
+mirror pubsub.example news bob@b.example 10
+mirror pubsub.example news bob@b.example 0 i
+mirror pubsub.example news bob@b.example 1001 i
+mirror pubsub.example news bob@b.example 00001 i
+mirror pubsub.example news bob@b.example 10 
+mirror pubsub.example news bob@b@c 10 i
+mirror pubsub.example  bob@b.example 10 i
+mirror pubsub.example/1 news bob@b.example 10 i"""
+
+
+def command(program, *told, folder=None):
+    done = subprocess.run([program, *map(str, told)], capture_output=True, timeout=60, check=False, cwd=folder)
     return done.returncode, done.stdout, done.stderr
 
 
@@ -69,18 +142,54 @@ def expect(what, came, wanted):
 
 
 def usage(program, folder):
-    """Words that are no command."""
-    for told in (
-        (),
-        ("explain", "s", "ann@a.example", "pubsub.example"),
-        ("readers", "s", "pubsub.example/1", "news"),
-        ("feed", "s", "18446744073709551616", "o"),
-        ("feed", "s", "0", "s"),
-        ("follow", "a.example", "f", "f", "o"),
-        ("follow", "a.example", "f", "i", "i"),
-        ("mirror", SERVICE, "news", BOB, "10"),
-    ):
-        expect(told, command(program, *told), (2, USAGE, b""))
+    """Words that are no command, none at all, and too many streams. Nothing is made."""
+    streams = "serve --service pubsub.example --store s" + "".join(f" h{number}.example i{number} o{number}" for number in range(17))
+    for told in ([], *(line.split(" ") for line in [*USAGES.split("\n"), streams])):
+        expect(told, command(program, *told, folder=folder), (2, USAGE, b""))
+    expect("what is there", list(folder.iterdir()), [])
+    with open("/dev/full", "wb") as full:
+        done = subprocess.run([program], stdout=full, stderr=subprocess.PIPE, timeout=60, check=False)
+    expect("a usage that can't be written", done.returncode, 2)
+
+
+def spelled(program, folder):
+    """Hosts in capitals, and numbers that begin with zeros, mean what they mean without."""
+
+    def told(words):
+        code, report, _ = command(program, *words.split(" "), folder=folder)
+        expect(words, code, 0)
+        made = folder / words.rpartition(" ")[2]
+        return report, made.read_bytes() if made.name in ("o", "p") else b""
+
+    (folder / "i").write_bytes(LINE)
+    told("serve --service PubSub.Example --store s A.Example i o")
+    expect("the reply", (folder / "o").read_bytes(), result("ann@a.example/1", 1) + b"\n")
+    for _ in range(3):
+        told("serve --service pubsub.example --store s a.example i p")
+    explained = told("explain s bob@b.example/Res pubsub.example news")
+    expect("an address in capitals", told("explain s Bob@B.Example/Res PubSub.Example news"), explained)
+    expect("a node of an account", told("readers s ann@a.example urn:t"), (b"no node\n", b""))
+    records = told("feed s 7 o")[1]
+    if not records:
+        raise Wrong("nothing is fed from the seventh entry on")
+    expect("a number with zeros", told("feed s 00000000000000000007 o")[1], records)
+    expect("the last number", told("feed s 18446744073709551615 o")[1], b"")
+    told("feed s 0 f")
+    expect("a follower's host in capitals", told("follow A.Example f i o"), told("follow a.example f i p"))
+    for name in ("urn:t", "news"):
+        (folder / "n").write_bytes(notice(f"{BOB}/1", 1, name, "i1") + b"\n" + notice(f"{BOB}/1", 2, name, "i2") + b"\n")
+        for most in ("0001", "1000"):
+            told(f"mirror ann@a.example {name} {BOB}/1 {most} n")
+    expect("how many stay", told(f"mirror {SERVICE} news {BOB}/1 0001 n"), (shown("i2") + b"\n", b""))
+    expect("how many stay", told(f"mirror {SERVICE} news {BOB}/1 1000 n"), (shown("i1") + b"\n" + shown("i2") + b"\n", b""))
+    expect("a rehearsal", told("rehearse 00000000000000000007 01"), told("rehearse 7 1"))
+    told("rehearse 18446744073709551615 4")
+    # The longest rehearsal isn't waited for: it is under way, and no usage.
+    with subprocess.Popen([program, "rehearse", "0", "100000"], stdout=subprocess.PIPE) as longest:
+        time.sleep(1)
+        expect("the longest rehearsal", longest.poll() or 0, 0)
+        longest.kill()
+    told("compact s s.new")
 
 
 def mirrored(program, folder):
@@ -90,6 +199,7 @@ def mirrored(program, folder):
         source.write_bytes(b"".join(line + b"\n" for line in lines))
         report = USAGE if names is None else b"".join(shown(name) + b"\n" for name in names)
         expect(case, command(program, "mirror", SERVICE, "news", BOB, most, source), (status, report, b""))
+    expect("a folder as its source", command(program, "mirror", SERVICE, "news", BOB, "10", folder)[:2], (3, b"stream fault\n"))
 
 
 def missing(program, folder):
@@ -154,7 +264,7 @@ def main():
     if len(sys.argv) != 2:
         sys.exit(__doc__.strip())
     program = str(pathlib.Path(sys.argv[1]).resolve())
-    for part in (usage, mirrored, missing, damaged, reads_beside):
+    for part in (usage, spelled, mirrored, missing, damaged, reads_beside):
         with tempfile.TemporaryDirectory() as folder:
             try:
                 part(program, pathlib.Path(folder))

@@ -8,7 +8,7 @@ Each part has a folder, a store and a process of its own, and time limits. Those
     paced    two streams, each line written once the line before it was answered; a publish on one is told on the other
     open     two streams, of which one has a source that never ends: the other's replies come, and its own do
     full     a sink that nobody reads keeps no other stream waiting, and has everything once it is read
-    sixteen  sixteen streams at once, a publisher on each and a subscriber on each to all of them
+    sixteen  sixteen streams at once, a publisher on each and a subscriber on each to all of them; lines of several share a frame
     order    a stream's replies come in the order of its lines, beside notices to the same stream
     together publishes that are written at once share frames; of the first of two such lines another stream is told without delay
     crowd    sixteen streams with many lines each at once, all of which want the lock
@@ -155,6 +155,8 @@ def sixteen(program, folder):
             orders.add(tuple(it for _, it in told))
         if len(orders) != 1:
             raise Wrong("two addresses were told in different orders")
+        if not any(len(hosts) > 1 for hosts in frames(f"{folder}/store")):
+            raise Wrong("no frame has lines of two streams")
 
 
 def order(program, folder):
@@ -180,13 +182,27 @@ def order(program, folder):
                 same("the items told of", [item for _, (at, item) in told if at == name], [f"i{k}" for k in range(each)])
 
 
+def hosts_in(body):
+    """The hosts whose lines made the entries of a frame."""
+    at, hosts = 0, set()
+    while at < len(body):
+        tag, size = body[at], int.from_bytes(body[at + 1 : at + 3], "big")
+        host, at = body[at + 3 : at + 3 + size], at + 3 + size
+        if tag in (1, 4):
+            at += 8 if tag == 1 else 16
+            at += 4 + int.from_bytes(body[at : at + 4], "big")
+            hosts.add(host)
+    return hosts
+
+
 def frames(store):
-    """How many frames a store has."""
-    text, count, at = pathlib.Path(store).read_bytes(), 0, 8
+    """The frames of a store: of each the hosts whose lines made its entries."""
+    text, found, at = pathlib.Path(store).read_bytes(), [], 8
     while at < len(text) and text[at] == 1:
-        at += 5 + int.from_bytes(text[at + 1 : at + 5], "big")
-        count += 1
-    return count
+        at, end = at + 5, at + 5 + int.from_bytes(text[at + 1 : at + 5], "big")
+        found.append(hosts_in(text[at:end]))
+        at = end
+    return found
 
 
 def together(program, folder):
@@ -195,11 +211,11 @@ def together(program, folder):
     with Service(program, folder, ["a.example", "b.example"]) as service:
         a, b = service.streams
         ask(service, a, create(ANN, 0, "news"))
-        before = frames(f"{folder}/store")
+        before = len(frames(f"{folder}/store"))
         a.send(*(publish(ANN, k, "news", f"i{k}") for k in range(each)))
         service.pump(lambda: a.count >= 1 + each, 60, what="a reply")
         same("the replies on a", a.lines(), [result(ANN, 0)] + [published(ANN, k, "news", f"i{k}") for k in range(each)])
-        count = frames(f"{folder}/store") - before
+        count = len(frames(f"{folder}/store")) - before
         if count >= each:
             raise Wrong(f"{count} frames have {each} publishes that were written at once")
         ask(service, b, subscribe(BOB, 0, "news"))

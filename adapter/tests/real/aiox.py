@@ -13,6 +13,7 @@ import sys
 import aioxmpp
 import aioxmpp.avatar
 import aioxmpp.avatar.xso
+import aioxmpp.dispatcher
 import aioxmpp.forms
 import aioxmpp.pep
 import aioxmpp.pubsub
@@ -25,7 +26,12 @@ from raw import register
 from servers import HOSTS, PASSWORD, SERVICE
 
 A, B = HOSTS
+PUBSUB = "http://jabber.org/protocol/pubsub"
 NODE = "urn:pubsubd:test"
+BOOKMARKS = "urn:xmpp:bookmarks:1"
+DEVICES, DEVICE_NODE = "eu.siacs.conversations.axolotl", "eu.siacs.conversations.axolotl.devicelist"
+MOOD = "http://jabber.org/protocol/mood"
+VCARD, VCARD_NODE = "urn:ietf:params:xml:ns:vcard-4.0", "urn:xmpp:vcard4"
 # How long is waited for what has to come.
 SECONDS = 120
 
@@ -51,6 +57,68 @@ class Entry(xso.XSO):
         self.text = text
 
 
+@pubsub_xso.as_payload_class
+class Conference(xso.XSO):
+    """A bookmark (XEP-0402)."""
+
+    TAG = BOOKMARKS, "conference"
+    name = xso.Attr("name", default=None)
+
+
+class Device(xso.XSO):
+    TAG = DEVICES, "device"
+    id_ = xso.Attr("id")
+
+    def __init__(self, id_=None):
+        super().__init__()
+        self.id_ = id_
+
+
+@pubsub_xso.as_payload_class
+class Devices(xso.XSO):
+    """A list of devices (XEP-0384 as clients have it)."""
+
+    TAG = DEVICES, "list"
+    devices = xso.ChildList([Device])
+
+
+@pubsub_xso.as_payload_class
+class Mood(xso.XSO):
+    """XEP-0107."""
+
+    TAG = MOOD, "mood"
+    value = xso.ChildTag([(MOOD, "happy"), (MOOD, "sad")], allow_none=True)
+    text = xso.ChildText((MOOD, "text"), default=None)
+
+    def __init__(self, value=None, text=None):
+        super().__init__()
+        if value is not None:
+            self.value = MOOD, value
+        self.text = text
+
+
+class FullName(xso.XSO):
+    TAG = VCARD, "fn"
+    text = xso.ChildText((VCARD, "text"), default=None)
+
+
+@pubsub_xso.as_payload_class
+class Card(xso.XSO):
+    """A vCard4 (XEP-0292)."""
+
+    TAG = VCARD, "vcard"
+    name = xso.Child([FullName])
+
+
+def submitted(kind, **fields):
+    """A form that is sent, its fields each a text or a list of them."""
+    made = aioxmpp.forms.Data(aioxmpp.forms.DataType.SUBMIT)
+    made.fields.append(aioxmpp.forms.Field(type_=aioxmpp.forms.FieldType.HIDDEN, var="FORM_TYPE", values=[f"{PUBSUB}#{kind}"]))
+    for name, value in fields.items():
+        made.fields.append(aioxmpp.forms.Field(var=f"pubsub#{name}", values=[value] if isinstance(value, str) else value))
+    return made
+
+
 def layer():
     """A password without TLS, as a server on this machine takes it."""
 
@@ -73,14 +141,20 @@ class Person:
         self.avatar = self.client.summon(aioxmpp.avatar.AvatarService)
         self.roster = self.client.summon(aioxmpp.RosterClient)
         self.caps = self.client.summon(aioxmpp.EntityCapsService)
-        self.items, self.retracted, self.pep_items = [], [], []
+        self.messages = self.client.summon(aioxmpp.dispatcher.SimpleMessageDispatcher)
+        self.items, self.retracted, self.pep_items, self.claimed = [], [], [], []
         self.pubsub.on_item_published.connect(lambda jid, node, item, *, message=None: self.items.append((str(jid), node, item.id_)))
         self.pubsub.on_item_retracted.connect(lambda jid, node, name, *, message=None: self.retracted.append((str(jid), node, name)))
 
-    def claim(self, node):
-        claimed = self.pep.claim_pep_node(node, notify=True)
-        claimed.on_item_publish.connect(lambda jid, at, item, *, message=None: self.pep_items.append((str(jid), at, item.registered_payload)))
-        self.claimed = claimed
+    def claim(self, *nodes):
+        for node in nodes:
+            claimed = self.pep.claim_pep_node(node, notify=True)
+            claimed.on_item_publish.connect(lambda jid, at, item, *, message=None: self.pep_items.append((str(jid), at, item.registered_payload)))
+            self.claimed.append(claimed)
+
+    def heard(self, node, of):
+        """The payloads of that account's node that came."""
+        return [payload for jid, at, payload in self.pep_items if at == node and jid == str(of.jid.bare())]
 
     async def come(self):
         self.connection = self.client.connected()
@@ -154,6 +228,45 @@ async def affiliations(world):
     await denied(ann.pubsub.get_items(service, "news"), aioxmpp.ErrorCondition.ITEM_NOT_FOUND)
 
 
+async def a_collection(world):
+    ann, bob, service = world.ann, world.bob, world.service
+    for name, fields in (("top", {"node_type": "collection"}), ("leaf", {"collection": "top"})):
+        made = aioxmpp.IQ(to=service, type_=aioxmpp.IQType.SET, payload=pubsub_xso.Request(pubsub_xso.Create()))
+        made.payload.payload.node = name
+        made.payload.configure = pubsub_xso.Configure()
+        made.payload.configure.data = submitted("node_config", **fields)
+        await ann.client.send(made)
+    options = submitted("subscribe_options", subscription_type="items", subscription_depth="all")
+    await bob.pubsub.subscribe(service, "top", config=options)
+    await ann.pubsub.publish(service, "leaf", Entry("one"), id_="one")
+    await until(lambda: (SERVICE, "leaf", "one") in bob.items, "the event of a node in the collection")
+    nodes = await bob.disco.query_items(service, node="top")
+    want([one.node for one in nodes.items] == ["leaf"], "the collection's nodes")
+    await denied(ann.pubsub.publish(service, "top", Entry("x")), aioxmpp.ErrorCondition.FEATURE_NOT_IMPLEMENTED)
+
+
+async def an_approval(world):
+    ann, bob, service = world.ann, world.bob, world.service
+    await ann.pubsub.create(service, "club")
+    await ann.pubsub.set_node_config(service, submitted("node_config", access_model="authorize"), "club")
+    asked = []
+    ann.messages.register_callback(aioxmpp.MessageType.NORMAL, service, asked.append)
+    made = await bob.pubsub.subscribe(service, "club")
+    want(made.payload.subscription == "pending", str(made))
+    await until(lambda: asked, "the request to approve")
+    want(asked[0].xep0004_data[0].get_form_type() == f"{PUBSUB}#subscribe_authorization", "another form")
+    answer = aioxmpp.Message(type_=aioxmpp.MessageType.NORMAL, to=service)
+    answer.xep0004_data.append(submitted("subscribe_authorization", node="club", subscriber_jid=str(bob.jid.bare()), allow="true"))
+    await ann.client.send(answer)
+    state = "pending"
+    while state == "pending":  # aioxmpp passes no notice of an approval on
+        got = await bob.pubsub.get_subscriptions(service, "club")
+        (state,) = [one.subscription for one in got.subscriptions]
+    want(state == "subscribed", state)
+    await ann.pubsub.publish(service, "club", Entry("one"), id_="one")
+    await until(lambda: (SERVICE, "club", "one") in bob.items, "the event")
+
+
 async def contacts(world):
     """Two accounts become contacts."""
     ann, bob = world.ann, world.bob
@@ -167,11 +280,64 @@ async def personal_events(world):
     ann, bob = world.ann, world.bob
     want(await ann.pep.available(), "the account has no personal eventing")
     await ann.pep.publish(NODE, Entry("hello"), id_="current")
-    await until(lambda: bob.pep_items, "the event")
-    jid, node, payload = bob.pep_items.pop()
-    want((jid, node, payload.text) == (str(ann.jid.bare()), NODE, "hello"), f"{jid} {node} {payload.text}")
+    await until(lambda: bob.heard(NODE, ann), "the event")
+    want([one.text for one in bob.heard(NODE, ann)] == ["hello"], str(bob.pep_items))
     await ann.pep.publish("urn:secret", Entry("x"), access_model="whitelist")
     await denied(bob.pubsub.get_items(ann.jid.bare(), "urn:secret"), aioxmpp.ErrorCondition.NOT_ALLOWED)
+
+
+async def bookmarks(world):
+    """XEP-0402: the desk publishes, the phone hears, others read nothing."""
+    ann, bob, phone = world.ann, world.bob, world.phone
+    made = Conference()
+    made.name = "Garden"
+    options = submitted("publish-options", persist_items="true", max_items="max", send_last_published_item="never", access_model="whitelist")
+    await ann.pubsub.publish(ann.jid.bare(), BOOKMARKS, made, id_="garden@muc.example", publish_options=options)
+    await until(lambda: [one.name for one in phone.heard(BOOKMARKS, ann)] == ["Garden"], "the bookmark")
+    got = await phone.pubsub.get_items(ann.jid.bare(), BOOKMARKS)
+    want([one.id_ for one in got.payload.items] == ["garden@muc.example"], "other bookmarks")
+    await denied(bob.pubsub.get_items(ann.jid.bare(), BOOKMARKS), aioxmpp.ErrorCondition.NOT_ALLOWED)
+
+
+async def key_lists(world):
+    """XEP-0384 as clients have it: a list that anyone may read, with options that the node has to meet."""
+    ann, eve = world.ann, world.eve
+    made = Devices()
+    made.devices.append(Device("31415"))
+    opened = submitted("publish-options", access_model="open", persist_items="true")
+    await ann.pubsub.publish(ann.jid.bare(), DEVICE_NODE, made, id_="current", publish_options=opened)
+    got = await eve.pubsub.get_items(ann.jid.bare(), DEVICE_NODE)
+    want([one.id_ for one in got.payload.items[0].registered_payload.devices] == ["31415"], "another list")
+    other = submitted("publish-options", access_model="whitelist")
+    await denied(ann.pubsub.publish(ann.jid.bare(), DEVICE_NODE, made, id_="current", publish_options=other), aioxmpp.ErrorCondition.CONFLICT)
+
+
+async def moods_by_presence(world):
+    ann, bob, eve = world.ann, world.bob, world.eve
+    await ann.pubsub.publish(ann.jid.bare(), MOOD, Mood("happy", "at last"))
+    await until(lambda: [one.text for one in bob.heard(MOOD, ann)] == ["at last"], "the mood")
+    await denied(eve.pubsub.get_items(ann.jid.bare(), MOOD), aioxmpp.ErrorCondition.NOT_AUTHORIZED)
+
+
+async def groups(world):
+    """The access model roster: those in the group read, others don't."""
+    ann, bob = world.ann, world.bob
+    options = submitted("publish-options", access_model="roster", roster_groups_allowed=["Friends"])
+    await ann.pubsub.publish(ann.jid.bare(), "urn:for:friends", Entry("x"), id_="one", publish_options=options)
+    await denied(bob.pubsub.get_items(ann.jid.bare(), "urn:for:friends"), aioxmpp.ErrorCondition.NOT_AUTHORIZED)
+    await ann.roster.set_entry(bob.jid.bare(), add_to_groups={"Friends"})
+    got = await bob.pubsub.get_items(ann.jid.bare(), "urn:for:friends")
+    want([one.id_ for one in got.payload.items] == ["one"], "other items")
+
+
+async def vcards(world):
+    ann, bob = world.ann, world.bob
+    card = Card()
+    card.name = FullName()
+    card.name.text = "Ann"
+    await ann.pubsub.publish(ann.jid.bare(), VCARD_NODE, card, id_="current")
+    got = await bob.pubsub.get_items(ann.jid.bare(), VCARD_NODE)
+    want(got.payload.items[0].registered_payload.name.text == "Ann", "another card")
 
 
 async def avatars(world):
@@ -196,7 +362,38 @@ async def last_items(world):
     await bob.go()
 
 
-CHECKS = (a_public_node, a_configuration_by_form, affiliations, contacts, personal_events, avatars, last_items)
+async def a_contact_is_removed(world):
+    """He reads nothing any more, and who comes anew in his name is told nothing."""
+    ann, bob = world.ann, world.bob
+    await ann.roster.remove_entry(bob.jid.bare())
+    await denied(bob.pubsub.get_items(ann.jid.bare(), MOOD), aioxmpp.ErrorCondition.NOT_AUTHORIZED)
+    await bob.pubsub.publish(bob.jid.bare(), MOOD, Mood("sad", "alone"))
+    late = Person(f"bob@{B}/third", world.port)
+    late.claim(MOOD, NODE)
+    await late.come()
+    await until(lambda: late.heard(MOOD, bob), "his own mood")
+    await asyncio.sleep(1)
+    want(not late.heard(MOOD, ann) and not late.heard(NODE, ann), "who was removed is told last items")
+    await late.go()
+
+
+CHECKS = (
+    a_public_node,
+    a_configuration_by_form,
+    affiliations,
+    a_collection,
+    an_approval,
+    contacts,
+    personal_events,
+    bookmarks,
+    key_lists,
+    moods_by_presence,
+    groups,
+    vcards,
+    avatars,
+    last_items,
+    a_contact_is_removed,
+)
 
 
 class World:
@@ -208,17 +405,21 @@ class World:
 async def main(plant):
     world = World()
     world.port = plant.server.client_port
-    await register(world.port, f"ann@{A}", f"bob@{B}", password=PASSWORD)
+    await register(world.port, f"ann@{A}", f"bob@{B}", f"eve@{B}", password=PASSWORD)
     world.ann = Person(f"ann@{A}/desk", world.port)
+    world.phone = Person(f"ann@{A}/phone", world.port)
+    world.phone.claim(BOOKMARKS)
     world.bob = Person(f"bob@{B}/1", world.port)
-    world.bob.claim(NODE)
-    for one in (world.ann, world.bob):
+    world.bob.claim(NODE, MOOD)
+    world.eve = Person(f"eve@{B}/1", world.port)
+    people = (world.ann, world.phone, world.bob, world.eve)
+    for one in people:
         await one.come()
-    await asyncio.to_thread(plant.wait_present, 2)
+    await asyncio.to_thread(plant.wait_present, len(people))
     for check in CHECKS:
         await asyncio.wait_for(check(world), 3 * SECONDS)
         print(f"ok   aioxmpp, {plant.server.name}: {check.__name__.replace('_', ' ')}", flush=True)
-    for one in (world.ann, world.bob):
+    for one in people:
         await one.go()
 
 

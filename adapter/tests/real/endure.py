@@ -1,4 +1,5 @@
-"""The service killed in mid-load, the adapter killed, the server restarted, the store compacted: no acknowledged item is lost, and each event comes once and in order.
+"""The service killed in mid-load, the adapter killed, the store compacted, its disk full, the server restarted: no acknowledged item is lost, and each event comes once
+and in order.
 
 Usage: endure.py SERVER PROGRAM [KILLS]      SERVER is prosody or ejabberd
 """
@@ -37,6 +38,7 @@ class Load:
         self.asked: dict[str, list[str]] = {"news": [], "urn:mine": []}
         self.heard: dict[str, list[str]] = {}
         self.denied = 0
+        self.timed_out = 0  # of these by ejabberd, which gives a delegated request 32 s
         self.patience = SECONDS  # seconds; who asked an adapter that was killed isn't answered
         self.numbers = 0
         self.names: set[tuple] = set()  # events by their ids
@@ -82,6 +84,7 @@ class Load:
         self.numbers += 1
         item = f"i{self.numbers}"
         self.asked[node].append(item)
+        began = time.monotonic()
         try:
             reply = await asyncio.wait_for(asyncio.shield(self.ann.publish(node, item, PAYLOAD, to)), self.patience)
         except TimeoutError:
@@ -91,6 +94,7 @@ class Load:
             self.made[node].append(item)
         else:
             self.denied += 1
+            self.timed_out += self.plant.server.name == "ejabberd" and to is None and time.monotonic() - began > 30
 
     async def run(self, until, width=8):
         """Publishes until the condition holds."""
@@ -147,9 +151,9 @@ async def kill_service(load, kills):
         for count in range(kills):
             await asyncio.sleep(0.3 + 0.07 * (count % 7))
             load.plant.kill_service()
-            await asyncio.to_thread(load.plant.wait_said, "service started", started + count + 1)
+            await asyncio.to_thread(load.plant.wait_said, "service serves", served + count + 1)
 
-    started = load.plant.said().count("service started")
+    served = load.plant.said().count("service serves")
     killing = asyncio.create_task(killer())
     await load.run(killing.done, width=4)
     await killing
@@ -178,11 +182,29 @@ async def compact(load):
             load.plant.tell(signal.SIGUSR2)
             await asyncio.to_thread(load.plant.wait_said, "compacted bytes_before", count)
 
-    before, done = load.denied, asyncio.create_task(compacting())
+    before, done = load.denied - load.timed_out, asyncio.create_task(compacting())
     await load.run(done.done, width=2)
     await done
-    if load.denied != before:
-        raise Wrong(f"{load.denied - before} requests were not answered by a result over a compaction")
+    wrong = load.denied - load.timed_out - before
+    if wrong:
+        raise Wrong(f"{wrong} requests were not answered by a result over a compaction")
+
+
+async def fill_disk(load):
+    """Until the service ended for it, and a while longer; then there is room again."""
+    ended = load.plant.said().count("service ended status=4")
+    full = load.plant.disk / "full"
+    with open(full, "wb", buffering=0) as file:
+        try:
+            while True:
+                file.write(b"x" * 512)
+        except OSError:
+            pass
+    until = time.monotonic() + SECONDS
+    await load.run(lambda: load.plant.said().count("service ended status=4") > ended + 1 or time.monotonic() > until, width=2)
+    full.unlink()
+    if time.monotonic() > until:
+        raise Wrong("a full disk ends no service")
 
 
 async def restart_server(load):
@@ -215,12 +237,17 @@ async def main(plant, kills):
     await load.check(f"the adapter killed {max(1, kills // 5)} times")
     await compact(load)
     await load.check("the store compacted twice")
+    if plant.disk is None:
+        print("ok   no disk can be mounted here, so none was full")
+    else:
+        await fill_disk(load)
+        await load.check("the disk was full")
     await restart_server(load)
     await load.check("the server restarted")
 
 
 if __name__ == "__main__":
-    with Plant(sys.argv[1], sys.argv[2]) as here:
+    with Plant(sys.argv[1], sys.argv[2], disk="16m") as here:
         try:
             asyncio.run(main(here, int(sys.argv[3]) if len(sys.argv) > 3 else 20))
         except BaseException:

@@ -17,12 +17,17 @@ from servers import HOSTS, SECRET, SERVERS, SERVICE, die_with
 ADAPTER = pathlib.Path(__file__).resolve().parent.parent.parent
 # How long is waited for what has to come.
 SECONDS = 120
+# A shell that starts a test in the background has it ignored, and then nothing would be taken down.
+signal.signal(signal.SIGINT, signal.default_int_handler)
 
 
 class Plant:
     """What a test works with. The adapter is killed and started as a test wants it."""
 
-    def __init__(self, server: str, program: str, settings: str = ""):
+    python = [sys.executable]
+
+    def __init__(self, server: str, program: str, settings: str = "", disk: str = ""):
+        """`disk` is the size of a disk of its own for the state, where one can be mounted."""
         self._temporary = tempfile.TemporaryDirectory(prefix=f"plant-{server}-")
         self.folder = pathlib.Path(self._temporary.name)
         self.server = SERVERS[server](self.folder)
@@ -30,10 +35,16 @@ class Plant:
         self.log = self.folder / "adapter.log"
         (self.folder / "secret").write_text(SECRET)
         self.keeps = server == "ejabberd"
+        self.disk = self.folder / "state" if disk and self._mount(disk) else None
         (self.folder / "conf").write_text(
             f"[server]\nport = {self.server.component_port}\nsecret_file = {self.folder}/secret\nkeep_presences = {'yes' if self.keeps else 'no'}\npresence_seconds = {SECONDS}\n"
             f"[service]\nhost = {SERVICE}\nhosts = {' '.join(HOSTS)}\nprogram = {program}\nstate = {self.folder}/state\nrun = {self.folder}/run\n{settings}"
         )
+
+    def _mount(self, size: str) -> bool:
+        (self.folder / "state").mkdir()
+        words = ["mount", "-t", "tmpfs", "-o", f"size={size}", "tmpfs", str(self.folder / "state")]
+        return os.geteuid() == 0 and subprocess.run(words, capture_output=True, check=False).returncode == 0
 
     def __enter__(self):
         self.server.start()
@@ -50,6 +61,8 @@ class Plant:
                 self.adapter.kill()
                 self.adapter.wait()
         self.server.stop()
+        if self.disk is not None:
+            subprocess.run(["umount", "-l", str(self.disk)], check=True)
         self._temporary.cleanup()
 
     def said(self) -> str:
@@ -57,10 +70,10 @@ class Plant:
 
     def start_adapter(self) -> None:
         """Starts the adapter, and waits until it serves and the server has granted."""
-        words = ("service started", self.granted, "granted by=")
+        words = ("service serves", self.granted, "granted by=")
         before = [self.said().count(one) for one in words]
         with open(self.log, "ab") as log:
-            command = [sys.executable, str(ADAPTER / "pubsubd-xmpp"), "--config", str(self.folder / "conf")]
+            command = [*self.python, str(ADAPTER / "pubsubd-xmpp"), "--config", str(self.folder / "conf")]
             self.adapter = subprocess.Popen(command, stdout=log, stderr=log, stdin=subprocess.DEVNULL, preexec_fn=die_with(os.getpid()))
         for one, count, more in zip(words, before, (1, len(HOSTS), len(HOSTS)), strict=True):
             self.wait_said(one, count + more)

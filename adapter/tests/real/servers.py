@@ -1,4 +1,7 @@
-"""prosody and ejabberd as Debian packages them, each in a folder of its own, on ports of its own, with two virtual hosts and a component that is the adapter."""
+"""prosody and ejabberd as Debian packages them, each in a folder of its own, on ports of its own, with two virtual hosts and a component that is the adapter.
+
+What they are told of the adapter are the example configurations, as `--setup` writes them.
+"""
 
 from __future__ import annotations
 
@@ -13,6 +16,7 @@ import time
 
 sys.path.insert(0, str(pathlib.Path(__file__).resolve().parent.parent.parent))
 
+from pubsubd_xmpp.install import ejabberd_part, prosody_part
 from pubsubd_xmpp.service import die_with
 
 SECRET = "only-for-tests"
@@ -108,7 +112,7 @@ run_as_root = true
 pidfile = "{folder}/prosody.pid"
 data_path = "{folder}/data"
 log = {{ info = "{folder}/log" }}
-modules_enabled = {{ "roster"; "saslauth"; "disco"; "ping"; "register"; {more} }}
+modules_enabled = {{ "roster"; "saslauth"; "disco"; "ping"; "register" }}
 allow_registration = true
 modules_disabled = {{ "s2s"; "tls"; "offline" }}
 c2s_require_encryption = false
@@ -118,27 +122,7 @@ component_ports = {{ {component} }}
 interfaces = {{ "127.0.0.1" }}
 authentication = "internal_plain"
 storage = "internal"
-{hosts}
-{components}
 """
-PROSODY_HOST = """
-VirtualHost "{host}"
-  modules_enabled = {{ "delegation"; "privilege" }}
-  delegations = {{
-    ["http://jabber.org/protocol/pubsub"] = {{ jid = "{service}" }};
-    ["http://jabber.org/protocol/pubsub#owner"] = {{ jid = "{service}" }};
-    ["urn:xmpp:delegation:2:bare:disco#info:*"] = {{ jid = "{service}" }};
-    ["urn:xmpp:delegation:2:bare:disco#items:*"] = {{ jid = "{service}" }};
-  }}
-  privileged_entities = {{ ["{service}"] = {{ roster = "get"; message = "outgoing"; presence = "managed_entity" }} }}
-"""
-PROSODY_COMPONENT = """
-Component "{service}"
-  component_secret = "{secret}"
-  modules_enabled = {{ "delegation"; "privilege" }}
-"""
-
-
 class Prosody(Server):
     name = "prosody"
     namespaces = 4
@@ -146,12 +130,9 @@ class Prosody(Server):
 
     def write(self) -> None:
         (self.folder / "data").mkdir(exist_ok=True)
-        hosts = "".join(PROSODY_HOST.format(host=host, service=SERVICE) for host in HOSTS)
-        component = PROSODY_COMPONENT.format(service=SERVICE, secret=SECRET) + self.own_pubsub
+        text = PROSODY.format(folder=self.folder, client=self.client_port, component=self.component_port)
         self.config = self.folder / "prosody.cfg.lua"
-        self.config.write_text(
-            PROSODY.format(folder=self.folder, client=self.client_port, component=self.component_port, hosts=hosts, components=component, more="")
-        )
+        self.config.write_text(text + prosody_part(SERVICE, list(HOSTS), SECRET) + self.own_pubsub)
 
     def words(self) -> list[str]:
         return ["prosody", "--config", str(self.config), "-F"]
@@ -161,6 +142,9 @@ EJABBERD = """
 loglevel: info
 log_rotate_count: 0
 hosts: [{hosts}]
+auth_password_format: plain
+auth_method: internal
+registration_timeout: infinity
 listen:
   -
     port: {client}
@@ -170,24 +154,6 @@ listen:
     starttls: false
     access: all
     shaper: none
-  -
-    port: {component}
-    ip: "127.0.0.1"
-    module: ejabberd_service
-    access: all
-    global_routes: false
-    hosts:
-      "{service}":
-        password: "{secret}"
-auth_password_format: plain
-auth_method: internal
-registration_timeout: infinity
-acl:
-  pubsub:
-    server: "{service}"
-access_rules:
-  pubsub:
-    allow: pubsub
 modules:
   mod_disco: {{}}
   mod_caps: {{}}
@@ -196,20 +162,7 @@ modules:
   mod_register:
     ip_access: all
     access: all
-  mod_delegation:
-    namespaces:
-      "http://jabber.org/protocol/pubsub":
-        access: pubsub
-      "http://jabber.org/protocol/pubsub#owner":
-        access: pubsub
-  mod_privilege:
-    roster:
-      get: pubsub
-    message:
-      outgoing: pubsub
-    presence:
-      managed_entity: pubsub
-{more}
+include_config_file: {folder}/pubsubd.yml
 """
 
 
@@ -217,16 +170,15 @@ class Ejabberd(Server):
     name = "ejabberd"
     namespaces = 2
     start_seconds = 240
-    more = ""
 
     def write(self) -> None:
         for part in ("db", "log"):
             (self.folder / part).mkdir(exist_ok=True)
         self.config = self.folder / "ejabberd.yml"
         names = ", ".join(f'"{host}"' for host in HOSTS)
-        self.config.write_text(
-            EJABBERD.format(hosts=names, client=self.client_port, component=self.component_port, service=SERVICE, secret=SECRET, more=self.more)
-        )
+        parts = ejabberd_part(SERVICE, SECRET).replace("port: 5347", f"port: {self.component_port}")
+        (self.folder / "pubsubd.yml").write_text(parts)
+        self.config.write_text(EJABBERD.format(hosts=names, client=self.client_port, folder=self.folder))
 
     def environment(self) -> dict[str, str]:
         return dict(os.environ) | {

@@ -271,6 +271,27 @@ async def moods_by_presence(world):
     want(not bob.heard(node), "who was removed hears of it")
 
 
+async def who_was_removed_and_comes_anew(world):
+    """The last mood of a contact is told to who comes, and to nobody who was taken out of the contacts meanwhile, though the account said nothing since."""
+    ann, bob = world.ann, world.bob
+    node = "http://jabber.org/protocol/mood"
+    ann.auto_authorize = ann.auto_subscribe = bob.auto_subscribe = True
+    bob.send_presence_subscription(ann.boundjid.bare)
+    await until(lambda: both(ann, bob) and both(bob, ann), "both are contacts")
+    await bob["xep_0107"].publish_mood("calm")
+    third = await world.person(f"bob@{B}/third", node)
+    await third.hears(lambda one: one.get("from") == ann.boundjid.bare and "sad" in ET.tostring(one).decode(), "the last mood")
+    await third.go()
+    ann.auto_authorize = ann.auto_subscribe = bob.auto_subscribe = None
+    await ann.update_roster(bob.boundjid.bare, subscription="remove")
+    want(bob.boundjid.bare not in await contacts(ann), "bob isn't removed")
+    fourth = await world.person(f"bob@{B}/fourth", node)
+    await fourth.hears(lambda one: one.get("from") == bob.boundjid.bare, "his own mood")
+    await asyncio.sleep(1)
+    want(not [one for one in fourth.heard(node) if one.get("from") == ann.boundjid.bare], "who was removed is told the last mood")
+    await fourth.go()
+
+
 async def contacts(person):
     """The contacts, as the server has them."""
     roster = await person.make_iq_get(queryxmlns="jabber:iq:roster").send()
@@ -388,6 +409,7 @@ CHECKS = (
     bookmarks,
     key_lists,
     moods_by_presence,
+    who_was_removed_and_comes_anew,
     groups,
     avatars,
     last_items,

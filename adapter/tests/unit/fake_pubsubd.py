@@ -1,7 +1,8 @@
 #!/usr/bin/python3
 """A stand-in for the service: it opens its streams as pubsubd does, keeps a list of all that it was told, and does what the node of a request asks for.
 
-Beside the store it writes STORE.told: `start` at each start, then `HOST LINE` for each line. A file STORE.exit with a number makes a start end with that status.
+Beside the store it writes STORE.told: `start` at each start, then `HOST LINE` for each line. A file STORE.early with a number makes a start end with that status before its
+streams are open, STORE.exit as it reads its store; STORE.long has the seconds that it reads.
 A request whose node is `held` is answered once there is a file `go` beside the store, and nothing is read meanwhile.
 """
 import json
@@ -26,6 +27,8 @@ def compact(old, new):
         print("out of memory")
         sys.exit(7)
     with open(new, "wb") as file:
+        if os.path.exists(old + ".slow"):
+            time.sleep(1000)
         file.write(b"PUBSUBJ1 compacted")
     sys.exit(0)
 
@@ -34,7 +37,7 @@ class Service:
     """One run."""
 
     def __init__(self, service, store, streams):
-        self.service, self.store = service, store
+        self.service, self.store, self.status = service, store, 0
         self.told = open(store + ".told", "a", encoding="utf-8", buffering=1)
         self.told.write("start\n")
         self.hosts = {}
@@ -109,6 +112,9 @@ class Service:
             print("store fault" if rest == "4" else "report")
             sys.stdout.flush()
             os._exit(int(rest))
+        elif verb == "fault":
+            print("pubsubd: store: No space left on device (os error 28)", file=sys.stderr, flush=True)
+            self.status = 4
         elif verb == "close":
             self.hosts[fd][1].close()
         elif verb == "refuse":
@@ -136,18 +142,36 @@ class Service:
             self.result(fd, a)
 
 
+def take(name):
+    """What stands in that file, once."""
+    if not os.path.exists(name):
+        return None
+    with open(name, encoding="utf-8") as file:
+        found = file.read()
+    os.unlink(name)
+    return found
+
+
 def main():
     service, store, streams = words()
-    if os.path.exists(store + ".exit"):
-        with open(store + ".exit", encoding="utf-8") as file:
-            status = int(file.read())
-        os.unlink(store + ".exit")
+    status = take(store + ".early")
+    if status is not None:
+        sys.exit(int(status))
+    served = Service(service, store, streams)
+    status = take(store + ".exit")
+    if status is not None:
         print("report")
-        sys.exit(status)
-    with open(store, "ab") as file:
-        if file.tell() == 0:
-            file.write(b"PUBSUBJ1" + b"x" * 100)
-    Service(service, store, streams).run()
+        sys.exit(int(status))
+    try:
+        with open(store, "ab") as file:
+            if file.tell() == 0:
+                file.write(b"PUBSUBJ1" + b"x" * 100)
+    except OSError:
+        print("open fault")
+        sys.exit(9)
+    time.sleep(float(take(store + ".long") or 0))
+    served.run()
+    sys.exit(served.status)
 
 
 if __name__ == "__main__":

@@ -235,15 +235,15 @@ class AdapterCase(unittest.IsolatedAsyncioTestCase):
     def said(self):
         return self.log.read_text(encoding="utf-8") if self.log.exists() else ""
 
-    async def start(self, wait=True):
+    async def start(self, wait=True, words="service serves"):
         """Starts the adapter, and waits until it serves."""
-        before = self.said().count("service started")
+        before = self.said().count(words)
         with open(self.log, "ab") as log:
-            words = [sys.executable, str(ADAPTER / "pubsubd-xmpp"), "--config", str(self.root / "conf")]
-            self.adapter = await asyncio.create_subprocess_exec(*words, stderr=log, stdout=log, preexec_fn=die_with(os.getpid()))
+            command = [sys.executable, str(ADAPTER / "pubsubd-xmpp"), "--config", str(self.root / "conf")]
+            self.adapter = await asyncio.create_subprocess_exec(*command, stderr=log, stdout=log, preexec_fn=die_with(os.getpid()))
         if wait:
             await self.server.until(lambda: self.server.is_up, "the component")
-            await self.until_said("service started", before + 1)
+            await self.until_said(words, before + 1)
 
     async def stop(self):
         self.adapter.send_signal(signal.SIGTERM)

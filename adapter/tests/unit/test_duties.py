@@ -17,10 +17,11 @@ class Start(AdapterCase):
     """What is done at each start of the service."""
 
     async def test_a_service_that_ends_before_its_pipes_are_open_is_no_endless_wait(self):
-        (self.root / "state" / "store.exit").write_text("9")
+        (self.root / "state" / "store.early").write_text("9")
         await self.start(wait=False)
         self.assertEqual(await self.ended(), 9)
         self.assertIn("not started again status=9", self.said())
+        self.assertNotIn("service started", self.said())
 
     async def test_lines_are_counted_from_one_in_each_run(self):
         await self.start()
@@ -145,6 +146,16 @@ class Serving(AdapterCase):
         self.assertIn('"id":"n-4"', line)
         self.assertIn('"type":"result"', line)
 
+    async def test_who_goes_is_told_of_behind_his_presence(self):
+        await self.start()
+        self.server.send(presence(f"{ANN}/1") + presence(f"{ANN}/1", kind="unavailable"))
+        await self.until_told("unavailable")
+        self.server.send(presence(f"{BOB}/1", kind="unavailable") + request("1"))  # who wasn't there doesn't go
+        await self.server.reply("1")
+        lines = [line for line in self.told() if '"n":"presence"' in line]
+        self.assertEqual(["unavailable" in line for line in lines][-1], True)
+        self.assertNotIn(BOB, "".join(lines))
+
     async def test_who_is_not_told_again_when_the_server_comes_back_is_gone(self):
         await self.start()
         self.server.send(presence(f"{ANN}/1") + presence(f"{BOB}/1"))
@@ -218,6 +229,17 @@ class End(AdapterCase):
         self.server.send(request("1", "close"))
         self.assertEqual(condition(await self.server.reply("1")), ("internal-server-error", "wait"))
         self.assertIn("a stream of the service ended alone", self.said())
+        await self.until_said("service started", 2)
+        self.server.send(request("2"))
+        self.assertEqual((await self.server.reply("2")).get("type"), "result")
+
+    async def test_a_service_that_says_what_failed_is_ended_and_tells_its_status(self):
+        """It would go on with its other streams, and answer nothing on this one."""
+        await self.start()
+        self.server.send(request("1", "fault"))
+        self.assertEqual(condition(await self.server.reply("1")), ("internal-server-error", "wait"))
+        self.assertIn("service ended status=4", self.said())
+        self.assertNotIn("it doesn't answer", self.said())
         await self.until_said("service started", 2)
         self.server.send(request("2"))
         self.assertEqual((await self.server.reply("2")).get("type"), "result")
@@ -320,6 +342,26 @@ class Personal(AdapterCase):
         lines = [line for line in self.told() if "jabber:iq:roster" in line or f'"from":"{BOB}/1"' in line]
         self.assertEqual(["both" in lines[0], '"id":"1"' in lines[1], "remove" in lines[2], '"id":"2"' in lines[3]], [True] * 4)
         self.assertEqual(len(lines), 4)
+
+    async def test_who_comes_is_told_of_behind_the_contacts_of_those_who_may_show_him_items(self):
+        """Ann took bob out and let cid in, and said nothing since. Bob would be given her last items, and cid would not."""
+        cid = f"cid@{HOST}"
+        self.server.rosters = {ANN: [contact(BOB, "from")], BOB: [contact(ANN, "to")]}
+        await self.start()
+        self.server.send(presence(f"{ANN}/1"))
+        await self.until_kept("SELECT contact, sure FROM roster", (BOB, 1))
+        await self.stop()
+        self.server.rosters = {ANN: [contact(cid, "from")], cid: [contact(ANN, "to")]}
+        await self.start()
+        self.server.send(presence(f"{BOB}/1"))
+        await self.until_told(f'"from":"{BOB}/1"')
+        asked = self.server.roster_questions
+        self.server.send(presence(f"{cid}/1"))
+        await self.until_told(f'"from":"{cid}/1"')
+        self.assertEqual(self.server.roster_questions, asked + 1)  # of ann it was told that she lets cid see her
+        lines = [line for line in self.told() if "jabber:iq:roster" in line or '"n":"presence"' in line]
+        self.assertEqual(sorted("remove" in line for line in lines[:2]), [False, True])
+        self.assertEqual([f'"from":"{BOB}/1"' in lines[2], f'"from":"{cid}/1"' in lines[3]], [True, True])
 
     async def test_requests_that_come_meanwhile_share_the_question(self):
         self.server.answers_rosters = False

@@ -11,6 +11,8 @@ import unittest
 from .fakes import ADAPTER, HOST, SERVICE, AdapterCase, condition, contact, delegated, kill_service, request
 from .test_duties import ANN, BOB, CAPS, presence
 
+from pubsubd_xmpp.spool import Spool
+
 
 class Server(AdapterCase):
     async def test_a_server_that_goes_is_connected_to_again(self):
@@ -46,8 +48,10 @@ class Server(AdapterCase):
         await self.server.message(id="n-1")
 
     async def test_a_wrong_secret_is_said(self):
+        """The service serves meanwhile."""
         self.server.secret = "another"
         await self.start(wait=False)
+        await self.until_said("service serves")
         await self.until_said("the server refuses the secret")
         self.server.secret = "not a secret"
         await self.server.until(lambda: self.server.is_up)
@@ -102,6 +106,11 @@ class Killed(AdapterCase):
         self.assertEqual(self.runs(), 2)
 
 
+def is_alive(pid):
+    words = pathlib.Path(f"/proc/{pid}/cmdline")
+    return words.exists() and words.read_bytes() != b""
+
+
 class KilledEarly(AdapterCase):
     def configure(self, *_):
         program = self.root / "sleeper"
@@ -117,7 +126,50 @@ class KilledEarly(AdapterCase):
         await self.server.until(lambda: pathlib.Path(f"/proc/{child}/cmdline").read_bytes() == b"sleep\x001000\0", "the program")
         self.adapter.kill()
         await self.adapter.wait()
-        await self.server.until(lambda: not pathlib.Path(f"/proc/{child}/cmdline").exists() or not pathlib.Path(f"/proc/{child}/cmdline").read_bytes())
+        await self.server.until(lambda: not is_alive(child))
+
+    async def test_an_adapter_that_stops_does_not_wait_for_a_store_that_is_still_being_read(self):
+        await self.start(wait=False)
+        children = pathlib.Path(f"/proc/{self.adapter.pid}/task/{self.adapter.pid}/children")
+        child = (await self.server.until(lambda: children.read_text().split()))[0]
+        await self.server.until(lambda: self.server.is_up)
+        self.assertEqual(await self.stop(), 0)
+        self.assertIn("killed by SIGKILL", self.said())
+        self.assertFalse(is_alive(child))
+
+
+class LongStores(AdapterCase):
+    """The service opens its streams, reads its store, and then answers."""
+
+    settings = "answer_seconds = 1\nopen_seconds = 600\n"
+
+    async def test_a_store_that_takes_long_to_read_is_no_silence(self):
+        (self.root / "state" / "store.long").write_text("4")
+        await self.start()
+        self.server.send(request("1"))
+        self.assertEqual((await self.server.reply("1")).get("type"), "result")
+        self.assertNotIn("it doesn't answer", self.said())
+        self.assertEqual(self.runs(), 1)
+
+    async def test_nobody_is_told_that_it_serves_before_and_a_stop_does_not_wait(self):
+        (self.root / "state" / "store.long").write_text("1000")
+        await self.start(words="service started")
+        self.server.send(request("1"))
+        await self.until_taken()
+        self.assertNotIn("service serves", self.said())
+        self.assertEqual(await self.stop(), 0)
+        self.assertIn("killed by SIGKILL", self.said())
+        self.assertNotIn("service killed", self.said())
+
+
+class EndlessStores(AdapterCase):
+    settings = "stop_seconds = 1\nopen_seconds = 1\n"
+
+    async def test_a_service_that_never_comes_to_the_end_of_its_store_is_started_anew(self):
+        (self.root / "state" / "store.long").write_text("1000")
+        await self.start(words="service started")
+        await self.until_said("it doesn't come to the end of its store")
+        await self.until_said("service serves")
 
 
 class Limits(AdapterCase):
@@ -151,6 +203,21 @@ class Limits(AdapterCase):
         self.assertEqual((await self.server.reply("p")).get("type"), "result")
         self.assertEqual((await self.server.reply("2")).get("to"), "Ann@A.example/Res")
         self.assertIn('"from":"ann@a.example/Res"', "".join(self.told()))
+
+
+class LargeRequests(AdapterCase):
+    settings = "[limits]\nopen_bytes = 262144\n"
+
+    async def test_more_bytes_than_may_be_open_are_refused_for_now(self):
+        await self.start()
+        large = "x" * 100000  # as a tree and as a line: twice these bytes
+        self.server.send(request("0", "held") + request("1", large) + request("2", large) + request("3"))
+        self.assertEqual(condition(await self.server.reply("3")), ("resource-constraint", "wait"))
+        self.let_go()
+        for name in ("0", "1", "2"):
+            self.assertEqual((await self.server.reply(name)).get("type"), "result")
+        self.server.send(request("4"))
+        self.assertEqual((await self.server.reply("4")).get("type"), "result")
 
 
 class Hosts(AdapterCase):
@@ -230,6 +297,12 @@ class FullDisk(AdapterCase):
         self.assertEqual(condition(reply.child("delegation").find("forwarded", "iq")), ("remote-server-timeout", "wait"))
         self.assertIn("the state can't be written", self.said())
         self.assertFalse([line for line in self.told() if "jabber:iq:roster" in line])
+        with self.assertRaises(OSError):  # not a signal that ends the adapter
+            Spool(self.disk / "0.out").give(1)
+        self.server.send(request("n", f"notice 1 {SERVICE}"))  # its number can't be written
+        await self.server.message(id="n-1")
+        kill_service(self)
+        await self.until_said("service started", 2)
         (self.disk / "full").unlink()
         self.server.send(delegated("d2", request("2", sender=f"{BOB}/1", to=ANN)))
         reply = await self.server.reply("d2")
@@ -272,11 +345,49 @@ class Compacting(AdapterCase):
         await self.start()
         before = self.store.read_bytes()
         self.adapter.send_signal(signal.SIGUSR2)
-        await self.until_said("not compacted status=7")
+        await self.until_said("not compacted why=\"status 7: had not enough memory\"")
         await self.until_said("service started", 2)
         self.assertEqual(self.store.read_bytes(), before)
         self.server.send(request("1"))
         await self.server.reply("1")
+
+    async def test_where_it_failed_it_is_not_tried_at_each_start(self):
+        (self.root / "state" / "store.fail").write_text("")
+        self.store.write_bytes(b"PUBSUBJ1" + b"x" * 2000)
+        await self.start()
+        kill_service(self)
+        await self.until_said("service started", 2)
+        self.assertEqual(self.said().count("not compacted"), 1)
+
+    async def test_told_while_no_service_runs_it_is_done_before_the_next(self):
+        await self.start()
+        (self.root / "state" / "store.exit").write_text("7")
+        self.server.send(request("1", "exit 7"))
+        await self.until_said("service ended", 2)
+        self.adapter.send_signal(signal.SIGUSR2)
+        await self.until_said("compacted bytes_before")
+        await self.until_said("service started", 2)
+
+    async def test_a_disk_that_refuses_the_new_store_is_said_and_the_old_one_serves(self):
+        await self.start()
+        (self.root / "state" / "store.before").mkdir()  # a place that can't be had
+        self.adapter.send_signal(signal.SIGUSR2)
+        await self.until_said("not compacted why=")
+        (self.root / "state" / "store.before").rmdir()
+        await self.until_said("service started", 2)
+        self.server.send(request("1"))
+        await self.server.reply("1")
+        self.assertFalse((self.root / "state" / "store.new").exists())
+
+    async def test_an_adapter_that_stops_does_not_wait_for_it(self):
+        (self.root / "state" / "store.slow").write_text("")
+        await self.start()
+        before = self.store.read_bytes()
+        self.adapter.send_signal(signal.SIGUSR2)
+        await self.until_said("service ended")
+        await self.server.until(lambda: (self.root / "state" / "store.new").exists())
+        self.assertEqual(await self.stop(), 0)
+        self.assertEqual((self.store.read_bytes(), (self.root / "state" / "store.new").exists(), self.runs()), (before, False, 1))
 
     async def test_a_new_store_that_is_found_damaged_is_put_back(self):
         await self.start()
@@ -359,7 +470,7 @@ class Signals(AdapterCase):
                     told.append(end.recv(4096).decode())
                 except BlockingIOError:
                     break
-        self.assertTrue(any(one.startswith("READY=1") for one in told), told)
+        self.assertEqual([one.split("\n")[0] for one in told if one.startswith("READY")], ["READY=1"])
         self.assertEqual(told[-1], "STOPPING=1")
 
     async def test_a_configuration_is_judged(self):
@@ -371,6 +482,19 @@ class Signals(AdapterCase):
         bad = await asyncio.create_subprocess_exec(*words, stderr=asyncio.subprocess.PIPE)
         _, said = await bad.communicate()
         self.assertEqual((bad.returncode, b"the secret can't be read" in said), (2, True))
+
+    async def test_a_store_that_can_not_be_opened_is_for_the_service_to_say(self):
+        self.store.mkdir()
+        await self.start(wait=False)
+        self.assertEqual(await self.ended(), 9)
+        self.assertIn("not started again status=9 meaning=\"couldn't open a file", self.said())
+
+    async def test_what_the_machine_refuses_is_said(self):
+        (self.root / "state" / "adapter.sqlite").mkdir()
+        await self.start(wait=False)
+        self.assertEqual(await self.ended(), 9)
+        self.assertIn("the state can't be opened", self.said())
+        self.assertNotIn("Traceback", self.said())
 
     async def test_a_program_that_is_not_there_is_said(self):
         self.configure(program=self.root / "none")

@@ -1,22 +1,29 @@
 """The parts that need nothing else: trees and their spellings, forms, errors, notices, what is kept, spools, the configuration, times."""
 
+import asyncio
+import contextlib
 import datetime
+import io
 import os
 import pathlib
 import tempfile
+import types
 import unittest
+from unittest import mock
 
 from . import fakes  # noqa: F401  (puts the package on the path)
 
 from pubsubd_xmpp import errors
+from pubsubd_xmpp.adapter import Adapter
 from pubsubd_xmpp.asked import Asked, Envelope
 from pubsubd_xmpp.compaction import next_time
 from pubsubd_xmpp.config import BadConfig, When, read_config
 from pubsubd_xmpp.forms import draw, mend
 from pubsubd_xmpp.grants import Grants, asks_features, unwrap, wrap
-from pubsubd_xmpp.install import configuration, ejabberd_part, prosody_part
+from pubsubd_xmpp.install import CantSetUp, configuration, ejabberd_part, prosody_part, set_up
 from pubsubd_xmpp.kept import Kept, Row, Told
 from pubsubd_xmpp.lines import NotALine, from_line, to_line
+from pubsubd_xmpp.log import Rarely
 from pubsubd_xmpp.names import canonical, host_of, is_full
 from pubsubd_xmpp.notices import Notices
 from pubsubd_xmpp.presences import Presences
@@ -246,6 +253,7 @@ class KeptThings(InAFolder):
         kept.intend("a@b", [("c@b", row), ("d@b", Row("from"))])
         other = self.open()
         self.assertEqual(other.roster("a@b"), {"c@b": Told(row, False), "d@b": Told(Row("from"), False)})
+        self.assertEqual((other.owners("c@b"), other.owners("a@b")), ({"a@b"}, set()))
         kept.settle("a@b", "c@b", row)
         self.assertEqual([contact for _, contact, _ in kept.unsure()], ["d@b"])
         self.assertEqual(self.open().roster("a@b")["c@b"], Told(row, True))
@@ -372,6 +380,61 @@ class Configurations(InAFolder):
         self.assertNotIn("example.org", ejabberd_part("pubsub.a.example", "geheim"))
         self.assertIn("hosts = a.example b.example\n", configuration("pubsub.a.example", ["a.example", "b.example"], "prosody"))
         self.assertIn("\nkeep_presences = yes\n", configuration("pubsub.a.example", ["a.example"], "ejabberd"))
+
+    def test_setup_writes_all_or_nothing(self):
+        for server, name in (("prosody", "prosody/conf.d/pubsubd.cfg.lua"), ("ejabberd", "ejabberd/pubsubd.yml")):
+            etc = self.folder / server
+            with mock.patch("pubsubd_xmpp.install.shutil.chown"), mock.patch("pubsubd_xmpp.install._restart"), contextlib.redirect_stdout(io.StringIO()):
+                with self.assertRaisesRegex(CantSetUp, f"install {server} first"):
+                    set_up(server, ["a.example"], etc)
+                (etc / name).parent.mkdir(parents=True)
+                set_up(server, ["a.example"], etc)
+                self.assertIn((etc / "pubsubd" / "secret").read_text().strip(), (etc / name).read_text())
+                (etc / "pubsubd" / "secret").unlink()
+                with self.assertRaisesRegex(CantSetUp, "is there already"):
+                    set_up(server, ["a.example"], etc)
+                self.assertFalse((etc / "pubsubd" / "secret").exists())
+
+
+class Log(unittest.TestCase):
+    def test_what_fails_each_second_is_no_line_each_second(self):
+        said = io.StringIO()
+        with contextlib.redirect_stderr(said):
+            rarely = Rarely()
+            for why in ("full", "full", "full", "gone", "full"):
+                rarely.say("not written", why=OSError(why))
+            rarely.forget("not written")
+            rarely.say("not written", why=OSError("full"))
+        words = [line.rpartition("why=")[2] for line in said.getvalue().splitlines()]
+        self.assertEqual(words, ["full", "gone", "full", "full"])
+
+
+class Schedule(unittest.IsolatedAsyncioTestCase):
+    async def test_each_time_that_comes_is_once(self):
+        """A clock that is a little early doesn't make a time come twice."""
+        asked = []
+        here = Adapter.__new__(Adapter)
+        here._config = types.SimpleNamespace(compact_at=When(4, 30))
+        here._ask_compaction = lambda: asked.append(True)
+        steps = iter((datetime.datetime(2026, 12, 2, 4, 29, 59), datetime.datetime(2026, 12, 2, 4, 29, 59, 900000)))
+        slept = []
+
+        class Clock(datetime.datetime):
+            @classmethod
+            def now(cls):
+                return next(steps, datetime.datetime(2026, 12, 2, 4, 29, 59, 950000))
+
+        async def sleep(seconds):
+            slept.append(seconds)
+            if len(slept) == 2:
+                raise asyncio.CancelledError
+
+        with mock.patch("pubsubd_xmpp.adapter.datetime.datetime", Clock), mock.patch("pubsubd_xmpp.adapter.asyncio.sleep", sleep):
+            with self.assertRaises(asyncio.CancelledError):
+                await here._schedule()
+        self.assertEqual(len(asked), 1)
+        self.assertLess(slept[0], 1)
+        self.assertGreater(slept[1], 86000)
 
 
 class Times(unittest.TestCase):

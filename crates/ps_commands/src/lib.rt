@@ -19,8 +19,6 @@ mod digits;
 mod follower;
 mod mirror;
 mod reports;
-#[cfg(test)]
-mod tests;
 mod words;
 
 pub use command::{Command, ExplainWords, FeedWords, FollowWords, MirrorWords, ReadersWords};

@@ -32,13 +32,6 @@ fn three(alloc: Global) -> Result<Vec<u8>, Fail> {
 }
 
 #[test]
-fn a_boot_has_a_record_of_29_bytes(rt: HostRuntime) -> Result<(), Fail> {
-    let alloc = rt.alloc();
-    assert!(rt; record(alloc, 0, BOOT)?.as_slice() == &BOOT_RECORD[..]);
-    Ok(())
-}
-
-#[test]
 fn pieces_repeats_and_cuts_add_nothing(rt: HostRuntime) -> Result<(), Fail> {
     let alloc = rt.alloc();
     let feed = three(alloc)?;

@@ -3,7 +3,6 @@ use crate::words::{jid, node};
 use ps_affil::Affils;
 use ps_types::{Affil, AffilRow};
 use std::alloc::Global;
-use std::process::Abort;
 use std::test::Fail;
 
 fn row(alloc: Global, name: &str, who: &str, affil: Affil) -> Result<AffilRow, Fail> {
@@ -25,13 +24,6 @@ fn set(
     Ok(())
 }
 
-fn is(rt: &impl Abort, alloc: Global, affils: &Affils, who: &str, want: Affil) -> Result<(), Fail> {
-    let node = node(alloc, "w")?;
-    let who = jid(alloc, who)?;
-    assert!(rt; affils.get(&node, &who) == want);
-    Ok(())
-}
-
 // ann@a.example owns w, where bob is a member, cid publishes only and dot is an outcast.
 fn whitelist(alloc: Global) -> Result<Affils, Fail> {
     let mut affils = Affils::new(alloc)?;
@@ -41,20 +33,6 @@ fn whitelist(alloc: Global) -> Result<Affils, Fail> {
     set(alloc, &mut affils, "w", "dot@a.example", Affil::Outcast)?;
     set(alloc, &mut affils, "w", "bob@b.example", Affil::Member)?;
     Ok(affils)
-}
-
-#[test]
-fn affiliations_are_set_by_bare_address(rt: HostRuntime) -> Result<(), Fail> {
-    let alloc = rt.alloc();
-    let mut affils = whitelist(alloc)?;
-    is(&rt, alloc, &affils, "bob@b.example/1", Affil::Member)?;
-    is(&rt, alloc, &affils, "dot@a.example", Affil::Outcast)?;
-    is(&rt, alloc, &affils, "alf@a.example", Affil::Nothing)?;
-    assert_eq!(rt; affils.len(), 4);
-    set(alloc, &mut affils, "w", "ann@a.example", Affil::Nothing)?;
-    is(&rt, alloc, &affils, "ann@a.example", Affil::Nothing)?;
-    assert_eq!(rt; affils.len(), 3);
-    Ok(())
 }
 
 #[test]

@@ -55,22 +55,6 @@ fn lists(
     Ok(())
 }
 
-#[test]
-fn the_oldest_go_and_a_replaced_item_goes_last(rt: HostRuntime) -> Result<(), Fail> {
-    let alloc = rt.alloc();
-    let mut items = Items::new(alloc)?;
-    publish(alloc, &mut items, "one", &["x", "y"], 1)?;
-    lists(&rt, alloc, &items, "one", &["y"])?;
-    let eleven = [
-        "k0", "k1", "k2", "k3", "k4", "k5", "k6", "k7", "k8", "k9", "k10",
-    ];
-    publish(alloc, &mut items, "news", &eleven, 10)?;
-    lists(&rt, alloc, &items, "news", &eleven[1..])?;
-    publish(alloc, &mut items, "news", &["k2"], 10)?;
-    let replaced = ["k1", "k3", "k4", "k5", "k6", "k7", "k8", "k9", "k10", "k2"];
-    lists(&rt, alloc, &items, "news", &replaced)
-}
-
 fn find_and_remove(
     rt: &impl Abort,
     alloc: Global,
@@ -103,39 +87,4 @@ fn items_are_found_removed_kept_and_copied(rt: HostRuntime) -> Result<(), Fail> 
     assert_eq!(rt; items.len(), 0);
     assert!(rt; copy.row(2).is_some());
     lists(&rt, alloc, &copy, "news", &["i1", "i2", "i3"])
-}
-
-fn are_ids(rows: &[ItemRow], want: &[&str]) -> bool {
-    rows.len() == want.len() && want.iter().enumerate().all(|(at, id)| is_at(rows, at, id))
-}
-
-fn named(
-    alloc: Global,
-    items: &Items,
-    node: &NodeKey,
-    ids: &[&str],
-    most: u64,
-) -> Result<Vec<ItemRow>, Fail> {
-    let mut asked = Vec::new(alloc);
-    for id in ids {
-        asked.push(Text::of(alloc, id)?)?;
-    }
-    Ok(items.named(alloc, node, asked.as_slice(), most)?)
-}
-
-#[test]
-fn the_newest_are_listed_and_those_of_some_ids(rt: HostRuntime) -> Result<(), Fail> {
-    let alloc = rt.alloc();
-    let mut items = Items::new(alloc)?;
-    publish(alloc, &mut items, "news", &["i1", "i2", "i3", "i4"], 10)?;
-    publish(alloc, &mut items, "other", &["i1", "i9"], 10)?;
-    let news = node(alloc, "news")?;
-    assert!(rt; are_ids(&items.newest(alloc, &news, 2)?, &["i3", "i4"]));
-    assert!(rt; are_ids(&items.newest(alloc, &news, 9)?, &["i1", "i2", "i3", "i4"]));
-    let ids = ["i4", "i9", "i1", "i2"];
-    let two = named(alloc, &items, &news, &ids, 2)?;
-    assert!(rt; are_ids(&two, &["i2", "i4"]));
-    let all = named(alloc, &items, &news, &ids, 9)?;
-    assert!(rt; are_ids(&all, &["i1", "i2", "i4"]));
-    Ok(())
 }

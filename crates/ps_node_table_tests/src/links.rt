@@ -30,38 +30,6 @@ fn tower(rt: &impl Abort, alloc: Global) -> Result<Links, Fail> {
     Ok(links)
 }
 
-fn is_under(
-    alloc: Global,
-    links: &Links,
-    name: &str,
-    collection: &str,
-    deep: bool,
-) -> Result<bool, Fail> {
-    let below = node(alloc, name)?;
-    let collection = node(alloc, collection)?;
-    Ok(links.is_under(&below, &collection, deep))
-}
-
-#[test]
-fn a_leaf_is_under_the_collections_above_it(rt: HostRuntime) -> Result<(), Fail> {
-    let alloc = rt.alloc();
-    let links = tower(&rt, alloc)?;
-    assert!(rt; is_under(alloc, &links, "leaf", "mid", false)?);
-    assert!(rt; !is_under(alloc, &links, "leaf", "top", false)?);
-    assert!(rt; is_under(alloc, &links, "leaf", "top", true)?);
-    assert!(rt; !is_under(alloc, &links, "top", "leaf", true)?);
-    let leaf = node(alloc, "leaf")?;
-    let above = links.ancestors(alloc, &leaf)?;
-    assert_eq!(rt; above.len(), 2);
-    assert!(rt; above[0].name.is("mid"));
-    assert!(rt; above[1].name.is("top"));
-    let top = node(alloc, "top")?;
-    let below = links.children(alloc, &top)?;
-    assert_eq!(rt; below.len(), 1);
-    assert!(rt; below[0].name.is("mid"));
-    Ok(())
-}
-
 #[test]
 fn a_collection_with_children_holds_them_until_they_go(rt: HostRuntime) -> Result<(), Fail> {
     let alloc = rt.alloc();

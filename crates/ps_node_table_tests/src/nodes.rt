@@ -91,61 +91,6 @@ fn a_node_is_made_once_and_the_others_keep_their_order(rt: HostRuntime) -> Resul
     Ok(())
 }
 
-// The access models that a node has, before and after it is given another configuration; then it goes.
-fn models(alloc: Global, nodes: &mut Nodes) -> Result<[bool; 5], Fail> {
-    let w = node(alloc, "w")?;
-    let before = has_model(nodes, &w, Access::Everyone);
-    let given = nodes.set_config(&w, config(alloc, Access::Whitelist)?);
-    let after = has_model(nodes, &w, Access::Whitelist);
-    let again = deletes(alloc, nodes, "nope")?;
-    nodes.drop_node(&w);
-    Ok([before, given, after, again, nodes.has(&w)])
-}
-
-// Whether the node stands and has that access model.
-fn has_model(nodes: &Nodes, key: &NodeKey, want: Access) -> bool {
-    match nodes.config(key) {
-        Some(config) => nodes.has(key) && nodes.get(key).is_some() && config.access_model == want,
-        None => false,
-    }
-}
-
-#[test]
-fn a_node_is_given_a_configuration(rt: HostRuntime) -> Result<(), Fail> {
-    let alloc = rt.alloc();
-    let mut nodes = Nodes::new(alloc)?;
-    let new = makes(alloc, &mut nodes, "w", "ann@a.example/1")?;
-    let told = models(alloc, &mut nodes)?;
-    assert!(rt; new && told == [true, true, true, false, false]);
-    Ok(())
-}
-
-// How many nodes the service host and an account have, and the first of the host's.
-fn listed(alloc: Global, nodes: &Nodes) -> Result<(usize, usize, bool), Fail> {
-    let service = jid(alloc, "pubsub.example")?;
-    let account = jid(alloc, "ann@a.example")?;
-    let keys = nodes.keys_of(alloc, &service)?;
-    let own = nodes.keys_of(alloc, &account)?;
-    let first = match keys.first() {
-        Some(key) => key.name.is("one"),
-        None => false,
-    };
-    Ok((keys.len(), own.len(), first))
-}
-
-#[test]
-fn the_nodes_of_a_service_are_listed(rt: HostRuntime) -> Result<(), Fail> {
-    let alloc = rt.alloc();
-    let mut nodes = Nodes::new(alloc)?;
-    let new = made(alloc, &mut nodes)?;
-    let gone = deletes(alloc, &mut nodes, "news")?;
-    assert!(rt; new == [true, true, true, false] && gone);
-    assert!(rt; listed(alloc, &nodes)? == (2, 0, true));
-    let w = node(alloc, "w")?;
-    assert!(rt; nodes.place(&w) == Some(1));
-    Ok(())
-}
-
 fn key_at(alloc: Global, service: &str, name: &str) -> Result<NodeKey, Fail> {
     let service = jid(alloc, service)?;
     let name = Text::of(alloc, name)?;

@@ -3,7 +3,6 @@ use crate::words::{jid, node};
 use ps_subs::Subs;
 use ps_types::{SubOptions, SubRow, SubState};
 use std::alloc::Global;
-use std::process::Abort;
 use std::test::Fail;
 
 fn row(alloc: Global, who: &str, state: SubState) -> Result<SubRow, Fail> {
@@ -25,58 +24,6 @@ fn set(alloc: Global, subs: &mut Subs, who: &str, state: SubState) -> Result<(),
     subs.reserve(1)?;
     let row = row(alloc, who, state)?;
     subs.set(row);
-    Ok(())
-}
-
-fn is(
-    rt: &impl Abort,
-    alloc: Global,
-    subs: &Subs,
-    who: &str,
-    want: SubState,
-    subscribed: bool,
-) -> Result<(), Fail> {
-    let node = node(alloc, "q")?;
-    let who = jid(alloc, who)?;
-    assert!(rt; subs.get(&node, &who) == want);
-    assert!(rt; subs.is_subscribed(&node, &who) == subscribed);
-    Ok(())
-}
-
-#[test]
-fn a_subscription_is_of_an_address_with_its_resource(rt: HostRuntime) -> Result<(), Fail> {
-    let alloc = rt.alloc();
-    let mut subs = Subs::new(alloc)?;
-    set(alloc, &mut subs, "bob@b.example", SubState::Pending)?;
-    is(&rt, alloc, &subs, "bob@b.example", SubState::Pending, false)?;
-    set(alloc, &mut subs, "bob@b.example/1", SubState::Subscribed)?;
-    is(
-        &rt,
-        alloc,
-        &subs,
-        "bob@b.example/1",
-        SubState::Subscribed,
-        true,
-    )?;
-    is(&rt, alloc, &subs, "bob@b.example", SubState::Pending, true)?;
-    is(
-        &rt,
-        alloc,
-        &subs,
-        "bob@b.example/2",
-        SubState::Nothing,
-        true,
-    )?;
-    set(alloc, &mut subs, "bob@b.example/1", SubState::Nothing)?;
-    is(
-        &rt,
-        alloc,
-        &subs,
-        "bob@b.example/1",
-        SubState::Nothing,
-        false,
-    )?;
-    assert_eq!(rt; subs.len(), 1);
     Ok(())
 }
 

@@ -1,4 +1,5 @@
-//! What the program does, seen from outside: whole runs of `ps_serve` over worlds in memory, with one stream, two and sixteen.
+//! What the program does over worlds in memory: openings and reports that fail at each call of the world, and a store after a crash behind each call of its disk. What files and
+//! pipes can show is tried on the program: `tests/lines`, `tests/operating`, `tests/faults`, `tests/streams`, `tests/rows`, `tests/compact`, `tests/mirror`.
 //!
 //! The tests stand apart since each crate is proved once more with its own. Nothing stands on this crate, and it has no public function.
 //!
@@ -6,26 +7,10 @@
 #![tactic(auto)]
 
 #[cfg(test)]
-mod alone;
-#[cfg(test)]
-mod compacted;
-#[cfg(test)]
 mod faults;
 #[cfg(test)]
 mod lines;
 #[cfg(test)]
-mod many;
-#[cfg(test)]
-mod mirror_lines;
-#[cfg(test)]
-mod mirrored;
-#[cfg(test)]
-mod runs;
-#[cfg(test)]
 mod stores;
-#[cfg(test)]
-mod unseen;
-#[cfg(test)]
-mod waits;
 #[cfg(test)]
 mod worlds;

@@ -16,3 +16,4 @@ pub mod LastFrame
 pub mod Streams
 pub mod Sending
 pub mod Ours
+pub mod Unread

@@ -23,10 +23,11 @@
 //! `specs/Told.antt` has the words for a host's lines, `specs/Sinks.antt` those for the bytes of its sink, `specs/Working.antt` what one worker is given and makes, `specs/Teams.antt` the workers of all hosts,
 //! `specs/Closing.antt` what the state and the store are at the end.
 //!
-//! Nothing is promised of waiting: not that a worker comes to its end, nor when.
+//! Nothing is promised of waiting: not that a worker comes to its end, nor when. Where the system refuses a thread all workers end with `Memory`.
 #![tactic(auto)]
 
 mod closing;
+mod muster;
 mod serving;
 mod work;
 

@@ -3,6 +3,7 @@ use denote.Param.Send.{arg_sync, param_sync, recorded_sync, sendable, shr_sync, 
 use Rattle.std.proofs.Crossing as std
 use Rattle.ps_wire.proofs.lines.Lines.TheSendSync as lines
 use Rattle.ps_workers.proofs.work.Worker.TheSendSync as worker
+use Rattle.ps_workers.proofs.muster.Muster.TheSendSync as muster
 use Rattle.ps_workers.specs.Working.{DidWork, IsReady, clocks, sinks}
 use Rattle.ps_workers.proofs.Sending.{hall, pass}
 use Rattle.ps_workers.proofs.work.work_all.Goals as goal
@@ -11,7 +12,7 @@ pub for_each_mut-requires-send-T : goal.for_each_mut-requires-send-T
 for_each_mut-requires-send-T g c κs within = search (worker.the_send, pass, lines.the_send, std.crosses, sendable) depth 40 fits 20000
 
 pub for_each_mut-requires-sync-F : goal.for_each_mut-requires-sync-F
-for_each_mut-requires-sync-F g c κs within = search (hall, std.sync, param_sync, arg_sync, shr_sync, struct_sync, recorded_sync) depth 60 fits 20000
+for_each_mut-requires-sync-F g c κs within = search (hall, muster.the_sync, std.sync, param_sync, arg_sync, shr_sync, struct_sync, recorded_sync) depth 60 fits 20000
 
 pub for_each_mut-requires-clause-accepts : goal.for_each_mut-requires-clause-accepts
 for_each_mut-requires-clause-accepts g c κs within = λ i p low e.
