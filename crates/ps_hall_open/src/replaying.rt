@@ -1,5 +1,6 @@
 // The entries of a store are taken one after the other.
 ghost use Rattle.std.specs.Prelude.{◌≡◌, ◌<◌, ◌^◌, ◌++◌, ◌∷◌, [], List, Ok, true, false, length, IfOk, OnOk};
+ghost use denote.Param.Send.{IsSync};
 ghost use Rattle.ps_model.specs.Entries.{IsEntry, spelling};
 ghost use Rattle.ps_model.specs.Replay.{lawful, replay};
 ghost use Rattle.ps_journal.specs.Places.{entries_in};
@@ -93,7 +94,8 @@ pub(crate) struct Replay<'a, R: Threads + Sync> {
 }
 
 impl<'a, R: Threads + Sync> Taker for Replay<'a, R> {
-    ghost stands = { λ _ replay placed. HasTaken placed replay.rebuilt };
+    // What it calls wants the runtime shared among threads.
+    ghost stands = { λ _ replay placed. IsSync R.row × HasTaken placed replay.rebuilt };
 
     ghost refused = { is_refused };
 
@@ -146,7 +148,7 @@ pub(crate) struct Watched<'a, R: Threads + Sync, O: Observer + Drop> {
 }
 
 impl<'a, R: Threads + Sync, O: Observer + Drop> Taker for Watched<'a, R, O> {
-    ghost stands = { λ start it placed. HasTaken placed it.rebuilt
+    ghost stands = { λ start it placed. IsSync R.row × HasTaken placed it.rebuilt
         × O.saw start.observer it.observer (entries_in placed) };
 
     ghost refused = { is_refused };

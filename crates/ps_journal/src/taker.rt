@@ -19,6 +19,7 @@ pub trait Taker {
     fn take(&mut self, one: Placed) -> Result<bool, Memory>
         requires entry { IsEntry one.entry }
         requires short { length (spelling one.entry) < 2 ^ 32 }
+        requires stands { (start : Self) × (placed : List Placed) × stands start self.old placed }
         ensures took { (start : Self) (placed : List Placed) → stands start self.old placed
             → result ≡ Ok true → stands start self.new (placed ++ one ∷ []) }
         // It stays where it refuses one.

@@ -9,7 +9,7 @@ use Rattle.ps_hall_open.specs.OpenRead.{AreShort, IsBegunEmpty}
 use Rattle.ps_hall_open.proofs.read_only.open_read.Goals as goal
 
 pub observe-requires-clause-saw : goal.observe-requires-clause-saw
-observe-requires-clause-saw g c = c.new.ensures.items
+observe-requires-clause-saw g c κs within = c.new.ensures.items
 
 -- the list that was kept is the one that was seen
 pub returns-in-Ok-clause-store : goal.returns-in-Ok-clause-store

@@ -18,4 +18,4 @@ returns-clause-restored g c =
 
 pub returns-clause-err : goal.returns-clause-err
 returns-clause-err g c =
-    IfErr-weaker c.begin.result _ _ (not_restored c.args.journal.now c.begin.new.journal c.args._placed.now.items c.args.boot.now c.args.whole c.requires.taken.replayed.each) c.begin.ensures.err
+    IfErr-weaker c.begin.result _ _ (λ why not. not_restored c.args.journal.now c.begin.new.journal c.args._placed.now.items c.args.boot.now c.args.whole why c.requires.taken.replayed.each not) c.begin.ensures.err

@@ -12,6 +12,9 @@ take-requires-clause-short g c =
     let fits = c.requires.fits in
     omega (arith, next, within, fits)
 
+pub take-requires-clause-stands : goal.take-requires-clause-stands
+take-requires-clause-stands g c = let s = c.requires.stands in (s.0, c.loop-from.trail.items, c.loop-from.invariant.1 s.0 s.1)
+
 pub loop-from-preserved : goal.loop-from-preserved
 loop-from-preserved g c =
     let e = c.in-Ok.ensures.entry in
