@@ -1,6 +1,6 @@
 //! What holds of every Book that a lawful list of entries leaves. The rows of a compacted store may stand at the front of the list.
 //!
-//! `specs/Laws.antt` has the laws. `EachBookIsSound`: in each of the eight lists of rows every key is its own (`Keys.HasKeys`), a link stands between nodes that stand, and a node is
+//! `specs/Laws.antt` has the laws. `EachBookIsSound`: in each of the nine lists of rows every key is its own (`Keys.HasKeys`), a link stands between nodes that stand, and a node is
 //! configured with the collection that its link names (`Linked`), and affiliations, subscriptions and counts of made ids are of nodes that stand (`Rows`).
 //! `EachBookHoldsItems`: items lie at leaves, and no node holds more of them than it may. `EachRowIsWellFormed`: the rows that a compacted store is written
 //! with have bare addresses, and names and ids of a length that a request may give them, as acceptance asks of such a row. `EachBookNamesAddresses`: whoever has a subscription
