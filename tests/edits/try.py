@@ -133,7 +133,7 @@ TRIED = [
     "ps_notices/id_is_not_the_number",
     "ps_notices/one_counter_for_all_addresses",
     "ps_outbox/always_in_order",
-    "ps_outbox/ready_at_another_host",
+    "ps_outbox/ready_at_another_host=ps_outbox::asks::ReadyAtAskAddress::passes",
     "ps_outbox/shown_before_it_is_durable",
     "ps_owner/anyone_at_accounts",
     "ps_owner/approved_unasked",

@@ -3,8 +3,8 @@
 
     faults.py PROGRAM [CASE..]      CASE: of those in tests/memory/cases.py, or those of TRIED
 
-It is counted how often a case's run seeks, reads, writes and syncs on the file; then it is run once for each number, and that call is failed by fail.c, which is loaded
-before the C library. A fault of the store ends a run with status 4, one of a source or a sink with 3; a call that didn't come this time, with 0. What
+It is counted how often a case's run seeks, reads, writes and syncs on the file; then it is run once for each number, of many for 80 among them, and that call is failed by
+fail.c, which is loaded before the C library. A fault of the store ends a run with status 4, one of a source or a sink with 3; a call that didn't come this time, with 0. What
 the sinks then hold is a front of what they hold else. After a fault of a stream the other streams' sinks miss nothing, and the store has the end of each host. It opens
 afterwards, holds a front of each host's changes with each one that was answered, and the notices of both runs are those of the whole run, where at most one an address comes again.
 """
@@ -18,10 +18,14 @@ from concurrent.futures import ThreadPoolExecutor
 
 HERE = pathlib.Path(__file__).resolve().parent
 sys.path.insert(0, str(HERE.parent / "memory"))
-from cases import CASES, HOSTS, Whole, Wrong, compiled, ends_in, parted
+from cases import CASES, HOSTS, Whole, Wrong, compiled, ends_in, parted, told
 
 STREAM, STORE = 3, 4
-TRIED = ("an opening over a boot", "a node whose subscribers wait", "a subscription that waits", "an approval", "three notices", "notices that wait", "two creates at once")
+# So many calls on one file are failed at most, where there are more: some evenly among them.
+MOST = 80
+TRIED = (
+    "an opening over a boot", "a node whose subscribers wait", "a subscription that waits", "an approval", "three notices", "notices that wait", "an audience", "two creates at once"
+)
 
 
 class Case(Whole):
@@ -62,7 +66,8 @@ class Case(Whole):
         for host, lines in came.items():
             if status != STREAM or host == self.host:
                 continue
-            for got, whole in list(zip(parted(lines), parted(self.came[host])))[: 2 if self.kind == "sink" else 1]:
+            parts = [(parted(lines)[0], parted(self.came[host])[0]), (told(lines), told(self.came[host]))]
+            for got, whole in parts[: 2 if self.kind == "sink" else 1]:
                 if got != whole:
                     raise Wrong(f"a fault of {self.host}'s {self.kind}, and {host} was told {got}")
 
@@ -72,14 +77,16 @@ class Case(Whole):
             raise Wrong(f"status {status}, and the ends are {ends_in(room.store.read_bytes())}")
 
     def must_hand_on(self, status, came, room):
-        """The next run hands out the notices that are left, and one that was written once more at most."""
+        """The next run hands out the notices that are left, and of each address once more at most one that was written."""
         is_whole = self.new_changes(room) and len(self.new_changes(room)) == len(self.changes)
         for host, lines in self.must_serve_on(status, room).items():
-            first, second, whole = parted(came.get(host, []))[1], parted(lines)[1], parted(self.came[host])[1]
-            if first and second and first[-1] == second[0]:
-                second = second[1:]
-            if first + second != whole[: len(first + second)] or (is_whole and first + second != whole):
-                raise Wrong(f"status {status}, and {host} was handed {first} and then {second}")
+            ran, then, all_of = told(came.get(host, [])), told(lines), told(self.came[host])
+            for address in ran | then | all_of:
+                first, second, whole = (it.get(address, []) for it in (ran, then, all_of))
+                if first and second and first[-1] == second[0]:
+                    second = second[1:]
+                if first + second != whole[: len(first + second)] or (is_whole and first + second != whole):
+                    raise Wrong(f"status {status}, and {address} was handed {first} and then {second}")
 
 
 def failed(case):
@@ -92,7 +99,7 @@ def failed(case):
             return f"call {number}: {wrong}"
 
     with ThreadPoolExecutor(os.cpu_count()) as pool:
-        return list(pool.map(tried, range(1, case.calls + 1)))
+        return list(pool.map(tried, sorted({1 + k * case.calls // MOST for k in range(MOST)} if case.calls > MOST else range(1, case.calls + 1))))
 
 
 def main(words):

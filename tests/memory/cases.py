@@ -67,6 +67,13 @@ CASES = {
         [([create(ANN, 1, "news")], []), ([], [subscribe(BOB, 1, "news")]), ([publish(ANN, 1, "news", "i1"), publish(ANN, 2, "news", "i2")], None)],
         ([], []),
     ),
+    "an audience": (
+        [
+            ([create(ANN, 1, "news")], []),
+            ([subscribe(f"sub{k}@a.example/1", k, "news") for k in range(200)], [subscribe(f"sub{k}@b.example/1", k, "news") for k in range(2)]),
+        ],
+        ([publish(ANN, number, "news", f"i{number}") for number in (1, 2, 3)], []),
+    ),
     "forty bookmarks": ([], ([bookmark(number) for number in range(1, 41)], [])),
     "two creates at once": ([], ([create(ANN, 1, "news")], [create(BOB, 1, "other")])),
 }
@@ -137,6 +144,14 @@ def parted(lines):
     return [it for it in lines if not is_notice(it)], [it for it in lines if is_notice(it)]
 
 
+def told(lines):
+    """The notices of a sink by their addresses."""
+    found = {}
+    for line in parted(lines)[1]:
+        found.setdefault(json.loads(line)["a"]["to"], []).append(line)
+    return found
+
+
 def answered(lines):
     """The lines of a stream that were answered by a result."""
     found = [json.loads(it)["a"] for it in parted(lines)[0]]
@@ -180,9 +195,11 @@ class Whole:
         return changes_in(room.store.read_bytes())[len(changes_in(self.before)) :]
 
     def must_be_front(self, status, came):
-        """What each host was told is a front of what the whole run tells it, and all of it where nothing failed."""
+        """The replies of each host and the notices of each address are a front of those of the whole run, and all of them where nothing failed."""
         for host, lines in came.items():
-            for got, whole in zip(parted(lines), parted(self.came[host])):
+            got, whole = told(lines), told(self.came[host])
+            pairs = [(parted(lines)[0], parted(self.came[host])[0]), *((got.get(it, []), whole.get(it, [])) for it in got | whole)]
+            for got, whole in pairs:
                 if got != whole[: len(got)] or (status == 0 and got != whole):
                     raise Wrong(f"status {status}, and {host} was told {got}")
 

@@ -12,6 +12,7 @@ Each part has a folder, a store and a process of its own, and time limits. Those
     order    a stream's replies come in the order of its lines, beside notices to the same stream
     together publishes that are written at once share frames; of the first of two such lines another stream is told without delay
     crowd    sixteen streams with many lines each at once, all of which want the lock
+    audience 200 subscribers on one host and two on another: each is told of all in order, and many records share a frame
 
 The status is 0 only where each part that was run passed.
 """
@@ -243,7 +244,31 @@ def crowd(program, folder):
             same(f"the replies on {stream.host}", ids, [str(k) for k in range(rounds * each)])
 
 
-PARTS = {"paced": paced, "open": open_source, "full": full, "sixteen": sixteen, "order": order, "together": together, "crowd": crowd}
+def audience(program, folder):
+    """The subscribers of a's host are told by one writer, in any order among them; each is told in the order of the publishes."""
+    many, few, each = 200, 2, 5
+    with Service(program, folder, ["a.example", "b.example"]) as service:
+        a, b = service.streams
+        ask(service, a, create(ANN, 0, "news"))
+        for stream, count in ((a, many), (b, few)):
+            stream.send(*(subscribe(f"sub{k}@{stream.host}/1", 1 + k, "news") for k in range(count)))
+        service.pump(lambda: a.count >= 1 + many and b.count >= few, 60, what="a subscription")
+        before = frames(f"{folder}/store")
+        a.send(*(publish(ANN, 1 + many + k, "news", f"i{k}") for k in range(each)))
+        service.pump(lambda: a.count >= 1 + many + each * (1 + many) and b.count >= few * (1 + each), 120, what="a reply or a notice")
+        ends_well(service)
+        same("the replies on a", a.replies()[1 + many :], [published(ANN, 1 + many + k, "news", f"i{k}") for k in range(each)])
+        for stream, count in ((a, many), (b, few)):
+            told = {f"sub{k}@{stream.host}": [] for k in range(count)}
+            for line in stream.notices():
+                told[json.loads(line)["a"]["to"]].append(line)
+            for address, lines in told.items():
+                same(f"the notices to {address}", lines, [notice(address, 1 + k, "news", f"i{k}") for k in range(each)])
+        if frames(f"{folder}/store") - before >= each * many / 4:
+            raise Wrong(f"{frames(f'{folder}/store') - before} frames have {each} publishes and {each * (many + few)} records")
+
+
+PARTS = {"paced": paced, "open": open_source, "full": full, "sixteen": sixteen, "order": order, "together": together, "crowd": crowd, "audience": audience}
 
 
 def main():

@@ -114,3 +114,34 @@ fn notices_out_of_order_are_ready_too(rt: HostRuntime) -> Result<(), Fail> {
     assert!(rt; is_ready(alloc, &boxes, "b.example", 6, "bob@b.example")?);
     Ok(())
 }
+
+#[test]
+fn an_address_that_is_held_is_not_ready(rt: HostRuntime) -> Result<(), Fail> {
+    let alloc = rt.alloc();
+    let mut boxes = Outboxes::new(alloc)?;
+    push(alloc, &mut boxes, "bob@b.example/1", 1, 1)?;
+    push(alloc, &mut boxes, "bob@b.example/1", 2, 2)?;
+    push(alloc, &mut boxes, "cid@b.example", 2, 1)?;
+    let host = Text::of(alloc, "b.example")?;
+    assert!(rt; !boxes.holds(&host));
+    boxes.hold(jid(alloc, "bob@b.example")?)?;
+    assert!(rt; boxes.holds(&host));
+    assert!(rt; boxes.is_held(&jid(alloc, "bob@b.example/2")?));
+    assert!(rt; !boxes.is_held(&jid(alloc, "cid@b.example")?));
+    assert!(rt; is_ready(alloc, &boxes, "b.example", 3, "cid@b.example")?);
+    boxes.hold(jid(alloc, "cid@b.example")?)?;
+    assert!(rt; none_ready(alloc, &boxes, "b.example", 3)?);
+    assert_eq!(rt; shown(alloc, &boxes, "bob@b.example", 3)?, 1);
+    push(alloc, &mut boxes, "cid@b.example", 3, 2)?;
+    assert!(rt; none_ready(alloc, &boxes, "b.example", 9)?);
+    assert!(rt; dropped(alloc, &mut boxes, "bob@b.example")?);
+    boxes.release(jid(alloc, "bob@b.example")?);
+    assert!(rt; is_ready(alloc, &boxes, "b.example", 9, "bob@b.example")?);
+    assert!(rt; dropped(alloc, &mut boxes, "bob@b.example")?);
+    boxes.forget(&jid(alloc, "bob@b.example")?);
+    assert!(rt; none_ready(alloc, &boxes, "b.example", 9)?);
+    boxes.release(jid(alloc, "cid@b.example")?);
+    assert!(rt; is_ready(alloc, &boxes, "b.example", 9, "cid@b.example")?);
+    assert!(rt; !boxes.holds(&host));
+    Ok(())
+}

@@ -1,17 +1,19 @@
 -- The seats of a new hall are dealt out to its hosts.
-use Rattle.std.proofs.Common.{◌≡◌, ℕ, suc, ◌+◌, inl, inr, List, [], ◌∷◌, ◌++◌, map, Some, None, false, length, refl, ap, sym, ◌∙◌, subst, arith, length-append}
+use Rattle.std.proofs.Common.{◌≡◌, ℕ, suc, ◌+◌, inl, inr, List, [], ◌∷◌, ◌++◌, map, Some, length, refl, ap, sym, ◌∙◌, subst, arith, length-append}
 use Rattle.std.specs.Prelude.{slice_get}
 use Rattle.ps_disk.specs.declared.device.Disk.{Ghosts}
 use Rattle.ps_world.proofs.Lists.{get-snoc}
 use Rattle.ps_twin.specs.declared.twin.TwinSeat.{TwinSeat}
-use Rattle.ps_twin.specs.Seats.{AreNew, IsNew, seats_of}
-use Rattle.ps_trace.specs.Did.{NoneInHand}
+use Rattle.ps_twin.specs.Seats.{AreNew, IsNew, seats_of, seen_of}
+use Rattle.ps_types.specs.declared.jid.Jid.{Jid}
+use Rattle.ps_trace.specs.Did.{HasInHand}
+use Rattle.ps_trace.proofs.Flying.{hand-none}
 use Rattle.ps_trace.specs.Own.{AreOwned}
 use Rattle.ps_trace.specs.declared.deed.Deed.{Deed}
-use Rattle.ps_hall.specs.Calls.{IsPass}
+use Rattle.ps_hall.specs.Calls.{IsPass, IsReader, IsWriter}
 use Rattle.ps_hall_flush.specs.Homes.{world_at}
 use Rattle.ps_hall_flush.specs.Origin.{Origin}
-use Rattle.ps_hall.specs.Passes.{AreFresh, AreOf, IsFresh, OurTwin, named}
+use Rattle.ps_hall.specs.Passes.{AreFresh, AreOf, ArePassesOf, IsFresh, IsPassOf, OurTwin, named}
 use Rattle.ps_hall_flush.specs.declared.home.Archive.{Archive}
 use Rattle.ps_hall_flush.specs.declared.home.Home.{Home}
 use Rattle.ps_hall.specs.declared.hall.HostPasses.{HostPasses}
@@ -86,45 +88,55 @@ module _ {B D : Type 0} {g : Ghosts D} (o : Origin) (t : OurTwin B D g) where
       heads (r ∷ []) d = absurd d
       heads (r ∷ w ∷ ss) d = (r, w, ss, refl)
 
-  abbrev pub pass_of : ℕ → List ℕ → TwinSeat (Home B) (Archive B D g) Deed → Pass B D g
-  pass_of at host s = record { seat = s; at = at; host = host; in_hand = None; concerns_others = false }
-
-  abbrev pub passes_of : ℕ → Names → TwinSeat (Home B) (Archive B D g) Deed → TwinSeat (Home B) (Archive B D g) Deed → HostPasses B D g
-  passes_of at n r w = record { reader = pass_of at n.reader r; writer = pass_of at n.writer w }
-
   is_pass : (k m : ℕ) (host : List ℕ) (s : TwinSeat (Home B) (Archive B D g) Deed) → slice_get o.hosts k ≡ Some host → IsNew t m s → IsPass o t k host s
   is_pass k m host s here new = record { call = record { twin = new.twin; free = new.free }; here = here; owned = subst (λ l. AreOwned o.hosts l) (sym new.seen) tt }
 
-  is_fresh : (k m : ℕ) (host : List ℕ) (s : TwinSeat (Home B) (Archive B D g) Deed) → IsNew t m s → IsFresh o (pass_of k host s)
-  is_fresh k m host s new = record { seen = new.seen; hand = refl; none = subst (λ l. NoneInHand host (world_at o l)) (sym new.seen) (λ a e. refl) }
+  is_fresh : (k m : ℕ) (host : List ℕ) (s : TwinSeat (Home B) (Archive B D g) Deed) (p : Pass B D g) → IsPassOf k host s p → IsNew t m s → IsFresh o p
+  is_fresh k m host s p is new =
+      let seen = ap (λ (x : TwinSeat (Home B) (Archive B D g) Deed). seen_of x) is.seat ∙ new.seen in
+      record {
+        seen = seen;
+        hand = is.hand;
+        none = subst (λ (l : List Jid). HasInHand p.host l (world_at o (seen_of p.seat))) (sym is.hand) (subst (λ l. HasInHand p.host [] (world_at o l)) (sym seen) (hand-none p.host (world_at o []) (λ a e. refl)));
+      }
 
-  fresh_of : (k : ℕ) (n : Names) (r w : TwinSeat (Home B) (Archive B D g) Deed) → IsNamed k n → IsNew t (k + k) r → IsNew t (k + k + 1) w → AreFreshOf k (passes_of k n r w)
-  fresh_of k n r w here new_r new_w =
+  reader_of : (k : ℕ) (host : List ℕ) (s : TwinSeat (Home B) (Archive B D g) Deed) (p : Pass B D g) → IsPassOf k host s p → slice_get o.hosts k ≡ Some host → IsNew t (k + k) s → IsReader o t p.at p.host p.seat
+  reader_of k host s p is here new =
+      subst (λ a. IsReader o t a p.host p.seat) (sym is.at_is) (subst (λ h. IsReader o t k h p.seat) (sym is.host_is) (subst (λ (x : TwinSeat (Home B) (Archive B D g) Deed). IsReader o t k host x) (sym is.seat)
+      (record { pass = is_pass k (k + k) host s here new; number = new.number })))
+
+  writer_of : (k : ℕ) (host : List ℕ) (s : TwinSeat (Home B) (Archive B D g) Deed) (p : Pass B D g) → IsPassOf k host s p → slice_get o.hosts k ≡ Some host → IsNew t (k + k + 1) s → IsWriter o t p.at p.host p.seat
+  writer_of k host s p is here new =
+      subst (λ a. IsWriter o t a p.host p.seat) (sym is.at_is) (subst (λ h. IsWriter o t k h p.seat) (sym is.host_is) (subst (λ (x : TwinSeat (Home B) (Archive B D g) Deed). IsWriter o t k host x) (sym is.seat)
+      (record { pass = is_pass k (k + k + 1) host s here new; number = new.number })))
+
+  fresh_of : (k : ℕ) (n : Names) (r w : TwinSeat (Home B) (Archive B D g) Deed) (p : HostPasses B D g) → ArePassesOf k n r w p → IsNamed k n → IsNew t (k + k) r → IsNew t (k + k + 1) w → AreFreshOf k p
+  fresh_of k n r w p are here new_r new_w =
       let there : slice_get o.hosts k ≡ Some n.writer = here.0 ∙ ap (λ h. Some h) (sym here.1) in
       record {
         passes = record {
-          reader = record { pass = is_pass k (k + k) n.reader r here.0 new_r; number = new_r.number };
-          writer = record { pass = is_pass k (k + k + 1) n.writer w there new_w; number = new_w.number };
-          at_reader = refl;
-          at_writer = refl;
+          reader = reader_of k n.reader r p.reader are.reader here.0 new_r;
+          writer = writer_of k n.writer w p.writer are.writer there new_w;
+          at_reader = are.reader.at_is;
+          at_writer = are.writer.at_is;
         };
-        reader = is_fresh k (k + k) n.reader r new_r;
-        writer = is_fresh k (k + k + 1) n.writer w new_w;
+        reader = is_fresh k (k + k) n.reader r p.reader are.reader new_r;
+        writer = is_fresh k (k + k + 1) n.writer w p.writer are.writer new_w;
       }
 
   -- the next host gets its passes
-  pub dealt_on : (names ns : List Names) (n : Names) (seats ss : List (TwinSeat (Home B) (Archive B D g) Deed)) (r w : TwinSeat (Home B) (Archive B D g) Deed) (at : ℕ) (passes now : List (HostPasses B D g)) →
-      names ≡ n ∷ ns → seats ≡ r ∷ w ∷ ss → at ≡ length passes → now ≡ passes ++ passes_of at n r w ∷ [] → Dealt (length passes) names seats → FreshSoFar passes → Dealt (length now) ns ss × FreshSoFar now
-  dealt_on names ns n seats ss r w at passes now split two is_at is d so_far =
+  pub dealt_on : (names ns : List Names) (n : Names) (seats ss : List (TwinSeat (Home B) (Archive B D g) Deed)) (r w : TwinSeat (Home B) (Archive B D g) Deed) (at : ℕ) (p : HostPasses B D g) (passes now : List (HostPasses B D g)) →
+      names ≡ n ∷ ns → seats ≡ r ∷ w ∷ ss → at ≡ length passes → ArePassesOf at n r w p → now ≡ passes ++ p ∷ [] → Dealt (length passes) names seats → FreshSoFar passes → Dealt (length now) ns ss × FreshSoFar now
+  dealt_on names ns n seats ss r w at p passes now split two is_at are is d so_far =
       let k = length passes in
       let e : Dealt k (n ∷ ns) (r ∷ w ∷ ss) = subst (λ l. Dealt k l (r ∷ w ∷ ss)) split (subst (λ l. Dealt k names l) two d) in
-      let size : length now ≡ k + 1 = ap length is ∙ (length-append passes (passes_of at n r w ∷ []) ∙ omega arith) in
-      let fresh : AreFreshOf k (passes_of at n r w) = subst (λ m. AreFreshOf k (passes_of m n r w)) (sym is_at) (fresh_of k n r w e.0 e.1 e.2) in (
+      let size : length now ≡ k + 1 = ap length is ∙ (length-append passes (p ∷ []) ∙ omega arith) in
+      let fresh : AreFreshOf k p = fresh_of k n r w p (subst (λ m. ArePassesOf m n r w p) is_at are) e.0 e.1 e.2 in (
         subst (λ m. Dealt m ns ss) (sym size) e.3,
         subst (λ (l : List (HostPasses B D g)). FreshSoFar l) (sym is)
-            (λ j p here. elim (get-snoc passes (passes_of at n r w) j p here) [
-              | inl old ↦ so_far j p old.1
-              | inr new ↦ subst (λ x. AreFreshOf j x) new.1 (subst (λ m. AreFreshOf m (passes_of at n r w)) (sym new.0) fresh)
+            (λ j q here. elim (get-snoc passes p j q here) [
+              | inl old ↦ so_far j q old.1
+              | inr new ↦ subst (λ x. AreFreshOf j x) new.1 (subst (λ m. AreFreshOf m p) (sym new.0) fresh)
             ]),
       )
 

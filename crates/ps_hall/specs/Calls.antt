@@ -1,17 +1,17 @@
 -- What the calls of the hall say.
-use Rattle.std.specs.Prelude.{◌≡◌, ◌≢◌, ◌⊎◌, ℕ, ◌+◌, ◌<◌, ◌≤◌, Bool, true, false, List, [], ◌∷◌, ◌++◌, length, Option, Some, None, Result, Ok, Err, slice_get}
+use Rattle.std.specs.Prelude.{◌≡◌, ◌≢◌, ◌⊎◌, ℕ, ◌+◌, ◌<◌, ◌≤◌, Bool, true, false, List, [], ◌∷◌, ◌++◌, drop, length, Option, Some, None, Result, Ok, Err, slice_get}
 use Rattle.ps_types.specs.declared.entry.Arrival.{Arrival}
 use Rattle.ps_types.specs.declared.entry.Entry.{Entry}
 use Rattle.ps_types.specs.declared.jid.Jid.{Jid}
 use Rattle.ps_model.specs.Entries.{spelling}
-use Rattle.ps_model.specs.World.{World}
+use Rattle.ps_model.specs.World.{Nothing, World}
 use Rattle.ps_model.specs.declared.steps.Role.TheVariants.{Reader}
 use Rattle.ps_model.specs.declared.steps.Step.{Step}
-use Rattle.ps_model.specs.declared.steps.Step.TheVariants.{Arrive, Take, Emit, Record, Gone, Ended}
+use Rattle.ps_model.specs.declared.steps.Step.TheVariants.{Arrive, Take, Emit, Gone, Ended}
 use Rattle.ps_twin.specs.declared.twin.TwinSeat.{TwinSeat}
 use Rattle.ps_twin.specs.declared.twin.Twin.{Twin}
 use Rattle.ps_twin.specs.Seats.{seen_of, number_of}
-use Rattle.ps_trace.specs.Did.{HasInHand, NoneInHand}
+use Rattle.ps_trace.specs.Did.{HasInHand, records_of}
 use Rattle.ps_trace.specs.Own.{AreOwned}
 use Rattle.ps_trace.specs.declared.deed.Deed.{Deed}
 use Rattle.ps_hall_state.specs.Arrive.{IsOpen, entry_in, outcome_of, reply_in, untaken}
@@ -47,11 +47,6 @@ module _ {V J : Type 0} where
   pub record IsWriter (o : Origin) (t : Twin V J Deed) (at : ℕ) (host : List ℕ) (s : TwinSeat V J Deed) : Type 0 where
     pub pass : IsPass o t at host s
     pub number : number_of s ≡ at + at + 1
-
--- what a writer has in hand, by the world of what it has seen
-abbrev pub HasHand : Option Jid → List ℕ → World → Type 0
-HasHand None host w = NoneInHand host w
-HasHand (Some a) host w = HasInHand host a w
 
 -- ---- lines
 
@@ -97,17 +92,27 @@ Arrived o k host old new arrival (Err e) = Does o k old new (LayDoes o host arri
 
 -- ---- replies and notices
 
--- the first notice to the address, which is then in hand
-abbrev pub Tells : List ℕ → List ℕ → Option Jid → World → List Step → Type 0
-Tells host text None w steps = ⊥
-Tells host text (Some a) w steps = (a.host ≡ host) × NoReply w host × IsFirstNotice w a text × (steps ≡ Emit a ∷ [])
+-- the first notice to an address of which none is in flight, which is then in hand behind the others
+pub record Telling (host text : List ℕ) (hand now : List Jid) (w : World) (steps : List Step) : Type 0 where
+  pub to : Jid
+  pub hand_is : now ≡ hand ++ to ∷ []
+  pub here : to.host ≡ host
+  pub reply : NoReply w host
+  pub first : IsFirstNotice w to text
+  pub free : (w.addresses to).flight ≡ Nothing
+  pub steps_are : steps ≡ Emit to ∷ []
 
-abbrev pub NextDoes : {E : Type 0} → Origin → List ℕ → Result Next E → Option Jid → World → List Step → Type 0
-NextDoes o host (Ok (Reply text)) hand w steps = IsFirstReply w host text × (hand ≡ None) × (steps ≡ Take host ∷ [])
-NextDoes o host (Ok (Notice text)) hand w steps = Tells host text hand w steps
-NextDoes o host (Ok NotYet) hand w steps = NoReply w host × NoNotice w host × (some_reads w o.hosts ≡ true) × (hand ≡ None) × (steps ≡ [])
-NextDoes o host (Ok Over) hand w steps = NoReply w host × NoNotice w host × (some_reads w o.hosts ≡ false) × (hand ≡ None) × (steps ≡ [])
-NextDoes o host (Err e) hand w steps = (hand ≡ None) × (steps ≡ [])
+-- a reader runs, or a notice is in hand
+abbrev pub IsAwaited : Origin → List Jid → World → Type 0
+IsAwaited o hand w = (some_reads w o.hosts ≡ true) ⊎ (hand ≢ [])
+
+abbrev pub NextDoes : {E : Type 0} → Origin → List ℕ → List Jid → Result Next E → List Jid → World → List Step → Type 0
+NextDoes o host hand (Ok (Reply text)) now w steps = IsFirstReply w host text × (now ≡ hand) × (steps ≡ Take host ∷ [])
+NextDoes o host hand (Ok (Notice text)) now w steps = Telling host text hand now w steps
+NextDoes o host hand (Ok NotYet) now w steps = NoReply w host × NoNotice w host × IsAwaited o hand w × (now ≡ hand) × (steps ≡ [])
+NextDoes o host hand (Ok Over) now w steps =
+    NoReply w host × NoNotice w host × (hand ≡ []) × (some_reads w o.hosts ≡ false) × (now ≡ hand) × (steps ≡ [])
+NextDoes o host hand (Err e) now w steps = (now ≡ hand) × (steps ≡ [])
 
 -- ---- entries that no line makes
 
@@ -125,19 +130,44 @@ pub record FoundOver (o : Origin) (e : Entry) (seen : List Deed) : Type 0 where
   pub is : seen ≡ front ++ deed ∷ rest
   pub over : o.limits.whole < deed.bytes + length (spelling e)
 
--- the notice in hand is recorded, or the writer ends where there is no room
-abbrev pub RecordDoes : {T : Type 0} → Origin → List ℕ → Jid → Result T HandedRefusal → World → List Step → Type 0
-RecordDoes o host a (Ok t) w steps = HasInHand host a w × (w.broken ≡ false) × (steps ≡ Record a ∷ [])
-RecordDoes o host a (Err e) w steps = IsNoRecord w e × (steps ≡ refused_steps host e)
+-- the first of the notices in hand, at least one, are recorded, and the rest is in hand still
+pub record IsRecordOf (hand rest : List Jid) (steps : List Step) : Type 0 where
+  pub done : List Jid
+  pub some : done ≢ []
+  pub split : hand ≡ done ++ rest
+  pub steps_are : steps ≡ records_of done
 
-pub record RecordedThen (o : Origin) (k : ℕ) (host : List ℕ) (a : Jid) (old new : List Deed) (Then : List Deed → List Deed → Type 0) : Type 0 where
+-- what is said of the first that is in hand
+abbrev pub OfFirst : List Jid → (Jid → Type 0) → Type 0
+OfFirst [] says = Unit {0}
+OfFirst (a ∷ more) says = says a
+
+-- or, where the first of them is not, the writer ends if there is no room for it
+abbrev pub RecordDoes : {T : Type 0} → Origin → List ℕ → List Jid → List Jid → Result T HandedRefusal → World → List Step → Type 0
+RecordDoes o host hand rest (Ok t) w steps = HasInHand host hand w × (w.broken ≡ false) × IsRecordOf hand rest steps
+RecordDoes o host hand rest (Err e) w steps =
+    IsNoRecord w e × (rest ≡ hand) × (steps ≡ refused_steps host e)
+
+-- the same by how many are recorded
+abbrev pub RecordsSome : Origin → List ℕ → List Jid → Result ℕ HandedRefusal → World → List Step → Type 0
+RecordsSome o host hand (Ok n) w steps = RecordDoes o host hand (drop n hand) (Ok (tt {0})) w steps
+RecordsSome o host hand (Err e) w steps = RecordDoes {T = Unit {0}} o host hand hand (Err e) w steps
+
+pub record RecordedThen (o : Origin) (k : ℕ) (host : List ℕ) (hand rest : List Jid) (old new : List Deed) (Then : List Deed → List Deed → Type 0) : Type 0 where
   pub mid : List Deed
-  pub recorded : Does o k old mid (RecordDoes o host a (Ok (tt {0})))
+  pub recorded : Does o k old mid (RecordDoes o host hand rest (Ok (tt {0})))
   pub after : Then mid new
 
-abbrev pub HasHanded : {T : Type 0} → Origin → ℕ → List ℕ → Jid → List Deed → List Deed → Result T HandedRefusal → Type 0
-HasHanded o k host a old new (Ok t) = RecordedThen o k host a old new (Flushes o k)
-HasHanded o k host a old new (Err e) = Does o k old new (RecordDoes {T = Unit {0}} o host a (Err e)) ⊎ ((e ≡ Store) × RecordedThen o k host a old new (NotFlushed o k))
+-- after a fault of the disk all is still in hand
+pub record RecordedNot (o : Origin) (k : ℕ) (host : List ℕ) (hand now : List Jid) (old new : List Deed) : Type 0 where
+  pub rest : List Jid
+  pub recorded : RecordedThen o k host hand rest old new (NotFlushed o k)
+  pub still : now ≡ hand
+
+abbrev pub HasHanded : {T : Type 0} → Origin → ℕ → List ℕ → List Jid → List Jid → List Deed → List Deed → Result T HandedRefusal → Type 0
+HasHanded o k host hand now old new (Ok t) = RecordedThen o k host hand now old new (Flushes o k)
+HasHanded o k host hand now old new (Err e) =
+    Does o k old new (RecordDoes {T = Unit {0}} o host hand now (Err e)) ⊎ ((e ≡ Store) × RecordedNot o k host hand now old new)
 
 -- the reader is gone
 abbrev pub GoneDoes : {T : Type 0} → Origin → List ℕ → Result T HandedRefusal → World → List Step → Type 0
@@ -174,18 +204,18 @@ pub record EndsThen (o : Origin) (k : ℕ) (host : List ℕ) (old new : List Dee
 -- ---- by the pass of a seat
 
 module _ {V J : Type 0} where
-  abbrev pub HandAt : Origin → Option Jid → List ℕ → TwinSeat V J Deed → Type 0
-  HandAt o hand host s = HasHand hand host (world_at o (seen_of s))
+  abbrev pub HandAt : Origin → List Jid → List ℕ → TwinSeat V J Deed → Type 0
+  HandAt o hand host s = HasInHand host hand (world_at o (seen_of s))
 
   -- what was in hand is so still, but after a fault of the disk
-  abbrev pub KeepsHand : Origin → Option Jid → List ℕ → TwinSeat V J Deed → HandedRefusal → Type 0
+  abbrev pub KeepsHand : Origin → List Jid → List ℕ → TwinSeat V J Deed → HandedRefusal → Type 0
   KeepsHand o hand host s e = e ≢ Store → HandAt o hand host s
 
   abbrev pub SeatArrived : Origin → List ℕ → TwinSeat V J Deed → TwinSeat V J Deed → Arrival → Result Receipt ArriveRefusal → Type 0
   SeatArrived o host old new arrival result = Arrived o (number_of old) host (seen_of old) (seen_of new) arrival result
 
-  abbrev pub SeatHanded : {T : Type 0} → Origin → List ℕ → Jid → TwinSeat V J Deed → TwinSeat V J Deed → Result T HandedRefusal → Type 0
-  SeatHanded o host a old new result = HasHanded o (number_of old) host a (seen_of old) (seen_of new) result
+  abbrev pub SeatHanded : {T : Type 0} → Origin → List ℕ → List Jid → List Jid → TwinSeat V J Deed → TwinSeat V J Deed → Result T HandedRefusal → Type 0
+  SeatHanded o host hand now old new result = HasHanded o (number_of old) host hand now (seen_of old) (seen_of new) result
 
   abbrev pub SeatFlushesAndEnds : Origin → List ℕ → TwinSeat V J Deed → TwinSeat V J Deed → Type 0
   SeatFlushesAndEnds o host old new = EndsThen o (number_of old) host (seen_of old) (seen_of new) (Flushes o (number_of old))

@@ -1,11 +1,12 @@
 -- The passes of all hosts.
-use Rattle.std.specs.Prelude.{◌≡◌, ℕ, List, [], ◌∷◌, length, Some, None, slice_get}
+use Rattle.std.specs.Prelude.{◌≡◌, ℕ, List, [], ◌∷◌, length, Some, slice_get}
 use Rattle.ps_disk.specs.declared.device.Disk.{Ghosts}
 use Rattle.ps_twin.specs.declared.twin.TwinSeat.{TwinSeat}
 use Rattle.ps_twin.specs.declared.twin.Twin.{Twin}
 use Rattle.ps_twin.specs.Seats.{seen_of}
 use Rattle.ps_trace.specs.declared.deed.Deed.{Deed}
-use Rattle.ps_hall.specs.Calls.{HasHand, IsReader, IsWriter}
+use Rattle.ps_trace.specs.Did.{HasInHand}
+use Rattle.ps_hall.specs.Calls.{IsReader, IsWriter}
 use Rattle.ps_hall_flush.specs.Homes.{world_at}
 use Rattle.ps_hall_flush.specs.Origin.{Origin}
 use Rattle.ps_hall_flush.specs.declared.home.Archive.{Archive}
@@ -41,12 +42,23 @@ module _ {B D : Type 0} {g : Ghosts D} where
   -- it has seen nothing, and has no notice in hand
   pub record IsFresh (o : Origin) (p : Pass B D g) : Type 0 where
     pub seen : seen_of p.seat ≡ []
-    pub hand : p.in_hand ≡ None
-    pub none : HasHand p.in_hand p.host (world_at o (seen_of p.seat))
+    pub hand : p.in_hand.items ≡ []
+    pub none : HasInHand p.host p.in_hand.items (world_at o (seen_of p.seat))
 
   pub record AreFresh (o : Origin) (t : OurTwin B D g) (passes : List (HostPasses B D g)) : Type 0 where
     pub all : ArePasses o t passes
     pub each : (k : ℕ) (p : HostPasses B D g) → slice_get passes k ≡ Some p → IsFresh o p.reader × IsFresh o p.writer
+
+  -- a pass with a hand that is empty
+  pub record IsPassOf (at : ℕ) (host : List ℕ) (s : TwinSeat (Home B) (Archive B D g) Deed) (p : Pass B D g) : Type 0 where
+    pub seat : p.seat ≡ s
+    pub at_is : p.at ≡ at
+    pub host_is : p.host ≡ host
+    pub hand : p.in_hand.items ≡ []
+
+  pub record ArePassesOf (at : ℕ) (n : Names) (r w : TwinSeat (Home B) (Archive B D g) Deed) (p : HostPasses B D g) : Type 0 where
+    pub reader : IsPassOf at n.reader r p.reader
+    pub writer : IsPassOf at n.writer w p.writer
 
   -- ---- at the end
 

@@ -1,10 +1,11 @@
 -- The steps of a holding, by what the call on the state answered.
-use Rattle.std.specs.Prelude.{ℕ, Bool, true, false, List, [], ◌∷◌, Result, Ok, Err}
+use Rattle.std.specs.Prelude.{ℕ, Bool, true, false, List, [], ◌∷◌, take, Result, Ok, Err}
 use Rattle.ps_types.specs.declared.entry.Arrival.{Arrival}
 use Rattle.ps_types.specs.declared.jid.Jid.{Jid}
 use Rattle.ps_model.specs.declared.steps.Role.TheVariants.{Reader, Writer}
 use Rattle.ps_model.specs.declared.steps.Step.{Step}
-use Rattle.ps_model.specs.declared.steps.Step.TheVariants.{Arrive, Take, Emit, Record, Gone, Ended}
+use Rattle.ps_model.specs.declared.steps.Step.TheVariants.{Arrive, Take, Emit, Gone, Ended}
+use Rattle.ps_trace.specs.Did.{records_of}
 use Rattle.ps_hall_state.specs.declared.answers.Outcome.{Outcome}
 use Rattle.ps_hall_state.specs.declared.answers.Outcome.TheVariants.{Committed, Answered, Silent, Full}
 use Rattle.ps_hall_state.specs.declared.answers.Receipt.{Receipt}
@@ -40,9 +41,10 @@ refused_steps host refusal.Full = Ended host Writer ∷ []
 refused_steps host refusal.Store = []
 refused_steps host refusal.Memory = []
 
-abbrev pub record_steps : {T : Type 0} → List ℕ → Jid → Result T HandedRefusal → List Step
-record_steps host to (Ok t) = Record to ∷ []
-record_steps host to (Err e) = refused_steps host e
+-- the first so many that are in hand are recorded
+abbrev pub record_steps : List ℕ → List Jid → Result ℕ HandedRefusal → List Step
+record_steps host hand (Ok n) = records_of (take n hand)
+record_steps host hand (Err e) = refused_steps host e
 
 -- the reader has ended for any refusal
 abbrev pub gone_steps : {T : Type 0} → List ℕ → Result T HandedRefusal → List Step

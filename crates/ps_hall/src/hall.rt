@@ -26,13 +26,13 @@ pub(crate) struct Room<B: Opening, D: Disk> {
     ghost enough: { length B.origin.hosts + length B.origin.hosts ≤ vec_capacity seats },
 }
 
-/// A caller's token: its seat, its host and the place of that among the hosts that are served, and the bare address whose notice it has in hand,
-/// if it has one.
+/// A caller's token: its seat, its host and the place of that among the hosts that are served, and the bare addresses whose notices it has in hand, in
+/// the order in which it was told them.
 pub struct Pass<B: Opening, D: Disk> {
     pub(crate) seat: TwinSeat<Home<B>, Archive<B, D>>,
     pub(crate) at: usize,
     pub(crate) host: Text,
-    pub(crate) in_hand: Option<Jid>,
+    pub(crate) in_hand: Vec<Jid>,
     // Whether other hosts may have something to say of what it laid since its last flush.
     pub(crate) concerns_others: bool,
 }

@@ -52,19 +52,19 @@ pub(crate) fn leave_told<B: Opening, D: Disk>(
     twin.leave(seat, home);
 }
 
-/// With what came of recording the notice to an address: a Record, or the end of the writer for want of room.
+/// With what came of recording the notices in hand: a Record of each of so many, or the end of the writer for want of room.
 pub(crate) fn leave_recorded<B: Opening, D: Disk>(
     twin: &Twin<Home<B>, Archive<B, D>>,
     seat: &mut TwinSeat<Home<B>, Archive<B, D>>,
     home: Home<B>,
     host: &Text,
-    to: &Jid,
-    outcome: &Result<(), HandedRefusal>,
+    hand: &Vec<Jid>,
+    outcome: &Result<usize, HandedRefusal>,
 )
     ghost added: { List Deed }
     requires twin { IsSeatOf twin.now seat.old }
     requires may { MayNote B.origin twin.now seat.old home.state added
-        (deeds (number_of seat.old) (bytes_in home.state) (record_steps host.now to.now outcome.now)) }
+        (deeds (number_of seat.old) (bytes_in home.state) (record_steps host.now hand.now.items outcome.now)) }
     ensures { HasLeft twin.now seat.old seat.new home.state added }
 {
     twin.leave(seat, home);

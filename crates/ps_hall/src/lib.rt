@@ -12,7 +12,7 @@
 //!
 //! - Of `ps_hall_flush`: `Origin`, what stood when the hall was opened, which [`Opening`] names; `Passes`, others added deeds; `Does` and `Adds`, and then the pass
 //!   its own; `Flushes`, all that the pass had seen is durable; `NotFlushed`, the disk failed; `HasHistory`, the list of entries as it is read again.
-//! - `specs/Calls.antt`: `IsReader` and `IsWriter`, whose pass it is; `HasHand`, what a writer has in hand; `LayDoes`, `NextDoes`, `RecordDoes` and `GoneDoes`,
+//! - `specs/Calls.antt`: `IsReader` and `IsWriter`, whose pass it is; `HandAt`, what a writer has in hand, notices of different addresses; `LayDoes`, `NextDoes`, `RecordDoes` and `GoneDoes`,
 //!   the steps of one holding by its answer, with the cause of each refusal; `Arrived`, `HasHanded` and `HasGone`, whole calls; `FoundOver`, that a deed tells
 //!   how long the store was where an entry found no room.
 //! - `specs/Start.antt`: what a hall is opened over. `specs/Passes.antt`: the passes of all hosts, from [`Hall::new`] to [`Hall::close`].

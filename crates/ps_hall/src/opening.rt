@@ -1,7 +1,7 @@
 // The opening of a hall.
 ghost use Rattle.std.specs.Prelude.{◌≡◌, ◌≤◌, ◌^◌, [], length, map, vec_capacity, IfErr, IfOk, None};
 ghost use Rattle.ps_twin.specs.Seats.{AreNew};
-ghost use Rattle.ps_hall.specs.Passes.{AreFresh, named};
+ghost use Rattle.ps_hall.specs.Passes.{AreFresh, IsPassOf, named};
 ghost use Rattle.ps_hall.specs.Start.{MayStart};
 
 use crate::bell::Bells;
@@ -48,6 +48,24 @@ fn names_of(alloc: Global, hosts: &[Text]) -> Result<Vec<Names>, Memory>
     Ok(names)
 }
 
+// A pass with nothing in hand.
+fn pass_of<B: Opening, D: Disk>(
+    alloc: Global,
+    seat: TwinSeat<Home<B>, Archive<B, D>>,
+    at: usize,
+    host: Text,
+) -> Pass<B, D>
+    ensures { IsPassOf at host seat result }
+{
+    Pass {
+        seat,
+        at,
+        host,
+        in_hand: Vec::new(alloc),
+        concerns_others: false,
+    }
+}
+
 // All that a hall needs beside its two values.
 #[derive(Drop)]
 struct Ready<B: Opening, D: Disk> {
@@ -80,6 +98,7 @@ impl<B: Opening, D: Disk> Hall<B, D> {
     // The seats become the passes of the hosts.
     fn hand_out(
         &self,
+        alloc: Global,
         names: Vec<Names>,
         seats: Vec<TwinSeat<Home<B>, Archive<B, D>>>,
         mut passes: Vec<HostPasses<B, D>>,
@@ -94,20 +113,8 @@ impl<B: Opening, D: Disk> Hall<B, D> {
         for name in names {
             let Names { reader, writer } = name;
             let at = passes.len();
-            let reader = Pass {
-                seat: seats.next().unwrap(),
-                at,
-                host: reader,
-                in_hand: None,
-                concerns_others: false,
-            };
-            let writer = Pass {
-                seat: seats.next().unwrap(),
-                at,
-                host: writer,
-                in_hand: None,
-                concerns_others: false,
-            };
+            let reader = pass_of(alloc, seats.next().unwrap(), at, reader);
+            let writer = pass_of(alloc, seats.next().unwrap(), at, writer);
             passes.push_reserved(HostPasses { reader, writer });
         }
         passes
@@ -143,7 +150,7 @@ impl<B: Opening, D: Disk> Hall<B, D> {
                     room: Mutex::new(room),
                     bells,
                 };
-                let passes = hall.hand_out(names, seats, passes);
+                let passes = hall.hand_out(alloc, names, seats, passes);
                 Ok((hall, passes))
             }
             Err(TwinRefusal { value, journal }) => Err(NoHall {

@@ -125,7 +125,7 @@ Rooms o w now by steps = AllFindNoRoom o.limits.changes (bytes_in now) now.count
 module _ {V J : Type 0} where
   -- the state may be given back, with steps of the seat's own
   pub may_note : (o : Origin) (t : Twin V J Deed) (s : TwinSeat V J Deed) (v now : State) (steps : List Step) → IsSeatOf t s → HasState s → HomeStands o v (seen_of s) → names now.rows.items ≡ names v.rows.items → now.limits ≡ v.limits → now.count ≡ v.count → now.length ≡ v.length
-      → now.flushed ≤ known_of s → HoldsJournal s ⊎ (state_mark now ≡ mark_of s) → AreOwned o.hosts (deeds (number_of s) (bytes_in now) steps) → (bytes_in v ≤ bytes_in now → Rooms o (world_at o (seen_of s)) now (number_of s) steps) → length steps < 3
+      → now.flushed ≤ known_of s → HoldsJournal s ⊎ (state_mark now ≡ mark_of s) → AreOwned o.hosts (deeds (number_of s) (bytes_in now) steps) → (bytes_in v ≤ bytes_in now → Rooms o (world_at o (seen_of s)) now (number_of s) steps) → length steps < 2 ^ 63
       → Stands now (run the_core o.boot (world_at o (seen_of s)) steps) → MayNote o t s now (deeds (number_of s) (bytes_in now) steps) (deeds (number_of s) (bytes_in now) steps)
   may_note o t s v now steps twin held is hosts limits count long firm mark owned room few stands =
       let grows = bytes_on o.boot v now (world_at o (seen_of s)) steps is.stands stands (calm_of o.hosts (number_of s) (bytes_in now) steps owned) count long in
@@ -144,7 +144,7 @@ module _ {V J : Type 0} where
 
   -- the same by what a call keeps that tells of no fault
   pub notes : (o : Origin) (t : Twin V J Deed) (s : TwinSeat V J Deed) (v now : State) (steps : List Step) → IsSeatOf t s → HasState s → HomeStands o v (seen_of s) → v.flushed ≤ known_of s → mark_of s ≡ state_mark v → KeepsNumbers v now → AreQuiet steps
-      → AreOwned o.hosts (deeds (number_of s) (bytes_in now) steps) → (bytes_in v ≤ bytes_in now → Rooms o (world_at o (seen_of s)) now (number_of s) steps) → length steps < 3 → Stands now (run the_core o.boot (world_at o (seen_of s)) steps)
+      → AreOwned o.hosts (deeds (number_of s) (bytes_in now) steps) → (bytes_in v ≤ bytes_in now → Rooms o (world_at o (seen_of s)) now (number_of s) steps) → length steps < 2 ^ 63 → Stands now (run the_core o.boot (world_at o (seen_of s)) steps)
       → MayNote o t s now (deeds (number_of s) (bytes_in now) steps) (deeds (number_of s) (bytes_in now) steps)
   notes o t s v now steps twin held is firm mark kept quiet owned room few stands =
       let same = stays_quiet o.boot v now (world_at o (seen_of s)) steps quiet is.stands stands in

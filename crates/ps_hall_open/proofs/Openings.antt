@@ -3,6 +3,8 @@ use Rattle.std.proofs.Common.{◌≡◌, ◌≢◌, inl, inr, ℕ, ◌+◌, ◌-
 use Rattle.std.specs.Prelude.{IfSome, slice_get, option_map}
 use Rattle.std.proofs.lemmas.Option.{slice_get-map}
 use Rattle.std.proofs.Math.Nat.{le_refl}
+use Rattle.std.proofs.lemmas.Bool.{false≢true}
+use Rattle.ps_types.specs.declared.jid.Jid.{Jid}
 use Rattle.ps_types.specs.declared.entry.Entry.{Entry}
 use Rattle.ps_types.specs.declared.entry.Entry.TheVariants.{Boot}
 use Rattle.ps_types.specs.declared.entry.Notice.{Notice}
@@ -23,9 +25,8 @@ use Rattle.ps_world.specs.Sound.{Sound}
 use Rattle.ps_world.proofs.Kept.{start_kept}
 use Rattle.ps_world.proofs.Lists.{ends-le}
 use Rattle.ps_hall_state.specs.Rows.{names}
-use Rattle.ps_hall_state.specs.Stand.{BatchStands, HandsStand, IsWithin, QueuesStand, RowsStand, Stands, bytes_of, entries_of, flight_of}
+use Rattle.ps_hall_state.specs.Stand.{BatchStands, HandsStand, IsWithin, QueuesStand, RowsStand, Stands, bytes_of, entries_of}
 use Rattle.ps_hall_state.specs.declared.answers.Limits.{Limits}
-use Rattle.ps_hall_state.specs.declared.state.Hand.{Hand}
 use Rattle.ps_hall_state.specs.declared.state.HostRow.{HostRow}
 use Rattle.ps_hall_state.specs.declared.state.State.{State}
 use Rattle.ps_hall_state.proofs.Stepping.{count-is}
@@ -56,14 +57,17 @@ rows_stand hosts rows are fresh = record {
         reader = f.reader;
         writer = f.writer;
         room = f.room;
-        hand = λ h some. absurd (no_hand row.in_hand h f.hand some);
       });
   apart = λ j k r s at_j at_k same.
       are.apart j k r.host (name_at hosts rows fresh.hosts_are j r at_j) (name_at hosts rows fresh.hosts_are k s at_k ∙ ap (λ (h : List ℕ). Some h) (sym same));
 }
 
-hands_stand : (hosts : List (List ℕ)) (rows : List HostRow) → AreFreshRows hosts rows → HandsStand rows 0 (λ k. fresh_address)
-hands_stand hosts rows fresh k row here a of = sym (ap (λ (o : Option Hand). flight_of o 0 a) (fresh.each k row here).hand)
+hands_stand : (hosts : List (List ℕ)) (rows : List HostRow) → AreFreshRows hosts rows → HandsStand rows 0 [] (λ k. fresh_address)
+hands_stand hosts rows fresh k row here = record {
+  those = λ a of bare known. absurd (false≢true known);
+  others = λ a of free. tt;
+  last = λ l some low. absurd (no_hand row.landing l (fresh.each k row here).landing some);
+}
 
 start_sound : (service : List ℕ) → service ≢ [] → (E : List Entry) → lawful E → Sound the_core (start the_core service E)
 start_sound service some E each = start_kept the_core the-laws service some E (lawful-core E each)
@@ -134,7 +138,7 @@ module _ {D : Type 0} {g : Ghosts D} (journal : Journal D g) (r : Rebuilt) (rows
       batch = batch_stands;
       within = within changes whole room;
       rows = subst (λ (l : List HostRow). RowsStand l (λ k. fresh_host)) (sym made.rows_are) (rows_stand hosts rows are fresh);
-      hands = subst (λ (l : List HostRow). HandsStand l 0 (λ k. fresh_address)) (sym made.rows_are) (hands_stand hosts rows fresh);
+      hands = subst (λ (l : List Jid). HandsStand v.rows.items 0 l (λ k. fresh_address)) (sym (made.held ∙ restored.held)) (subst (λ (l : List HostRow). HandsStand l 0 [] (λ k. fresh_address)) (sym made.rows_are) (hands_stand hosts rows fresh));
       queues = subst (λ (q : List Notice). QueuesStand q (E ++ Boot service ∷ [])) (sym made.queues) restored.queues;
     }
 

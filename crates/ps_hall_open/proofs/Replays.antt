@@ -58,7 +58,7 @@ boot-accepted E s e state boot = ap (λ (t : State). accepted t e) state ∙ (ap
 -- ---- no entry
 
 pub replayed_none : (r : Rebuilt) → IsFresh r → IsReplayed [] r
-replayed_none r fresh = record { each = tt; state = fresh.state; queues = queues_none r.queues.waiting fresh.queues }
+replayed_none r fresh = record { each = tt; state = fresh.state; queues = queues_none r.queues.waiting fresh.queues; held = fresh.held }
 
 -- ---- one entry more
 
@@ -82,6 +82,7 @@ replayed_more placed i one old new within is entry so_far taken =
       each = subst lawful (sym more) (lawful-more E one.entry empty_state so_far.each (subst (λ (t : State). accepted t one.entry ≡ true) so_far.state taken.0));
       state = taken.1 ∙ (ap (λ (t : State). after t one.entry) so_far.state ∙ (sym (replay-snoc E one.entry) ∙ ap replay (sym more)));
       queues = subst (λ (l : List Entry). QueuesStand new.queues.waiting l) (sym more) (queues_taken E old.queues.waiting new.queues.waiting one.entry (lawful-core E so_far.each) entry so_far.queues waits);
+      held = taken.3 ∙ so_far.held;
     }
 
 pub replayed_all : (placed : List Placed) (i : ℕ) (r : Rebuilt) → length placed ≤ i → IsReplayed (entries_in (take i placed)) r → IsReplayed (entries_in placed) r
@@ -137,12 +138,13 @@ all_few placed r is few =
     let size : r.service.state.count ≡ length placed = ap (λ (t : State). t.count) is.state ∙ (count-is (entries_in placed) ∙ length-map placed (λ (p : Placed). p.entry)) in
     omega (arith, size)
 
-pub restored_is : (placed : List Placed) (r now : Rebuilt) (boot : Entry) → IsReplayed (entries_in placed) r → length placed < 2 ^ 61 → IsBoot boot → now.queues.waiting ≡ r.queues.waiting → now.service.state ≡ after r.service.state boot
+pub restored_is : (placed : List Placed) (r now : Rebuilt) (boot : Entry) → IsReplayed (entries_in placed) r → length placed < 2 ^ 61 → IsBoot boot → now.queues ≡ r.queues → now.service.state ≡ after r.service.state boot
     → IsRestored (entries_in placed) boot now
 restored_is placed r now boot is few named same next = record {
   each = is.each;
   few = (let size : length (entries_in placed) ≡ length placed = length-map placed (λ (p : Placed). p.entry) in omega (arith, size));
   state = next ∙ (ap (λ (t : State). after t boot) is.state ∙ sym (replay-snoc (entries_in placed) boot));
-  queues = subst (λ (q : List Notice). QueuesStand q (entries_in placed ++ boot ∷ [])) (sym same)
+  queues = subst (λ (q : List Notice). QueuesStand q (entries_in placed ++ boot ∷ [])) (sym (ap (λ q. q.waiting) same))
       (subst (λ (b : Entry). QueuesStand r.queues.waiting (entries_in placed ++ b ∷ [])) (sym named.1) (queues_boot (entries_in placed) r.queues.waiting named.0 (lawful-core (entries_in placed) is.each) is.queues));
+  held = ap (λ q. q.held) same ∙ is.held;
 }

@@ -12,11 +12,11 @@ pub record AreHosts (hosts : List (List ℕ)) : Type 0 where
   pub each : (k : ℕ) (host : List ℕ) → slice_get hosts k ≡ Some host → IsHostName host
   pub apart : (j k : ℕ) (host : List ℕ) → slice_get hosts j ≡ Some host → slice_get hosts k ≡ Some host → j ≡ k
 
--- no line has come, no reply waits, no notice is in hand, and there is room for 64
+-- no line has come, no reply waits, no notice was recorded, and there is room for 64
 pub record IsFreshRow (row : HostRow) : Type 0 where
   pub line : row.line ≡ 0
   pub waiting : row.waiting.items ≡ []
-  pub hand : row.in_hand ≡ None
+  pub landing : row.landing ≡ None
   pub reader : row.reader_ended ≡ false
   pub writer : row.writer_ended ≡ false
   pub room : 64 ≤ vec_capacity row.waiting

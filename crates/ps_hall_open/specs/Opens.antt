@@ -38,6 +38,7 @@ pub record IsRestored (entries : List Entry) (boot : Entry) (r : Rebuilt) : Type
   pub few : length entries < 2 ^ 61
   pub state : r.service.state ≡ replay (entries ++ boot ∷ [])
   pub queues : QueuesStand r.queues.waiting (entries ++ boot ∷ [])
+  pub held : r.queues.held ≡ []
 
 -- why the entries or the Boot weren't taken
 abbrev pub NotRestored : {D : Type 0} {g : Ghosts D}
@@ -87,6 +88,7 @@ pub record IsMadeOf {D : Type 0} {g : Ghosts D} (journal : Journal D g) (r : Reb
     (limits : Limits) (v : State) (y : Store D g) : Type 0 where
   pub service : v.service.state ≡ r.service.state
   pub queues : v.queues.waiting ≡ r.queues.waiting
+  pub held : v.queues.held ≡ r.queues.held
   pub rows_are : v.rows.items ≡ rows
   pub batch : v.batch ≡ None
   pub count : v.count ≡ r.service.state.count

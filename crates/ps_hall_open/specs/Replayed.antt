@@ -19,6 +19,7 @@ use Rattle.ps_hall_open.specs.declared.replaying.Replayed.TheVariants.{All, Bad,
 pub record IsFresh (r : Rebuilt) : Type 0 where
   pub state : r.service.state ≡ empty_state
   pub queues : r.queues.waiting ≡ []
+  pub held : r.queues.held ≡ []
 
 -- the notices without the one that the entry says was handed
 abbrev pub unhanded : Entry → List Notice → List Notice
@@ -33,13 +34,15 @@ abbrev pub IsTaken : Rebuilt → Rebuilt → Entry → Bool → Type 0
 IsTaken old new e true =
     (accepted old.service.state e ≡ true) × (new.service.state ≡ after old.service.state e)
     × (new.queues.waiting ≡ unhanded e (old.queues.waiting ++ notices_at old.service.state e))
+    × (new.queues.held ≡ old.queues.held)
 IsTaken old new e false = accepted old.service.state e ≡ false
 
--- these entries are accepted one after the other, and this is the State that they leave, with the notices that are not handed
+-- these entries are accepted one after the other, and this is the State that they leave, with the notices that are not handed, of which none is in hand
 pub record IsReplayed (entries : List Entry) (r : Rebuilt) : Type 0 where
   pub each : lawful entries
   pub state : r.service.state ≡ replay entries
   pub queues : QueuesStand r.queues.waiting entries
+  pub held : r.queues.held ≡ []
 
 -- the entry at this offset is the first that isn't accepted
 pub record StopsAt (placed : List Placed) (at : ℕ) : Type 0 where

@@ -22,7 +22,7 @@ fn fresh_row(alloc: Global, host: &Text) -> Result<HostRow, Memory>
         host: host.clone()?,
         line: 0,
         waiting: Vec::with_capacity(alloc, 64)?,
-        in_hand: None,
+        landing: None,
         reader_ended: false,
         writer_ended: false,
     })

@@ -23,7 +23,8 @@ pub(crate) enum Replayed {
 
 // The notices go to the ends of their queues.
 fn add_all(alloc: Global, queues: &mut Outboxes, notices: Vec<Notice>) -> Result<(), Memory>
-    ensures { OnOk result (queues.new.waiting ≡ queues.old.waiting ++ notices.items) }
+    ensures waiting { OnOk result (queues.new.waiting ≡ queues.old.waiting ++ notices.items) }
+    ensures held { queues.new.held ≡ queues.old.held }
 {
     for notice in notices {
         queues.reserve(alloc, &notice.to, 1)?;
@@ -34,11 +35,13 @@ fn add_all(alloc: Global, queues: &mut Outboxes, notices: Vec<Notice>) -> Result
 
 // A notice that was handed leaves its queue.
 fn drop_handed(queues: &mut Outboxes, entry: &Entry)
-    ensures { queues.new.waiting ≡ unhanded entry.now queues.old.waiting }
+    ensures waiting { queues.new.waiting ≡ unhanded entry.now queues.old.waiting }
+    ensures held { queues.new.held ≡ queues.old.held }
 {
     match entry {
         Entry::Handed { to } => {
             queues.drop_first(to);
+            queues.forget(to);
         }
         _ => {}
     }

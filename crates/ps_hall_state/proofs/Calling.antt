@@ -127,7 +127,7 @@ pub no_memory : (old new : State) (at : ℕ) (row : HostRow) → slice_get old.r
 no_memory old new at row was o same w is = (open_in old w at row is was o, same_ok old new w same is)
 
 pub stays : (v : State) → StaysSame v v
-stays v = record { state = refl; queues = refl; rows = refl; batch = refl; steps = refl; rest = record { count = refl; length_same = refl; broken = refl; flushed = refl; durable_same = refl; limits = refl } }
+stays v = record { state = refl; queues = refl; held = refl; rows = refl; batch = refl; steps = refl; rest = record { count = refl; length_same = refl; broken = refl; flushed = refl; durable_same = refl; limits = refl } }
 
 pub away_ok : (v : State) (at : ℕ) (row : HostRow) (why : ArriveRefusal) → slice_get v.rows.items at ≡ Some row → TurnedAway v row why → NotLaid v v row.host why
 away_ok v at row Closed was t w is = (sym (is.rows.each at row was).writer ∙ t, is)

@@ -1,23 +1,22 @@
 -- A flush, a fault, and a frame that is begun, in the state and in the world.
-use Rattle.std.proofs.Common.{◌≡◌, ◌≢◌, ℕ, ◌+◌, ◌<◌, ◌≤◌, Bool, true, false, List, [], ◌++◌, Option, Some, None, refl, ap, sym, ◌∙◌, subst, arith}
+use Rattle.std.proofs.Common.{◌≡◌, ◌≢◌, ℕ, ◌+◌, ◌<◌, ◌≤◌, true, false, List, [], ◌++◌, Option, None, ap, sym, ◌∙◌, subst, arith}
 use Rattle.std.specs.Prelude.{IfSome, nat_le, ◌&&◌, if◌then◌else◌}
 use Rattle.std.proofs.lemmas.Bool.Decides.{nat_tests}
-use Rattle.ps_types.specs.Same.{same_jid}
 use Rattle.ps_types.specs.declared.entry.Entry.{Entry}
 use Rattle.ps_types.specs.declared.jid.Jid.{Jid}
 use Rattle.ps_model.specs.Machine.{counted, flushes, happens, landed}
 use Rattle.ps_model.specs.TheCore.{the_core}
-use Rattle.ps_model.specs.World.{World, Nothing, Recorded, ends}
+use Rattle.ps_model.specs.World.{AddressPart, World, ends}
 use Rattle.ps_model.specs.declared.steps.Step.TheVariants.{Broken, Flush}
 use Rattle.ps_model.proofs.TheLaws.{the-laws}
 use Rattle.ps_world.specs.Sound.{Sound}
 use Rattle.ps_world.proofs.Lists.{nil-right}
 use Rattle.ps_world.proofs.Kept.{happens_kept}
 use Rattle.ps_outbox.specs.Boxes.{queue}
-use Rattle.ps_hall_state.specs.declared.state.Hand.{Hand}
 use Rattle.ps_hall_state.specs.declared.state.State.{State}
-use Rattle.ps_hall_state.specs.Stand.{BatchStands, HandsStand, IsWithin, RowsStand, Stands, bytes_of, entries_of, flight_of, hand_flight}
+use Rattle.ps_hall_state.specs.Stand.{BatchStands, HandsStand, IsWithin, RowsStand, Stands, bytes_of, entries_of}
 use Rattle.ps_hall_state.specs.Steps.{StaysSame}
+use Rattle.ps_hall_state.proofs.Hands.{hands_flushed}
 use Rattle.ps_hall_state.proofs.Sizes.{within_same}
 use Rattle.ps_hall_state.proofs.Stepping.{count-is}
 
@@ -27,39 +26,22 @@ both_true a m b h k = grind (arith, nat_tests)
 both_false : (a m b : ℕ) → m < a → (nat_le a m && nat_le m b) ≡ false
 both_false a m b h = grind (arith, nat_tests)
 
--- ---- what is in flight after a flush
-
-le_trans_test : (t f m : ℕ) → nat_le t f ≡ true → f ≤ m → nat_le t m ≡ true
-le_trans_test t f m h k = grind (arith, nat_tests)
-
-lands_if : (t f m : ℕ) (b : Bool) → nat_le t f ≡ b → f ≤ m → landed m (if b then Nothing else Recorded t) ≡ landed m (Recorded t)
-lands_if t f m true e l = sym (ap (λ b. if b then Nothing else Recorded t) (le_trans_test t f m e l))
-lands_if t f m false e l = refl
-
-hand_lands : (f m : ℕ) (o : Option ℕ) → f ≤ m → landed m (hand_flight f o) ≡ hand_flight m o
-hand_lands f m None l = refl
-hand_lands f m (Some t) l = lands_if t f m (nat_le t f) refl l
-
-if_lands : (b : Bool) (f m : ℕ) (o : Option ℕ) → f ≤ m → landed m (if b then hand_flight f o else Nothing) ≡ (if b then hand_flight m o else Nothing)
-if_lands true f m o l = hand_lands f m o l
-if_lands false f m o l = refl
-
--- it is what the hand has at the new number of flushed steps
-flight_lands : (o : Option Hand) (f m : ℕ) (a : Jid) → f ≤ m → landed m (flight_of o f a) ≡ flight_of o m a
-flight_lands None f m a l = refl
-flight_lands (Some h) f m a l = if_lands (same_jid h.to a) f m h.recorded l
-
 -- ---- flushes
 
 -- the service, the notices, the rows, the batch and the mark are as before
 pub record SameValues (v now : State) : Type 0 where
   pub state : now.service.state ≡ v.service.state
   pub queues : now.queues.waiting ≡ v.queues.waiting
+  pub held : now.queues.held ≡ v.queues.held
   pub rows : now.rows ≡ v.rows
   pub batch : now.batch ≡ v.batch
   pub count : now.count ≡ v.count
   pub length_same : now.length ≡ v.length
   pub limits : now.limits ≡ v.limits
+
+-- the hands stand where rows and queues are as before
+hands_as : (v now : State) (flushed : ℕ) (addresses : Jid → AddressPart) → now.rows ≡ v.rows → now.queues.held ≡ v.queues.held → HandsStand v.rows.items flushed v.queues.held addresses → HandsStand now.rows.items flushed now.queues.held addresses
+hands_as v now flushed addresses rows held is = subst (λ (l : List Jid). HandsStand now.rows.items flushed l addresses) (sym held) (subst (λ r. HandsStand r.items flushed v.queues.held addresses) (sym rows) is)
 
 same_batch : (v now : State) (E : List Entry) → SameValues v now → BatchStands v.batch v.count E → BatchStands now.batch now.count E
 same_batch v now E same is = subst (λ (b : Option (List Entry)). BatchStands b now.count E) (sym same.batch) (subst (λ (n : ℕ). BatchStands v.batch n E) (sym same.count) is)
@@ -81,8 +63,7 @@ flushed_to service some v now w m count is low high few same steps flushed dur b
       batch = same_batch v now w.entries same is.batch;
       within = same_within v now same is.within;
       rows = subst (λ r. RowsStand r.items w.hosts) (sym same.rows) is.rows;
-      hands = subst (λ r. HandsStand r.items m (λ k. record (w.addresses k) { flight = landed m (w.addresses k).flight })) (sym same.rows)
-          (λ k row got a of. ap (landed m) (is.hands k row got a of) ∙ flight_lands row.in_hand w.flushed m a low);
+      hands = hands_as v now m (λ k. record (w.addresses k) { flight = landed m (w.addresses k).flight }) same.rows same.held (hands_flushed v.rows.items w.flushed m v.queues.held w.addresses low is.hands);
       queues = λ a bare. ap (queue a) same.queues ∙ is.queues a bare;
     })
 
@@ -106,7 +87,7 @@ settles_before service some v now w m is low same steps flushed dur broken =
       batch = same_batch v now w.entries same is.batch;
       within = same_within v now same is.within;
       rows = subst (λ r. RowsStand r.items w.hosts) (sym same.rows) is.rows;
-      hands = subst (λ r. HandsStand r.items w.flushed w.addresses) (sym same.rows) is.hands;
+      hands = hands_as v now w.flushed w.addresses same.rows same.held is.hands;
       queues = λ a bare. ap (queue a) same.queues ∙ is.queues a bare;
     })
 
@@ -122,14 +103,14 @@ fault_ok service some v now w is same steps flushed dur broken = record {
   batch = same_batch v now w.entries same is.batch;
   within = same_within v now same is.within;
   rows = subst (λ r. RowsStand r.items w.hosts) (sym same.rows) is.rows;
-  hands = subst (λ r. HandsStand r.items w.flushed w.addresses) (sym same.rows) is.hands;
+  hands = hands_as v now w.flushed w.addresses same.rows same.held is.hands;
   queues = λ a bare. ap (queue a) same.queues ∙ is.queues a bare;
 }
 
 -- nothing that a world speaks of has changed
 pub same_ok : (v now : State) (w : World) → StaysSame v now → Stands v w → Stands now w
 same_ok v now w stays is =
-    let same : SameValues v now = record { state = stays.state; queues = stays.queues; rows = stays.rows; batch = stays.batch; count = stays.rest.count; length_same = stays.rest.length_same; limits = stays.rest.limits } in
+    let same : SameValues v now = record { state = stays.state; queues = stays.queues; held = stays.held; rows = stays.rows; batch = stays.batch; count = stays.rest.count; length_same = stays.rest.length_same; limits = stays.rest.limits } in
     record {
       sound = is.sound;
       state = stays.state ∙ is.state;
@@ -140,7 +121,7 @@ same_ok v now w stays is =
       batch = same_batch v now w.entries same is.batch;
       within = same_within v now same is.within;
       rows = subst (λ r. RowsStand r.items w.hosts) (sym stays.rows) is.rows;
-      hands = subst (λ r. HandsStand r.items w.flushed w.addresses) (sym stays.rows) is.hands;
+      hands = hands_as v now w.flushed w.addresses stays.rows stays.held is.hands;
       queues = λ a bare. ap (queue a) stays.queues ∙ is.queues a bare;
     }
 
@@ -169,6 +150,6 @@ over_ok v now w is state queues rows batch count longer limits steps flushed dur
         few = (let a = is.within.few in let c = ap (λ s. s.count) state in omega (arith, a, none, longer, c));
       };
       rows = subst (λ r. RowsStand r.items w.hosts) (sym rows) is.rows;
-      hands = subst (λ r. HandsStand r.items w.flushed w.addresses) (sym rows) is.hands;
+      hands = hands_as v now w.flushed w.addresses rows (ap (λ b. b.held) queues) is.hands;
       queues = λ a bare. ap (λ b. queue a b.waiting) queues ∙ is.queues a bare;
     }

@@ -12,12 +12,12 @@ use Rattle.ps_model.specs.World.{Said, HostPart, AddressPart, at_host}
 use Rattle.ps_model.specs.declared.steps.Role.{Role}
 use Rattle.ps_model.specs.declared.steps.Role.TheVariants.{Reader, Writer}
 use Rattle.ps_world.proofs.Lists.{nil-right}
-use Rattle.ps_hall_state.specs.declared.state.Hand.{Hand}
+use Rattle.ps_hall_state.specs.declared.state.Landing.{Landing}
 use Rattle.ps_hall_state.specs.declared.state.HostRow.{HostRow}
 use Rattle.ps_hall_state.specs.declared.state.Waiting.{Waiting}
-use Rattle.ps_hall_state.specs.Rows.{names, RowSays, RowEnds, RowHolds, RowTakes}
+use Rattle.ps_hall_state.specs.Rows.{names, RowSays, RowEnds, RowLands, RowTakes}
 use Rattle.ps_hall_state.specs.Next.{HasReply}
-use Rattle.ps_hall_state.specs.Stand.{waiting_of, HandsStand, IsOf, RowStands, RowsStand, flight_of}
+use Rattle.ps_hall_state.specs.Stand.{waiting_of, HandStands, HandsStand, IsLanding, RowStands, RowsStand, landing_step}
 
 module _ {X : Type 0} where
   pub get-set : (xs : List X) (k : ℕ) (x y : X) → slice_get xs k ≡ Some x → slice_get (slice_set xs k y) k ≡ Some y
@@ -128,15 +128,24 @@ rows_keep rows hosts at row now is was same one = record {
       is.apart j k hr.0 hs.0 hr.1 hs.1 (hr.2 ∙ (e ∙ sym hs.2)));
 }
 
--- the hands stand where one row changes that keeps its hand
-pub hands_set : (rows : List HostRow) (flushed : ℕ) (addresses : Jid → AddressPart) (at : ℕ) (row now : HostRow) → HandsStand rows flushed addresses → slice_get rows at ≡ Some row → now.host ≡ row.host → now.in_hand ≡ row.in_hand → HandsStand (slice_set rows at now) flushed addresses
-hands_set rows flushed addresses at row now is was same hand k r got a of =
+-- a row with the same landing
+hand_as : (flushed : ℕ) (held : List Jid) (addresses : Jid → AddressPart) (row now : HostRow) → now.host ≡ row.host → now.landing ≡ row.landing → HandStands flushed held addresses row → HandStands flushed held addresses now
+hand_as flushed held addresses row now same landing is = record {
+  those = λ a here bare known. is.those a (here ∙ same) bare known;
+  others = λ a here free. subst (λ (o : Option Landing). IsLanding flushed (landing_step o) (addresses a).flight) (sym landing) (is.others a (here ∙ same) free);
+  last = λ l e low. (let f = is.last l (sym landing ∙ e) low in record { here = f.here ∙ sym same; flight = f.flight });
+}
+
+-- the hands stand where one row changes that keeps its landing
+pub hands_set : (rows : List HostRow) (flushed : ℕ) (held : List Jid) (addresses : Jid → AddressPart) (at : ℕ) (row now : HostRow) → HandsStand rows flushed held addresses → slice_get rows at ≡ Some row → now.host ≡ row.host → now.landing ≡ row.landing
+    → HandsStand (slice_set rows at now) flushed held addresses
+hands_set rows flushed held addresses at row now is was same landing k r got =
     elim (cases_eq k at) [
       | inl e ↦ (
           let here : slice_get (slice_set rows at now) at ≡ Some r = subst (λ (j : ℕ). slice_get (slice_set rows at now) j ≡ Some r) e got in
           let which : now ≡ r = same_some now r (sym (get-set rows at row now was) ∙ here) in
-          is at row was a (of ∙ (ap (λ (x : HostRow). x.host) (sym which) ∙ same)) ∙ ap (λ o. flight_of o flushed a) (sym hand ∙ ap (λ (x : HostRow). x.in_hand) which))
-      | inr ne ↦ is k r (sym (get-set_other rows k at now ne) ∙ got) a of
+          subst (λ (x : HostRow). HandStands flushed held addresses x) which (hand_as flushed held addresses row now same landing (is at row was)))
+      | inr ne ↦ is k r (sym (get-set_other rows k at now ne) ∙ got)
     ]
 
 pub map-snoc : (xs : List Said) (x : Said) → map waiting_of (xs ++ x ∷ []) ≡ map waiting_of xs ++ waiting_of x ∷ []
@@ -151,7 +160,6 @@ length-map (x ∷ xs) = ap suc (length-map xs)
 pub row_says : (row now : HostRow) (part : HostPart) (arrival : Arrival) (full : Bool) (place upto step : ℕ) (reply : Option (List ℕ)) → RowStands row part → RowSays row now step reply → part.taken ≤ length part.said → RowStands now (answered (part.line + 1) arrival full place upto step reply part)
 row_says row now part arrival full place upto step None is says fits = record {
   name = rw says.host is.name;
-  hand = λ h got. rw says.host (is.hand h (sym says.in_hand ∙ got));
   line = says.line ∙ ap (λ n. n + 1) is.line;
   waiting = says.waiting ∙ (nil-right row.waiting.items ∙ is.waiting);
   reader = says.reader ∙ is.reader;
@@ -162,7 +170,6 @@ row_says row now part arrival full place upto step (Some words) is says fits =
     let new : Said = record { line = part.line + 1; arrival = arrival; full = full; place = place; upto = upto; step = step; reply = words } in
     record {
       name = rw says.host is.name;
-      hand = λ h got. rw says.host (is.hand h (sym says.in_hand ∙ got));
       line = says.line ∙ ap (λ n. n + 1) is.line;
       waiting = says.waiting ∙ (ap (λ r. r ++ waiting_of new ∷ []) is.waiting ∙ (sym (map-snoc (drop part.taken part.said) new) ∙ ap (λ r. map waiting_of r) (sym (drop-front part.taken part.said (new ∷ []) fits))));
       reader = says.reader ∙ is.reader;
@@ -171,8 +178,8 @@ row_says row now part arrival full place upto step (Some words) is says fits =
     }
 
 pub row_ends : (role : Role) (row now : HostRow) (part : HostPart) → RowEnds role row now → RowStands row part → RowStands now (ends_role role part)
-row_ends Reader row now part e is = record { name = rw e.host is.name; hand = λ h got. rw e.host (is.hand h (sym e.in_hand ∙ got)); line = e.line ∙ is.line; waiting = e.waiting ∙ is.waiting; reader = e.reader; writer = e.writer ∙ is.writer; room = (let a = e.room in let b = is.room in omega (arith, a, b)) }
-row_ends Writer row now part e is = record { name = rw e.host is.name; hand = λ h got. rw e.host (is.hand h (sym e.in_hand ∙ got)); line = e.line ∙ is.line; waiting = e.waiting ∙ is.waiting; reader = e.reader ∙ is.reader; writer = e.writer; room = (let a = e.room in let b = is.room in omega (arith, a, b)) }
+row_ends Reader row now part e is = record { name = rw e.host is.name; line = e.line ∙ is.line; waiting = e.waiting ∙ is.waiting; reader = e.reader; writer = e.writer ∙ is.writer; room = (let a = e.room in let b = is.room in omega (arith, a, b)) }
+row_ends Writer row now part e is = record { name = rw e.host is.name; line = e.line ∙ is.line; waiting = e.waiting ∙ is.waiting; reader = e.reader ∙ is.reader; writer = e.writer; room = (let a = e.room in let b = is.room in omega (arith, a, b)) }
 
 -- what waits is what is not taken
 pub drop_first : (n : ℕ) (said : List Said) (x : Waiting) (rest : List Waiting) → map waiting_of (drop n said) ≡ x ∷ rest → (s : Said) × (slice_get said n ≡ Some s) × (waiting_of s ≡ x) × (map waiting_of (drop (suc n) said) ≡ rest)
@@ -191,7 +198,6 @@ row_takes row now part x rest is waits t =
     let more : part.taken + 1 ≡ suc part.taken = omega arith in
     record {
       name = rw t.host is.name;
-      hand = λ h got. rw t.host (is.hand h (sym t.in_hand ∙ got));
       line = t.line ∙ is.line;
       waiting = t.waiting ∙ (sym d.3 ∙ ap (λ n. map waiting_of (drop n part.said)) (sym more));
       reader = t.reader ∙ is.reader;
@@ -209,11 +215,10 @@ first_low row flushed x rest has waits =
     let l = has.low in
     omega (arith, q, l)
 
--- a row of which the hand changes
-pub row_holds : (hand : Option Hand) (row now : HostRow) (part : HostPart) → ((h : Hand) → hand ≡ Some h → IsOf row.host h.to) → RowHolds row now hand → RowStands row part → RowStands now part
-row_holds hand row now part of e is = record {
+-- a row whose writer recorded a notice
+pub row_lands : (l : Landing) (row now : HostRow) (part : HostPart) → RowLands row now l → RowStands row part → RowStands now part
+row_lands l row now part e is = record {
   name = rw e.host is.name;
-  hand = λ h got. rw e.host (of h (sym e.in_hand ∙ got));
   line = e.line ∙ is.line;
   waiting = e.waiting ∙ is.waiting;
   reader = e.reader ∙ is.reader;

@@ -118,7 +118,7 @@ numbers_kept v now at row to changed same kept = record {
 }
 
 pub step_ok : (v now : State) (w : World) (more : Option Entry) (hosts : List ℕ → HostPart) (addresses : Jid → AddressPart) → Stands v w → Sound the_core (goes_on w more hosts addresses) → now.service.state ≡ state_with v.service.state more → BatchOn v now more → KeepsRest v now → now.steps ≡ v.steps + 1 → RowsStand now.rows.items hosts
-    → HandsStand now.rows.items w.flushed addresses → QueuesStand now.queues.waiting (more_entries w.entries more) → Stands now (goes_on w more hosts addresses)
+    → HandsStand now.rows.items w.flushed now.queues.held addresses → QueuesStand now.queues.waiting (more_entries w.entries more) → Stands now (goes_on w more hosts addresses)
 step_ok v now w more hosts addresses is sound state batch kept steps rows hands queues = record {
   sound = sound;
   state = state ∙ (ap (λ s. state_with s more) is.state ∙ sym (replay-more w.entries more));
@@ -139,8 +139,12 @@ step_ok v now w more hosts addresses is sound state batch kept steps rows hands 
 }
 
 -- a step that makes no entry
-pub plain_ok : (v now : State) (w : World) (hosts : List ℕ → HostPart) (addresses : Jid → AddressPart) → Stands v w → Sound the_core (goes_on w None hosts addresses) → now.service.state ≡ v.service.state → StepsOn v now → RowsStand now.rows.items hosts → HandsStand now.rows.items w.flushed addresses → Stands now (goes_on w None hosts addresses)
-plain_ok v now w hosts addresses is sound state on rows hands = step_ok v now w None hosts addresses is sound state (batch_same v now state on.batch on.rest) on.rest on.steps rows hands (λ a bare. ap (queue a) on.queues ∙ is.queues a bare)
+pub plain_ok : (v now : State) (w : World) (hosts : List ℕ → HostPart) (addresses : Jid → AddressPart) → Stands v w → Sound the_core (goes_on w None hosts addresses) → now.service.state ≡ v.service.state → StepsOn v now → RowsStand now.rows.items hosts → HandsStand now.rows.items w.flushed v.queues.held addresses → Stands now (goes_on w None hosts addresses)
+plain_ok v now w hosts addresses is sound state on rows hands = step_ok v now w None hosts addresses is sound state (batch_same v now state on.batch on.rest) on.rest on.steps rows (subst (λ (l : List Jid). HandsStand now.rows.items w.flushed l addresses) (sym on.held) hands) (λ a bare. ap (queue a) on.queues ∙ is.queues a bare)
+
+-- as many are held as before
+held_on : (v now : State) (flushed : ℕ) (addresses : Jid → AddressPart) → now.queues.held ≡ v.queues.held → HandsStand now.rows.items flushed v.queues.held addresses → HandsStand now.rows.items flushed now.queues.held addresses
+held_on v now flushed addresses held hands = subst (λ (l : List Jid). HandsStand now.rows.items flushed l addresses) (sym held) hands
 
 module _ (E : List Entry) (host : List ℕ) (line : ℕ) (arrival : Arrival) where
   core-reply : (full : Bool) → the_core.reply E host line arrival full ≡ option_map print (reply_to host (replay E).book line arrival full)
@@ -157,8 +161,8 @@ pub lay_ok : (v now : State) (at : ℕ) (row to : HostRow) (arrival : Arrival) (
     now.service.state ≡ state_with v.service.state more → now.queues.waiting ≡ v.queues.waiting ++ notices_with v.service.state more →
     reply ≡ option_map print (reply_to row.host v.service.state.book (row.line + 1) arrival full) →
     more ≡ entry_of row.host v.service.state.book (row.line + 1) arrival full →
-    BatchOn v now more → KeepsRest v now → now.steps ≡ v.steps + 1 → Goes v now (Arrive row.host arrival full ∷ [])
-lay_ok v now at row to arrival full reply more was says rows state queues reply_is more_is batch kept steps service some w is =
+    now.queues.held ≡ v.queues.held → BatchOn v now more → KeepsRest v now → now.steps ≡ v.steps + 1 → Goes v now (Arrive row.host arrival full ∷ [])
+lay_ok v now at row to arrival full reply more was says rows state queues reply_is more_is held batch kept steps service some w is =
     let h = row.host in
     let part = w.hosts h in
     let here = is.rows.each at row was in
@@ -172,15 +176,15 @@ lay_ok v now at row to arrival full reply more was says rows state queues reply_
     (state ∙ ap (λ o. state_with v.service.state o) more_at) (subst (λ (o : Option Entry). BatchOn v now o) more_at batch) kept steps
     (subst (λ (r : List HostRow). RowsStand r (at_host h f w.hosts)) (sym rows) (rows_set v.rows.items w.hosts at row to f is.rows was says.host
     (row_says row to part arrival full (length w.entries) (length (more_entries w.entries entry)) (w.steps + 1) (the_core.reply w.entries h (part.line + 1) arrival full) here says_at (sound.hosts h).within)))
-    (subst (λ (r : List HostRow). HandsStand r w.flushed w.addresses) (sym rows) (hands_set v.rows.items w.flushed w.addresses at row to is.hands was says.host says.in_hand))
+    (held_on v now w.flushed w.addresses held (subst (λ (r : List HostRow). HandsStand r w.flushed v.queues.held w.addresses) (sym rows) (hands_set v.rows.items w.flushed v.queues.held w.addresses at row to is.hands was says.host says.landing)))
     (subst (λ (o : Option Entry). QueuesStand now.queues.waiting (more_entries w.entries o)) more_at
     (queues_line w v.queues.waiting now.queues.waiting h (part.line + 1) arrival full more sound is.queues (queues ∙ ap (λ s. v.queues.waiting ++ notices_with s more) is.state) (sym more_at)))
 
 -- a Gone of a host
-pub gone_ok : (v now : State) (h : List ℕ) → now.service.state ≡ after v.service.state (GoneEntry h) → now.queues.waiting ≡ v.queues.waiting ++ notices_at v.service.state (GoneEntry h) → now.rows ≡ v.rows → BatchOn v now (Some (GoneEntry h)) → KeepsRest v now → now.steps ≡ v.steps + 1 → Goes v now (Gone h ∷ [])
-gone_ok v now h state queues rows batch kept steps service some w is =
+pub gone_ok : (v now : State) (h : List ℕ) → now.service.state ≡ after v.service.state (GoneEntry h) → now.queues.waiting ≡ v.queues.waiting ++ notices_at v.service.state (GoneEntry h) → now.rows ≡ v.rows → now.queues.held ≡ v.queues.held → BatchOn v now (Some (GoneEntry h)) → KeepsRest v now → now.steps ≡ v.steps + 1 → Goes v now (Gone h ∷ [])
+gone_ok v now h state queues rows held batch kept steps service some w is =
     step_ok v now w (Some (GoneEntry h)) w.hosts w.addresses is (happens_kept the_core the-laws service some w (Gone h) is.sound) state batch kept steps (subst (λ r. RowsStand r.items w.hosts) (sym rows) is.rows)
-    (subst (λ r. HandsStand r.items w.flushed w.addresses) (sym rows) is.hands)
+    (held_on v now w.flushed w.addresses held (subst (λ r. HandsStand r.items w.flushed v.queues.held w.addresses) (sym rows) is.hands))
     (queues_more w v.queues.waiting now.queues.waiting (GoneEntry h) is.sound is.queues (queues ∙ ap (λ s. v.queues.waiting ++ notices_at s (GoneEntry h)) is.state) (λ a. refl))
 
 -- a caller of a host ends
@@ -188,7 +192,7 @@ pub end_ok : (v now : State) (at : ℕ) (row to : HostRow) (role : Role) → sli
 end_ok v now at row to role was e rows state on service some w is =
     plain_ok v now w (at_host row.host (ends_role role) w.hosts) w.addresses is (happens_kept the_core the-laws service some w (Ended row.host role) is.sound) state on
     (subst (λ (r : List HostRow). RowsStand r (at_host row.host (ends_role role) w.hosts)) (sym rows) (rows_set v.rows.items w.hosts at row to (ends_role role) is.rows was e.host (row_ends role row to (w.hosts row.host) e (is.rows.each at row was))))
-    (subst (λ (r : List HostRow). HandsStand r w.flushed w.addresses) (sym rows) (hands_set v.rows.items w.flushed w.addresses at row to is.hands was e.host e.in_hand))
+    (subst (λ (r : List HostRow). HandsStand r w.flushed v.queues.held w.addresses) (sym rows) (hands_set v.rows.items w.flushed v.queues.held w.addresses at row to is.hands was e.host e.landing))
 
 yes_le : (a b : ℕ) → a ≤ b → nat_le a b ≡ true
 yes_le a b h = grind (arith, nat_tests)
@@ -211,7 +215,7 @@ take_ok v now at row to x rest was waits low t rows state on service some w is =
     subst (Stands now) (sym same)
     (plain_ok v now w (at_host h taken_more w.hosts) w.addresses is (subst (Sound the_core) same (happens_kept the_core the-laws service some w (Take h) is.sound)) state on
     (subst (λ (r : List HostRow). RowsStand r (at_host h taken_more w.hosts)) (sym rows) (rows_set v.rows.items w.hosts at row to taken_more is.rows was t.host (row_takes row to part x rest here waits t)))
-    (subst (λ (r : List HostRow). HandsStand r w.flushed w.addresses) (sym rows) (hands_set v.rows.items w.flushed w.addresses at row to is.hands was t.host t.in_hand)))
+    (subst (λ (r : List HostRow). HandsStand r w.flushed v.queues.held w.addresses) (sym rows) (hands_set v.rows.items w.flushed v.queues.held w.addresses at row to is.hands was t.host t.landing)))
 
 -- what the service has for the next line of a row is what it has in the world
 pub entry_at : (v : State) (w : World) (at : ℕ) (row : HostRow) (arrival : Arrival) (full : Bool) → Stands v w → slice_get v.rows.items at ≡ Some row → the_core.entry w.entries row.host ((w.hosts row.host).line + 1) arrival full ≡ entry_of row.host v.service.state.book (row.line + 1) arrival full

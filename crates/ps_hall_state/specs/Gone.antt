@@ -1,5 +1,5 @@
 -- What comes of an entry that is no line's.
-use Rattle.std.specs.Prelude.{◌≡◌, ℕ, ◌<◌, ◌≤◌, true, false, List, None, Some, slice_get}
+use Rattle.std.specs.Prelude.{◌≡◌, ℕ, ◌<◌, ◌≤◌, true, false, List, []}
 use Rattle.ps_types.specs.declared.entry.Entry.{Entry}
 use Rattle.ps_types.specs.declared.entry.Entry.TheVariants.{Gone, Handed}
 use Rattle.ps_types.specs.declared.jid.Jid.{Jid}
@@ -8,8 +8,10 @@ use Rattle.ps_model.specs.declared.steps.Step.{Step}
 use Rattle.ps_model.specs.declared.steps.Step.TheVariants as step
 use Rattle.ps_hall_state.specs.declared.answers.HandedRefusal.{HandedRefusal}
 use Rattle.ps_hall_state.specs.declared.answers.HandedRefusal.TheVariants.{Store, Full, Memory}
+use Rattle.ps_hall_state.specs.declared.handed.Recording.{Recording}
 use Rattle.ps_hall_state.specs.declared.state.HostRow.{HostRow}
 use Rattle.ps_hall_state.specs.declared.state.State.{State}
+use Rattle.ps_outbox.specs.Boxes.{is_known}
 use Rattle.ps_hall_state.specs.Stand.{InEach, Stands, StandsAfter, bytes_after}
 
 -- the entry waits to be written: there was room in the frame that would hold the entries that wait and it
@@ -29,16 +31,11 @@ NotRecordedIn old new e Memory w = (w.broken ≡ false) × Stands new w
 abbrev pub NotRecorded : State → State → Entry → HandedRefusal → Type 0
 NotRecorded old new e why = (w : World) → Stands old w → NotRecordedIn old new e why w
 
--- the writer has a notice in hand that no step has recorded
-abbrev pub HoldsUnrecorded : HostRow → Jid → Type 0
-HoldsUnrecorded row a = row.in_hand ≡ Some (record { to = a; recorded = None })
-
-abbrev pub HasUnrecorded : HostRow → Type 0
-HasUnrecorded row = (a : Jid) × HoldsUnrecorded row a
-
--- what is said of the address in the hand at a place
-abbrev pub OfHand : State → ℕ → (Jid → Type 0) → Type 0
-OfHand v at says = (row : HostRow) (a : Jid) → slice_get v.rows.items at ≡ Some row → HoldsUnrecorded row a → says a
+-- the bare address is one of the row's host, and the writer has a notice to it in hand that no step has recorded
+pub record IsHeldFor (v : State) (a : Jid) (row : HostRow) : Type 0 where
+  pub bare : a.resource ≡ []
+  pub here : a.host ≡ row.host
+  pub held : is_known a v.queues.held ≡ true
 
 -- what is said of the host of a Gone
 abbrev pub OfGone : Entry → (List ℕ → Type 0) → Type 0
@@ -56,3 +53,9 @@ RecordsHanded old new a = IsRecorded old new (Handed a) (step.Record a)
 
 abbrev pub NotRecordsHanded : State → State → Jid → HandedRefusal → Type 0
 NotRecordsHanded old new a why = NotRecorded old new (Handed a) why
+
+-- what is to be recorded for the address
+pub record IsRecordingOf (a : Jid) (r : Recording) : Type 0 where
+  pub to : r.to ≡ a
+  pub held : r.held ≡ a
+  pub entry : r.entry ≡ Handed a

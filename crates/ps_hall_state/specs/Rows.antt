@@ -3,7 +3,7 @@ use Rattle.std.specs.Prelude.{◌≡◌, ℕ, ◌+◌, ◌<◌, ◌^◌, Bool, t
 use Rattle.ps_types.specs.declared.jid.Jid.{Jid}
 use Rattle.ps_model.specs.declared.steps.Role.{Role}
 use Rattle.ps_model.specs.declared.steps.Role.TheVariants.{Reader, Writer}
-use Rattle.ps_hall_state.specs.declared.state.Hand.{Hand}
+use Rattle.ps_hall_state.specs.declared.state.Landing.{Landing}
 use Rattle.ps_hall_state.specs.declared.state.Waiting.{Waiting}
 use Rattle.ps_hall_state.specs.declared.state.HostRow.{HostRow}
 use Rattle.ps_hall_state.specs.declared.state.State.{State}
@@ -43,7 +43,7 @@ pub record RowSays (old new : HostRow) (step : ℕ) (reply : Option (List ℕ)) 
   pub host : new.host ≡ old.host
   pub line : new.line ≡ old.line + 1
   pub waiting : new.waiting.items ≡ old.waiting.items ++ said_now step reply
-  pub in_hand : new.in_hand ≡ old.in_hand
+  pub landing : new.landing ≡ old.landing
   pub reader : new.reader_ended ≡ old.reader_ended
   pub writer : new.writer_ended ≡ old.writer_ended
   pub room : vec_capacity new.waiting ≡ vec_capacity old.waiting
@@ -61,7 +61,7 @@ pub record RowEnds (role : Role) (old new : HostRow) : Type 0 where
   pub host : new.host ≡ old.host
   pub line : new.line ≡ old.line
   pub waiting : new.waiting.items ≡ old.waiting.items
-  pub in_hand : new.in_hand ≡ old.in_hand
+  pub landing : new.landing ≡ old.landing
   pub reader : new.reader_ended ≡ reader_if role old.reader_ended
   pub writer : new.writer_ended ≡ writer_if role old.writer_ended
   pub room : vec_capacity new.waiting ≡ vec_capacity old.waiting
@@ -71,7 +71,7 @@ pub record RowTakes (old new : HostRow) (rest : List Waiting) : Type 0 where
   pub host : new.host ≡ old.host
   pub line : new.line ≡ old.line
   pub waiting : new.waiting.items ≡ rest
-  pub in_hand : new.in_hand ≡ old.in_hand
+  pub landing : new.landing ≡ old.landing
   pub reader : new.reader_ended ≡ old.reader_ended
   pub writer : new.writer_ended ≡ old.writer_ended
   pub room : vec_capacity new.waiting ≡ vec_capacity old.waiting
@@ -85,16 +85,15 @@ abbrev pub TakesFirst : List ℕ → HostRow → HostRow → Type 0
 TakesFirst text old new =
     (x : Waiting) × (rest : List Waiting) × (old.waiting.items ≡ x ∷ rest) × (x.reply ≡ text) × RowTakes old new rest
 
--- a row whose writer has another hand
-pub record RowHolds (old new : HostRow) (hand : Option Hand) : Type 0 where
+-- a row whose writer recorded a notice
+pub record RowLands (old new : HostRow) (last : Landing) : Type 0 where
   pub host : new.host ≡ old.host
   pub line : new.line ≡ old.line
   pub waiting : new.waiting.items ≡ old.waiting.items
-  pub in_hand : new.in_hand ≡ hand
+  pub landing : new.landing ≡ Some last
   pub reader : new.reader_ended ≡ old.reader_ended
   pub writer : new.writer_ended ≡ old.writer_ended
   pub room : vec_capacity new.waiting ≡ vec_capacity old.waiting
 
--- or the notice of this address, with the step that recorded it
-abbrev pub RowHoldsFor : Jid → Option ℕ → HostRow → HostRow → Type 0
-RowHoldsFor to recorded old new = RowHolds old new (Some (record { to = to; recorded = recorded }))
+abbrev pub RowLandsBy : Jid → ℕ → HostRow → HostRow → Type 0
+RowLandsBy to step old new = RowLands old new (record { to = to; step = step })

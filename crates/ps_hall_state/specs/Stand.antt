@@ -1,19 +1,18 @@
 -- When the state stands for a world: it keeps what the world holds.
-use Rattle.std.specs.Prelude.{◌≡◌, ◌≢◌, ℕ, ◌+◌, ◌≤◌, ◌^◌, List, [], ◌∷◌, ◌++◌, map, drop, length, Option, Some, None, IfSome, slice_get, vec_capacity, if◌then◌else◌}
-use Rattle.ps_types.specs.Same.{same_jid}
+use Rattle.std.specs.Prelude.{◌≡◌, ◌≢◌, ℕ, ◌+◌, ◌<◌, ◌≤◌, ◌^◌, true, false, List, [], ◌∷◌, ◌++◌, map, drop, length, Option, Some, None, IfSome, slice_get, vec_capacity}
 use Rattle.ps_types.specs.declared.entry.Entry.{Entry}
 use Rattle.ps_types.specs.declared.entry.Notice.{Notice}
 use Rattle.ps_types.specs.declared.jid.Jid.{Jid}
 use Rattle.ps_model.specs.Core.{handed}
-use Rattle.ps_model.specs.Entries.{IsBare, IsHostName, body}
-use Rattle.ps_model.specs.Machine.{landed, run}
+use Rattle.ps_model.specs.Entries.{IsHostName, body}
+use Rattle.ps_model.specs.Machine.{run}
 use Rattle.ps_model.specs.Replay.{replay}
 use Rattle.ps_model.specs.TheCore.{the_core}
 use Rattle.ps_model.specs.World.{Said, Flight, Nothing, Unrecorded, Recorded, HostPart, AddressPart, World, durable}
 use Rattle.ps_model.specs.declared.steps.Step.{Step}
-use Rattle.ps_outbox.specs.Boxes.{queue}
+use Rattle.ps_outbox.specs.Boxes.{is_known, queue}
 use Rattle.ps_world.specs.Sound.{Sound}
-use Rattle.ps_hall_state.specs.declared.state.Hand.{Hand}
+use Rattle.ps_hall_state.specs.declared.state.Landing.{Landing}
 use Rattle.ps_hall_state.specs.declared.state.HostRow.{HostRow}
 use Rattle.ps_hall_state.specs.declared.state.State.{State}
 use Rattle.ps_hall_state.specs.declared.state.Waiting.{Waiting}
@@ -40,11 +39,6 @@ waiting_of s = record { step = s.step; reply = s.reply }
 
 -- ---- hosts
 
--- a bare address of the host
-pub record IsOf (host : List ℕ) (to : Jid) : Type 0 where
-  pub bare : IsBare to
-  pub here : to.host ≡ host
-
 -- a host's row
 pub record RowStands (row : HostRow) (part : HostPart) : Type 0 where
   pub name : IsHostName row.host
@@ -53,7 +47,6 @@ pub record RowStands (row : HostRow) (part : HostPart) : Type 0 where
   pub reader : row.reader_ended ≡ part.reader_ended
   pub writer : row.writer_ended ≡ part.writer_ended
   pub room : 64 ≤ vec_capacity row.waiting
-  pub hand : (h : Hand) → row.in_hand ≡ Some h → IsOf row.host h.to
 
 pub record RowsStand (rows : List HostRow) (hosts : List ℕ → HostPart) : Type 0 where
   pub each : (k : ℕ) → OfRow rows k (λ row. RowStands row (hosts row.host))
@@ -62,21 +55,30 @@ pub record RowsStand (rows : List HostRow) (hosts : List ℕ → HostPart) : Typ
 
 -- ---- notices
 
--- a notice in hand is in flight until the step that recorded it is flushed
-abbrev pub hand_flight : ℕ → Option ℕ → Flight
-hand_flight flushed None = Unrecorded
-hand_flight flushed (Some step) = landed flushed (Recorded step)
+-- nothing is in flight, or what a step recorded that isn't flushed, up to the step that recorded last
+abbrev pub IsLanding : ℕ → ℕ → Flight → Type 0
+IsLanding flushed upto Nothing = Unit {0}
+IsLanding flushed upto Unrecorded = ⊥
+IsLanding flushed upto (Recorded t) = (flushed < t) × (t ≤ upto)
 
-abbrev pub flight_of : Option Hand → ℕ → Jid → Flight
-flight_of None flushed a = Nothing
-flight_of (Some h) flushed a = if same_jid h.to a then hand_flight flushed h.recorded else Nothing
+abbrev pub landing_step : Option Landing → ℕ
+landing_step None = 0
+landing_step (Some l) = l.step
 
--- of the addresses of a host just the one in its writer's hand may have a notice in flight
-abbrev pub HandStands : ℕ → (Jid → AddressPart) → HostRow → Type 0
-HandStands flushed addresses row = (a : Jid) → a.host ≡ row.host → (addresses a).flight ≡ flight_of row.in_hand flushed a
+-- that step isn't flushed: its notice is in flight
+pub record IsFlying (addresses : Jid → AddressPart) (host : List ℕ) (l : Landing) : Type 0 where
+  pub here : l.to.host ≡ host
+  pub flight : (addresses l.to).flight ≡ Recorded l.step
 
-abbrev pub HandsStand : List HostRow → ℕ → (Jid → AddressPart) → Type 0
-HandsStand rows flushed addresses = (k : ℕ) → OfRow rows k (HandStands flushed addresses)
+-- of the bare addresses of a host just those that are held have a notice in flight that no step has recorded
+pub record HandStands (flushed : ℕ) (held : List Jid) (addresses : Jid → AddressPart) (row : HostRow) : Type 0 where
+  pub those : (a : Jid) → a.host ≡ row.host → a.resource ≡ [] → is_known a held ≡ true → (addresses a).flight ≡ Unrecorded
+  pub others : (a : Jid) → a.host ≡ row.host → (a.resource ≡ [] → is_known a held ≡ false)
+      → IsLanding flushed (landing_step row.landing) (addresses a).flight
+  pub last : (l : Landing) → row.landing ≡ Some l → flushed < l.step → IsFlying addresses row.host l
+
+abbrev pub HandsStand : List HostRow → ℕ → List Jid → (Jid → AddressPart) → Type 0
+HandsStand rows flushed held addresses = (k : ℕ) → OfRow rows k (HandStands flushed held addresses)
 
 -- the queue of a bare address has its notices that are not handed, in order
 abbrev pub QueuesStand : List Notice → List Entry → Type 0
@@ -110,7 +112,7 @@ pub record Stands (v : State) (w : World) : Type 0 where
   pub batch : BatchStands v.batch v.count w.entries
   pub within : IsWithin v
   pub rows : RowsStand v.rows.items w.hosts
-  pub hands : HandsStand v.rows.items w.flushed w.addresses
+  pub hands : HandsStand v.rows.items w.flushed v.queues.held w.addresses
   pub queues : QueuesStand v.queues.waiting w.entries
 
 -- some world is what it stands for

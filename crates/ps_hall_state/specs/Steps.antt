@@ -63,6 +63,7 @@ pub record KeepsRest (old new : State) : Type 0 where
 pub record StepsOn (old new : State) : Type 0 where
   pub steps : new.steps ≡ old.steps + 1
   pub queues : new.queues.waiting ≡ old.queues.waiting
+  pub held : new.queues.held ≡ old.queues.held
   pub batch : new.batch ≡ old.batch
   pub rest : KeepsRest old new
 
@@ -70,6 +71,7 @@ pub record StepsOn (old new : State) : Type 0 where
 pub record StaysSame (old new : State) : Type 0 where
   pub state : new.service.state ≡ old.service.state
   pub queues : new.queues.waiting ≡ old.queues.waiting
+  pub held : new.queues.held ≡ old.queues.held
   pub rows : new.rows ≡ old.rows
   pub batch : new.batch ≡ old.batch
   pub steps : new.steps ≡ old.steps
@@ -96,6 +98,7 @@ pub record IsReady (old new : State) (e : Entry) (notices : List Notice) : Type 
   pub room : AreSpare notices (length notices) new.queues
   pub state : new.service.state ≡ old.service.state
   pub queues : new.queues.waiting ≡ old.queues.waiting
+  pub held : new.queues.held ≡ old.queues.held
   pub rows : new.rows ≡ old.rows
   pub batch : new.batch ≡ Some (entries_of old.batch ++ e ∷ [])
   pub steps : new.steps ≡ old.steps

@@ -127,6 +127,7 @@ fn waiting(batch: &Option<Batch>) -> u64
 // Makes room for all notices.
 fn reserve_all(alloc: Global, queues: &mut Outboxes, notices: &[Notice]) -> Result<(), Memory>
     ensures waiting { queues.new.waiting ≡ queues.old.waiting }
+    ensures held { queues.new.held ≡ queues.old.held }
     ensures room { OnOk result (AreSpare notices.now (length notices.now) queues.new) }
 {
     let count = notices.len() as u64;
@@ -139,7 +140,8 @@ fn reserve_all(alloc: Global, queues: &mut Outboxes, notices: &[Notice]) -> Resu
 // All notices go to the ends of their queues. It takes no memory.
 fn push_all(queues: &mut Outboxes, notices: Vec<Notice>)
     requires room { AreSpare notices.items (length notices.items) queues.old }
-    ensures { queues.new.waiting ≡ queues.old.waiting ++ notices.items }
+    ensures waiting { queues.new.waiting ≡ queues.old.waiting ++ notices.items }
+    ensures held { queues.new.held ≡ queues.old.held }
 {
     for notice in notices {
         queues.push(notice);
@@ -152,6 +154,7 @@ pub(crate) fn take_entry(service: &mut Service, queues: &mut Outboxes, notices: 
     requires room { AreSpare notices.items (length notices.items) queues.old }
     ensures state { IfSome service.old.prepared (λ entry. service.new.state ≡ after service.old.state entry) }
     ensures waiting { queues.new.waiting ≡ queues.old.waiting ++ notices.items }
+    ensures held { queues.new.held ≡ queues.old.held }
 {
     service.commit();
     push_all(queues, notices);

@@ -2,8 +2,8 @@
 //! be written.
 //!
 //! A [`State`] knows neither a disk nor a journal. Each of its calls is one step of the machine that `ps_model` defines, on `&mut`: [`State::lay`]
-//! answers a line; [`State::next`] takes a reply that is released, or takes a notice in hand whose entry is durable; [`State::record`] records the
-//! notice in hand; [`State::gone`], [`State::reader_ended`] and [`State::writer_ended`] end the callers of a host. The entry that a call makes waits
+//! answers a line; [`State::next`] takes a reply that is released, or takes a notice in hand whose entry is durable, of an address of which none is in
+//! flight; [`State::record`] records one of the notices in hand; [`State::gone`], [`State::reader_ended`] and [`State::writer_ended`] end the callers of a host. The entry that a call makes waits
 //! in a batch, and its notices wait in the queues of their addresses. [`State::hand_over`] gives that batch away as one frame, which somebody writes
 //! meanwhile; then [`State::settle`] flushes the steps that the frame had, or [`State::fault`] tells that it failed.
 //!
@@ -27,4 +27,4 @@ mod state;
 
 pub use answers::{ArriveRefusal, HandedRefusal, Limits, Next, Outcome, Receipt};
 pub use ps_core::Service;
-pub use state::{Hand, HostRow, State, Waiting};
+pub use state::{HostRow, Landing, State, Waiting};

@@ -1,13 +1,12 @@
 // The row of a host, and how it changes.
-ghost use Rattle.std.specs.Prelude.{◌≡◌, ◌<◌, ◌^◌, IfOk, true, false, not, length, vec_len, vec_capacity};
+ghost use Rattle.std.specs.Prelude.{◌≡◌, ◌<◌, ◌^◌, true, false, not, length, vec_len, vec_capacity};
 ghost use Rattle.std.specs.List.{list_any};
 ghost use Rattle.ps_model.specs.declared.steps.Role.{Role};
-ghost use Rattle.ps_hall_state.specs.Rows.{HasPlace, OfRow, RowEnds, RowHoldsFor, RowSays, TakesFirst, Turns};
-ghost use Rattle.ps_hall_state.specs.Next.{HasNone, HasReply, IsHandFree, IsHandFull};
-ghost use Rattle.ps_hall_state.specs.Gone.{HasUnrecorded, HoldsUnrecorded};
+ghost use Rattle.ps_hall_state.specs.Rows.{HasPlace, OfRow, RowEnds, RowLandsBy, RowSays, TakesFirst, Turns};
+ghost use Rattle.ps_hall_state.specs.Next.{HasLanded, HasNone, HasNotLanded, HasReply};
 
-use crate::state::{Hand, HostRow, Waiting};
-use ps_base::{Bytes, Memory};
+use crate::state::{HostRow, Landing, Waiting};
+use ps_base::Bytes;
 use ps_types::Jid;
 
 // One line more of the host, which may get a reply.
@@ -90,53 +89,30 @@ pub(crate) fn some_reads(rows: &Vec<HostRow>) -> bool
     rows.iter().any(|row| !row.reader_ended)
 }
 
-// Whether a writer's hand is free.
-fn is_free(row: &HostRow, flushed: u64) -> bool
-    ensures yes { result ≡ true → IsHandFree row.now.in_hand flushed }
-    ensures no { result ≡ false → IsHandFull row.now.in_hand flushed }
+// Whether what a writer recorded is flushed.
+fn has_landed(row: &HostRow, flushed: u64) -> bool
+    ensures yes { result ≡ true → HasLanded row.now flushed }
+    ensures no { result ≡ false → HasNotLanded row.now flushed }
 {
-    match &row.in_hand {
+    match &row.landing {
         None => true,
-        Some(hand) => match hand.recorded {
-            None => false,
-            Some(step) => step <= flushed,
-        },
+        Some(landing) => landing.step <= flushed,
     }
 }
 
-/// Whether the hand of the writer at a place is free.
-pub(crate) fn is_free_at(rows: &Vec<HostRow>, at: usize, flushed: u64) -> bool
+/// Whether what the writer at a place recorded is flushed.
+pub(crate) fn has_landed_at(rows: &Vec<HostRow>, at: usize, flushed: u64) -> bool
     requires here { at < length rows.now.items }
-    ensures yes { OfRow rows.now.items at (λ row. result ≡ true → IsHandFree row.in_hand flushed) }
-    ensures no { OfRow rows.now.items at (λ row. result ≡ false → IsHandFull row.in_hand flushed) }
+    ensures yes { OfRow rows.now.items at (λ row. result ≡ true → HasLanded row flushed) }
+    ensures no { OfRow rows.now.items at (λ row. result ≡ false → HasNotLanded row flushed) }
 {
-    is_free(&rows[at], flushed)
+    has_landed(&rows[at], flushed)
 }
 
-/// The writer of the row at a place has this in hand.
-pub(crate) fn hold_at(rows: &mut Vec<HostRow>, at: usize, to: Jid, recorded: Option<u64>)
+/// The writer of the row at a place has recorded a notice to this address by this step.
+pub(crate) fn land_at(rows: &mut Vec<HostRow>, at: usize, to: Jid, step: u64)
     requires here { at < length rows.old.items }
-    ensures holds { Turns rows.old.items rows.new.items at (RowHoldsFor to recorded) }
+    ensures lands { Turns rows.old.items rows.new.items at (RowLandsBy to step) }
 {
-    rows[at].in_hand = Some(Hand { to, recorded });
-}
-
-// The address in a writer's hand.
-fn hand_in(row: &HostRow) -> Result<Jid, Memory>
-    requires some { HasUnrecorded row.now }
-    ensures hand { IfOk result (HoldsUnrecorded row.now) }
-{
-    match &row.in_hand {
-        Some(hand) => Ok(hand.to.clone()?),
-        None => unreachable!(),
-    }
-}
-
-/// The address in the hand of the writer at a place.
-pub(crate) fn hand_at(rows: &Vec<HostRow>, at: usize) -> Result<Jid, Memory>
-    requires here { at < length rows.now.items }
-    requires some { OfRow rows.now.items at HasUnrecorded }
-    ensures hand { OfRow rows.now.items at (λ row. IfOk result (HoldsUnrecorded row)) }
-{
-    hand_in(&rows[at])
+    rows[at].landing = Some(Landing { to, step });
 }

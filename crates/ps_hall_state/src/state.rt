@@ -14,20 +14,20 @@ pub struct Waiting {
     pub reply: Bytes,
 }
 
-/// The bare address whose notice a writer has in hand, and the step that recorded it, if one did. Once that step is flushed the hand is free.
+/// The bare address whose notice a writer recorded last, and the step that did so.
 #[derive(Drop)]
-pub struct Hand {
+pub struct Landing {
     pub to: Jid,
-    pub recorded: Option<u64>,
+    pub step: u64,
 }
 
-/// What is kept for one host: the number of its lines, the replies that are not taken, what its writer has in hand, and whether its callers have
-/// ended.
+/// What is kept for one host: the number of its lines, the replies that are not taken, what its writer recorded last, and whether its callers have
+/// ended. The addresses whose notices the writer has in hand are held in the queues.
 pub struct HostRow {
     pub host: Text,
     pub line: u64,
     pub waiting: Vec<Waiting>,
-    pub in_hand: Option<Hand>,
+    pub landing: Option<Landing>,
     pub reader_ended: bool,
     pub writer_ended: bool,
 }
@@ -39,7 +39,7 @@ impl Drop for HostRow {
             host: _,
             line: _,
             waiting: _,
-            in_hand: _,
+            landing: _,
             reader_ended: _,
             writer_ended: _,
         } = self;

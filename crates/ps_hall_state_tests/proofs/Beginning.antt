@@ -13,11 +13,13 @@ use Rattle.ps_model.specs.Replay.{of_bare}
 use Rattle.ps_model.specs.TheCore.{the_core}
 use Rattle.ps_model.specs.World.{fresh_host}
 use Rattle.ps_model.proofs.TheLaws.{the-laws}
-use Rattle.ps_outbox.specs.Boxes.{queue}
+use Rattle.std.proofs.lemmas.Bool.{true≢false}
+use Rattle.ps_outbox.specs.Boxes.{is_known, queue}
 use Rattle.ps_world.proofs.Kept.{start_kept}
 use Rattle.ps_hall_state.specs.declared.state.HostRow.{HostRow}
+use Rattle.ps_hall_state.specs.declared.state.Landing.{Landing}
 use Rattle.ps_hall_state.specs.declared.state.State.{State}
-use Rattle.ps_hall_state.specs.Stand.{BatchStands, IsStanding, RowStands, RowsStand, bytes_of, flight_of}
+use Rattle.ps_hall_state.specs.Stand.{BatchStands, IsStanding, RowStands, RowsStand, bytes_of}
 use Rattle.ps_hall_state_tests.specs.Fresh.{AreFresh, IsFresh}
 
 abbrev name : List ℕ
@@ -53,7 +55,6 @@ fresh_stands row f = record {
   reader = f.reader;
   writer = f.writer;
   room = f.room;
-  hand = λ h got. (let none : ⊥ = (let e = sym f.in_hand ∙ got in cc e) in absurd none);
 }
 
 rows_stand : (row : HostRow) → IsFresh row → RowsStand (row ∷ []) (λ k. fresh_host)
@@ -62,9 +63,12 @@ rows_stand row f = record {
   apart = λ j k r s at_j at_k same. cc ((only row r j at_j).1, (only row s k at_k).1);
 }
 
+none_landed : (row : HostRow) (l : Landing) → row.landing ≡ None → row.landing ≡ Some l → ⊥
+none_landed row l none some = let e : None ≡ Some l = sym none ∙ some in cc e
+
 module _ (v : State) (state : v.service.state ≡ after empty_state (Boot name)) (fresh : AreFresh v.rows.items) where
-  pub opened_stands : v.queues.waiting ≡ [] → v.batch ≡ None → v.count ≡ 1 → v.length ≡ 31 → v.broken ≡ false → v.steps ≡ 0 → v.flushed ≡ 0 → v.durable ≡ 1 → v.limits.changes ≤ 2 ^ 30 → v.limits.whole ≤ 2 ^ 30 → IsStanding v
-  opened_stands queues batch count size broken steps flushed durable changes whole =
+  pub opened_stands : v.queues.waiting ≡ [] → v.queues.held ≡ [] → v.batch ≡ None → v.count ≡ 1 → v.length ≡ 31 → v.broken ≡ false → v.steps ≡ 0 → v.flushed ≡ 0 → v.durable ≡ 1 → v.limits.changes ≤ 2 ^ 30 → v.limits.whole ≤ 2 ^ 30 → IsStanding v
+  opened_stands queues held batch count size broken steps flushed durable changes whole =
       let w = start the_core name [] in
       let row = fresh.0 in
       let bytes : bytes_of v.batch ≡ 0 = ap bytes_of batch in
@@ -80,9 +84,13 @@ module _ (v : State) (state : v.service.state ≡ after empty_state (Boot name))
           batch = subst (λ b. BatchStands b v.count w.entries) (sym batch) (record { begun = Boot name ∷ []; all = refl; size = sym count; some = tt });
           within = record { fits = omega (arith, bytes, size); changes = changes; whole = whole; few = omega (arith, entries) };
           rows = subst (λ (rows : List HostRow). RowsStand rows w.hosts) (sym fresh.1) (rows_stand row fresh.2);
-          hands = λ k r got a of. (
+          hands = λ k r got. (
               let same = (only row r k (ap (λ (rows : List HostRow). slice_get rows k) (sym fresh.1) ∙ got)).0 in
-              ap (λ o. flight_of o w.flushed a) (sym fresh.2.in_hand ∙ ap (λ (x : HostRow). x.in_hand) same));
+              record {
+                those = λ a of bare known. absurd (true≢false (sym known ∙ ap (is_known a) held));
+                others = λ a of free. tt;
+                last = λ l some low. absurd (none_landed r l (ap (λ (x : HostRow). x.landing) (sym same) ∙ fresh.2.landing) some);
+              });
           queues = λ a bare. ap (queue a) queues ∙ sym (no_notices a bare);
         },
       )

@@ -7,7 +7,7 @@ pub record IsFresh (row : HostRow) : Type 0 where
   pub host : row.host ≡ codes "a.example"
   pub line : row.line ≡ 0
   pub waiting : row.waiting.items ≡ []
-  pub in_hand : row.in_hand ≡ None
+  pub landing : row.landing ≡ None
   pub reader : row.reader_ended ≡ false
   pub writer : row.writer_ended ≡ false
   pub room : 64 ≤ vec_capacity row.waiting

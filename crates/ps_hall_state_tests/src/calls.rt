@@ -1,13 +1,13 @@
 // The calls of a state on its one host, which leave it standing.
-ghost use Rattle.std.specs.Prelude.{◌≡◌, ◌<◌, ◌^◌, true, IfOk, None, length};
-ghost use Rattle.ps_hall_state.specs.Gone.{HasUnrecorded};
+ghost use Rattle.std.specs.Prelude.{◌<◌, ◌^◌, IfOk, length};
+ghost use Rattle.ps_hall_state.specs.Gone.{IsHeldFor};
 ghost use Rattle.ps_hall_state.specs.Rows.{OfRow};
 ghost use Rattle.ps_hall_state.specs.Shape.{IsArrival};
 ghost use Rattle.ps_hall_state.specs.Stand.{IsStanding};
 
 use ps_base::Memory;
-use ps_hall_state::{ArriveRefusal, Hand, HandedRefusal, HostRow, Next, Receipt, State};
-use ps_types::{Arrival, Bytes};
+use ps_hall_state::{ArriveRefusal, HandedRefusal, Next, Receipt, State};
+use ps_types::{Arrival, Bytes, Jid};
 use std::alloc::Global;
 use std::process::Abort;
 use std::test::Fail;
@@ -47,14 +47,14 @@ fn next_first(state: &mut State) -> Result<Next, Memory>
     state.next(0)
 }
 
-fn record_first<R: Threads + Sync>(rt: &R, state: &mut State) -> Result<(), HandedRefusal>
+fn record_first<R: Threads + Sync>(rt: &R, state: &mut State, to: &Jid) -> Result<(), HandedRefusal>
     requires here { 0 < length state.old.rows.items }
     requires few { state.old.steps < 2 ^ 63 }
     requires standing { IsStanding state.old }
-    requires some { OfRow state.old.rows.items 0 HasUnrecorded }
+    requires held { OfRow state.old.rows.items 0 (IsHeldFor state.old to.now) }
     ensures standing { IsStanding state.new }
 {
-    state.record(rt, 0)
+    state.record(rt, 0, to)
 }
 
 fn gone_first<R: Threads + Sync>(rt: &R, state: &mut State) -> Result<(), HandedRefusal>
@@ -114,32 +114,6 @@ fn settle_all(state: &mut State)
     state.settle(upto, count);
 }
 
-fn is_unrecorded(hand: &Hand) -> bool
-    ensures { result ≡ true → hand.now.recorded ≡ None }
-{
-    match hand.recorded {
-        None => true,
-        Some(_) => false,
-    }
-}
-
-fn holds(row: &HostRow) -> bool
-    ensures { result ≡ true → HasUnrecorded row.now }
-{
-    match &row.in_hand {
-        None => false,
-        Some(hand) => is_unrecorded(hand),
-    }
-}
-
-// Whether the hand at the first place holds a notice that isn't recorded.
-fn holds_first(rows: &Vec<HostRow>) -> bool
-    requires here { 0 < length rows.now.items }
-    ensures { OfRow rows.now.items 0 (λ row. result ≡ true → HasUnrecorded row) }
-{
-    holds(&rows[0])
-}
-
 /// A line comes.
 pub fn lays(
     rt: &(impl Abort + Threads + Sync),
@@ -166,16 +140,20 @@ pub fn next(rt: &impl Abort, state: &mut State) -> Result<Next, Fail>
     Ok(next_first(state)?)
 }
 
-/// The notice in hand is recorded.
-pub fn records(rt: &(impl Abort + Threads + Sync), state: &mut State) -> Result<(), HandedRefusal>
+/// The notice in hand to this address is recorded.
+pub fn records(
+    rt: &(impl Abort + Threads + Sync),
+    state: &mut State,
+    to: &Jid,
+) -> Result<(), HandedRefusal>
     requires standing { IsStanding state.old }
     ensures standing { IsStanding state.new }
 {
     assert!(rt; !state.rows.is_empty());
     assert!(rt; state.steps < 1000);
-    let held = holds_first(&state.rows);
+    let held = state.has_in_hand(0, to);
     assert!(rt; held);
-    record_first(rt, state)
+    record_first(rt, state, to)
 }
 
 /// A Gone of the host is to be written.

@@ -21,7 +21,7 @@ fn fresh_row(alloc: Global) -> Result<HostRow, Fail>
         host: Text::of(alloc, "a.example")?,
         line: 0,
         waiting: Vec::with_capacity(alloc, 64)?,
-        in_hand: None,
+        landing: None,
         reader_ended: false,
         writer_ended: false,
     })
@@ -46,6 +46,7 @@ fn state_of(
 ) -> State
     requires booted { service.state ≡ after empty_state (Entry.Boot (codes "pubsub.example")) }
     requires queues { queues.waiting ≡ [] }
+    requires held { queues.held ≡ [] }
     requires rows { AreFresh rows.items }
     requires limits { (limits.changes ≤ 2 ^ 30) × (limits.whole ≤ 2 ^ 30) }
     ensures { IsStanding result }

@@ -1,7 +1,7 @@
 // What a state with one host does, as tables. A line of a table is what is done and, behind ` = `, what comes of it.
 //
 // `lay` and a line: how many entries stand then and whether it makes one, or why it isn't taken. `fill` lays so many messages, of which each is answered.
-// `next`: what the writer is to do, `reply` or `notice` and a line, `waits` or `over`. `record` and `gone`: `ok`, or why not. `flush`: how many bytes the
+// `next`: what the writer is to do, `reply` or `notice` and a line, `waits` or `over`. `record` and an address, and `gone`: `ok`, or why not. `flush`: how many bytes the
 // entries of the frame have that is handed over, `none` where there is none, and all steps are flushed then. `end reader`, `end writer` and `fault` are what
 // they say. The words of lines are those of `lines.rt`; a Boot stands already.
 
@@ -20,7 +20,7 @@ next = waits
 flush = none
 next = waits";
 
-/// Replies come first. The hand is free again once the step is flushed that recorded its notice.
+/// Replies come first. Nothing more is told to the address until the step is flushed that recorded its notice.
 pub const HANDED: &str = "\
 lay create = 1 committed
 lay subscribe = 2 committed
@@ -34,15 +34,49 @@ next = reply published
 next = reply published
 next = notice first
 next = waits
-record = ok
+record ann@a.example = ok
 next = waits
 flush = 16
 next = notice second
 next = waits
-record = ok
+record ann@a.example = ok
 next = waits
 flush = 16
 next = waits";
+
+/// Notices to two addresses are in hand together. Once one of them is recorded, nothing more is told until that step is flushed. Where no reader runs,
+/// there is more to come while a notice is in hand.
+pub const RUNS: &str = "\
+lay create = 1 committed
+lay subscribe = 2 committed
+lay join = 3 committed
+lay publish = 4 committed
+lay publish = 5 committed
+flush = 1248
+next = reply made
+next = reply subscribed
+next = reply joined
+next = reply published
+next = reply published
+next = notice first
+next = notice bobs-first
+next = waits
+record ann@a.example = ok
+next = waits
+record bob@a.example = ok
+next = waits
+flush = 32
+next = notice second
+record ann@a.example = ok
+next = waits
+flush = 16
+end reader = ok
+next = notice bobs-second
+next = waits
+record bob@a.example = ok
+next = waits
+flush = 16
+next = over";
 
 /// No line is taken where 64 replies wait.
 pub const FILLED: &str = "\

@@ -4,8 +4,9 @@ ghost use Rattle.ps_hall_state.specs.Stand.{IsStanding};
 use crate::calls::{ends_reader, ends_writer, fails, flushes, goes, lays, next, records};
 use crate::lines::line_of;
 use crate::opened::opened;
-use crate::rows::{BROKEN, FILLED, GONE, HANDED, SHOWN, UNFIT, UNWRITTEN};
+use crate::rows::{BROKEN, FILLED, GONE, HANDED, RUNS, SHOWN, UNFIT, UNWRITTEN};
 use ps_hall_state::{ArriveRefusal, HandedRefusal, Limits, Next, Outcome, Receipt, State};
+use ps_types::Jid;
 use std::alloc::Global;
 use std::process::Abort;
 use std::test::Fail;
@@ -114,8 +115,9 @@ fn comes(
         let next = next(rt, state)?;
         return is_next(alloc, next, want);
     }
-    if done == "record" {
-        let came = records(rt, state);
+    if let Some(who) = done.strip_prefix("record ") {
+        let to = Jid::read(alloc, who.as_bytes())?;
+        let came = records(rt, state, &to);
         return Ok(is_recorded(came, want));
     }
     if done == "gone" {
@@ -198,6 +200,7 @@ fn a_state_does_as_its_tables_say(rt: HostRuntime) -> Result<(), Fail> {
     for table in [
         (10_000, 10_000, SHOWN),
         (10_000, 10_000, HANDED),
+        (10_000, 10_000, RUNS),
         (10_000, 10_000, FILLED),
         (10_000, 10_000, BROKEN),
         (10_000, 10_000, UNWRITTEN),

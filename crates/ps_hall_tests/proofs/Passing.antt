@@ -1,7 +1,8 @@
 -- The passes of all hosts, after calls of the first host's.
-use Rattle.std.proofs.Common.{◌≡◌, ℕ, zero, suc, ◌<◌, List, [], ◌∷◌, Some, length, arith, subst}
+use Rattle.std.proofs.Common.{◌≡◌, ◌≢◌, ℕ, zero, suc, ◌<◌, List, [], ◌∷◌, Some, length, ap, sym, ◌∙◌, arith, refl, subst}
 use Rattle.std.specs.Prelude.{slice_get, slice_set}
 use Rattle.ps_disk.specs.declared.device.Disk.{Ghosts}
+use Rattle.ps_types.specs.declared.jid.Jid.{Jid}
 use Rattle.ps_hall_flush.specs.Origin.{Origin}
 use Rattle.ps_hall.specs.Passes.{AreFresh, AreOf, ArePasses, OurTwin}
 use Rattle.ps_hall.specs.declared.hall.HostPasses.{HostPasses}
@@ -30,3 +31,11 @@ module _ {B D : Type 0} {g : Ghosts D} (o : Origin) (t : OurTwin B D g) where
       let of = fresh.all.each 0 p got in
       let writer = (fresh.each 0 p got).1 in
       record { writes = record { writer = of.writer; first = of.at_writer }; none = writer.hand; hand = writer.none }
+
+-- what is in hand, by how many they are
+pub some_of : (hand : List Jid) (n : ℕ) → n ≡ length hand → n ≡ 1 → hand ≢ []
+some_of hand n size one none = (let l = ap length none in let z : 1 ≡ 0 = sym one ∙ (size ∙ l) in cc z)
+
+pub none_of : (hand : List Jid) (n : ℕ) → n ≡ length hand → n ≡ 0 → hand ≡ []
+none_of [] n size none = refl
+none_of (a ∷ hand) n size none = absurd (let z : suc (length hand) ≡ 0 = sym size ∙ none in cc z)

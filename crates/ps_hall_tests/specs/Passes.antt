@@ -1,5 +1,5 @@
 -- The passes of the first host, between two calls.
-use Rattle.std.specs.Prelude.{◌≡◌, None}
+use Rattle.std.specs.Prelude.{◌≡◌, []}
 use Rattle.ps_disk.specs.declared.device.Disk.{Ghosts}
 use Rattle.ps_hall.specs.Calls.{HandAt, IsReader, IsWriter}
 use Rattle.ps_hall_flush.specs.Origin.{Origin}
@@ -20,5 +20,5 @@ module _ {B D : Type 0} {g : Ghosts D} where
   -- its writer's, with nothing in hand
   pub record IsFree (o : Origin) (t : OurTwin B D g) (p : Pass B D g) : Type 0 where
     pub writes : Writes o t p
-    pub none : p.in_hand ≡ None
-    pub hand : HandAt o p.in_hand p.host p.seat
+    pub none : p.in_hand.items ≡ []
+    pub hand : HandAt o p.in_hand.items p.host p.seat

@@ -151,8 +151,18 @@ pub fn tells<B: Opening, D: Disk>(
     match hall.next(rt, pass)? {
         Next::Notice(line) => {
             assert!(rt; line.as_slice() == text.as_bytes(), "{text}");
+            let held = hall.in_hand(pass);
+            if held != 1 {
+                return Err(Fail::new("not in hand"));
+            }
             match hall.handed(rt, pass) {
-                Ok(()) => Ok(()),
+                Ok(()) => {
+                    let left = hall.in_hand(pass);
+                    if left == 0 {
+                        return Ok(());
+                    }
+                    Err(Fail::new("still in hand"))
+                }
                 Err(_) => Err(Fail::new("not handed")),
             }
         }

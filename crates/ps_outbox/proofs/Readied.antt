@@ -10,10 +10,11 @@ use Rattle.ps_types.specs.declared.jid.Jid.{Jid}
 use Rattle.ps_types.specs.Address.{bare as bare_of}
 use Rattle.ps_types.specs.Same.{same_bare}
 use Rattle.ps_rows.proofs.Sought.{bare-back, bare-on}
-use Rattle.ps_outbox.specs.Boxes.{is_to, shown, peeked, is_known, is_ready, IsReady, NoneReady}
+use Rattle.ps_base.specs.Rows.{Table}
+use Rattle.ps_outbox.specs.Boxes.{has_box, is_of, is_to, shown, peeked, is_known, is_ready, IsReady, NoneReady}
 use Rattle.ps_outbox.specs.Keys.{is_at}
-use Rattle.ps_outbox.specs.Kept.{rises, has_box, is_bare, IsKept}
-use Rattle.ps_outbox.proofs.Keeping.{both}
+use Rattle.ps_outbox.specs.Kept.{rises, is_apart, is_bare, IsKept}
+use Rattle.ps_outbox.proofs.Keeping.{both, not_known}
 
 -- ---- the first that passes
 
@@ -102,40 +103,6 @@ after durable low p q i (m ∷ ms) last f n r h x y =
 
 -- ---- what is answered
 
--- the host's first notice is durable
-pub ready_first : (host : List ℕ) (durable : ℕ) (waiting : List Notice) (addresses : List Jid) (last : ℕ) (in_order : Bool) (n : Notice) (j : Jid) → IsKept waiting addresses last in_order
-    → find (is_at host) waiting ≡ Some n → n.place < durable → find (same_bare n.to) addresses ≡ Some j → IsReady host durable j waiting
-ready_first host durable waiting addresses last in_order n j k f l g =
-    let same : same_bare n.to j ≡ true = found_passes (same_bare n.to) addresses j g in
-    let back : same_bare j n.to ≡ true = bare-back n.to j same in
-    let at : n.to.host ≡ host = sym ((bytes_eq-Decides host n.to.host).0 (found_passes (is_at host) waiting n f)) in
-    let here : j.host ≡ host = host_of j n.to back ∙ at in
-    let first : find (is_to j) waiting ≡ Some n = found_narrow (is_at host) (is_to j) (at_host host j here) waiting n back f in
-    let below : nat_lt n.place durable ≡ true = grind (arith, nat_tests) in
-    record {
-      bare = (bytes_eq-Decides j.resource []).0 (found_all (same_bare n.to) is_bare addresses j k.bare g);
-      here = here;
-      first = subst (λ (o : Option Notice). IsSome o) (sym (ap (shown durable) first ∙ ap (λ b. cond b (Some n) None) below)) refl;
-    }
-
--- each notice has a box
-pub has_its_box : (host : List ℕ) (waiting : List Notice) (addresses : List Jid) (last : ℕ) (in_order : Bool) (n : Notice) → IsKept waiting addresses last in_order → find (is_at host) waiting ≡ Some n
-    → is_known n.to addresses ≡ true
-has_its_box host waiting addresses last in_order n k f = found_all (is_at host) (has_box addresses) waiting n k.known f
-
-found_known : (p : Jid → Bool) (addresses : List Jid) → list_any p addresses ≡ true → find p addresses ≡ None → ⊥
-found_known p [] h f = true≢false (sym h)
-found_known p (a ∷ as_) h f = known_by p a as_ (p a) (found_known p as_) h f
-  where
-    known_by : (p : Jid → Bool) (a : Jid) (as_ : List Jid) (b : Bool) → (list_any p as_ ≡ true → find p as_ ≡ None → ⊥) → b || list_any p as_ ≡ true → cond b (Some a) (find p as_) ≡ None → ⊥
-    known_by p a as_ true more h f = absurd (cc)
-    known_by p a as_ false more h f = more h f
-
--- so its box is found
-pub box_found : (host : List ℕ) (waiting : List Notice) (addresses : List Jid) (last : ℕ) (in_order : Bool) (n : Notice) → IsKept waiting addresses last in_order → find (is_at host) waiting ≡ Some n
-    → find (same_bare n.to) addresses ≡ None → ⊥
-box_found host waiting addresses last in_order n k f g = found_known (same_bare n.to) addresses (has_its_box host waiting addresses last in_order n k f) g
-
 none_shown : (durable : ℕ) (o : Option Notice) → ((n : Notice) → o ≡ Some n → durable ≤ n.place) → shown durable o ≡ None
 none_shown durable None h = refl
 none_shown durable (Some n) h =
@@ -147,84 +114,84 @@ in_order_rises : (in_order : Bool) (waiting : List Notice) (last : ℕ) → in_o
 in_order_rises true waiting last e h = h
 in_order_rises false waiting last e h = absurd (true≢false (sym e))
 
--- the host's first notice isn't durable
-pub none_durable : (host : List ℕ) (durable : ℕ) (waiting : List Notice) (addresses : List Jid) (last : ℕ) (in_order : Bool) (n : Notice) → in_order ≡ true → IsKept waiting addresses last in_order
-    → find (is_at host) waiting ≡ Some n → durable ≤ n.place → NoneReady host durable waiting
-none_durable host durable waiting addresses last in_order n e k f l = record {
-  all = λ who here. none_shown durable (find (is_to who) waiting)
-      (λ m g. after durable 0 (is_at host) (is_to who) (at_host host who here) waiting last n m (in_order_rises in_order waiting last e k.order) l f g);
-}
+not_low : (durable : ℕ) (f : Notice) → is_some (shown durable (Some f)) ≡ false → durable ≤ f.place
+not_low durable f h = by (nat_lt f.place durable) refl h
+  where
+    by : (b : Bool) → nat_lt f.place durable ≡ b → is_some (cond b (Some f) None) ≡ false → durable ≤ f.place
+    by true e h = absurd (true≢false h)
+    by false e h = grind (arith, nat_tests)
 
--- the host has no notice
-pub none_at : (host : List ℕ) (durable : ℕ) (waiting : List Notice) → find (is_at host) waiting ≡ None → NoneReady host durable waiting
-none_at host durable waiting f = record {
-  all = λ who here. ap (shown durable) (none_narrow (is_at host) (is_to who) (at_host host who here) waiting f);
-}
+-- the host's first notice isn't durable, or there is none
+pub none_durable : (host : List ℕ) (durable : ℕ) (waiting : List Notice) (free : Table Jid) (held : List Jid) (last : ℕ) (in_order : Bool) → in_order ≡ true → IsKept waiting free held last in_order
+    → is_some (shown durable (find (is_at host) waiting)) ≡ false → NoneReady host durable waiting held
+none_durable host durable waiting free held last in_order e k h = record { all = λ who here apart. by (find (is_at host) waiting) refl h who here }
+  where
+    by : (o : Option Notice) → find (is_at host) waiting ≡ o → is_some (shown durable o) ≡ false → (who : Jid) → who.host ≡ host → shown durable (find (is_to who) waiting) ≡ None
+    by None f h who here = ap (shown durable) (none_narrow (is_at host) (is_to who) (at_host host who here) waiting f)
+    by (Some n) f h who here =
+        none_shown durable (find (is_to who) waiting) (λ m g. after durable 0 (is_at host) (is_to who) (at_host host who here) waiting last n m (in_order_rises in_order waiting last e k.order) (not_low durable n h) f g)
 
--- ---- a walk through all addresses
-
-is_ready_parts : (host : List ℕ) (durable : ℕ) (waiting : List Notice) (who : Jid) → is_ready host durable waiting who ≡ true
-    → (bytes_eq who.resource [] ≡ true) × (bytes_eq who.host host ≡ true) × (is_some (peeked who durable waiting) ≡ true)
-is_ready_parts host durable waiting who h =
-    let a = both (bytes_eq who.resource []) (bytes_eq who.host host && is_some (peeked who durable waiting)) h in
-    let b = both (bytes_eq who.host host) (is_some (peeked who durable waiting)) a.1 in
-    (a.0, b.0, b.1)
+-- ---- a walk through the addresses that are not held
 
 some_is : (o : Option Notice) → is_some o ≡ true → IsSome o
 some_is None h = absurd (true≢false (sym h))
 some_is (Some n) h = refl
 
-pub walked_to : (host : List ℕ) (durable : ℕ) (waiting : List Notice) (who : Jid) → is_ready host durable waiting who ≡ true → IsReady host durable who waiting
-walked_to host durable waiting who h =
-    let parts = is_ready_parts host durable waiting who h in
+not_true_is : (b : Bool) → not b ≡ true → b ≡ false
+not_true_is true h = absurd (true≢false (sym h))
+not_true_is false h = refl
+
+pub ready_found : (host : List ℕ) (durable : ℕ) (waiting : List Notice) (free : Table Jid) (held : List Jid) (last : ℕ) (in_order : Bool) (j : Jid) → IsKept waiting free held last in_order
+    → find (is_ready host durable waiting) free.rows ≡ Some j → IsReady host durable j waiting held
+ready_found host durable waiting free held last in_order j k f =
+    let parts = both (is_of host j) (is_some (peeked j durable waiting)) (found_passes (is_ready host durable waiting) free.rows j f) in
     record {
-      bare = (bytes_eq-Decides who.resource []).0 parts.0;
-      here = (bytes_eq-Decides who.host host).0 parts.1;
-      first = some_is (peeked who durable waiting) parts.2;
+      bare = (bytes_eq-Decides j.resource []).0 (found_all (is_ready host durable waiting) is_bare free.rows j k.bare f);
+      here = sym ((bytes_eq-Decides host j.host).0 parts.0);
+      first = some_is (peeked j durable waiting) parts.1;
+      apart = not_true_is (is_known j held) (found_all (is_ready host durable waiting) (is_apart held) free.rows j k.apart f);
     }
 
 none_is : (o : Option Notice) → is_some o ≡ false → o ≡ None
 none_is None h = refl
 none_is (Some n) h = absurd (true≢false h)
 
-last_false : (a b c : Bool) → a && (b && c) ≡ false → a ≡ true → b ≡ true → c ≡ false
-last_false true true c h p q = h
-last_false true false c h p q = absurd (true≢false (sym q))
-last_false false b c h p q = absurd (true≢false (sym p))
+-- an address of a list by a test, and another test that all of the list fail
+module _ (test : Jid → Bool) (p : Jid → Bool) (G : Type 0) (found : (a : Jid) → p a ≡ true → test a ≡ false → G) where
+  member_by : (a : Jid) (as_ : List Jid) (b t : Bool) → p a ≡ b → test a ≡ t → (find test as_ ≡ None → list_any p as_ ≡ true → G) → cond t (Some a) (find test as_) ≡ None → b || list_any p as_ ≡ true → G
+  member_by a as_ b true e d more f h = absurd (let no : Some a ≡ None = f in cc no)
+  member_by a as_ true false e d more f h = found a e d
+  member_by a as_ false false e d more f h = more f h
 
-neither : (a b : Bool) → a || b ≡ false → (a ≡ false) × (b ≡ false)
-neither true b h = absurd (true≢false h)
-neither false b h = (refl, h)
+  member : (addresses : List Jid) → find test addresses ≡ None → list_any p addresses ≡ true → G
+  member [] f h = absurd (true≢false (sym h))
+  member (a ∷ as_) f h = member_by a as_ (p a) (test a) refl refl (member as_) f h
 
-module _ (test : Jid → Bool) (p : Jid → Bool) (G : Type 0) (found : (a : Jid) → is_bare a ≡ true → p a ≡ true → test a ≡ false → G) where
-  member_by : (a : Jid) (as_ : List Jid) (b : Bool) → p a ≡ b → is_bare a ≡ true → test a ≡ false → (list_any p as_ ≡ true → G) → b || list_any p as_ ≡ true → G
-  member_by a as_ true e d t more h = found a d e t
-  member_by a as_ false e d t more h = more h
+left_known : (a b : Bool) → a || b ≡ true → b ≡ false → a ≡ true
+left_known true b h e = refl
+left_known false b h e = absurd (true≢false (sym h ∙ e))
 
-  member : (addresses : List Jid) → list_all is_bare addresses ≡ true → list_any test addresses ≡ false → list_any p addresses ≡ true → G
-  member [] d t h = absurd (true≢false (sym h))
-  member (a ∷ as_) d t h =
-      let e = both (is_bare a) (list_all is_bare as_) d in
-      let n = neither (test a) (list_any test as_) t in
-      member_by a as_ (p a) refl e.0 n.0 (λ m. member as_ e.1 n.1 m) h
+of_false : (a b : Bool) → a && b ≡ false → a ≡ true → b ≡ false
+of_false true b h e = h
+of_false false b h e = absurd (true≢false (sym e))
 
-walk_by : (host : List ℕ) (durable : ℕ) (waiting : List Notice) (addresses : List Jid) (last : ℕ) (in_order : Bool) → IsKept waiting addresses last in_order → list_any (is_ready host durable waiting) addresses ≡ false
-    → (who : Jid) → who.host ≡ host → (o : Option Notice) → find (is_to who) waiting ≡ o → shown durable o ≡ None
-walk_by host durable waiting addresses last in_order k t who here None f = refl
-walk_by host durable waiting addresses last in_order k t who here (Some n) f =
-    let to : same_bare who n.to ≡ true = found_passes (is_to who) waiting n f in
-    let known : is_known n.to addresses ≡ true = found_all (is_to who) (has_box addresses) waiting n k.known f in
-    member (is_ready host durable waiting) (same_bare n.to) (shown durable (Some n) ≡ None)
-    (λ a bare same not_ready.
-    (let own : same_bare who a ≡ true = bare-on who n.to a to same in
-    let at : bytes_eq a.host host ≡ true = (bytes_eq-Decides a.host host).1 (sym (host_of who a own) ∙ here) in
-    let first : find (is_to a) waiting ≡ Some n = found_narrow (is_to who) (is_to a) (λ x h. bare-on who a x.to own h) waiting n (bare-back n.to a same) f in
-    none_is (shown durable (Some n)) (ap (λ o. is_some (shown durable o)) (sym first) ∙ last_false (bytes_eq a.resource []) (bytes_eq a.host host) (is_some (peeked a durable waiting)) not_ready bare at)))
-    addresses k.bare t known
-
-pub none_walked : (host : List ℕ) (durable : ℕ) (waiting : List Notice) (addresses : List Jid) (last : ℕ) (in_order : Bool) → IsKept waiting addresses last in_order → list_any (is_ready host durable waiting) addresses ≡ false
-    → NoneReady host durable waiting
-none_walked host durable waiting addresses last in_order k t = record { all = λ who here. walk_by host durable waiting addresses last in_order k t who here (find (is_to who) waiting) refl }
+pub none_found : (host : List ℕ) (durable : ℕ) (waiting : List Notice) (free : Table Jid) (held : List Jid) (last : ℕ) (in_order : Bool) → IsKept waiting free held last in_order
+    → find (is_ready host durable waiting) free.rows ≡ None → NoneReady host durable waiting held
+none_found host durable waiting free held last in_order k none = record { all = λ who here apart. by who here apart (find (is_to who) waiting) refl }
+  where
+    by : (who : Jid) → who.host ≡ host → is_known who held ≡ false → (o : Option Notice) → find (is_to who) waiting ≡ o → shown durable o ≡ None
+    by who here apart None f = refl
+    by who here apart (Some n) f =
+        let to : same_bare who n.to ≡ true = found_passes (is_to who) waiting n f in
+        let box : has_box free.rows held n.to ≡ true = found_all (is_to who) (λ m. has_box free.rows held m.to) waiting n k.known f in
+        let known : is_known n.to free.rows ≡ true = left_known (is_known n.to free.rows) (is_known n.to held) box (not_known who n.to to held apart) in
+        member (is_ready host durable waiting) (same_bare n.to) (shown durable (Some n) ≡ None)
+        (λ a same no.
+        (let own : same_bare who a ≡ true = bare-on who n.to a to same in
+        let at : is_of host a ≡ true = (bytes_eq-Decides host a.host).1 (sym here ∙ host_of who a own) in
+        let first : find (is_to a) waiting ≡ Some n = found_narrow (is_to who) (is_to a) (λ x h. bare-on who a x.to own h) waiting n (bare-back n.to a same) f in
+        none_is (shown durable (Some n)) (ap (λ o. is_some (shown durable o)) (sym first) ∙ of_false (is_of host a) (is_some (peeked a durable waiting)) no at)))
+        free.rows none known
 
 -- an address and its bare one
 own_bare : (a : Jid) → same_bare a (bare_of a) ≡ true
@@ -239,11 +206,7 @@ known_by_spare true n h = refl
 known_by_spare false n h = absurd (omega arith)
 
 -- an answer that is a reference
-pub ready_some : (host : List ℕ) (durable : ℕ) (waiting : List Notice) (o : Option (Bor Jid)) (f : Option Jid) → option_copied o ≡ f → ((j : Jid) → f ≡ Some j → IsReady host durable j waiting)
-    → IfSome o (λ j. IsReady host durable j.now waiting)
-ready_some host durable waiting None f e h = tt
-ready_some host durable waiting (Some j) f e h = h j.now (sym e)
-
-pub ready_not_none : (o : Option (Bor Jid)) (f : Option Jid) (G : Type 0) → option_copied o ≡ f → (f ≡ None → ⊥) → IfNone o G
-ready_not_none None f G e h = absurd (h (sym e))
-ready_not_none (Some j) f G e h = tt
+pub ready_some : (host : List ℕ) (durable : ℕ) (waiting : List Notice) (held : List Jid) (o : Option (Bor Jid)) (f : Option Jid) → option_copied o ≡ f → ((j : Jid) → f ≡ Some j → IsReady host durable j waiting held)
+    → IfSome o (λ j. IsReady host durable j.now waiting held)
+ready_some host durable waiting held None f e h = tt
+ready_some host durable waiting held (Some j) f e h = h j.now (sym e)

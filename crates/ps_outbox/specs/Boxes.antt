@@ -1,16 +1,17 @@
 -- The notices that wait, by bare address.
-use Rattle.std.specs.Prelude.{ℕ, Bool, ◌≡◌, ◌&&◌, cond, false, List, [], ◌∷◌, ◌++◌, drop, Option, Some, None, filter, find, nat_lt, bytes_eq, is_some, IsSome}
+use Rattle.std.specs.Prelude.{ℕ, Bool, ◌≡◌, ◌&&◌, ◌||◌, cond, false, List, [], ◌∷◌, ◌++◌, drop, Option, Some, None, filter, find, nat_lt, bytes_eq, is_some, IsSome}
 use Rattle.std.specs.List.{list_any}
 use Rattle.ps_base.specs.Rows.{without_first}
 use Rattle.ps_types.specs.declared.entry.Notice.{Notice}
 use Rattle.ps_types.specs.declared.jid.Jid.{Jid}
 use Rattle.ps_types.specs.Same.{same_bare}
 
--- what contracts see: the notices in the order in which they were pushed, the addresses for which room was made, and how many notices
--- are taken without memory
+-- what contracts see: the notices in the order in which they were pushed, the addresses for which room was made, in two lists, of which the
+-- second has those that are held, and how many notices are taken without memory
 pub record Boxes : Type 0 where
   pub waiting : List Notice
-  pub addresses : List Jid
+  pub free : List Jid
+  pub held : List Jid
   pub room : ℕ
 
 -- the notice is to an address of that bare address
@@ -33,23 +34,32 @@ peeked who durable waiting = shown durable (find (is_to who) waiting)
 abbrev pub is_known : Jid → List Jid → Bool
 is_known who addresses = list_any (same_bare who) addresses
 
+-- there is room for the address
+abbrev pub has_box : List Jid → List Jid → Jid → Bool
+has_box free held who = is_known who free || is_known who held
+
 -- how many notices to the address are taken without memory
 abbrev pub spare_for : Jid → Boxes → ℕ
-spare_for who boxes = cond (is_known who boxes.addresses) boxes.room 0
+spare_for who boxes = cond (has_box boxes.free boxes.held who) boxes.room 0
 
--- a bare address of the host, which has a notice to show
-pub record IsReady (host : List ℕ) (durable : ℕ) (who : Jid) (waiting : List Notice) : Type 0 where
+-- the address is of the host
+abbrev pub is_of : List ℕ → Jid → Bool
+is_of host who = bytes_eq host who.host
+
+-- a bare address of the host that isn't held, with a notice to show
+pub record IsReady (host : List ℕ) (durable : ℕ) (who : Jid) (waiting : List Notice) (held : List Jid) : Type 0 where
   pub bare : who.resource ≡ []
   pub here : who.host ≡ host
   pub first : IsSome (peeked who durable waiting)
+  pub apart : is_known who held ≡ false
 
--- no address of the host has a notice to show
-pub record NoneReady (host : List ℕ) (durable : ℕ) (waiting : List Notice) : Type 0 where
-  pub all : (who : Jid) → who.host ≡ host → peeked who durable waiting ≡ None
+-- no address of the host that isn't held has a notice to show
+pub record NoneReady (host : List ℕ) (durable : ℕ) (waiting : List Notice) (held : List Jid) : Type 0 where
+  pub all : (who : Jid) → who.host ≡ host → is_known who held ≡ false → peeked who durable waiting ≡ None
 
--- the same as a test
+-- the address is of the host, and has a notice to show
 abbrev pub is_ready : List ℕ → ℕ → List Notice → Jid → Bool
-is_ready host durable waiting who = bytes_eq who.resource [] && (bytes_eq who.host host && is_some (peeked who durable waiting))
+is_ready host durable waiting who = is_of host who && is_some (peeked who durable waiting)
 
 -- ---- first in, first out
 

@@ -29,11 +29,11 @@ notice_kin_is = record {
   on = λ x y z h k. resource_kin_is.on (as_row x.to) (as_row y.to) (as_row z.to) h k;
 }
 
--- an address by its bare address
+-- an address by its bare address, and by its host
 abbrev pub address_by : ℕ → Index → Jid → ℕ
 address_by seed Key who = bare_digest seed who
 address_by seed Node who = bare_digest seed who
-address_by seed Bare who = 0
+address_by seed Bare who = text_digest seed who.host
 
 abbrev pub address_kin : Jid → Jid → Bool
 address_kin a b = same_bare a b

@@ -1,11 +1,11 @@
 // What is kept as rows, and what is asked of them.
-ghost use Rattle.std.specs.Prelude.{◌≡◌, bytes_eq};
+ghost use Rattle.std.specs.Prelude.{◌≡◌, bytes_eq, option_copied};
 ghost use Rattle.ps_types.specs.Same.{same_bare};
 ghost use Rattle.ps_rows.specs.Digests.{bare_digest, text_digest};
-ghost use Rattle.ps_outbox.specs.Boxes.{is_to};
+ghost use Rattle.ps_outbox.specs.Boxes.{is_of, is_ready, is_to, peeked};
 ghost use Rattle.ps_outbox.specs.Keys.{is_at};
 
-use ps_rows::{Ask, Index, Row, bare_digest, text_digest};
+use ps_rows::{Ask, Index, Row, Rows, bare_digest, text_digest};
 use ps_types::{Jid, Notice, Text};
 use std::marker::Model;
 
@@ -70,7 +70,7 @@ impl Row for Address {
         match index {
             Index::Key => bare_digest(seed, &self.bare),
             Index::Node => bare_digest(seed, &self.bare),
-            Index::Bare => 0,
+            Index::Bare => text_digest(seed, &self.bare.host),
         }
     }
 
@@ -138,5 +138,57 @@ impl<'a> Ask<Address> for AddressOf<'a> {
 
     fn digest(&self, seed: u64) -> u64 {
         bare_digest(seed, self.who)
+    }
+}
+
+/// The addresses of a host.
+#[derive(Drop)]
+pub(crate) struct OfHost<'a> {
+    pub(crate) host: &'a Text,
+}
+
+impl<'a> Ask<Address> for OfHost<'a> {
+    ghost passes = { λ ask address. is_of ask.host.now address };
+
+    ghost seeks = { λ seed ask. text_digest seed ask.host.now };
+
+    fn passes(&self, row: &Address) -> bool {
+        *self.host == row.bare.host
+    }
+
+    fn digest(&self, seed: u64) -> u64 {
+        text_digest(seed, self.host)
+    }
+}
+
+/// The first notice of a bare address, where its entry is durable.
+pub(crate) fn peek_in<'a>(waiting: &'a Rows<Waiting>, who: &Jid, durable: u64) -> Option<&'a Notice>
+    ensures { option_copied result ≡ peeked who.now durable waiting.now.rows }
+{
+    match waiting.find(Index::Node, &ToBare { who }) {
+        Some(row) if row.notice.place < durable => Some(&row.notice),
+        _ => None,
+    }
+}
+
+/// The addresses of a host that have a notice to show.
+#[derive(Drop)]
+pub(crate) struct ReadyAt<'a> {
+    pub(crate) host: &'a Text,
+    pub(crate) durable: u64,
+    pub(crate) waiting: &'a Rows<Waiting>,
+}
+
+impl<'a> Ask<Address> for ReadyAt<'a> {
+    ghost passes = { λ ask address. is_ready ask.host.now ask.durable ask.waiting.now.rows address };
+
+    ghost seeks = { λ seed ask. text_digest seed ask.host.now };
+
+    fn passes(&self, row: &Address) -> bool {
+        *self.host == row.bare.host && peek_in(self.waiting, &row.bare, self.durable).is_some()
+    }
+
+    fn digest(&self, seed: u64) -> u64 {
+        text_digest(seed, self.host)
     }
 }

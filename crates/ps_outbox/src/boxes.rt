@@ -1,12 +1,13 @@
 // The queues.
-ghost use Rattle.std.specs.Prelude.{◌≡◌, ℕ, ◌+◌, ◌<◌, ◌≤◌, ◌++◌, ◌∷◌, [], true, IfOk, OnOk, IfSome, IfNone, is_some, find, count_by, option_copied, option_map};
-ghost use Rattle.ps_base.specs.Rows.{without_first};
+ghost use Rattle.std.specs.Prelude.{◌≡◌, ℕ, ◌+◌, ◌<◌, ◌≤◌, ◌++◌, ◌∷◌, [], true, false, IfOk, OnErr, OnOk, IfSome, IfNone, IsSome, is_some, find, length, count_by, option_copied};
+ghost use Rattle.std.specs.List.{list_any};
+ghost use Rattle.ps_base.specs.Rows.{without, without_first};
 ghost use Rattle.ps_types.specs.declared.jid.Jid.{Jid};
 ghost use Rattle.ps_types.specs.Same.{same_bare};
-ghost use Rattle.ps_outbox.specs.Boxes.{is_to, shown, peeked, is_known, spare_for, is_ready, IsReady, NoneReady};
+ghost use Rattle.ps_outbox.specs.Boxes.{has_box, is_known, is_of, is_ready, is_to, peeked, shown, spare_for, IsReady, NoneReady};
 ghost use Rattle.ps_outbox.specs.Keys.{is_at};
 
-use crate::asks::{Address, AddressOf, ToBare, ToHost, Waiting};
+use crate::asks::{Address, AddressOf, OfHost, ReadyAt, ToBare, ToHost, Waiting, peek_in};
 use crate::kept::ordered;
 use ps_base::Memory;
 use ps_rows::{Index, Rows};
@@ -17,7 +18,10 @@ use std::marker::Model;
 /// The notices that wait to be handed out, in one queue for each bare address.
 pub struct Outboxes {
     waiting: Rows<Waiting>,
-    addresses: Rows<Address>,
+    /// The addresses for which room was made, without those that are held.
+    free: Rows<Address>,
+    /// The addresses that are held.
+    held: Rows<Address>,
     /// The greatest place so far, while notices came in the order of their entries.
     last: u64,
     in_order: bool,
@@ -28,7 +32,8 @@ impl Drop for Outboxes {
     fn drop(self) {
         let Outboxes {
             waiting: _,
-            addresses: _,
+            free: _,
+            held: _,
             last: _,
             in_order: _,
         } = self;
@@ -44,17 +49,23 @@ impl Model for Outboxes {
 
     ghost Value = { Boxes };
 
-    ghost view = { λ b. record { waiting = b.waiting.rows; addresses = b.addresses.rows; room = b.waiting.spare } };
+    ghost view = { λ b. record {
+      waiting = b.waiting.rows;
+      free = b.free.rows;
+      held = b.held.rows;
+      room = b.waiting.spare;
+    } };
 
     ghost use Rattle.ps_outbox.specs.Kept.{IsKept};
 
-    ghost invariant = { λ b. IsKept b.waiting.rows b.addresses.rows b.last b.in_order };
+    ghost invariant = { λ b. IsKept b.waiting.rows b.free b.held.rows b.last b.in_order };
 }
 
 impl Outboxes {
     /// No notices.
     pub fn new(alloc: Global) -> Result<Outboxes, Memory>
         ensures empty { IfOk result (λ b. b.waiting ≡ []) }
+        ensures held { IfOk result (λ b. b.held ≡ []) }
     {
         Outboxes::seeded(alloc, 0)
     }
@@ -63,28 +74,44 @@ impl Outboxes {
     /// No answer depends on it.
     pub fn seeded(alloc: Global, seed: u64) -> Result<Outboxes, Memory>
         ensures empty { IfOk result (λ b. b.waiting ≡ []) }
+        ensures held { IfOk result (λ b. b.held ≡ []) }
     {
         Ok(Outboxes {
             waiting: Rows::seeded(alloc, seed),
-            addresses: Rows::seeded(alloc, seed),
+            free: Rows::seeded(alloc, seed),
+            held: Rows::seeded(alloc, seed),
             last: 0,
             in_order: true,
         })
     }
 
+    // How many rooms there have to be for the addresses that are held, and one more.
+    fn one_more(&self) -> Result<u64, Memory>
+        ensures { IfOk result (λ n. n ≡ length self.now.held + 1) }
+    {
+        match self.held.len().checked_add(1) {
+            Some(rooms) => Ok(rooms),
+            None => Err(Memory),
+        }
+    }
+
     // Makes the box of an address, if it has none.
     fn add_box(&mut self, alloc: Global, to: &Jid) -> Result<(), Memory>
         ensures waiting { self.new.waiting ≡ self.old.waiting }
+        ensures held { self.new.held ≡ self.old.held }
         ensures room { self.new.room ≡ self.old.room }
-        ensures known { OnOk result (is_known to.now self.new.addresses ≡ true) }
-        ensures kept { (who : Jid) → is_known who self.old.addresses ≡ true → is_known who self.new.addresses ≡ true }
+        ensures known { OnOk result (has_box self.new.free self.new.held to.now ≡ true) }
+        ensures kept { (who : Jid) → has_box self.old.free self.old.held who ≡ true
+            → has_box self.new.free self.new.held who ≡ true }
     {
-        if self.addresses.any(Index::Key, &AddressOf { who: to }) {
+        let ask = AddressOf { who: to };
+        if self.free.any(Index::Key, &ask) || self.held.any(Index::Key, &ask) {
             return Ok(());
         }
         let bare = to.to_bare(alloc)?;
-        self.addresses.reserve(1)?;
-        self.addresses.add(Address { bare });
+        let rooms = self.one_more()?;
+        self.free.reserve(rooms)?;
+        self.free.add(Address { bare });
         Ok(())
     }
 
@@ -92,6 +119,7 @@ impl Outboxes {
     /// What was spare for an address stays spare.
     pub fn reserve(&mut self, alloc: Global, to: &Jid, notices: u64) -> Result<(), Memory>
         ensures waiting { self.new.waiting ≡ self.old.waiting }
+        ensures held { self.new.held ≡ self.old.held }
         ensures room { OnOk result (notices ≤ spare_for to.now self.new) }
         ensures kept { (who : Jid) → spare_for who self.old ≤ spare_for who self.new }
     {
@@ -103,6 +131,7 @@ impl Outboxes {
     pub fn push(&mut self, notice: Notice)
         requires room { 0 < spare_for notice.to self.old }
         ensures waiting { self.new.waiting ≡ self.old.waiting ++ notice ∷ [] }
+        ensures held { self.new.held ≡ self.old.held }
         ensures kept { (who : Jid) → spare_for who self.old ≤ spare_for who self.new + 1 }
     {
         let (last, in_order) = ordered(self.last, self.in_order, notice.place);
@@ -121,13 +150,13 @@ impl Outboxes {
         }
     }
 
-    // The first notice to a host.
-    fn first_at(&self, host: &Text) -> Option<&Notice>
-        ensures { option_copied result ≡ find (is_at host.now) self.now.waiting }
+    // Whether the first notice to a host is one to show.
+    fn shows(&self, host: &Text, durable: u64) -> bool
+        ensures { result ≡ is_some (shown durable (find (is_at host.now) self.now.waiting)) }
     {
         match self.waiting.find(Index::Bare, &ToHost { host }) {
-            Some(row) => Some(&row.notice),
-            None => None,
+            Some(row) => row.notice.place < durable,
+            None => false,
         }
     }
 
@@ -136,16 +165,14 @@ impl Outboxes {
     pub fn peek(&self, bare: &Jid, durable: u64) -> Option<&Notice>
         ensures { option_copied result ≡ peeked bare.now durable self.now.waiting }
     {
-        match self.first(bare) {
-            Some(notice) if notice.place < durable => Some(notice),
-            _ => None,
-        }
+        peek_in(&self.waiting, bare, durable)
     }
 
     /// Takes the first notice away from the queue of a bare address, and answers whether there was one.
     pub fn drop_first(&mut self, bare: &Jid) -> bool
         ensures there { result ≡ is_some (find (is_to bare.now) self.old.waiting) }
         ensures waiting { self.new.waiting ≡ without_first (is_to bare.now) self.old.waiting }
+        ensures held { self.new.held ≡ self.old.held }
         ensures kept { (who : Jid) → spare_for who self.old ≤ spare_for who self.new }
     {
         let there = self.first(bare).is_some();
@@ -160,55 +187,80 @@ impl Outboxes {
         self.waiting.count_node(&ToBare { who: bare })
     }
 
-    // The address of a notice that waits, without its resource.
-    fn box_of(&self, who: &Jid) -> Option<&Jid>
-        ensures { option_copied result ≡ find (same_bare who.now) self.now.addresses }
+    /// Holds a bare address, until it is released: it isn't ready meanwhile. After a refusal none is held more than before.
+    pub fn hold(&mut self, bare: Jid) -> Result<(), Memory>
+        ensures waiting { self.new.waiting ≡ self.old.waiting }
+        ensures held { OnOk result (self.new.held ≡ self.old.held ++ bare ∷ []) }
+        ensures err { OnErr result (self.new.held ≡ self.old.held) }
+        ensures kept { (who : Jid) → spare_for who self.old ≤ spare_for who self.new }
     {
-        match self.addresses.find(Index::Key, &AddressOf { who }) {
-            Some(row) => Some(&row.bare),
-            None => None,
+        let rooms = self.one_more()?;
+        self.free.reserve(rooms)?;
+        self.held.reserve(1)?;
+        self.free.take_away(Index::Key, &AddressOf { who: &bare });
+        self.held.add(Address { bare });
+        Ok(())
+    }
+
+    /// Releases a bare address that is held. It takes no memory. What was spare for an address stays spare, but for this one where no notice waits for it.
+    pub fn release(&mut self, bare: Jid)
+        requires bare { bare.resource ≡ [] }
+        requires held { is_known bare self.old.held ≡ true }
+        ensures waiting { self.new.waiting ≡ self.old.waiting }
+        ensures held { self.new.held ≡ without (same_bare bare) self.old.held }
+        ensures kept { (who : Jid) → same_bare bare who ≡ false → spare_for who self.old ≤ spare_for who self.new }
+        ensures own { IsSome (find (is_to bare) self.old.waiting)
+            → spare_for bare self.old ≤ spare_for bare self.new }
+    {
+        let waits = self.first(&bare).is_some();
+        self.held.take_away(Index::Key, &AddressOf { who: &bare });
+        if waits {
+            self.free.add(Address { bare });
         }
     }
 
-    // Whether the address is a bare one of the host, with a notice to show.
-    fn shows(&self, host: &Text, durable: u64, who: &Jid) -> bool
-        ensures { result ≡ is_ready host.now durable self.now.waiting who.now }
+    /// Forgets a bare address that isn't held and for which no notice waits: nothing is spare for it any more.
+    pub fn forget(&mut self, bare: &Jid)
+        ensures waiting { self.new.waiting ≡ self.old.waiting }
+        ensures held { self.new.held ≡ self.old.held }
+        ensures kept { (who : Jid) → same_bare bare.now who ≡ false → spare_for who self.old ≤ spare_for who self.new }
+        ensures own { IsSome (find (is_to bare.now) self.old.waiting)
+            → spare_for bare.now self.old ≤ spare_for bare.now self.new }
     {
-        who.resource.is_empty() && who.host == *host && self.peek(who, durable).is_some()
-    }
-
-    // An address of the host that has a notice to show, by a walk through all addresses.
-    fn ready_by_walk(&self, host: &Text, durable: u64) -> Option<&Jid>
-        ensures some { IfSome result (λ j. IsReady host.now durable j.now self.now.waiting) }
-        ensures none { IfNone result (NoneReady host.now durable self.now.waiting) }
-    {
-        for slot in self.addresses.places() {
-            if let Some(row) = slot {
-                if self.shows(host, durable, &row.bare) {
-                    return Some(&row.bare);
-                }
-            }
+        if self.first(bare).is_none() {
+            self.free.take_away(Index::Key, &AddressOf { who: bare });
         }
-        None
     }
 
-    /// A bare address of the host with a notice to show, as [`Outboxes::peek`] shows it. There is none exactly where no address of the host
-    /// has one.
+    /// Whether this bare address is held.
+    pub fn is_held(&self, bare: &Jid) -> bool
+        ensures { result ≡ is_known bare.now self.now.held }
+    {
+        self.held.any(Index::Key, &AddressOf { who: bare })
+    }
+
+    /// Whether an address of the host is held.
+    pub fn holds(&self, host: &Text) -> bool
+        ensures { result ≡ list_any (is_of host.now) self.now.held }
+    {
+        self.held.any(Index::Bare, &OfHost { host })
+    }
+
+    /// A bare address of the host that isn't held, with a notice to show, as [`Outboxes::peek`] shows it. There is none exactly where no such address has one.
     pub fn ready(&self, host: &Text, durable: u64) -> Option<&Jid>
-        ensures some { IfSome result (λ j. IsReady host.now durable j.now self.now.waiting) }
-        ensures none { IfNone result (NoneReady host.now durable self.now.waiting) }
+        ensures some { IfSome result (λ j. IsReady host.now durable j.now self.now.waiting self.now.held) }
+        ensures none { IfNone result (NoneReady host.now durable self.now.waiting self.now.held) }
     {
-        if !self.in_order {
-            return self.ready_by_walk(host, durable);
+        if self.in_order && !self.shows(host, durable) {
+            return None;
         }
-        match self.first_at(host) {
-            Some(notice) => {
-                if notice.place < durable {
-                    self.box_of(&notice.to)
-                } else {
-                    None
-                }
-            }
+        let ask = ReadyAt {
+            host,
+            durable,
+            waiting: &self.waiting,
+        };
+        match self.free.find(Index::Bare, &ask) {
+            Some(row) => Some(&row.bare),
             None => None,
         }
     }

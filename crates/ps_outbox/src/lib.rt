@@ -1,13 +1,16 @@
 //! The notices that wait to be handed out, in one queue for each bare address, first in, first out.
 //!
 //! [`Outboxes`] is seen as a `Boxes` (`specs/Boxes.antt`): the list of the notices that wait, in the order in which they were pushed, the bare
-//! addresses for which room was made, and the room. The queue of an address is what that list has for its bare address.
+//! addresses for which room was made, those that are held apart from the others, and the room. The queue of an address is what that list has for its bare
+//! address.
 //!
 //! - Nothing is shown before it is durable: [`Outboxes::peek`] and [`Outboxes::ready`] are given the number of entries that are, and show the
 //!   first notice of an address only where the place of its entry is below that number.
-//! - [`Outboxes::reserve`] alone takes memory. With spare, a [`Outboxes::push`] can't be refused.
-//! - A push, a peek and a drop go to the queue of their address by its digest (`ps_rows`). The next ready notice of a host is the host's first one,
-//!   as long as notices are pushed in the order of their entries; where they aren't, the addresses are gone through.
+//! - [`Outboxes::reserve`] makes room for an address, and [`Outboxes::hold`] takes memory too. With spare, a [`Outboxes::push`] can't be refused.
+//! - An address that is held isn't ready: so who hands out notices may have several of different addresses in hand, and gives each back by
+//!   [`Outboxes::release`]. Room for an address for which nothing waits is given up by [`Outboxes::forget`].
+//! - A push, a peek and a drop go to the queue of their address by its digest (`ps_rows`). The next ready address of a host is found among those with room
+//!   that aren't held; where notices are pushed in the order of their entries, the first of the host says whether there is any.
 //! - [`first_in_first_out`] is the law on the queues: a push adds to the end of its own queue, a drop takes from the front of its own, and no
 //!   other queue changes.
 #![tactic(auto)]

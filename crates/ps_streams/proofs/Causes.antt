@@ -1,10 +1,10 @@
 -- Why a writer ended.
-use Rattle.std.proofs.Common.{◌≡◌, ℕ, ◌⊎◌, ⊎_elim, inl, inr, Bool, true, false, List, [], ◌++◌, Option, Some, None, Result, Ok, Err, refl, ap, sym, ◌∙◌, subst}
+use Rattle.std.proofs.Common.{◌≡◌, ◌≢◌, ℕ, ◌⊎◌, ⊎_elim, inl, inr, Bool, true, false, List, [], ◌∷◌, ◌++◌, Result, Ok, Err, refl, ap, sym, ◌∙◌, subst}
+use Rattle.std.specs.Prelude.{◌||◌}
+use Rattle.ps_types.proofs.Same.{same_jid-Decides}
 use Rattle.ps_types.specs.declared.entry.Arrival.{Arrival}
 use Rattle.ps_types.specs.declared.jid.Jid.{Jid}
-use Rattle.ps_types.specs.Same.{same_jid}
-use Rattle.ps_types.proofs.Same.{same_jid-Decides}
-use Rattle.std.proofs.lemmas.Bool.{false≢true}
+use Rattle.ps_types.specs.declared.entry.Entry.TheVariants.{Handed}
 use Rattle.ps_model.specs.Machine.{run}
 use Rattle.ps_model.specs.TheCore.{the_core}
 use Rattle.ps_model.specs.World.{Flight, Nothing, Unrecorded, World}
@@ -13,7 +13,7 @@ use Rattle.ps_model.specs.declared.steps.Step.{Step}
 use Rattle.ps_model.specs.declared.steps.Step.TheVariants.{Ended}
 use Rattle.ps_model.proofs.TheLaws.{the-laws}
 use Rattle.ps_trace.specs.declared.deed.Deed.{Deed}
-use Rattle.ps_trace.specs.Did.{HasInHand}
+use Rattle.ps_trace.specs.Did.{HasInHand, is_in}
 use Rattle.ps_trace.specs.Own.{AllDiffer, IsWriterOf}
 use Rattle.ps_trace.proofs.Doing.{did-between, did-world, world-append}
 use Rattle.ps_trace.proofs.Flying.{still-run}
@@ -22,26 +22,32 @@ use Rattle.ps_hall_state.specs.declared.answers.ArriveRefusal.{ArriveRefusal}
 use Rattle.ps_hall_state.specs.declared.answers.ArriveRefusal.TheVariants.{Store as NoStore}
 use Rattle.ps_hall_state.specs.declared.answers.HandedRefusal.{HandedRefusal}
 use Rattle.ps_hall_state.specs.declared.answers.HandedRefusal.TheVariants.{Store}
-use Rattle.ps_hall.specs.Calls.{HasGone, HasHand, HasHanded, IsGone, LayDoes}
+use Rattle.ps_hall.specs.Calls.{FoundOver, HasGone, HasHanded, IsGone, LayDoes, OfFirst}
 use Rattle.ps_hall_flush.specs.Doing.{Adds, Does, Passes}
 use Rattle.ps_hall_flush.specs.Flush.{Flushes, TellsFault}
 use Rattle.ps_hall_flush.specs.Homes.{world_at}
 use Rattle.ps_hall_flush.specs.Origin.{Origin}
-use Rattle.ps_streams.specs.Speaking.{HasLanded}
+use Rattle.ps_streams.specs.Speaking.{HadNoRoom, HasLanded}
 use Rattle.ps_streams.proofs.Looping.{the_err}
 
 -- what is in hand was not recorded, and nothing else of the host is in flight
-pub hand-landed : (hand : Option Jid) (h : List ℕ) (w : World) → HasHand hand h w → HasLanded h w
-hand-landed None h w free a here = inl (free a here)
-hand-landed (Some b) h w is a here = by (same_jid a b) refl
+pub hand-landed : (hand : List Jid) (h : List ℕ) (w : World) → HasInHand h hand w → HasLanded h w
+hand-landed hand h w is a here = by (is_in a hand) refl
   where
-    by : (t : Bool) → same_jid a b ≡ t → ((w.addresses a).flight ≡ Nothing) ⊎ ((w.addresses a).flight ≡ Unrecorded)
-    by true e = inr (ap (λ (j : Jid). (w.addresses j).flight) ((same_jid-Decides a b).0 e) ∙ is.this)
-    by false e = inl (is.others a here (λ s. false≢true (sym e ∙ (same_jid-Decides a b).1 s)))
+    by : (t : Bool) → is_in a hand ≡ t → ((w.addresses a).flight ≡ Nothing) ⊎ ((w.addresses a).flight ≡ Unrecorded)
+    by true e = inr (is.these a e)
+    by false e = inl (is.others a here e)
 
--- the notice that was in hand is so still, in the same host's
-pub hand-still : (o : Origin) (seen : List Deed) (hand : Option Jid) (to : Jid) (g h : List ℕ) → hand ≡ Some to → g ≡ h → HasHand hand g (world_at o seen) → HasInHand h to (world_at o seen)
-hand-still o seen hand to g h is same had = subst (λ (x : Option Jid). HasHand x h (world_at o seen)) is (subst (λ (f : List ℕ). HasHand hand f (world_at o seen)) same had)
+-- the notice to an address that is in hand is in flight, and has no Handed
+pub hand-flies : (o : Origin) (seen : List Deed) (hand : List Jid) (to : Jid) (h : List ℕ) → is_in to hand ≡ true → HasInHand h hand (world_at o seen) → ((world_at o seen).addresses to).flight ≡ Unrecorded
+hand-flies o seen hand to h is had = had.these to is
+
+-- there was no room for the first in hand, which is so still
+pub no-room : (o : Origin) (h : List ℕ) (hand now : List Jid) (seen : List Deed) (Found : Type 0) → hand ≢ [] → now ≡ hand → HasInHand h now (world_at o seen) → OfFirst hand (λ a. Found → FoundOver o (Handed a) seen) → Found → HadNoRoom o h seen
+no-room o h [] now seen Found some still held over full = absurd (some refl)
+no-room o h (a ∷ hand) now seen Found some still held over full =
+    let has = subst (λ (l : List Jid). HasInHand h l (world_at o seen)) still held in
+    record { to = a; here = has.are.0; hand = has.these a (ap (λ b. b || is_in a hand) ((same_jid-Decides a a).1 refl)); over = over full }
 
 module _ (o : Origin) (k : ℕ) where
   abbrev at : List Deed → World
@@ -54,14 +60,14 @@ module _ (o : Origin) (k : ℕ) where
   tells-broken found new (inl same) = ap (λ (l : List Deed). (at l).broken) same.0 ∙ same.1
   tells-broken found new (inr added) = ap (λ (w : World). w.broken) (did-world the_core the-laws o.boot o.list o.hosts k found new added ∙ ap (run the_core o.boot (at (found ++ added.between))) added.does)
 
-  module _ (T : Type 0) (h : List ℕ) (to : Jid) (old new : List Deed) where
+  module _ (T : Type 0) (h : List ℕ) (hand now : List Jid) (old new : List Deed) where
     -- the disk failed
-    store-is : HasHanded {T = T} o k h to old new (Err Store) → (at new).broken ≡ true
-    store-is (inl did) = ap (λ (w : World). w.broken) (quiet-world old new did did.does.1) ∙ did.does.0
-    store-is (inr h) = tells-broken h.1.after.found new h.1.after.fault
+    store-is : hand ≢ [] → HasHanded {T = T} o k h hand now old new (Err Store) → (at new).broken ≡ true
+    store-is some (inl did) = ap (λ (w : World). w.broken) (quiet-world old new did did.does.2) ∙ did.does.0
+    store-is some (inr h) = let n = h.1.recorded.after in tells-broken n.found new n.fault
 
-    pub handed-store : (e : HandedRefusal) → e ≡ Store → HasHanded {T = T} o k h to old new (Err e) → (at new).broken ≡ true
-    handed-store e same is = store-is (subst (λ (x : HandedRefusal). HasHanded {T = T} o k h to old new (Err x)) same is)
+    pub handed-store : hand ≢ [] → (e : HandedRefusal) → e ≡ Store → HasHanded {T = T} o k h hand now old new (Err e) → (at new).broken ≡ true
+    handed-store some e same is = store-is some (subst (λ (x : HandedRefusal). HasHanded {T = T} o k h hand now old new (Err x)) same is)
 
   -- ---- after the last step
 

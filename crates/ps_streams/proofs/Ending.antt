@@ -13,6 +13,7 @@ use Rattle.ps_trace.proofs.Doing.{did-own}
 use Rattle.ps_trace.proofs.Passing.{passed-own}
 use Rattle.ps_hall_state.specs.declared.answers.HandedRefusal.{HandedRefusal}
 use Rattle.ps_hall_state.specs.declared.answers.HandedRefusal.TheVariants.{Full, Memory, Store}
+use Rattle.ps_trace.specs.Did.{records_of}
 use Rattle.ps_hall.specs.Calls.{HasHanded, NextDoes, RecordDoes, RecordedThen}
 use Rattle.ps_hall.specs.declared.answers.Next.{Next}
 use Rattle.ps_hall.specs.declared.answers.Next.TheVariants.{Notice, NotYet, Over, Reply}
@@ -28,13 +29,16 @@ no-writer-end-append [] ys a b = b
 no-writer-end-append (x ∷ xs) ys a b = (a.0, no-writer-end-append xs ys a.1 b)
 
 -- the steps of `next`
-next-mild : {E : Type 0} (o : Origin) (h : List ℕ) (r : Result Next E) (hand : Option Jid) (w : World) (steps : List Step) → NextDoes o h r hand w steps → HasNoWriterEnd steps
-next-mild o h (Ok (Reply text)) hand w steps d = subst HasNoWriterEnd (sym d.2) (tt, tt)
-next-mild o h (Ok (Notice text)) None w steps d = absurd d
-next-mild o h (Ok (Notice text)) (Some a) w steps d = subst HasNoWriterEnd (sym d.3) (tt, tt)
-next-mild o h (Ok NotYet) hand w steps d = subst HasNoWriterEnd (sym d.4) tt
-next-mild o h (Ok Over) hand w steps d = subst HasNoWriterEnd (sym d.4) tt
-next-mild o h (Err e) hand w steps d = subst HasNoWriterEnd (sym d.1) tt
+next-mild : {E : Type 0} (o : Origin) (h : List ℕ) (hand after : List Jid) (r : Result Next E) (w : World) (steps : List Step) → NextDoes o h hand r after w steps → HasNoWriterEnd steps
+next-mild o h hand after (Ok (Reply text)) w steps d = subst HasNoWriterEnd (sym d.2) (tt, tt)
+next-mild o h hand after (Ok (Notice text)) w steps d = subst HasNoWriterEnd (sym d.steps_are) (tt, tt)
+next-mild o h hand after (Ok NotYet) w steps d = subst HasNoWriterEnd (sym d.4) tt
+next-mild o h hand after (Ok Over) w steps d = subst HasNoWriterEnd (sym d.5) tt
+next-mild o h hand after (Err e) w steps d = subst HasNoWriterEnd (sym d.1) tt
+
+records-mild : (hand : List Jid) → HasNoWriterEnd (records_of hand)
+records-mild [] = tt
+records-mild (a ∷ hand) = (tt, records-mild hand)
 
 -- the same pass
 pub goes-as : (j k : ℕ) (old new : List Deed) → j ≡ k → GoesOn j old new → GoesOn k old new
@@ -52,8 +56,8 @@ module _ (o : Origin) (k : ℕ) where
   goes-did old new did mild none = subst HasNoWriterEnd (sym (did-own the_core the-laws o.boot o.list o.hosts k old new did)) (no-writer-end-append (own_steps k old) did.steps none mild)
 
   -- a call of `next`
-  pub goes-next : {E : Type 0} (h : List ℕ) (hand : Option Jid) (old new : List Deed) (r : Result Next E) → Does o k old new (NextDoes o h r hand) → GoesOn k old new
-  goes-next h hand old new r did = goes-did old new did (next-mild o h r hand (world_at o (old ++ did.between)) did.steps did.does)
+  pub goes-next : {E : Type 0} (h : List ℕ) (hand after : List Jid) (old new : List Deed) (r : Result Next E) → Does o k old new (NextDoes o h hand r after) → GoesOn k old new
+  goes-next h hand after old new r did = goes-did old new did (next-mild o h hand after r (world_at o (old ++ did.between)) did.steps did.does)
 
   goes-passed : (old new : List Deed) → Passes o k old new → GoesOn k old new
   goes-passed old new p none = subst HasNoWriterEnd (sym (passed-own the_core the-laws o.boot o.list o.hosts k old new p)) none
@@ -86,25 +90,25 @@ module _ (o : Origin) (k : ℕ) where
   pub ends-added : (h : List ℕ) (old new : List Deed) → Adds o k old new (Ended h Writer) → EndsOnce h k old new
   ends-added h old new added = ends-by h old new added added.does
 
-  module _ (h : List ℕ) (to : Jid) (old new : List Deed) where
-    goes-recorded : (Then : List Deed → List Deed → Type 0) → ((mid : List Deed) → Then mid new → GoesOn k mid new) → RecordedThen o k h to old new Then → GoesOn k old new
-    goes-recorded Then after r none = after r.mid r.after (goes-did old r.mid r.recorded (subst HasNoWriterEnd (sym r.recorded.does.2) (tt, tt)) none)
+  module _ (h : List ℕ) (hand now : List Jid) (old new : List Deed) where
+    goes-recorded : (rest : List Jid) (Then : List Deed → List Deed → Type 0) → ((mid : List Deed) → Then mid new → GoesOn k mid new) → RecordedThen o k h hand rest old new Then → GoesOn k old new
+    goes-recorded rest Then after r none = after r.mid r.after (goes-did old r.mid r.recorded (subst HasNoWriterEnd (sym r.recorded.does.2.steps_are) (records-mild r.recorded.does.2.done)) none)
 
-    goes-refused : (e : HandedRefusal) → (e ≡ Full → ⊥) → Does o k old new (RecordDoes {T = Unit {0}} o h to (Err e)) → GoesOn k old new
-    goes-refused Store other did = goes-did old new did (subst HasNoWriterEnd (sym did.does.1) tt)
+    goes-refused : (e : HandedRefusal) → (e ≡ Full → ⊥) → Does o k old new (RecordDoes {T = Unit {0}} o h hand now (Err e)) → GoesOn k old new
+    goes-refused Store other did = goes-did old new did (subst HasNoWriterEnd (sym did.does.2) tt)
     goes-refused Full other did = absurd (other refl)
-    goes-refused Memory other did = goes-did old new did (subst HasNoWriterEnd (sym did.does.1) tt)
+    goes-refused Memory other did = goes-did old new did (subst HasNoWriterEnd (sym did.does.2) tt)
 
     -- unless there was no room
-    pub goes-handed : {T : Type 0} (r : Result T HandedRefusal) → (r ≡ Err Full → ⊥) → HasHanded o k h to old new r → GoesOn k old new
-    goes-handed (Ok t) other r = goes-recorded (Flushes o k) (λ mid f. goes-flushes mid new f) r
+    pub goes-handed : {T : Type 0} (r : Result T HandedRefusal) → (r ≡ Err Full → ⊥) → HasHanded o k h hand now old new r → GoesOn k old new
+    goes-handed (Ok t) other r = goes-recorded now (Flushes o k) (λ mid f. goes-flushes mid new f) r
     goes-handed {T} (Err e) other (inl did) = goes-refused e (λ is. other (ap (λ (x : HandedRefusal). the_err T x) is)) did
-    goes-handed (Err e) other (inr r) = goes-recorded (NotFlushed o k) (λ mid f. goes-not-flushed mid new f) r.1
+    goes-handed (Err e) other (inr r) = goes-recorded r.1.rest (NotFlushed o k) (λ mid f. goes-not-flushed mid new f) r.1.recorded
 
-    full-ends : (T : Type 0) → HasHanded {T = T} o k h to old new (Err Full) → EndsOnce h k old new
-    full-ends T (inl did) = ends-by h old new did did.does.1
+    full-ends : (T : Type 0) → HasHanded {T = T} o k h hand now old new (Err Full) → EndsOnce h k old new
+    full-ends T (inl did) = ends-by h old new did did.does.2
     full-ends T (inr r) = absurd (cc r.0)
 
     -- which then says that the writer has ended
-    pub handed-ends : (T : Type 0) (e : HandedRefusal) → e ≡ Full → HasHanded {T = T} o k h to old new (Err e) → EndsOnce h k old new
-    handed-ends T e same is = full-ends T (subst (λ (x : HandedRefusal). HasHanded {T = T} o k h to old new (Err x)) same is)
+    pub handed-ends : (T : Type 0) (e : HandedRefusal) → e ≡ Full → HasHanded {T = T} o k h hand now old new (Err e) → EndsOnce h k old new
+    handed-ends T e same is = full-ends T (subst (λ (x : HandedRefusal). HasHanded {T = T} o k h hand now old new (Err x)) same is)

@@ -18,15 +18,16 @@ use Rattle.ps_model.specs.declared.steps.Step.TheVariants.{Emit, Take}
 use Rattle.ps_model.proofs.TheLaws.{the-laws}
 use Rattle.ps_world.proofs.Lists.{nil-right}
 use Rattle.ps_trace.specs.declared.deed.Deed.{Deed}
-use Rattle.ps_trace.specs.Did.{NoneInHand}
+use Rattle.ps_trace.specs.Did.{HasInHand, NoneInHand}
+use Rattle.ps_trace.proofs.Flying.{none-hand}
 use Rattle.ps_trace.specs.Over.{IsOver}
-use Rattle.ps_trace.specs.Own.{AllDiffer, IsWriterOf}
+use Rattle.ps_trace.specs.Own.{IsWriterOf}
 use Rattle.ps_trace.specs.Words as words
 use Rattle.ps_trace.specs.Words.{Word, notes_in, records_in, said_by, says}
-use Rattle.ps_trace.proofs.Doing.{did-free, did-world, same-either}
+use Rattle.ps_trace.proofs.Doing.{did-world, same-either}
 use Rattle.ps_hall_state.specs.Next.{IsFirstNotice, IsFirstReply, NoNotice, NoReply, some_reads}
 use Rattle.ps_hall_state.specs.declared.answers.HandedRefusal.{HandedRefusal}
-use Rattle.ps_hall.specs.Calls.{HasHand, HasHanded, NextDoes, Tells}
+use Rattle.ps_hall.specs.Calls.{HasHanded, NextDoes}
 use Rattle.ps_hall_flush.specs.Doing.{Does}
 use Rattle.ps_hall_flush.specs.Homes.{world_at}
 use Rattle.ps_hall_flush.specs.Origin.{Origin}
@@ -34,9 +35,9 @@ use Rattle.ps_hall.specs.Passes.{OurTwin}
 use Rattle.ps_hall.specs.declared.answers.Next.{Next}
 use Rattle.ps_hall.specs.declared.answers.Next.TheVariants.{Notice, Over, Reply}
 use Rattle.ps_hall.specs.declared.hall.Pass.{Pass}
-use Rattle.ps_streams.specs.Speaking.{IsFew, MaySpeak, Speaks, Spoke, Written}
+use Rattle.ps_streams.specs.Speaking.{IsFew, MayTell, Recorded, SpeaksOn, SpokeOn, SpokeWhole, Written, times}
 use Rattle.ps_streams.proofs.Bytes.{written-none, written-part, written-whole}
-use Rattle.ps_streams.proofs.Moving.{Moved, moved-did, moved-handed, moved-more, moved-quiet, none, once}
+use Rattle.ps_streams.proofs.Moving.{Moved, moved-did, moved-quiet, none, times-append}
 
 -- ---- words
 
@@ -82,15 +83,15 @@ any_not P (h ∷ hosts) (suc i) g e here = any_not P hosts i g (or_right (P h) (
 over_is : (o : Origin) (h : List ℕ) (w : World) → NoReply w h → NoNotice w h → some_reads w o.hosts ≡ false → NoneInHand h w → IsOver the_core o.hosts h w
 over_is o h w replies notices reads free = record {
   replies = λ s at low. (let high = replies s at in let no : s.step + 1 ≤ s.step = omega (arith, high, low) in omega (arith, no));
-  notices = λ a n here at low. (let high = notices a n here at in let no : n.place + 1 ≤ n.place = omega (arith, high, low) in omega (arith, no));
+  notices = λ a n here at low. (let high = notices a n here (free a here) at in let no : n.place + 1 ≤ n.place = omega (arith, high, low) in omega (arith, no));
   free = free;
   readers = λ i g here. no_not (w.hosts g).reader_ended (any_not (λ f. not (w.hosts f).reader_ended) o.hosts i g reads here);
 }
 
 -- ---- a notice that is told
 
--- one Record of an address, whose notice was written
-once_most : (to a : Jid) (n : Note) → once to a ≤ length (notes_in a (words.Note to n ∷ []))
+-- it is in hand once more, and was written
+once_most : (to a : Jid) (n : Note) → times a (to ∷ []) ≤ length (notes_in a (words.Note to n ∷ []))
 once_most to a n = at (same_jid to a) (same_jid a to) (same-either to a)
   where
     at : (t u : Bool) → t ≡ u → cond t (suc 0) 0 ≤ length (if u then n ∷ [] else [])
@@ -99,34 +100,24 @@ once_most to a n = at (same_jid to a) (same_jid a to) (same-either to a)
     at true false e = absurd (cc e)
     at false true e = omega arith
 
-pub record IsTold (h text : List ℕ) (hand : Option Jid) (w : World) (steps : List Step) : Type 0 where
-  pub to : Jid
-  pub in_hand : hand ≡ Some to
-  pub host : to.host ≡ h
-  pub first : IsFirstNotice w to text
-  pub steps_are : steps ≡ Emit to ∷ []
+-- ---- of a pass that may tell
 
-told_of : (h text : List ℕ) (hand : Option Jid) (w : World) (steps : List Step) → Tells h text hand w steps → IsTold h text hand w steps
-told_of h text None w steps t = absurd t
-told_of h text (Some a) w steps t = record { to = a; in_hand = refl; host = t.0; first = t.2; steps_are = t.3 }
-
--- ---- of a pass that may speak
-
-pub free_of : {B D : Type 0} {g : Ghosts D} (o : Origin) (t : OurTwin B D g) (p : Pass B D g) → MaySpeak o t p → NoneInHand p.host (world_at o (seen_of p.seat))
-free_of o t p may = subst (λ (x : Option Jid). HasHand x p.host (world_at o (seen_of p.seat))) may.free may.hand
-
-pub writes_of : {B D : Type 0} {g : Ghosts D} (o : Origin) (t : OurTwin B D g) (p : Pass B D g) → MaySpeak o t p → IsWriterOf o.hosts (number_of p.seat) p.host
+pub writes_of : {B D : Type 0} {g : Ghosts D} (o : Origin) (t : OurTwin B D g) (p : Pass B D g) → MayTell o t p → IsWriterOf o.hosts (number_of p.seat) p.host
 writes_of o t p may = (p.at, may.writer.pass.here, may.writer.number)
 
 -- the same pass of the same host
-pub handed-as : {T : Type 0} (o : Origin) (j k : ℕ) (g h : List ℕ) (a : Jid) (old new : List Deed) (r : Result T HandedRefusal) → j ≡ k → g ≡ h → HasHanded o j g a old new r → HasHanded o k h a old new r
-handed-as o j k g h a old new r e f is = subst (λ (n : ℕ). HasHanded o n h a old new r) e (subst (λ (x : List ℕ). HasHanded o j x a old new r) f is)
+pub handed-as : {T : Type 0} (o : Origin) (j k : ℕ) (g h : List ℕ) (hand now : List Jid) (old new : List Deed) (r : Result T HandedRefusal) → j ≡ k → g ≡ h → HasHanded o j g hand now old new r → HasHanded o k h hand now old new r
+handed-as o j k g h hand now old new r e f is = subst (λ (n : ℕ). HasHanded o n h hand now old new r) e (subst (λ (x : List ℕ). HasHanded o j x hand now old new r) f is)
+
+pub recorded-as : (o : Origin) (j k : ℕ) (hand rest : List Jid) (old new : List Deed) → j ≡ k → Recorded o j hand rest old new → Recorded o k hand rest old new
+recorded-as o j k hand rest old new e is = subst (λ (n : ℕ). Recorded o n hand rest old new) e is
 
 -- ---- at the end of a call
 
 module _ (o : Origin) (k : ℕ) where
-  spoke-by : (old new : List Deed) (before now : Option (List ℕ)) (whole last : List Word) (rs : Jid → ℕ) → Moved o k old new (whole ++ last) rs → IsFew last → Written before now whole last → ((a : Jid) → rs a ≤ length (notes_in a whole)) → Spoke o k old new before now whole last
-  spoke-by old new before now whole last rs m few written most = record {
+  spoke-by : (hand rest : List Jid) (old new : List Deed) (before now : Option (List ℕ)) (whole last : List Word) → Moved o k old new (whole ++ last) none → IsFew last → Written before now whole last → ((a : Jid) → times a rest ≤ times a hand + length (notes_in a whole))
+      → SpokeOn o k hand rest old new before now whole last
+  spoke-by hand rest old new before now whole last m few written most = record {
     words = m.words;
     few = few;
     written = written;
@@ -134,19 +125,16 @@ module _ (o : Origin) (k : ℕ) where
     owned = m.owned;
   }
 
-  spoke-nothing : (old new : List Deed) (b : Option (List ℕ)) → Moved o k old new [] none → Spoke o k old new b b [] []
-  spoke-nothing old new b m = spoke-by old new b b [] [] none m (inl refl) (written-none b) (λ a. omega arith)
-
-  module _ (h : List ℕ) (E : Type 0) (hand : Option Jid) (old new : List Deed) where
+  module _ (h : List ℕ) (E : Type 0) (hand after : List Jid) (old new : List Deed) where
     abbrev pub NextDid : Result Next E → Type 0
-    NextDid r = Does o k old new (NextDoes o h r hand)
+    NextDid r = Does o k old new (NextDoes o h hand r after)
 
     pub next-as : (r s : Next) → r ≡ s → NextDid (Ok r) → NextDid (Ok s)
     next-as r s e did = subst (λ (n : Next). NextDid (Ok n)) e did
 
     -- a call of `next` that made no step
-    pub quiet-speaks : {Cut : Type 0} (r : Result Next E) (did : NextDid r) → did.steps ≡ [] → (b : Option (List ℕ)) → Speaks o k old new b b Cut
-    quiet-speaks r did e b = record { whole = []; last = []; spoke = spoke-nothing old new b (moved-quiet o k old new did e); cut = inl refl }
+    pub quiet-whole : (r : Result Next E) (did : NextDid r) → did.steps ≡ [] → after ≡ hand → (b : Option (List ℕ)) → SpokeWhole o k hand after old new b b
+    quiet-whole r did e same b = record { whole = []; spoke = spoke-by hand after old new b b [] [] (moved-quiet o k old new did e) (inl refl) (written-none b) (λ a. (let x = ap (times a) same in omega (arith, x))) }
 
     module _ (text : List ℕ) (did : NextDid (Ok (Reply text))) where
       moved-reply : Moved o k old new (words.Reply text ∷ []) none
@@ -154,56 +142,49 @@ module _ (o : Origin) (k : ℕ) where
           let w = world_at o (old ++ did.between) in
           moved-did o k old new did (words.Reply text ∷ []) none (ap (says the_core o.boot w) did.does.2 ∙ (nil-right (said_by the_core w (Take h)) ∙ take_says w h text did.does.0)) (λ a. (let x = ap (records_in a) did.does.2 in omega (arith, x)))
 
-      pub reply-whole : {Cut : Type 0} (before now : Option (List ℕ)) → Appends before now (text ++ 10 ∷ []) → Speaks o k old new before now Cut
+      pub reply-whole : (before now : Option (List ℕ)) → Appends before now (text ++ 10 ∷ []) → SpokeWhole o k hand after old new before now
       reply-whole before now wrote = record {
         whole = words.Reply text ∷ [];
-        last = [];
-        spoke = spoke-by old new before now (words.Reply text ∷ []) [] none moved-reply (inl refl) (written-whole before now (words.Reply text) text refl wrote) (λ a. omega arith);
-        cut = inl refl;
+        spoke = spoke-by hand after old new before now (words.Reply text ∷ []) [] moved-reply (inl refl) (written-whole before now (words.Reply text) text refl wrote) (λ a. (let x = ap (times a) did.does.1 in omega (arith, x)));
       }
 
-      pub reply-part : {Cut : Type 0} → Cut → (before now : Option (List ℕ)) → AppendsFront before now (text ++ 10 ∷ []) → Speaks o k old new before now Cut
+      pub reply-part : {Cut : Type 0} → Cut → (before now : Option (List ℕ)) → AppendsFront before now (text ++ 10 ∷ []) → SpeaksOn o k hand old new before now Cut
       reply-part cut before now wrote = record {
         whole = [];
         last = words.Reply text ∷ [];
-        spoke = spoke-by old new before now [] (words.Reply text ∷ []) none moved-reply (inr (words.Reply text, refl)) (written-part before now (words.Reply text) text refl wrote) (λ a. omega arith);
+        spoke = spoke-by hand [] old new before now [] (words.Reply text ∷ []) moved-reply (inr (words.Reply text, refl)) (written-part before now (words.Reply text) text refl wrote) (λ a. omega arith);
         cut = inr cut;
       }
 
-    module _ (text : List ℕ) (did : NextDid (Ok (Notice text))) (differ : AllDiffer o.hosts) (writes : IsWriterOf o.hosts k h) (free : NoneInHand h (world_at o old)) where
-      pub told : IsTold h text hand (world_at o (old ++ did.between)) did.steps
-      told = told_of h text hand (world_at o (old ++ did.between)) did.steps did.does
-
+    module _ (text : List ℕ) (did : NextDid (Ok (Notice text))) where
       abbrev pub note : Word
-      note = words.Note told.to told.first.notice
+      note = words.Note did.does.to did.does.first.notice
 
       moved-note : Moved o k old new (note ∷ []) none
       moved-note =
           let w = world_at o (old ++ did.between) in
-          let nothing = did-free the_core the-laws o.boot o.list o.hosts k old new did differ h writes free told.to told.host in
-          moved-did o k old new did (note ∷ []) none (ap (says the_core o.boot w) told.steps_are ∙ (nil-right (said_by the_core w (Emit told.to)) ∙ emit_says w told.to text told.first nothing)) (λ a. (let x = ap (records_in a) told.steps_are in omega (arith, x)))
+          let t = did.does in
+          moved-did o k old new did (note ∷ []) none (ap (says the_core o.boot w) t.steps_are ∙ (nil-right (said_by the_core w (Emit t.to)) ∙ emit_says w t.to text t.first t.free)) (λ a. (let x = ap (records_in a) t.steps_are in omega (arith, x)))
 
-      pub note-part : {Cut : Type 0} → Cut → (before now : Option (List ℕ)) → AppendsFront before now (text ++ 10 ∷ []) → Speaks o k old new before now Cut
+      pub note-part : {Cut : Type 0} → Cut → (before now : Option (List ℕ)) → AppendsFront before now (text ++ 10 ∷ []) → SpeaksOn o k hand old new before now Cut
       note-part cut before now wrote = record {
         whole = [];
         last = note ∷ [];
-        spoke = spoke-by old new before now [] (note ∷ []) none moved-note (inr (note, refl)) (written-part before now note text told.first.line_is wrote) (λ a. omega arith);
+        spoke = spoke-by hand [] old new before now [] (note ∷ []) moved-note (inr (note, refl)) (written-part before now note text did.does.first.line_is wrote) (λ a. omega arith);
         cut = inr cut;
       }
 
-      -- it was written whole, and then `handed` was called
-      pub note-whole : {T Cut : Type 0} (r : Result T HandedRefusal) (last : List Deed) → HasHanded o k h told.to new last r → (before now : Option (List ℕ)) → Appends before now (text ++ 10 ∷ []) → Speaks o k old last before now Cut
-      note-whole r last after before now wrote = record {
+      pub note-whole : (before now : Option (List ℕ)) → Appends before now (text ++ 10 ∷ []) → SpokeWhole o k hand after old new before now
+      note-whole before now wrote = record {
         whole = note ∷ [];
-        last = [];
-        spoke = spoke-by old last before now (note ∷ []) [] (once told.to) (moved-more o k old new last (note ∷ []) [] none (once told.to) (once told.to) (λ a. omega arith) moved-note (moved-handed o k h told.to new last r after))
-            (inl refl) (written-whole before now note text told.first.line_is wrote) (λ a. once_most told.to a told.first.notice);
-        cut = inl refl;
+        spoke = spoke-by hand after old new before now (note ∷ []) [] moved-note (inl refl) (written-whole before now note text did.does.first.line_is wrote)
+            (λ a. (let x = ap (times a) did.does.hand_is ∙ times-append a hand (did.does.to ∷ []) in let y = once_most did.does.to a did.does.first.notice in omega (arith, x, y)));
       }
 
     -- the call found all said
-    pub over-found : (did : NextDid (Ok Over)) → NoneInHand h (world_at o new) → IsOver the_core o.hosts h (world_at o new)
-    over-found did free =
+    pub over-found : (did : NextDid (Ok Over)) → HasInHand h after (world_at o new) → IsOver the_core o.hosts h (world_at o new)
+    over-found did held =
         let w = world_at o (old ++ did.between) in
-        let same : world_at o new ≡ w = did-world the_core the-laws o.boot o.list o.hosts k old new did ∙ ap (run the_core o.boot w) did.does.4 in
-        subst (IsOver the_core o.hosts h) (sym same) (over_is o h w did.does.0 did.does.1 did.does.2 (subst (NoneInHand h) same free))
+        let same : world_at o new ≡ w = did-world the_core the-laws o.boot o.list o.hosts k old new did ∙ ap (run the_core o.boot w) did.does.5 in
+        let free : NoneInHand h (world_at o new) = none-hand h (world_at o new) (subst (λ (l : List Jid). HasInHand h l (world_at o new)) (did.does.4 ∙ did.does.2) held) in
+        subst (IsOver the_core o.hosts h) (sym same) (over_is o h w did.does.0 did.does.1 did.does.3 (subst (NoneInHand h) same free))

@@ -1,7 +1,8 @@
 -- What a writer did.
-use Rattle.std.specs.Prelude.{◌≡◌, ◌⊎◌, ℕ, ◌+◌, ◌≤◌, ◌++◌, ◌∷◌, [], List, Option, None, length, true}
+use Rattle.std.specs.Prelude.{◌≡◌, ◌≢◌, ◌⊎◌, ℕ, suc, ◌+◌, ◌<◌, ◌≤◌, ◌++◌, ◌∷◌, [], cond, List, Option, length, true}
 use Rattle.std.specs.Io.KnownBytes.{Appends}
 use Rattle.ps_types.specs.declared.entry.Entry.TheVariants.{Handed}
+use Rattle.ps_types.specs.Same.{same_jid}
 use Rattle.ps_types.specs.declared.jid.Jid.{Jid}
 use Rattle.ps_model.specs.Machine.{start}
 use Rattle.ps_model.specs.TheCore.{the_core}
@@ -13,7 +14,6 @@ use Rattle.ps_disk.specs.declared.device.Disk.{Ghosts}
 use Rattle.ps_twin.specs.declared.twin.TwinSeat.{TwinSeat}
 use Rattle.ps_twin.specs.Seats.{number_of, seen_of}
 use Rattle.ps_trace.specs.declared.deed.Deed.{Deed}
-use Rattle.ps_trace.specs.Did.{HasInHand}
 use Rattle.ps_trace.specs.Over.{IsOver, WriterDone}
 use Rattle.ps_trace.specs.Own.{AreOwned, own_steps, words_by}
 use Rattle.ps_trace.specs.Words.{Word, bytes_of, notes_in, records_in}
@@ -50,6 +50,21 @@ pub record Spoke (o : Origin) (k : ℕ) (old new : List Deed) (before now : Opti
       → records_in a (own_steps k new) ≤ records_in a (own_steps k old) + length (notes_in a whole)
   pub owned : AreOwned o.hosts new
 
+-- how often the address is in hand
+abbrev pub times : Jid → List Jid → ℕ
+times a [] = 0
+times a (b ∷ hand) = cond (same_jid b a) (suc (times a hand)) (times a hand)
+
+-- The same between two moments at which the pass has notices in hand: what it then has in hand was written whole, and is not recorded.
+pub record SpokeOn (o : Origin) (k : ℕ) (hand rest : List Jid) (old new : List Deed) (before now : Option (List ℕ))
+    (whole last : List Word) : Type 0 where
+  pub words : said_in o k new ≡ said_in o k old ++ (whole ++ last)
+  pub few : IsFew last
+  pub written : Written before now whole last
+  pub records : (a : Jid) → records_in a (own_steps k new) + times a rest
+      ≤ records_in a (own_steps k old) + times a hand + length (notes_in a whole)
+  pub owned : AreOwned o.hosts new
+
 -- the same, where only after a cut a word may be written in part
 pub record Speaks (o : Origin) (k : ℕ) (old new : List Deed) (before now : Option (List ℕ))
     (Cut : Type 0) : Type 0 where
@@ -58,10 +73,29 @@ pub record Speaks (o : Origin) (k : ℕ) (old new : List Deed) (before now : Opt
   pub spoke : Spoke o k old new before now whole last
   pub cut : (last ≡ []) ⊎ Cut
 
--- each word was written whole
-pub record SpokeWhole (o : Origin) (k : ℕ) (old new : List Deed) (before now : Option (List ℕ)) : Type 0 where
+-- the same from a moment with notices in hand
+pub record SpeaksOn (o : Origin) (k : ℕ) (hand : List Jid) (old new : List Deed) (before now : Option (List ℕ))
+    (Cut : Type 0) : Type 0 where
   pub whole : List Word
-  pub spoke : Spoke o k old new before now whole []
+  pub last : List Word
+  pub spoke : SpokeOn o k hand [] old new before now whole last
+  pub cut : (last ≡ []) ⊎ Cut
+
+-- the pass said nothing, and what it recorded it had in hand
+pub record Recorded (o : Origin) (k : ℕ) (hand rest : List Jid) (old new : List Deed) : Type 0 where
+  pub words : said_in o k new ≡ said_in o k old
+  pub records : (a : Jid)
+      → records_in a (own_steps k new) + times a rest ≤ records_in a (own_steps k old) + times a hand
+  pub owned : AreOwned o.hosts new
+
+-- of those in hand some were recorded, if there were any
+abbrev pub AreFewer : List Jid → List Jid → Type 0
+AreFewer hand rest = hand ≢ [] → length rest < length hand
+
+-- each word was written whole
+pub record SpokeWhole (o : Origin) (k : ℕ) (hand rest : List Jid) (old new : List Deed) (before now : Option (List ℕ)) : Type 0 where
+  pub whole : List Word
+  pub spoke : SpokeOn o k hand rest old new before now whole []
 
 -- ---- ends
 
@@ -69,7 +103,7 @@ pub record SpokeWhole (o : Origin) (k : ℕ) (old new : List Deed) (before now :
 pub record HadNoRoom (o : Origin) (host : List ℕ) (seen : List Deed) : Type 0 where
   pub to : Jid
   pub here : to.host ≡ host
-  pub hand : HasInHand host to (world_at o seen)
+  pub hand : ((world_at o seen).addresses to).flight ≡ Unrecorded
   pub over : FoundOver o (Handed to) seen
 
 -- the step does not say that a writer has ended
@@ -116,9 +150,17 @@ module _ {V J : Type 0} where
       → Type 0 → Type 0
   SeatSpeaks o old new before now Cut = Speaks o (number_of old) (seen_of old) (seen_of new) before now Cut
 
-  abbrev pub SeatSpokeWhole : Origin → TwinSeat V J Deed → TwinSeat V J Deed → Option (List ℕ) → Option (List ℕ)
-      → Type 0
-  SeatSpokeWhole o old new before now = SpokeWhole o (number_of old) (seen_of old) (seen_of new) before now
+  abbrev pub SeatSpeaksOn : Origin → List Jid → TwinSeat V J Deed → TwinSeat V J Deed → Option (List ℕ)
+      → Option (List ℕ) → Type 0 → Type 0
+  SeatSpeaksOn o hand old new before now Cut = SpeaksOn o (number_of old) hand (seen_of old) (seen_of new) before now Cut
+
+  abbrev pub SeatRecords : Origin → List Jid → List Jid → TwinSeat V J Deed → TwinSeat V J Deed → Type 0
+  SeatRecords o hand rest old new = Recorded o (number_of old) hand rest (seen_of old) (seen_of new)
+
+  abbrev pub SeatSpokeWhole : Origin → List Jid → List Jid → TwinSeat V J Deed → TwinSeat V J Deed → Option (List ℕ)
+      → Option (List ℕ) → Type 0
+  SeatSpokeWhole o hand rest old new before now =
+      SpokeWhole o (number_of old) hand rest (seen_of old) (seen_of new) before now
 
   -- by what it has seen the disk has failed
   abbrev pub FindsBroken : Origin → TwinSeat V J Deed → Type 0
@@ -147,11 +189,16 @@ module _ {V J : Type 0} where
   IsWriterDone o host old new = DoneOnce o host (number_of old) (seen_of old) (seen_of new)
 
 module _ {B D : Type 0} {g : Ghosts D} where
-  -- a writer's pass, with nothing in hand
+  -- a writer's pass, with what it has in hand
+  pub record MayTell (o : Origin) (t : OurTwin B D g) (p : Pass B D g) : Type 0 where
+    pub writer : IsWriter o t p.at p.host p.seat
+    pub hand : HandAt o p.in_hand.items p.host p.seat
+
+  -- or with nothing in hand
   pub record MaySpeak (o : Origin) (t : OurTwin B D g) (p : Pass B D g) : Type 0 where
     pub writer : IsWriter o t p.at p.host p.seat
-    pub free : p.in_hand ≡ None
-    pub hand : HandAt o p.in_hand p.host p.seat
+    pub free : p.in_hand.items ≡ []
+    pub hand : HandAt o p.in_hand.items p.host p.seat
 
   -- the pass of the same caller, later
   pub record IsSamePass (old new : Pass B D g) : Type 0 where

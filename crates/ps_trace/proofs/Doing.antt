@@ -43,14 +43,6 @@ same-either a b = by (same_jid a b) (same_jid b a) refl refl
     by true false e f = absurd (false≢true (sym f ∙ (same_jid-Decides b a).1 (sym ((same_jid-Decides a b).0 e))))
     by false true e f = absurd (false≢true (sym e ∙ (same_jid-Decides a b).1 (sym ((same_jid-Decides b a).0 f))))
 
--- one notice is in hand
-pub one-hand : (h : List ℕ) (a b : Jid) (w : World) → HasInHand h a w → HasInHand h b w → b ≡ a
-one-hand h a b w one two = by (same_jid b a) refl
-  where
-    by : (t : Bool) → same_jid b a ≡ t → b ≡ a
-    by true e = (same_jid-Decides b a).0 e
-    by false e = absurd (let u = two.this in let n = one.others b two.host (λ s. false≢true (sym e ∙ (same_jid-Decides b a).1 s)) in let z : Unrecorded ≡ Nothing = sym u ∙ n in cc z)
-
 module _ (core : Core) (laws : Laws core) (boot : List ℕ) (list : List Entry) (hosts : List (List ℕ)) where
   pub world-append : (xs ys : List Deed) → world_of core boot list hosts (xs ++ ys) ≡ run core boot (world_of core boot list hosts xs) (steps_in ys)
   world-append xs ys = ap (λ ss. world core boot list ss) (steps-append xs ys) ∙ run-append core laws boot (start core boot list) (steps_in xs) (steps_in ys)
@@ -79,8 +71,8 @@ module _ (core : Core) (laws : Laws core) (boot : List ℕ) (list : List Entry) 
     pub did-free : AllDiffer hosts → (h : List ℕ) → IsWriterOf hosts k h → NoneInHand h (world_of core boot list hosts old) → NoneInHand h found
     did-free differ h writes free = subst (NoneInHand h) (sym (world-append old did.between)) (free-run core boot hosts differ h k writes (world_of core boot list hosts old) did.between did-between did.none free)
 
-    pub did-hand : AllDiffer hosts → (h : List ℕ) → IsWriterOf hosts k h → (a : Jid) → HasInHand h a (world_of core boot list hosts old) → HasInHand h a found
-    did-hand differ h writes a is = subst (HasInHand h a) (sym (world-append old did.between)) (hand-run core boot hosts differ h k writes a (world_of core boot list hosts old) did.between did-between did.none is)
+    pub did-hand : AllDiffer hosts → (h : List ℕ) → IsWriterOf hosts k h → (hand : List Jid) → HasInHand h hand (world_of core boot list hosts old) → HasInHand h hand found
+    did-hand differ h writes hand is = subst (HasInHand h hand) (sym (world-append old did.between)) (hand-run core boot hosts differ h k writes hand (world_of core boot list hosts old) did.between did-between did.none is)
 
     pub did-records : (a : Jid) → records_in a (own_steps k new) ≡ records_in a (own_steps k old) + records_in a did.steps
     did-records a = ap (records_in a) did-own ∙ records-append core laws boot a (own_steps k old) did.steps

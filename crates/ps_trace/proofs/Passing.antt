@@ -75,8 +75,8 @@ module _ (core : Core) (laws : Laws core) (boot : List ℕ) (list : List Entry) 
     pub passed-free : AllDiffer hosts → (h : List ℕ) → IsWriterOf hosts k h → NoneInHand h (world_of core boot list hosts old) → NoneInHand h (world_of core boot list hosts new)
     passed-free differ h writes free = subst (NoneInHand h) (sym passed-world) (free-run core boot hosts differ h k writes (world_of core boot list hosts old) p.between passed-between p.none free)
 
-    pub passed-hand : AllDiffer hosts → (h : List ℕ) → IsWriterOf hosts k h → (a : Jid) → HasInHand h a (world_of core boot list hosts old) → HasInHand h a (world_of core boot list hosts new)
-    passed-hand differ h writes a is = subst (HasInHand h a) (sym passed-world) (hand-run core boot hosts differ h k writes a (world_of core boot list hosts old) p.between passed-between p.none is)
+    pub passed-hand : AllDiffer hosts → (h : List ℕ) → IsWriterOf hosts k h → (hand : List Jid) → HasInHand h hand (world_of core boot list hosts old) → HasInHand h hand (world_of core boot list hosts new)
+    passed-hand differ h writes hand is = subst (HasInHand h hand) (sym passed-world) (hand-run core boot hosts differ h k writes hand (world_of core boot list hosts old) p.between passed-between p.none is)
 
     pub passed-kept : IsKept core boot list hosts k old → IsKept core boot list hosts k new
     passed-kept kept = subst (IsKept core boot list hosts k) (sym p.is) (kept-on core laws boot list hosts k old p.between (subst (AreOwned hosts) p.is p.owned) p.none kept)

@@ -1,8 +1,11 @@
 -- What a call of a pass does, by what the pass has seen before and after.
-use Rattle.std.specs.Prelude.{◌≡◌, ◌≢◌, ℕ, ◌++◌, List}
+use Rattle.std.specs.Prelude.{◌≡◌, ℕ, Bool, true, false, ◌++◌, ◌∷◌, [], List, map}
+use Rattle.std.specs.List.{list_any}
+use Rattle.ps_types.specs.Same.{same_jid}
 use Rattle.ps_types.specs.declared.jid.Jid.{Jid}
 use Rattle.ps_types.specs.declared.entry.Entry.{Entry}
 use Rattle.ps_model.specs.declared.steps.Step.{Step}
+use Rattle.ps_model.specs.declared.steps.Step.TheVariants.{Record}
 use Rattle.ps_model.specs.Core.{Core}
 use Rattle.ps_model.specs.World.{Nothing, Unrecorded, World}
 use Rattle.ps_model.specs.Machine.{world}
@@ -13,11 +16,24 @@ use Rattle.ps_trace.specs.Own.{steps_in, deeds, AreOwned, NoneOf, LaidWithin}
 abbrev pub NoneInHand : List ℕ → World → Type 0
 NoneInHand h w = (a : Jid) → a.host ≡ h → (w.addresses a).flight ≡ Nothing
 
--- of the notices to addresses of the host just the one to this address is in flight, and it has no Handed
-pub record HasInHand (h : List ℕ) (a : Jid) (w : World) : Type 0 where
-  pub host : a.host ≡ h
-  pub this : (w.addresses a).flight ≡ Unrecorded
-  pub others : (b : Jid) → b.host ≡ h → b ≢ a → (w.addresses b).flight ≡ Nothing
+-- the address is one of these
+abbrev pub is_in : Jid → List Jid → Bool
+is_in a hand = list_any (same_jid a) hand
+
+-- these are different addresses of the host
+abbrev pub AreHeld : List ℕ → List Jid → Type 0
+AreHeld h [] = Unit {0}
+AreHeld h (a ∷ hand) = (a.host ≡ h) × (is_in a hand ≡ false) × AreHeld h hand
+
+-- of the notices to addresses of the host just those to these addresses are in flight, and none of them has a Handed
+pub record HasInHand (h : List ℕ) (hand : List Jid) (w : World) : Type 0 where
+  pub are : AreHeld h hand
+  pub these : (a : Jid) → is_in a hand ≡ true → (w.addresses a).flight ≡ Unrecorded
+  pub others : (a : Jid) → a.host ≡ h → is_in a hand ≡ false → (w.addresses a).flight ≡ Nothing
+
+-- the steps that record these
+abbrev pub records_of : List Jid → List Step
+records_of hand = map (λ a. Record a) hand
 
 module _ (core : Core) (boot : List ℕ) (list : List Entry) (hosts : List (List ℕ)) where
   -- the world of what was seen

@@ -4,7 +4,7 @@ use Rattle.ps_types.specs.declared.jid.Jid.{Jid}
 use Rattle.ps_types.specs.declared.entry.Entry.{Entry}
 use Rattle.ps_types.specs.declared.entry.Entry.TheVariants.{Boot}
 use Rattle.ps_model.specs.declared.steps.Step.{Step}
-use Rattle.ps_model.specs.declared.steps.Step.TheVariants.{Flush, Record}
+use Rattle.ps_model.specs.declared.steps.Step.TheVariants.{Flush}
 use Rattle.ps_model.specs.Core.{Core, handed}
 use Rattle.ps_model.specs.CoreLaws.{IsLawful}
 use Rattle.ps_model.specs.Machine.{start, world}
@@ -15,7 +15,7 @@ use Rattle.ps_trace.specs.Lines.{Came, came, HasLines}
 use Rattle.ps_trace.specs.Words.{Word, words, records_in, HasSaid}
 use Rattle.ps_trace.specs.Own.{steps_in, own_steps, arrivals_in, words_by, IsReaderOf, IsWriterOf, IsServed, AllDiffer, AreOwned}
 use Rattle.ps_trace.specs.Over.{IsOver, AllRead, IsFront, IsComplete}
-use Rattle.ps_trace.specs.Did.{NoneInHand, HasInHand, world_of, Did, Passed, IsKept}
+use Rattle.ps_trace.specs.Did.{HasInHand, records_of, world_of, Did, Passed, IsKept}
 
 module _ (core : Core) where
   -- each host's lines stand in the list in order, each answered at its place
@@ -84,15 +84,15 @@ module _ (core : Core) where
       → Did core boot list hosts k found new (λ w steps. steps ≡ Flush (length found) ∷ [])
       → IsKept core boot list hosts k new
 
-  -- once a writer has recorded what it had in hand, and flushed all that it then found, it has nothing in hand
+  -- once a writer has recorded some of what it had in hand, and flushed all that it then found, it has just the others in hand
   abbrev pub EachRecordLands : Type 0
   EachRecordLands =
-      (boot : List ℕ) (list : List Entry) (hosts : List (List ℕ)) (h : List ℕ) (k : ℕ) (a : Jid) (old mid found new : List Deed)
-      → AllDiffer hosts → IsWriterOf hosts k h → HasInHand h a (world_of core boot list hosts old)
-      → Did core boot list hosts k old mid (λ w steps. steps ≡ Record a ∷ [])
+      (boot : List ℕ) (list : List Entry) (hosts : List (List ℕ)) (h : List ℕ) (k : ℕ) (done rest : List Jid) (old mid found new : List Deed)
+      → AllDiffer hosts → IsWriterOf hosts k h → HasInHand h (done ++ rest) (world_of core boot list hosts old)
+      → Did core boot list hosts k old mid (λ w steps. steps ≡ records_of done)
       → Passed core boot list hosts k mid found
       → Did core boot list hosts k found new (λ w steps. steps ≡ Flush (length found) ∷ [])
-      → NoneInHand h (world_of core boot list hosts new)
+      → HasInHand h rest (world_of core boot list hosts new)
 
 -- the Records of an address are those of its host's writer
 abbrev pub WritersRecord : Type 0

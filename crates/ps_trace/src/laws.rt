@@ -43,7 +43,8 @@ pub fn each_flush_keeps()
     ensures kept { (core : Core) → Laws core → EachFlushKeeps core }
 {}
 
-/// Once a writer has recorded the notice that it had in hand, and flushed all that it then found, it has none in hand, whatever others added between.
+/// Once a writer has recorded some of the notices that it had in hand, and flushed all that it then found, it has just the others in hand, whatever
+/// others added between.
 pub fn each_record_lands()
     ensures landed { (core : Core) → Laws core → EachRecordLands core }
 {}

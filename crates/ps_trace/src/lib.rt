@@ -14,7 +14,7 @@
 //! - `specs/Words.antt`: `words` gives what steps say for a host, a line of its sink each (`Word`); `HasSaid`: the machine's rows keep just these.
 //! - `specs/Own.antt`: `own_steps`, `words_by`: of one pass; `MayMake`, `AreOwned`: whose a step may be; `LaidWithin`: what a pass laid is flushed.
 //! - `specs/Did.antt`: `Did`: what a pass did in one holding, by the lists that it has seen before and after; `Passed`: others alone did something;
-//!   `IsKept`: all that the pass laid is flushed; `NoneInHand`, `HasInHand`: the notices in flight to a host's addresses.
+//!   `IsKept`: all that the pass laid is flushed; `NoneInHand`, `HasInHand`: which notices to a host's addresses are in flight.
 //! - `specs/Over.antt`: `ReaderDone`, `IsOver`, `WriterDone`: how a pass ends; `IsFront`, `IsComplete`: what was said for a host, beside what it is owed.
 //! - `specs/Laws.antt`: the laws.
 //!

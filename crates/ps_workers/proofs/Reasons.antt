@@ -16,7 +16,6 @@ use Rattle.ps_model.proofs.TheLaws.{the-laws}
 use Rattle.ps_world.proofs.Kept.{few_left}
 use Rattle.ps_world.proofs.Lists.{assoc}
 use Rattle.ps_twin.specs.declared.twin.TwinSeat.{TwinSeat}
-use Rattle.ps_trace.specs.Did.{HasInHand}
 use Rattle.ps_trace.specs.Own.{AllDiffer, AreOwned, deeds}
 use Rattle.ps_trace.specs.declared.deed.Deed.{Deed}
 use Rattle.ps_trace.proofs.Doing.{world-append}
@@ -28,10 +27,10 @@ use Rattle.ps_hall_flush.proofs.Logs.{prefix_follows, within_room}
 use Rattle.ps_hall.specs.Calls.{FoundOver}
 use Rattle.ps_hall.specs.declared.answers.EndCause.TheVariants.{Finished}
 use Rattle.ps_hall_state.specs.Rows.{names}
-use Rattle.ps_hall_state.specs.Stand.{Stands, flight_of, hand_flight}
-use Rattle.ps_hall_state.specs.declared.state.Hand.{Hand}
+use Rattle.ps_hall_state.specs.Stand.{Stands}
 use Rattle.ps_hall_state.specs.declared.state.State.{State}
 use Rattle.ps_hall_state.proofs.OneRow.{named}
+use Rattle.ps_hall_state.proofs.Recording.{held_bare, held_for}
 use Rattle.ps_hall_store.specs.Stand.{broken_in}
 use Rattle.ps_hall_store.specs.declared.store.Store.{Store}
 use Rattle.ps_streams.specs.Speaking.{HadNoRoom}
@@ -42,21 +41,11 @@ use Rattle.ps_workers.specs.Working.{ReaderMade, WriterMade}
 use Rattle.ps_workers.proofs.Finishing.{never-both}
 use Rattle.ps_workers.proofs.Heading.{HasSeen}
 
--- an address in flight for a host is in the hand of its row
-in-hand : (hand : Option Hand) (flushed : ℕ) (a : Jid) → flight_of hand flushed a ≡ Unrecorded → (h : Hand) × (hand ≡ Some h) × (h.to ≡ a)
-in-hand None flushed a e = absurd (cc e)
-in-hand (Some h) flushed a e = by (same_jid h.to a) refl
-  where
-    by : (b : Bool) → same_jid h.to a ≡ b → (g : Hand) × (Some h ≡ Some g) × (g.to ≡ a)
-    by true t = (h, refl, (same_jid-Decides h.to a).0 t)
-    by false t = absurd (let nothing = ap (λ (b : Bool). if b then hand_flight flushed h.recorded else Nothing) t in let z : Nothing ≡ Unrecorded = sym nothing ∙ e in cc z)
-
--- which is a bare address of the host
+-- an address in flight for a host that no step has recorded is a bare one
 bare-in-hand : (v : State) (w : World) (i : ℕ) (h : List ℕ) → Stands v w → slice_get (names v.rows.items) i ≡ Some h → (a : Jid) → a.host ≡ h → (w.addresses a).flight ≡ Unrecorded → IsBare a
 bare-in-hand v w i h stands here a there flying =
     let r = named v.rows.items i h here in
-    let had = in-hand r.0.in_hand w.flushed a (sym (stands.hands i r.0 r.1 a (there ∙ sym r.2)) ∙ flying) in
-    subst IsBare had.2 ((stands.rows.each i r.0 r.1).hand had.0 had.1).bare
+    held_bare v w i r.0 a stands r.1 (held_for v w i r.0 a stands r.1 (there ∙ sym r.2) flying)
 
 module _ {V J D : Type 0} {g : Ghosts D} (o : Origin) (v : State) (y : Store D g) (seats : List (TwinSeat V J Deed)) (ended : HasEnded o v y seats) where
   -- a fault that a pass saw told is the store's
@@ -85,17 +74,17 @@ module _ {V J D : Type 0} {g : Ghosts D} (o : Origin) (v : State) (y : Store D g
         f.before f.closed (d.once tt) (d.done.over.readers i h here)
 
     -- nothing of the writer's own came after the Record that found no room
-    still-in-hand : (to : Jid) → HasInHand h to (world_at o seen_too) → ((world_at o ended.log).addresses to).flight ≡ Unrecorded
-    still-in-hand to had =
+    still-in-hand : (to : Jid) → to.host ≡ h → ((world_at o seen_too).addresses to).flight ≡ Unrecorded → ((world_at o ended.log).addresses to).flight ≡ Unrecorded
+    still-in-hand to here_is had =
         let after = owned-behind o.hosts seen_too kept_too.after (subst (AreOwned o.hosts) kept_too.is ended.owned) in
         ap (λ (l : List Deed). ((world_at o l).addresses to).flight) kept_too.is
         ∙ (ap (λ (w : World). (w.addresses to).flight) (world-append the_core the-laws o.boot o.list o.hosts seen_too kept_too.after)
-        ∙ (still-run the_core o.boot o.hosts differ h (i + i + 1) (i, here, refl) to had.host (world_at o seen_too) kept_too.after after kept_too.none (inr had.this) ∙ had.this))
+        ∙ (still-run the_core o.boot o.hosts differ h (i + i + 1) (i, here, refl) to here_is (world_at o seen_too) kept_too.after after kept_too.none (inr had) ∙ had))
 
     lacks-record : HadNoRoom o h seen_too → LacksRecord o.limits.whole (v.length + 5) (world_at o ended.log).entries h
     lacks-record f =
         let w = world_at o ended.log in
-        let flying = still-in-hand f.to f.hand in
+        let flying = still-in-hand f.to f.here f.hand in
         record {
           to = f.to;
           here = f.here;

@@ -1,39 +1,67 @@
-use Rattle.std.proofs.Common.{List, ℕ, subst}
-use Rattle.ps_types.specs.declared.entry.Entry.TheVariants.{Handed}
-use Rattle.ps_model.specs.declared.steps.Role.TheVariants.{Writer}
-use Rattle.ps_model.specs.declared.steps.Step.TheVariants.{Ended}
-use Rattle.ps_hall_state.specs.Steps.{GoesBy}
-use Rattle.ps_hall_state.specs.declared.answers.HandedRefusal.TheVariants.{Full}
+use Rattle.std.proofs.Common.{◌≡◌, ◌≢◌, ◌+◌, ◌<◌, List, [], ◌∷◌, Some, length, refl, sym, ◌∙◌, arith, subst}
+use Rattle.std.specs.Prelude.{slice_get}
+use Rattle.std.proofs.lemmas.Option.{slice_get_read}
+use Rattle.ps_types.specs.declared.jid.Jid.{Jid}
 use Rattle.ps_hall_state.proofs.OneRow.{there}
-use Rattle.ps_hall.proofs.Refusals.{here_kept, kept_both, refused_few, row_kept}
+use Rattle.ps_hall.proofs.Refusals.{here_kept, kept_both}
+use Rattle.ps_hall.proofs.Running.{first_held, first_refused, next_held, records_begin, records_one, records_still, some_length, still_standing}
 use Rattle.ps_hall.proofs.ending.record_or_end.Goals as goal
 
-pub returns-in-Ok-clause-does : goal.returns-in-Ok-clause-does
-returns-in-Ok-clause-does g c row was a holds = c.in-Ok.ensures.ok row a was holds
+-- ---- the first
 
-pub writer_ended-requires-clause-here : goal.writer_ended-requires-clause-here
-writer_ended-requires-clause-here g c = here_kept c.args.state.now c.record.new.self c.args.at c.in-Err-Full.ensures.kept c.requires.here
+pub record_first-requires-clause-standing : goal.record_first-requires-clause-standing
+record_first-requires-clause-standing g c κs within =
+    let t = there c.args.state.now.rows.items c.args.at c.requires.here in
+    let held = c.requires.holding t.0 t.1 in
+    (held.0, held.1)
 
-pub writer_ended-requires-clause-few : goal.writer_ended-requires-clause-few
-writer_ended-requires-clause-few g c =
-    let v = c.args.state.now in
-    let row = there v.rows.items c.args.at c.requires.here in
-    let some = c.requires.some row.0 row.1 in
-    refused_few v c.record.new.self (Handed some.0) Full c.requires.standing ((rw c.in-Err-Full.field-0-is at c.in-Err-Full.ensures.err) row.0 some.0 row.1 some.1) c.requires.few
+pub record_first-requires-clause-held : goal.record_first-requires-clause-held
+record_first-requires-clause-held g c κs within = λ row was.
+    first_held c.args.state.now c.args.at row c.args.hand.now.items c.index.result.now (slice_get_read c.args.hand.now.items _ 0 c.index.result.now refl (some_length c.args.hand.now.items c.requires.some) c.index.ensures) (c.requires.holding row was) was
 
-pub returns-in-Err-Full-clause-kept : goal.returns-in-Err-Full-clause-kept
-returns-in-Err-Full-clause-kept g c = kept_both c.args.state.now c.record.new.self c.writer_ended.new.self c.in-Err-Full.ensures.kept c.writer_ended.ensures.kept
+-- ---- the others
 
-pub returns-in-Err-Full-clause-does : goal.returns-in-Err-Full-clause-does
-returns-in-Err-Full-clause-does g c row was a holds =
-    let v = c.args.state.now in
-    let mid = c.record.new.self in
-    let now = c.writer_ended.new.self in
-    let r = row_kept v mid c.args.at row c.in-Err-Full.ensures.kept was in
-    (mid, (rw c.in-Err-Full.field-0-is at c.in-Err-Full.ensures.err) row a was holds, subst (λ (h : List ℕ). GoesBy mid now (Ended h Writer)) r.2 (c.writer_ended.ensures.goes r.0 r.1))
+pub others-init : goal.others-init
+others-init g c = (
+  c.record_first.ensures.kept,
+  records_begin c.args.state.now c.record_first.new.state c.args.hand.now.items c.index.result.now (slice_get_read c.args.hand.now.items _ 0 c.index.result.now refl (some_length c.args.hand.now.items c.requires.some) c.index.ensures) c.in-Ok.ensures.ok,
+)
 
-pub returns-in-Err-Store-clause-does : goal.returns-in-Err-Store-clause-does
-returns-in-Err-Store-clause-does g c row was a holds = (c.record.new.self, (rw c.in-Err-Store.field-0-is at c.in-Err-Store.ensures.err) row a was holds, λ service named w stands. stands)
+pub record-requires-clause-here : goal.record-requires-clause-here
+record-requires-clause-here g c κs within = here_kept c.args.state.now c.others.state c.args.at c.others.invariant.0 c.requires.here
 
-pub returns-in-Err-Memory-clause-does : goal.returns-in-Err-Memory-clause-does
-returns-in-Err-Memory-clause-does g c row was a holds = (c.record.new.self, (rw c.in-Err-Memory.field-0-is at c.in-Err-Memory.ensures.err) row a was holds, λ service named w stands. stands)
+pub record-requires-clause-standing : goal.record-requires-clause-standing
+record-requires-clause-standing g c κs within =
+    let t = there c.args.state.now.rows.items c.args.at c.requires.here in
+    still_standing c.args.state.now c.others.state c.args.at t.0 c.args.hand.now.items c.others.done (c.requires.holding t.0 t.1) c.others.invariant.1
+
+pub record-requires-clause-held : goal.record-requires-clause-held
+record-requires-clause-held g c κs within = λ r now.
+    let t = there c.args.state.now.rows.items c.args.at c.requires.here in
+    next_held c.args.state.now c.others.state c.args.at t.0 c.args.hand.now.items c.others.done c.index-in-others.result.now c.others.invariant.0 t.1 (c.requires.holding t.0 t.1) c.others.invariant.1
+    (slice_get_read c.args.hand.now.items _ c.others.done c.index-in-others.result.now refl (let test = c.others-test.true in let size = c.len.ensures in let all = c.args.hand.now.ok.0 in omega (arith, test, size, all)) c.index-in-others.ensures) r now
+
+pub others-preserved : goal.others-preserved
+others-preserved g c = (
+  kept_both c.args.state.now c.others.state c.record.new.self c.others.invariant.0 c.record.ensures.kept,
+  records_one c.args.state.now c.others.state c.record.new.self c.args.hand.now.items c.others.done c.index-in-others.result.now c.others.invariant.1 c.in-Ok-record.ensures.ok
+      (slice_get_read c.args.hand.now.items _ c.others.done c.index-in-others.result.now refl (let test = c.others-test.true in let size = c.len.ensures in let all = c.args.hand.now.ok.0 in omega (arith, test, size, all)) c.index-in-others.ensures) (let test = c.others-test.true in let size = c.len.ensures in let all = c.args.hand.now.ok.0 in omega (arith, test, size, all)) c.if-done-lt-MOST_AT_ONCE.true,
+)
+
+pub returns-in-Err-record-clause-kept : goal.returns-in-Err-record-clause-kept
+returns-in-Err-record-clause-kept g c = kept_both c.args.state.now c.others.state c.record.new.self c.others.invariant.0 c.record.ensures.kept
+
+pub returns-in-Err-record-clause-does : goal.returns-in-Err-record-clause-does
+returns-in-Err-record-clause-does g c = λ row was. records_still c.args.state.now c.others.state c.record.new.self c.args.hand.now.items c.others.done c.index-in-others.result.now _ c.others.invariant.1 c.in-Err-record.ensures.err
+
+pub returns-after-others-clause-does : goal.returns-after-others-clause-does
+returns-after-others-clause-does g c = λ row was. c.others.invariant.1
+
+pub returns-else-done-lt-MOST_AT_ONCE-clause-does : goal.returns-else-done-lt-MOST_AT_ONCE-clause-does
+returns-else-done-lt-MOST_AT_ONCE-clause-does g c = λ row was. c.others.invariant.1
+
+pub returns-else-state-lt-MOST_STEPS-clause-does : goal.returns-else-state-lt-MOST_STEPS-clause-does
+returns-else-state-lt-MOST_STEPS-clause-does g c = λ row was. c.others.invariant.1
+
+pub returns-in-Err-clause-does : goal.returns-in-Err-clause-does
+returns-in-Err-clause-does g c = λ row was. first_refused c.args.state.now c.record_first.new.state row.host c.args.hand.now.items c.index.result.now _ (slice_get_read c.args.hand.now.items _ 0 c.index.result.now refl (some_length c.args.hand.now.items c.requires.some) c.index.ensures) (c.in-Err.ensures.err row was)

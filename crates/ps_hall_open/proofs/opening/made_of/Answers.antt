@@ -5,6 +5,7 @@ pub returns-clause-made : goal.returns-clause-made
 returns-clause-made g c = record {
   service = refl;
   queues = refl;
+  held = refl;
   rows_are = refl;
   batch = refl;
   count = c.count-count.ensures.count;

@@ -18,4 +18,5 @@ loop-notice-preserved c =
     let split : c.loop-notice.notice-iterator.rest.items ≡ n ∷ rest = search rules in (
       ap (λ (q : List Notice). q ++ rest) c.push.ensures.waiting ∙ (append_assoc c.loop-notice.queues.waiting (n ∷ []) rest ∙ (ap (λ (q : List Notice). c.loop-notice.queues.waiting ++ q) (sym split) ∙ c.loop-notice.invariant.0)),
       spare-tail c.loop-notice.notice-iterator.rest.items n rest c.loop-notice.queues c.push.new.self split c.loop-notice.invariant.1 c.push.ensures.kept,
+      c.push.ensures.held ∙ c.loop-notice.invariant.2,
     )

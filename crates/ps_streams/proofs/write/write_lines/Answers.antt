@@ -1,18 +1,20 @@
-use Rattle.std.proofs.Common.{ℕ, ◌+◌, List, Bool, Ok, Err, refl, sym, ap, ◌∙◌, subst, arith}
+use Rattle.std.proofs.Common.{ℕ, ◌+◌, List, [], Bool, Ok, Err, refl, sym, ap, ◌∙◌, subst, arith}
 use Rattle.std.specs.Result.{IsErrOf}
+use Rattle.ps_types.specs.declared.jid.Jid.{Jid}
 use Rattle.ps_twin.specs.Seats.{number_of, seen_of}
 use Rattle.ps_hall.specs.declared.answers.EndCause.{EndCause}
 use Rattle.ps_hall.specs.declared.answers.EndCause.TheVariants.{WriteFault}
-use Rattle.ps_streams.specs.Speaking.{FindsLanded, FindsOver, FoundNoRoom}
+use Rattle.ps_streams.specs.Speaking.{FindsLanded, FindsOver, FoundNoRoom, SeatSpokeWhole}
 use Rattle.ps_streams.proofs.Ending.{ends-after, ends-as, goes-as}
 use Rattle.ps_streams.proofs.Looping.{begun-whole, err-same, speaks-on, the_err, whole-on}
 use Rattle.ps_streams.proofs.write.write_lines.Goals as goal
 
 pub loop-init : goal.loop-init
 loop-init g c = (
-  c.requires.ready,
+  record { writer = c.requires.ready.writer; hand = c.requires.ready.hand },
   record { at = refl; host = refl },
-  begun-whole g.B.Opening.origin (number_of c.args.pass.now.seat) (seen_of c.args.pass.now.seat) (g.K.Sink.written c.args.sink.now) c.requires.ready.writer.pass.owned,
+  subst (λ (h : List Jid). SeatSpokeWhole g.B.Opening.origin [] h c.args.pass.now.seat c.args.pass.now.seat (g.K.Sink.written c.args.sink.now) (g.K.Sink.written c.args.sink.now)) (sym c.requires.ready.free)
+      (begun-whole g.B.Opening.origin (number_of c.args.pass.now.seat) [] (seen_of c.args.pass.now.seat) (g.K.Sink.written c.args.sink.now) c.requires.ready.writer.pass.owned),
   omega arith,
   λ none. none,
 )
@@ -37,7 +39,7 @@ loop-preserved g c =
     let before = i.3 in (
       c.in-Ok-true.ensures.ready,
       record { at = c.write_next.ensures.same.at ∙ c.loop.invariant.1.at; host = c.write_next.ensures.same.host ∙ c.loop.invariant.1.host },
-      whole-on o k j old mid new first second third (IsErrOf {T = Bool} {E = EndCause} (Ok c.in-Ok-true.field-0) WriteFault) same (λ no. absurd (cc no)) i.2 c.in-Ok-true.ensures.spoke,
+      whole-on o k j c.loop.pass.in_hand.items c.write_next.new.pass.in_hand.items old mid new first second third same i.2 c.in-Ok-true.ensures.whole,
       omega (arith, before, later),
       λ none. goes-as j k mid new same (c.in-Ok-true.ensures.going (λ e. absurd (cc e))) (i.4 none),
     )
@@ -58,7 +60,7 @@ returns-in-Ok-false-clause-spoke g c =
     let second = g.K.Sink.written c.loop.sink in
     let third = g.K.Sink.written c.write_next.new.sink in
     let same = i.0.writer.number ∙ (ap (λ n. n + n + 1) i.1.at ∙ sym c.requires.ready.writer.number) in
-    speaks-on o k j old mid new first second third (IsErrOf {T = Bool} {E = EndCause} (Ok c.in-Ok-false.field-0) WriteFault) _ same (λ no. absurd (cc no)) i.2 c.in-Ok-false.ensures.spoke
+    speaks-on o k j c.loop.pass.in_hand.items old mid new first second third (IsErrOf {T = Bool} {E = EndCause} (Ok c.in-Ok-false.field-0) WriteFault) _ same (λ no. absurd (cc no)) i.2 c.in-Ok-false.ensures.spoke
 
 pub returns-in-Ok-false-clause-over : goal.returns-in-Ok-false-clause-over
 returns-in-Ok-false-clause-over g c = λ e. subst (λ (h : List ℕ). FindsOver g.B.Opening.origin h c.write_next.new.pass.seat) c.loop.invariant.1.host (c.in-Ok-false.ensures.over c.in-Ok-false.field-0-test)
@@ -92,7 +94,7 @@ returns-in-Err-clause-spoke g c =
     let second = g.K.Sink.written c.loop.sink in
     let third = g.K.Sink.written c.write_next.new.sink in
     let same = i.0.writer.number ∙ (ap (λ n. n + n + 1) i.1.at ∙ sym c.requires.ready.writer.number) in
-    speaks-on o k j old mid new first second third (IsErrOf {T = Bool} {E = EndCause} (Err c.in-Err.why) WriteFault) _ same (λ e. err-same c.in-Err.why WriteFault e) i.2 c.in-Err.ensures.spoke
+    speaks-on o k j c.loop.pass.in_hand.items old mid new first second third (IsErrOf {T = Bool} {E = EndCause} (Err c.in-Err.why) WriteFault) _ same (λ e. err-same c.in-Err.why WriteFault e) i.2 c.in-Err.ensures.spoke
 
 pub returns-in-Err-clause-going : goal.returns-in-Err-clause-going
 returns-in-Err-clause-going g c = λ no none. (

@@ -68,5 +68,5 @@ returns-in-Ok-clause-ok g c = λ row was.
     (fits_is v.limits.changes v.length v.batch e c.requires.room) c.count-place.ensures.count refl
     (lay_ok v now c.args.at row says.1 c.args._arrival.now false c.args.reply (Some e) was
     (subst (λ (x : HostRow). RowSays x says.1 (v.steps + 1) c.args.reply) same (subst (λ (n : ℕ). RowSays says.0 says.1 (n + 1) c.args.reply) r.steps says.3)) changed.is
-    state queues (c.requires.reply row was) (c.requires.entry row was)
+    state queues (c.requires.reply row was) (c.requires.entry row was) (on.held ∙ (c.take_entry.ensures.held ∙ r.held))
     (batch_more v now e state (on.batch ∙ r.batch) kept (let m = c.requires.room in let l = c.requires.standing.1.within.changes in omega (arith, m, l))) kept steps)

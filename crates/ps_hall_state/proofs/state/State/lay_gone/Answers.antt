@@ -23,5 +23,5 @@ returns-in-Ok-clause-ok g c = λ host kind.
     let t = taken v c.ready_within.new.self e c.in-Ok.notices.items c.take_entry.new.service c.take_entry.new.queues.waiting r c.take_entry.ensures.state c.take_entry.ensures.waiting in
     let room = c.in-Ok.ensures.room in
     recorded_ok v now e (Gone host) c.requires.unbroken room
-    (gone_ok v now host (t.0 ∙ ap (λ x. after v.service.state x) kind) (t.1 ∙ ap (λ x. v.queues.waiting ++ notices_at v.service.state x) kind) r.rows
+    (gone_ok v now host (t.0 ∙ ap (λ x. after v.service.state x) kind) (t.1 ∙ ap (λ x. v.queues.waiting ++ notices_at v.service.state x) kind) r.rows (c.take_entry.ensures.held ∙ r.held)
     (subst (λ (x : Entry). BatchOn v now (Some x)) kind (batch_more v now e t.0 r.batch kept (let l = c.requires.standing.1.within.whole in omega (arith, room, l)))) kept (ap (λ n. n + 1) r.steps))

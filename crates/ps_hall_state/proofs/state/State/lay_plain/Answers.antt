@@ -15,5 +15,5 @@ returns-clause-goes c = λ row was.
     let same : says.0 ≡ row = same_some says.0 row (sym says.2.was ∙ was) in
     lay_ok c.args.self.now c.say.new.self c.args.at row says.1 c.args._arrival.now c.args._full c.args.reply None was
     (subst (λ (r : HostRow). RowSays r says.1 (c.args.self.now.steps + 1) c.args.reply) same says.3) says.2.is
-    c.say.ensures.state (on.queues ∙ sym (append-nil c.args.self.now.queues.waiting)) (c.requires.reply row was) (c.requires.entry row was)
+    c.say.ensures.state (on.queues ∙ sym (append-nil c.args.self.now.queues.waiting)) (c.requires.reply row was) (c.requires.entry row was) on.held
     (batch_same c.args.self.now c.say.new.self c.say.ensures.state on.batch on.rest) on.rest on.steps

@@ -26,4 +26,4 @@ returns-clause-goes c = λ row was.
     let same : t.0 ≡ row = same_some t.0 row (sym t.2.was ∙ was) in
     let first = subst (λ (r : HostRow). TakesFirst c.take_at-reply.result r t.1) same t.3 in
     take_ok c.args.self.now _ c.args.at row t.1 first.0 first.1 was first.2 (first_low row c.args.self.now.flushed first.0 first.1 (c.requires.has row was) first.2) first.4 t.2.is refl
-    (record { steps = refl; queues = refl; batch = refl; rest = record { count = refl; length_same = refl; broken = refl; flushed = refl; durable_same = refl; limits = refl } })
+    (record { steps = refl; queues = refl; held = refl; batch = refl; rest = record { count = refl; length_same = refl; broken = refl; flushed = refl; durable_same = refl; limits = refl } })

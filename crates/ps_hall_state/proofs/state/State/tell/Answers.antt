@@ -1,20 +1,26 @@
-use Rattle.std.proofs.Common.{◌≡◌, refl, sym, ◌∙◌, subst, None, Some}
-use Rattle.ps_hall_state.specs.declared.state.HostRow.{HostRow}
-use Rattle.ps_hall_state.specs.Rows.{RowHolds}
-use Rattle.ps_hall_state.proofs.OneRow.{same_some}
-use Rattle.ps_hall_state.proofs.Stepping.{numbers_kept}
+use Rattle.std.proofs.Common.{refl, []}
+use Rattle.std.specs.Prelude.{OnErr, Result, Ok, Err}
+use Rattle.ps_hall_state.specs.declared.state.State.{State}
+use Rattle.ps_hall_state.specs.Steps.{Goes}
+use Rattle.ps_hall_state.proofs.Flushed.{same_ok}
+use Rattle.ps_hall_state.proofs.OneRow.{there}
 use Rattle.ps_hall_state.proofs.Telling.{emit_ok}
 use Rattle.ps_hall_state.proofs.state.State.tell.Goals as goal
 
-pub returns-clause-kept : goal.returns-clause-kept
-returns-clause-kept c =
-    let h = c.hold_at.ensures.holds in
-    numbers_kept c.args.self.now _ c.args.at h.0 h.1 h.2 h.3.host (record { count = refl; length_same = refl; broken = refl; flushed = refl; durable_same = refl; limits = refl })
+told : {T E P : Type 0} (result : Result T E) → P → OnErr result P
+told (Ok t) p = tt
+told (Err e) p = p
 
-pub returns-clause-goes : goal.returns-clause-goes
-returns-clause-goes c = λ row was.
-    let h = c.hold_at.ensures.holds in
-    let same : h.0 ≡ row = same_some h.0 row (sym h.2.was ∙ was) in
-    emit_ok c.args.self.now _ c.args.at row h.1 c.args.to c.args._line.now was (c.requires.free row was) (c.requires.shown row was)
-    (subst (λ (r : HostRow). RowHolds r h.1 (Some (record { to = c.args.to; recorded = None }))) same h.3) h.2.is refl
-    (record { steps = refl; queues = refl; batch = refl; rest = record { count = refl; length_same = refl; broken = refl; flushed = refl; durable_same = refl; limits = refl } })
+pub returns-in_err-hold-clause-err : goal.returns-in_err-hold-clause-err
+returns-in_err-hold-clause-err c =
+    let v = c.args.self.now in
+    let now : State = record v { queues = c.hold.new.self } in
+    let goes : Goes v now [] = λ service some w is.
+    same_ok v now w (record { state = refl; queues = c.hold.ensures.waiting; held = c.in_err-hold.ensures.err; rows = refl; batch = refl; steps = refl; rest = record { count = refl; length_same = refl; broken = refl; flushed = refl; durable_same = refl; limits = refl } }) is in
+    told c.from_residual.result goes
+
+pub returns-clause-ok : goal.returns-clause-ok
+returns-clause-ok c =
+    let t = there c.args.self.now.rows.items c.args._at c.requires.here in
+    emit_ok c.args.self.now _ c.args._at t.0 c.args.to c.args._line.now t.1 (c.requires.landed t.0 t.1) (c.requires.shown t.0 t.1) refl c.hold.ensures.waiting c.in_ok-hold.ensures.held refl refl
+    (record { count = refl; length_same = refl; broken = refl; flushed = refl; durable_same = refl; limits = refl }) refl

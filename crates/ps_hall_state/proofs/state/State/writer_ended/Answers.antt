@@ -16,4 +16,4 @@ returns-clause-goes c = λ row was.
     let ends = c.end_writer.ensures.ends in
     let same : ends.0 ≡ row = same_some ends.0 row (sym ends.2.was ∙ was) in
     end_ok c.args.self.now _ c.args.at row ends.1 Writer was (subst (λ (r : HostRow). RowEnds Writer r ends.1) same ends.3) ends.2.is refl
-    (record { steps = refl; queues = refl; batch = refl; rest = record { count = refl; length_same = refl; broken = refl; flushed = refl; durable_same = refl; limits = refl } })
+    (record { steps = refl; queues = refl; held = refl; batch = refl; rest = record { count = refl; length_same = refl; broken = refl; flushed = refl; durable_same = refl; limits = refl } })

@@ -11,5 +11,5 @@ take_first-requires c = record { asks = to_bare c.args.bare.now }
 
 pub invariant_of-self : goal.invariant_of-self
 invariant_of-self c =
-    subst (λ (l : List Notice). IsKept l c.self.inside.addresses.rows c.self.inside.last c.self.inside.in_order) (sym c.take_first.ensures.rows)
-    (notice_less (is_to c.args.bare.now) c.self.inside.waiting.rows c.self.inside.addresses.rows c.self.inside.last c.self.inside.in_order c.self.invariant)
+    subst (λ (l : List Notice). IsKept l c.self.inside.free c.self.inside.held.rows c.self.inside.last c.self.inside.in_order) (sym c.take_first.ensures.rows)
+    (notice_less (is_to c.args.bare.now) c.self.inside.waiting.rows c.self.inside.free c.self.inside.held.rows c.self.inside.last c.self.inside.in_order c.self.invariant)

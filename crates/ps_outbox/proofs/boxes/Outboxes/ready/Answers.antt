@@ -1,30 +1,24 @@
-use Rattle.std.proofs.Common.{sym, subst}
-use Rattle.ps_outbox.specs.Boxes.{Boxes, NoneReady}
+use Rattle.std.proofs.Common.{Option, Some, ap, sym, subst, ◌∙◌}
+use Rattle.ps_outbox.specs.Boxes.{Boxes, IsReady, NoneReady}
 use Rattle.ps_outbox.specs.Kept.{IsKept}
-use Rattle.ps_outbox.proofs.Readied.{ready_some, ready_not_none, ready_first, box_found, none_durable, none_at}
+use Rattle.ps_outbox.proofs.Asked.{ready_at}
+use Rattle.ps_outbox.proofs.Readied.{none_durable, none_found, ready_found}
 use Rattle.ps_outbox.proofs.boxes.Outboxes.ready.Goals as goal
 
-pub returns-then-notice-durable-clause-some : goal.returns-then-notice-durable-clause-some
-returns-then-notice-durable-clause-some c =
-    let kept : IsKept c.args.self.now.waiting c.args.self.now.addresses c.self.inside.last c.self.inside.in_order =
-    subst (λ (b : Boxes). IsKept b.waiting b.addresses c.self.inside.last c.self.inside.in_order) c.self.view_is c.self.invariant in
-    ready_some c.args.host.now c.args.durable c.args.self.now.waiting c.box_of.result _ c.box_of.ensures
-    (λ j g. ready_first c.args.host.now c.args.durable c.args.self.now.waiting c.args.self.now.addresses c.self.inside.last c.self.inside.in_order c.in-Some.notice.now j kept (sym c.in-Some.ensures)
-    c.if-notice-durable.true g)
+pub returns-then-not-shows-clause-none : goal.returns-then-not-shows-clause-none
+returns-then-not-shows-clause-none c =
+    let s = c.self.inside in
+    let kept : IsKept c.args.self.now.waiting s.free c.args.self.now.held s.last s.in_order = subst (λ (b : Boxes). IsKept b.waiting s.free b.held s.last s.in_order) c.self.view_is c.self.invariant in
+    none_durable c.args.host.now c.args.durable c.args.self.now.waiting s.free c.args.self.now.held s.last s.in_order c.if-self.true kept (sym c.shows.ensures ∙ c.if-not-shows.true)
 
-pub returns-then-notice-durable-clause-none : goal.returns-then-notice-durable-clause-none
-returns-then-notice-durable-clause-none c =
-    let kept : IsKept c.args.self.now.waiting c.args.self.now.addresses c.self.inside.last c.self.inside.in_order =
-    subst (λ (b : Boxes). IsKept b.waiting b.addresses c.self.inside.last c.self.inside.in_order) c.self.view_is c.self.invariant in
-    ready_not_none c.box_of.result _ (NoneReady c.args.host.now c.args.durable c.args.self.now.waiting) c.box_of.ensures
-    (box_found c.args.host.now c.args.self.now.waiting c.args.self.now.addresses c.self.inside.last c.self.inside.in_order c.in-Some.notice.now kept (sym c.in-Some.ensures))
-
-pub returns-else-notice-durable-clause-none : goal.returns-else-notice-durable-clause-none
-returns-else-notice-durable-clause-none c =
-    let kept : IsKept c.args.self.now.waiting c.args.self.now.addresses c.self.inside.last c.self.inside.in_order =
-    subst (λ (b : Boxes). IsKept b.waiting b.addresses c.self.inside.last c.self.inside.in_order) c.self.view_is c.self.invariant in
-    none_durable c.args.host.now c.args.durable c.args.self.now.waiting c.args.self.now.addresses c.self.inside.last c.self.inside.in_order c.in-Some.notice.now c.if-not-self.false kept (sym c.in-Some.ensures)
-    c.if-notice-durable.false
+pub returns-in-Some-clause-some : goal.returns-in-Some-clause-some
+returns-in-Some-clause-some c =
+    let s = c.self.inside in
+    subst (λ (b : Boxes). IsReady c.args.host.now c.args.durable c.row.inside.bare b.waiting b.held) c.self.view_is
+    (ready_found c.args.host.now c.args.durable s.waiting.rows s.free s.held.rows s.last s.in_order c.row.inside.bare c.self.invariant (sym c.in-Some.ensures.row ∙ ap (λ j. Some j) (sym c.row.view_is)))
 
 pub returns-in-None-clause-none : goal.returns-in-None-clause-none
-returns-in-None-clause-none c = none_at c.args.host.now c.args.durable c.args.self.now.waiting (sym c.in-None.ensures)
+returns-in-None-clause-none c =
+    let s = c.self.inside in
+    subst (λ (b : Boxes). NoneReady c.args.host.now c.args.durable b.waiting b.held) c.self.view_is
+    (none_found c.args.host.now c.args.durable s.waiting.rows s.free s.held.rows s.last s.in_order c.self.invariant (sym c.in-None.ensures.row))
