@@ -5,8 +5,8 @@
 //! new one go into one frame, so a crash leaves none of them or all.
 //!
 //! `specs/Compacted.antt` says what comes of it: the list of the old store and that of the new one, of which the law of ps_compact_laws says that it serves on as
-//! the other would (`ServesOn`), and each answer with its cause. Numbers of 2^62 and more can't stand in a row, so a store with such a count of ids or of handed notices, which
-//! takes as many requests to come by, is answered as one for which there is no memory.
+//! the other would (`ServesOn`), and each answer with its cause. Numbers of 2^62 and more can't stand in a row. No service reaches such a count of ids or of handed
+//! notices; a store that was written by hand may begin close to one, and is answered as one for which there is no memory once a count gets there.
 #![tactic(auto)]
 
 mod compacting;

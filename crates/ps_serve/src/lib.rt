@@ -17,7 +17,7 @@
 //! Compacting (ps_compact) opens two stores, and writes a new one that begins with the rows of the other: `specs/Compacting.antt` (`Compacts`).
 //!
 //! `specs/Ends.antt` says which cause of the workers comes first, `specs/Room.antt` when a store is full for an entry that ends a run, `specs/Crashes.antt` what a crash leaves,
-//! `specs/Outside.antt` what a world tells.
+//! `specs/Outside.antt` of ps_status what a world tells.
 #![tactic(auto)]
 
 mod compacting;
