@@ -253,7 +253,7 @@ def audience(program, folder):
         for stream, count in ((a, many), (b, few)):
             stream.send(*(subscribe(f"sub{k}@{stream.host}/1", 1 + k, "news") for k in range(count)))
         service.pump(lambda: a.count >= 1 + many and b.count >= few, 60, what="a subscription")
-        before = frames(f"{folder}/store")
+        before = len(frames(f"{folder}/store"))
         a.send(*(publish(ANN, 1 + many + k, "news", f"i{k}") for k in range(each)))
         service.pump(lambda: a.count >= 1 + many + each * (1 + many) and b.count >= few * (1 + each), 120, what="a reply or a notice")
         ends_well(service)
@@ -264,8 +264,9 @@ def audience(program, folder):
                 told[json.loads(line)["a"]["to"]].append(line)
             for address, lines in told.items():
                 same(f"the notices to {address}", lines, [notice(address, 1 + k, "news", f"i{k}") for k in range(each)])
-        if frames(f"{folder}/store") - before >= each * many / 4:
-            raise Wrong(f"{frames(f'{folder}/store') - before} frames have {each} publishes and {each * (many + few)} records")
+        made = len(frames(f"{folder}/store")) - before
+        if made >= each * many / 4:
+            raise Wrong(f"{made} frames have {each} publishes and {each * (many + few)} records")
 
 
 PARTS = {"paced": paced, "open": open_source, "full": full, "sixteen": sixteen, "order": order, "together": together, "crowd": crowd, "audience": audience}
