@@ -40,6 +40,19 @@ fn dropped(alloc: Global, boxes: &mut Outboxes, who: &str) -> Result<bool, Fail>
     Ok(boxes.drop_first(&who))
 }
 
+// Releases an address, if it is a bare one that is held.
+fn released(alloc: Global, boxes: &mut Outboxes, who: &str) -> Result<bool, Fail> {
+    let who = jid(alloc, who)?;
+    if !who.resource.is_empty() {
+        return Ok(false);
+    }
+    if !boxes.is_held(&who) {
+        return Ok(false);
+    }
+    boxes.release(who);
+    Ok(true)
+}
+
 // Whether the address is the ready one of the host.
 fn is_ready(
     alloc: Global,
@@ -135,12 +148,13 @@ fn an_address_that_is_held_is_not_ready(rt: HostRuntime) -> Result<(), Fail> {
     push(alloc, &mut boxes, "cid@b.example", 3, 2)?;
     assert!(rt; none_ready(alloc, &boxes, "b.example", 9)?);
     assert!(rt; dropped(alloc, &mut boxes, "bob@b.example")?);
-    boxes.release(jid(alloc, "bob@b.example")?);
+    assert!(rt; released(alloc, &mut boxes, "bob@b.example")?);
     assert!(rt; is_ready(alloc, &boxes, "b.example", 9, "bob@b.example")?);
     assert!(rt; dropped(alloc, &mut boxes, "bob@b.example")?);
     boxes.forget(&jid(alloc, "bob@b.example")?);
     assert!(rt; none_ready(alloc, &boxes, "b.example", 9)?);
-    boxes.release(jid(alloc, "cid@b.example")?);
+    assert!(rt; released(alloc, &mut boxes, "cid@b.example")?);
+    assert!(rt; !released(alloc, &mut boxes, "cid@b.example")?);
     assert!(rt; is_ready(alloc, &boxes, "b.example", 9, "cid@b.example")?);
     assert!(rt; !boxes.holds(&host));
     Ok(())

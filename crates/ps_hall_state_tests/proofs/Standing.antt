@@ -41,9 +41,9 @@ module _ (old new : State) (is : IsStanding old) where
 
   pub told : (host : List ℕ) (r : Result Next Memory) → IfOk r (IsNext old new host) → OnErr r (new ≡ old) → IsStanding new
   told host (Ok (nexts.Reply text)) ok err = (_, (ok name some is.0 is.1).1)
-  told host (Ok (nexts.Notice a text)) ok err = (_, (ok name some is.0 is.1).3)
+  told host (Ok (nexts.Notice a text)) ok err = (_, (ok name some is.0 is.1).4)
   told host (Ok nexts.NotYet) ok err = (_, (ok name some is.0 is.1).2)
-  told host (Ok nexts.Over) ok err = (_, (ok name some is.0 is.1).3)
+  told host (Ok nexts.Over) ok err = (_, (ok name some is.0 is.1).4)
   told host (Err e) ok err = subst IsStanding (sym err) is
 
   pub recorded : (e : Entry) (step : Step) (r : Result (Unit {0}) HandedRefusal) → OnOk r (IsRecorded old new e step) → IfErr r (NotRecorded old new e) → IsStanding new
