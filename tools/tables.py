@@ -32,7 +32,7 @@ def variants(enum):
     """Each variant of an enum of denial.rt with its doc comment."""
     text = (TYPES / "src/denial.rt").read_text()
     body = re.search(rf"pub enum {enum} \{{\n(.*?)\n\}}", text, re.S)[1]
-    return re.findall(r"/// (.*)\n\s+(\w+),", body)
+    return [(re.sub(r"\s*///\s*", " ", doc).strip(), name) for doc, name in re.findall(r"((?:\s*///.*\n)+)\s+(\w+),", body)]
 
 
 def split_source(when):
