@@ -55,21 +55,26 @@ class Case(Whole):
             if status not in (0, STORE if self.kind == "store" else STREAM):
                 raise Wrong(f"ended with {status}")
             self.must_be_front(status, came)
-            self.must_serve_others(status, came)
+            self.must_serve_others(status, came, room)
             self.must_end_each(status, came, room)
             self.must_be_kept(status, came, room)
             self.must_hand_on(status, came, room)
             return status
 
-    def must_serve_others(self, status, came):
-        """A fault of a stream takes no reply from another one, and that of a sink no notice."""
+    def must_serve_others(self, status, came, room):
+        """A fault of a stream takes no reply from another one, and that of a sink no notice of a change that was made: behind it no line of the stream may be read."""
+        is_whole = self.kind == "sink" and self.has_all(room)
         for host, lines in came.items():
             if status != STREAM or host == self.host:
                 continue
             parts = [(parted(lines)[0], parted(self.came[host])[0]), (told(lines), told(self.came[host]))]
-            for got, whole in parts[: 2 if self.kind == "sink" else 1]:
+            for got, whole in parts[: 2 if is_whole else 1]:
                 if got != whole:
                     raise Wrong(f"a fault of {self.host}'s {self.kind}, and {host} was told {got}")
+
+    def has_all(self, room):
+        """Whether the store has all changes of the whole run."""
+        return len(self.new_changes(room)) == len(self.changes)
 
     def must_end_each(self, status, came, room):
         """A fault of a stream keeps no host's end from the store."""
@@ -77,9 +82,11 @@ class Case(Whole):
             raise Wrong(f"status {status}, and the ends are {ends_in(room.store.read_bytes())}")
 
     def must_hand_on(self, status, came, room):
-        """The next run hands out the notices that are left, and of each address once more at most one that was written."""
-        is_whole = self.new_changes(room) and len(self.new_changes(room)) == len(self.changes)
+        """The next run hands out the notices that are left, and of each address once more at most one that was written. Where only a sink failed none is left for the others."""
+        is_whole = self.new_changes(room) and self.has_all(room)
         for host, lines in self.must_serve_on(status, room).items():
+            if status == STREAM and self.kind == "sink" and host != self.host and told(lines):
+                raise Wrong(f"a fault of {self.host}'s sink, and notices were left for {host}: {told(lines)}")
             ran, then, all_of = told(came.get(host, [])), told(lines), told(self.came[host])
             for address in ran | then | all_of:
                 first, second, whole = (it.get(address, []) for it in (ran, then, all_of))

@@ -1,5 +1,5 @@
 -- What the calls leave standing.
-use Rattle.std.proofs.Common.{◌≡◌, ◌≢◌, ℕ, ◌≤◌, List, [], ◌∷◌, ap, sym, ◌∙◌, subst, arith}
+use Rattle.std.proofs.Common.{◌≡◌, ◌≢◌, ℕ, ◌≤◌, List, [], ◌∷◌, ap, sym, ◌∙◌, arith}
 use Rattle.std.specs.Prelude.{Err, IfErr, IfOk, Ok, OnErr, OnOk, Result}
 use Rattle.ps_base.specs.declared.Memory.{Memory}
 use Rattle.ps_types.specs.declared.entry.Arrival.{Arrival}
@@ -39,12 +39,12 @@ module _ (old new : State) (is : IsStanding old) where
   laid host arrival (Err away.Again) ok err = (_, (err is.0 is.1).3)
   laid host arrival (Err away.Memory) ok err = (_, (err is.0 is.1).1)
 
-  pub told : (host : List ℕ) (r : Result Next Memory) → IfOk r (IsNext old new host) → OnErr r (new ≡ old) → IsStanding new
+  pub told : (host : List ℕ) (r : Result Next Memory) → IfOk r (IsNext old new host) → OnErr r (Goes old new []) → IsStanding new
   told host (Ok (nexts.Reply text)) ok err = (_, (ok name some is.0 is.1).1)
   told host (Ok (nexts.Notice a text)) ok err = (_, (ok name some is.0 is.1).4)
   told host (Ok nexts.NotYet) ok err = (_, (ok name some is.0 is.1).2)
   told host (Ok nexts.Over) ok err = (_, (ok name some is.0 is.1).4)
-  told host (Err e) ok err = subst IsStanding (sym err) is
+  told host (Err e) ok err = goes_on [] err
 
   pub recorded : (e : Entry) (step : Step) (r : Result (Unit {0}) HandedRefusal) → OnOk r (IsRecorded old new e step) → IfErr r (NotRecorded old new e) → IsStanding new
   recorded e step (Ok x) ok err = (_, (ok name some is.0 is.1).stands)
