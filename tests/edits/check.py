@@ -3,8 +3,8 @@
 
     check.py
 
-The gate tries those of crates/NAME/must-fail. Those of tests/edits/NAME are wrong bodies of the same kind for which it has no
-time: `python3 bench/gate/keep.py more NAME` tries them, whenever the crate has changed.
+The gate tries those of crates/NAME/must-fail, and of tests/edits/NAME those that TRIED of try.py lists. The others are wrong
+bodies of the same kind for which it has no time: `python3 tests/edits/try.py NAME/EDIT` tries them, whenever the crate has changed.
 """
 
 import pathlib

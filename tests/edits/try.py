@@ -1,11 +1,12 @@
 #!/usr/bin/env python3
 """Tries must-fail edits on the functions alone that they change, over the libraries that `rt ci` built: the prover has to refuse each.
 
-    try.py              those of TRIED, of the crates whose proof is too dear for `rt ci` to begin its edits with
-    try.py NAME/EDIT..  these, of tests/edits or of the crates' must-fail; NAME/EDIT=PATH where several functions have the name
+    try.py              those of TRIED, as the gate does
+    try.py NAME/EDIT..  these, of tests/edits or of the crates' must-fail; NAME/EDIT=PATH where several functions have the name, or the text is in none
 
 It asks the toolchain's own `rt` to read, apply and check edits. The check is of the functions that the edits change, so it says of the
-callers of these nothing; what is refused is that function's own contract.
+callers of these nothing; what is refused is that function's own contract. No proof of the whole crate comes before it, as `rt ci` has
+one before the edits of crates/NAME/must-fail.
 
 A check reads all libraries below its crate, which for a crate of the hall takes most of its time. So edits of one crate are tried together, as far as none changes
 a function from which one may come to a function of another: what is refused of the one says then nothing of the other. Where such a check says anything
@@ -29,6 +30,8 @@ TRIED = [
     "ps_access/pending_reads",
     "ps_access/publishers_anyone",
     "ps_affil/strangers_are_members",
+    "ps_args/host_with_a_resource",
+    "ps_args/seventeen_streams",
     "ps_audit/a_line_is_told_one_entry_late",
     "ps_audit/a_node_that_is_gone_is_asked",
     "ps_audit/an_entry_is_passed_over",
@@ -39,6 +42,9 @@ TRIED = [
     "ps_audit/subscribers_are_not_known",
     "ps_audit/the_roster_of_the_service_is_asked",
     "ps_audit/the_verdicts_before_are_told",
+    "ps_audit_command/another_address_is_asked",
+    "ps_audit_command/damage_told_elsewhere",
+    "ps_audit_command/readers_told_for_verdicts",
     "ps_audit_run/others_are_left_out",
     "ps_audit_run/pending_is_told_as_denied",
     "ps_audit_run/publish_is_told_as_own",
@@ -48,6 +54,10 @@ TRIED = [
     "ps_caps/forms_may_repeat_a_type",
     "ps_chains/the_oldest_is_the_newest",
     "ps_coll/under_itself",
+    "ps_commands/any_word_mirrors",
+    "ps_commands/feed_is_the_source",
+    "ps_commands/five_digits_of_items",
+    "ps_commands/service_with_a_resource",
     "ps_compact/an_occupied_store_is_done",
     "ps_compact/counters_left_out",
     "ps_compact/full_new_store_is_written_to",
@@ -55,6 +65,9 @@ TRIED = [
     "ps_compact/notices_left_out",
     "ps_compact_codec/link_names_its_child",
     "ps_compact_codec/moment_is_dropped",
+    "ps_compact_export/a_node_keeps_its_collection",
+    "ps_compact_export/half_as_many_handed",
+    "ps_compact_export/rows_are_left_out",
     "ps_compact_import/child_is_a_collection_already",
     "ps_compact_import/more_items_than_kept",
     "ps_config/two_values_for_one",
@@ -66,6 +79,7 @@ TRIED = [
     "ps_disco/items_are_given_unasked=ps_disco::listed::check",
     "ps_disco/the_target_is_asked=ps_disco::listed::check",
     "ps_disk/lost_is_whole",
+    "ps_drafts/address_is_not_quoted=ps_drafts::draft::message",
     "ps_effects/all_items_stay",
     "ps_effects/any_answer_is_kept",
     "ps_effects/retract_purges",
@@ -86,6 +100,9 @@ TRIED = [
     "ps_follow/other_bytes_are_passed_over",
     "ps_follow/repeated_is_taken_twice",
     "ps_forms/form_of_any_type",
+    "ps_gen/hosts_in_one_stream",
+    "ps_gen/purge_for_delete",
+    "ps_gen/seed_left_out",
     "ps_hall/arrives_without_a_flush",
     "ps_hall/handed_before_it_is_durable",
     "ps_hall/lines_are_refused_with_room",
@@ -107,8 +124,10 @@ TRIED = [
     "ps_hall_state/shown_before_it_is_durable",
     "ps_hall_store/answers_ok_after_a_fault",
     "ps_hall_store/claims_more_than_it_wrote",
+    "ps_hall_store/refuses_what_fits=ps_hall_store::store::Store::append",
     "ps_io/asked_as_another_kind=ps_io::mem_world::MemWorldWorld::open_sink",
     "ps_io/fault_not_counted",
+    "ps_item_ids/counted_at_all_nodes=ps_item_ids::asks::CountOfAskCountRow::passes",
     "ps_items/evicts_the_newest",
     "ps_items/keeps_one_more",
     "ps_items/replaced_item_keeps_its_place",
@@ -127,8 +146,14 @@ TRIED = [
     "ps_mirror/takes_a_repeat",
     "ps_mirror/takes_number_zero",
     "ps_mirror/takes_the_first_of_several",
+    "ps_mirror_command/all_items_stay",
+    "ps_mirror_command/fault_told_as_refused_opening",
+    "ps_mirror_command/long_told_as_a_fault",
+    "ps_mirror_command/source_given_back_under_another_name",
+    "ps_names/reply_from_its_sender",
     "ps_nodes/configuration_stays",
     "ps_nodes/made_where_it_stands",
+    "ps_notice_numbers/handed_is_what_was_made",
     "ps_notices/addresses_are_not_merged",
     "ps_notices/id_is_not_the_number",
     "ps_notices/one_counter_for_all_addresses",
@@ -147,7 +172,13 @@ TRIED = [
     "ps_rehearse/errors_of_one_stream_alone",
     "ps_rehearse/numbers_of_another_seed",
     "ps_rehearse/others_counted_as_changes",
+    "ps_rehearse_lines/hosts_exchanged",
+    "ps_rehearse_lines/last_stanza_not_dealt",
+    "ps_rehearse_lines/replies_counted_as_notices",
     "ps_request/other_address_forbidden=ps_request::entity::subscribe",
+    "ps_request_parts/agreeing_is_enough",
+    "ps_request_parts/any_hash_is_verified",
+    "ps_roster/contact_of_any_account=ps_roster::asks::ContactOfAskRosterRow::passes",
     "ps_rows/a_changed_row_is_lost",
     "ps_rows/packing_keeps_the_empty_places",
     "ps_secrecy_step/each_says_the_others",
@@ -160,6 +191,12 @@ TRIED = [
     "ps_serve/always_usage",
     "ps_serve/damaged_store_is_written_over",
     "ps_serve/store_full_before_a_line",
+    "ps_status/all_but_the_first_left_out",
+    "ps_status/code_of_another_status",
+    "ps_status/failed_report_of_lines_hidden",
+    "ps_status/lines_told_in_reverse",
+    "ps_status/nothing_reported",
+    "ps_status/offset_of_a_record_left_out",
     "ps_streams/ends_while_a_reader_runs",
     "ps_streams/full_store_told_as_memory",
     "ps_streams/gone_is_not_said",
@@ -168,6 +205,7 @@ TRIED = [
     "ps_streams/notice_is_recorded_before_it_is_written",
     "ps_streams/refusal_taken_as_the_end",
     "ps_streams/waits_for_room_before_it_flushes",
+    "ps_subs/pending_is_subscribed=ps_subs::asks::is_subscribed",
     "ps_turn/draws_two_tickets",
     "ps_turn/gives_the_opening_value",
     "ps_turn/leaves_with_no_count",
@@ -176,6 +214,7 @@ TRIED = [
     "ps_twin/gives_the_opening_value",
     "ps_twin/raises_no_firm_word",
     "ps_twin/waits_in_the_other_line",
+    "ps_twin_tests/counts_on_more_than_is_firm",
     "ps_types/bare_keeps_resource",
     "ps_types/child_of_any_namespace",
     "ps_wire/line_held_where_none_is",
