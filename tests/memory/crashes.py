@@ -76,7 +76,7 @@ class Crashing(Whole):
     def __init__(self, name, program, libraries):
         with tempfile.TemporaryDirectory(prefix="pubsubd-crashes-") as folder:
             super().__init__(name, program, folder, libraries)
-        self.earlier = changes_in(self.before)
+        self.earlier, self.openings = changes_in(self.before), {}
         status, events, self.growths = self.traced(0)
         self.must_be_whole(status)
         self.left = list(crashes(self.before, events))
@@ -90,16 +90,23 @@ class Crashing(Whole):
             status, _ = room.run(self.lines, self.environment(room, **more))
             return status, list(events_in(trace.read_bytes())), int(count.read_text()) if count.exists() else 0
 
-    def opened(self, store, number=None):
-        """Opens a store, with that growth refused, and returns the status, the changes that it then has, and how often it grew."""
+    def changes_of(self, store):
+        """Opens a store, once however often it was left, and returns the changes that it then has."""
+        if store not in self.openings:
+            self.openings[store] = self.opened(store)
+        status, left, _ = self.openings[store]
+        if status:
+            raise Wrong(f"a store of {len(store)} bytes opens with {status}")
+        return changes_in(left)
+
+    def opened(self, store, **more):
+        """Opens a store: the status, what is left of it, and how often that grew, if it was counted."""
         with tempfile.TemporaryDirectory(prefix="pubsubd-crashes-") as folder:
             room = self.room(folder)
             room.store.write_bytes(store)
             count = room.folder / "count"
-            status, _ = room.run(([], []), {} if number is None else self.environment(room, REFUSE=str(number), REFUSE_COUNT=str(count)))
-            if number:
-                self.must_serve_on(status, room)
-            return status, changes_in(room.store.read_bytes()), int(count.read_text()) if count.exists() else 0
+            status, _ = room.run(([], []), self.environment(room, REFUSE_COUNT=str(count), **more) if more else {})
+            return status, room.store.read_bytes(), int(count.read_text()) if count.exists() else 0
 
     def must_be_front_of(self, changes, told):
         """The changes are those from before and a front of each host's, with each that was told."""
@@ -121,22 +128,19 @@ class Crashing(Whole):
             raise Wrong(f"ended with {status}")
         stores = crashes(self.before, events)
         for store, told in stores.items():
-            again, changes, _ = self.opened(store)
-            if again:
-                raise Wrong(f"a store of {len(store)} bytes opens with {again}")
-            self.must_be_front_of(changes, told)
+            self.must_be_front_of(self.changes_of(store), told)
         return len(stores)
 
     def reopened(self, store, most):
         """Opens a store with each growth refused in turn, and returns how many they are."""
-        status, changes, growths = self.opened(store, 0)
-        if status:
-            raise Wrong(f"a store of {len(store)} bytes opens with {status}")
-        numbers = range(1, growths + 1, -(-growths // most))
+        changes = self.changes_of(store)
+        numbers = range(1, (growths := self.opened(store, REFUSE="0")[2]) + 1, -(-growths // most))
         for number in numbers:
-            status, found, _ = self.opened(store, number)
-            if status not in (0, MEMORY) or found != changes:
-                raise Wrong(f"a store of {len(store)} bytes, growth {number}: status {status}, and the changes are {found}, not {changes}")
+            status, left, _ = self.opened(store, REFUSE=str(number))
+            if status not in (0, MEMORY):
+                raise Wrong(f"a store of {len(store)} bytes, growth {number}: ended with {status}")
+            if changes_in(left) != changes or self.changes_of(left) != changes:
+                raise Wrong(f"a store of {len(store)} bytes, growth {number}: status {status}, and the changes aren't {changes}")
         return len(numbers)
 
 
