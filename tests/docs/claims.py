@@ -3,8 +3,8 @@
 
     claims.py [FILE..]      FILE: docs/claims.md where none is given
 
-A reference reads `crate/file` `function`: `clause`, `clause`, with the file in the crate's src; one without clauses names a
-function whose one clause has no name. A relation of specs is named as `crate/File` `Word`, with the file in the crate's specs.
+A reference reads `crate/file` `function`: `clause`, `clause`, with the file in the crate's src, and other functions of the file
+behind it; one without clauses names a whole contract. A relation of specs is named as `crate/File` `Word`, with the file in the crate's specs.
 """
 
 import pathlib
@@ -12,7 +12,7 @@ import re
 import sys
 
 ROOT = pathlib.Path(__file__).resolve().parents[2]
-REFERENCE = re.compile(r"`(\w+/\w+)`((?:\s*(?:,|and)?\s*`[\w:]+`(?::\s*`\w+`(?:,\s*`\w+`)*)?)+)")
+REFERENCE = re.compile(r"`(\w+/\w+)`((?:\s*(?:,|;|and)?\s*`[\w:]+`(?::\s*`\w+`(?:,\s*`\w+`)*)?)+)")
 NAMED = re.compile(r"`([\w:]+)`(?::\s*((?:`\w+`(?:,\s*)?)+))?")
 
 
