@@ -143,14 +143,14 @@ fn grow(rt: &impl Abort, alloc: Global, boot: &Batch, gone: &Batch) -> Result<Me
         let kept = first.is_ok() as usize + second.is_ok() as usize;
         gives_up(rt, alloc, &disk, kept, kept + 1)?;
     }
-    assert_eq!(rt; (begun, length, disk.calls()), (9, 48, 19));
-    assert_eq!(rt; full, Err(AppendRefusal::Full));
-    assert!(rt; first.is_ok() && second.is_ok());
     match entries {
         Ok(list) => assert_eq!(rt; list.len(), 2),
         Err(EntriesRefusal::Memory) => gives_up(rt, alloc, &disk, 2, 2)?,
         Err(EntriesRefusal::Store) => return Err(Fail::new("no entries")),
     }
+    assert_eq!(rt; (begun, length, disk.calls()), (9, 48, 19));
+    assert_eq!(rt; full, Err(AppendRefusal::Full));
+    assert!(rt; first.is_ok() && second.is_ok());
     Ok(disk)
 }
 
