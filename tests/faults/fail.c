@@ -1,10 +1,12 @@
 /* Fails one call of a program on one file: FAIL_FILE names the file as the program does, FAIL_CALL the number of the call, counted from 1 over lseek, read, write,
    fsync and fdatasync on it since it was opened first. The call does nothing and answers EIO. Where FAIL_COUNT names a file, the number of all such calls is written there
-   at the end, which the program may come to by _exit. Loaded before the C library by LD_PRELOAD. */
+   at the end, which the program may come to by _exit. Where FAIL_TRACE names a file, what a crash may undo is written there: behind each write and each sync of the file a
+   line "write AT SIZE" with the bytes, or "sync", and before each write elsewhere "tell FILE SIZE" with the bytes. Loaded before the C library by LD_PRELOAD. */
 #define _GNU_SOURCE
 #include <dlfcn.h>
 #include <errno.h>
 #include <fcntl.h>
+#include <pthread.h>
 #include <stdarg.h>
 #include <stdatomic.h>
 #include <stdio.h>
@@ -16,6 +18,24 @@
 
 static atomic_long count;
 static atomic_int watched = -1;
+static int trace = -1;
+static pthread_mutex_t tracing = PTHREAD_MUTEX_INITIALIZER;
+
+__attribute__((constructor)) static void begin(void) {
+    char *path = getenv("FAIL_TRACE");
+    if (path) trace = syscall(SYS_open, path, O_WRONLY | O_CREAT | O_APPEND, 0600);
+}
+
+/* By the system's own calls, so that it grows no memory and is no call of the program. */
+static void traced(const char *what, long at, const void *bytes, long size) {
+    char line[64];
+    if (trace < 0) return;
+    int length = size < 0 ? snprintf(line, sizeof line, "%s\n", what) : snprintf(line, sizeof line, "%s %ld %ld\n", what, at, size);
+    pthread_mutex_lock(&tracing);
+    syscall(SYS_write, trace, line, length);
+    if (size > 0) syscall(SYS_write, trace, bytes, size);
+    pthread_mutex_unlock(&tracing);
+}
 
 static void tell(void) {
     char *path = getenv("FAIL_COUNT");
@@ -86,7 +106,14 @@ ssize_t read(int file, void *room, size_t size) {
 ssize_t write(int file, const void *bytes, size_t size) {
     static ssize_t (*next)(int, const void *, size_t);
     if (!next) next = (ssize_t (*)(int, const void *, size_t))dlsym(RTLD_NEXT, "write");
-    return fails(file) ? -1 : next(file, bytes, size);
+    if (file != atomic_load(&watched)) {
+        traced("tell", file, bytes, size);
+        return next(file, bytes, size);
+    }
+    off_t at = trace < 0 ? 0 : syscall(SYS_lseek, file, 0, SEEK_CUR);
+    ssize_t done = fails(file) ? -1 : next(file, bytes, size);
+    if (done > 0) traced("write", at, bytes, done);
+    return done;
 }
 
 static off_t sought(const char *call, int file, off_t at, int whence) {
@@ -102,12 +129,17 @@ off_t lseek64(int file, off_t at, int whence) {
     return sought("lseek64", file, at, whence);
 }
 
+static int synced(const char *call, int file) {
+    int (*next)(int) = (int (*)(int))dlsym(RTLD_NEXT, call);
+    int done = fails(file) ? -1 : next(file);
+    if (!done && file == atomic_load(&watched)) traced("sync", 0, NULL, -1);
+    return done;
+}
+
 int fsync(int file) {
-    int (*next)(int) = (int (*)(int))dlsym(RTLD_NEXT, "fsync");
-    return fails(file) ? -1 : next(file);
+    return synced("fsync", file);
 }
 
 int fdatasync(int file) {
-    int (*next)(int) = (int (*)(int))dlsym(RTLD_NEXT, "fdatasync");
-    return fails(file) ? -1 : next(file);
+    return synced("fdatasync", file);
 }

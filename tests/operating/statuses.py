@@ -1,5 +1,5 @@
 #!/usr/bin/env python3
-"""Each exit status of the program but two, with its report: 6 wants a store of a gigabyte (full.py), and 8 a source of 2^40 bytes.
+"""Each exit status of the program but two, with its report: 6 wants a store of a gigabyte (full.py), and 8 a source of 2^40 bytes (tests/sizes/sources.py).
 
 Usage: statuses.py PROGRAM
 """

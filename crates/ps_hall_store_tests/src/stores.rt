@@ -39,26 +39,80 @@ fn batch_of(alloc: Global, bytes: &[u8]) -> Result<Batch, Memory>
     }
 }
 
-// The journal of a disk that opens, and how many entries it has.
-fn opened(alloc: Global, disk: MemDisk) -> Option<(Journal<MemDisk>, usize)> {
+// What opens: a journal with so many entries, or the disk if memory was refused to the journal, or to the disk, which fails then.
+type Opened = Result<(Journal<MemDisk>, usize), MemDisk>;
+
+fn open(alloc: Global, disk: MemDisk) -> Result<Opened, Fail> {
     match Journal::open(alloc, disk) {
-        Ok((journal, placed)) => Some((journal, placed.len())),
+        Ok((journal, placed)) => Ok(Ok((journal, placed.len()))),
         Err(refusal) => {
-            let JournalRefusal { disk: _, why: _ } = refusal;
-            None
+            let JournalRefusal { disk, why } = refusal;
+            if matches!(why, JournalWhy::Memory) || disk.refused() > 0 {
+                return Ok(Err(disk));
+            }
+            Err(Fail::new("not opened"))
         }
     }
 }
 
-// How many entries a store has after a crash.
-fn after_crash(alloc: Global, disk: &MemDisk, calls: u64, torn: Torn) -> Option<usize> {
-    if calls > disk.calls() {
-        return None;
+// How many entries a disk has. Where memory was refused, it is told with the disk.
+fn count_of(alloc: Global, disk: MemDisk) -> Result<Result<usize, MemDisk>, Fail> {
+    match open(alloc, disk)? {
+        Ok((journal, count)) => {
+            let _ = journal.close();
+            Ok(Ok(count))
+        }
+        Err(disk) => Ok(Err(disk)),
     }
-    let crashed = disk.crashed(alloc, calls, torn).ok()?;
-    let (journal, count) = opened(alloc, crashed)?;
-    let _ = journal.close();
-    Some(count)
+}
+
+// How many entries a store has after a crash. Where memory is refused as it is opened then, it crashes at that, and is opened once more.
+fn after_crash(alloc: Global, disk: &MemDisk, calls: u64, torn: Torn) -> Result<usize, Fail> {
+    if calls > disk.calls() {
+        return Err(Fail::new("fewer calls"));
+    }
+    let crashed = disk.crashed(alloc, calls, torn)?;
+    match count_of(alloc, crashed)? {
+        Ok(count) => Ok(count),
+        Err(refused) => {
+            let again = refused.crashed(alloc, refused.calls(), torn)?;
+            count_of(alloc, again)?.map_err(|_| Fail::from(Memory))
+        }
+    }
+}
+
+// Memory was refused to a call of a journal or of its disk: whatever a crash does, the store then opens with as many entries as these.
+fn gives_up(
+    rt: &impl Abort,
+    alloc: Global,
+    disk: &MemDisk,
+    least: usize,
+    most: usize,
+) -> Result<(), Fail> {
+    for torn in TORN {
+        let held = after_crash(alloc, disk, disk.calls(), torn)?;
+        assert!(rt; least <= held && held <= most, "{least} {held} {most}");
+    }
+    Err(Fail::from(Memory))
+}
+
+// The journal of a disk that opens with so many entries.
+fn opened(
+    rt: &impl Abort,
+    alloc: Global,
+    disk: MemDisk,
+    count: usize,
+) -> Result<Journal<MemDisk>, Fail> {
+    match open(alloc, disk)? {
+        Ok((journal, found)) => {
+            assert_eq!(rt; found, count);
+            Ok(journal)
+        }
+        Err(disk) => {
+            gives_up(rt, alloc, &disk, count, count)?;
+            Err(Fail::from(Memory))
+        }
+    }
 }
 
 const TORN: [Torn; 5] = [
@@ -75,22 +129,28 @@ fn grow(rt: &impl Abort, alloc: Global, boot: &Batch, gone: &Batch) -> Result<Me
     requires gone { gone.now ≢ [] }
 {
     let disk = MemDisk::new(alloc, b"", &[])?;
-    let (mut journal, count) = opened(alloc, disk).ok_or("not opened")?;
+    let mut journal = opened(rt, alloc, disk, 0)?;
     let begun = journal.length();
     let refused = journal.append(boot, 30);
     let first = journal.append(boot, 31);
     let full = journal.append(gone, 47);
     let second = journal.append(gone, 48);
     let length = journal.length();
-    let entries = journal.entries(alloc).ok().map(|list| list.len());
+    let entries = journal.entries(alloc);
     let disk = journal.close();
-    assert_eq!(rt; (count, begun, length, disk.calls()), (0, 9, 48, 19));
-    assert_eq!(rt;
-        (refused, full),
-        (Err(AppendRefusal::Full), Err(AppendRefusal::Full))
-    );
+    assert_eq!(rt; refused, Err(AppendRefusal::Full));
+    if disk.refused() > 0 {
+        let kept = first.is_ok() as usize + second.is_ok() as usize;
+        gives_up(rt, alloc, &disk, kept, kept + 1)?;
+    }
+    match entries {
+        Ok(list) => assert_eq!(rt; list.len(), 2),
+        Err(EntriesRefusal::Memory) => gives_up(rt, alloc, &disk, 2, 2)?,
+        Err(EntriesRefusal::Store) => return Err(Fail::new("no entries")),
+    }
+    assert_eq!(rt; (begun, length, disk.calls()), (9, 48, 19));
+    assert_eq!(rt; full, Err(AppendRefusal::Full));
     assert!(rt; first.is_ok() && second.is_ok());
-    assert_eq!(rt; entries, Some(2));
     Ok(disk)
 }
 
@@ -111,7 +171,7 @@ fn leaves_a_front(rt: &impl Abort, alloc: Global, disk: &MemDisk, calls: u64) ->
         _ => (2, 2),
     };
     for torn in TORN {
-        let held = after_crash(alloc, disk, calls, torn).ok_or("not opened")?;
+        let held = after_crash(alloc, disk, calls, torn)?;
         assert!(rt; least <= held && held <= most, "{calls}");
     }
     Ok(())
@@ -127,8 +187,8 @@ fn leaves_fronts(rt: &impl Abort, alloc: Global) -> Result<(), Fail> {
     for calls in 0..=17 {
         leaves_a_front(rt, alloc, &disk, calls)?;
     }
-    assert_eq!(rt; after_crash(alloc, &disk, 12, Torn::Lost), Some(0));
-    assert_eq!(rt; after_crash(alloc, &disk, 12, Torn::Whole), Some(1));
+    assert_eq!(rt; after_crash(alloc, &disk, 12, Torn::Lost)?, 0);
+    assert_eq!(rt; after_crash(alloc, &disk, 12, Torn::Whole)?, 1);
     Ok(())
 }
 
@@ -137,13 +197,16 @@ fn breaks(rt: &impl Abort, alloc: Global, boot: &Batch, call: u64) -> Result<(),
     requires { boot.now ≢ [] }
 {
     let disk = MemDisk::new(alloc, b"", &[call])?;
-    let (mut journal, _) = opened(alloc, disk).ok_or("not opened")?;
+    let mut journal = opened(rt, alloc, disk, 0)?;
     let whole = journal.broken();
     let first = journal.append(boot, 100);
     let broken = journal.broken();
     let again = journal.append(boot, 100);
     let entries = journal.entries(alloc).err();
     let disk = journal.close();
+    if disk.refused() > 0 {
+        gives_up(rt, alloc, &disk, 0, 1)?;
+    }
     assert_eq!(rt; (whole, broken, disk.fault_count()), (None, Some(1), 1));
     assert_eq!(rt;
         (first, again),
@@ -157,7 +220,7 @@ fn breaks(rt: &impl Abort, alloc: Global, boot: &Batch, call: u64) -> Result<(),
 // An entry may be there from call 12 on, which opens its gate.
 fn opens_again(rt: &impl Abort, alloc: Global, disk: &MemDisk, call: u64) -> Result<(), Fail> {
     for torn in TORN {
-        let held = after_crash(alloc, disk, call, torn).ok_or("not opened")?;
+        let held = after_crash(alloc, disk, call, torn)?;
         assert!(rt; held == 0 || (call >= 12 && held == 1));
     }
     Ok(())
@@ -173,8 +236,11 @@ fn is_not_begun(rt: &impl Abort, alloc: Global, call: u64) -> Result<(), Fail> {
         }
         Err(refusal) => {
             let JournalRefusal { disk, why } = refusal;
+            if matches!(why, JournalWhy::Memory) || disk.refused() > 0 {
+                return gives_up(rt, alloc, &disk, 0, 0);
+            }
             assert!(rt; matches!(why, JournalWhy::Store));
-            assert_eq!(rt; after_crash(alloc, &disk, call, Torn::Filled(1)), Some(0));
+            assert_eq!(rt; after_crash(alloc, &disk, call, Torn::Filled(1))?, 0);
             Ok(())
         }
     }
@@ -192,16 +258,14 @@ fn breaks_for_good(rt: &impl Abort, alloc: Global) -> Result<(), Fail> {
     Ok(())
 }
 
-// Whether a crash after any of the disk's calls leaves one entry.
-fn always_leaves_one(alloc: Global, disk: &MemDisk) -> bool {
+// A crash after any of the disk's calls leaves one entry.
+fn always_leaves_one(rt: &impl Abort, alloc: Global, disk: &MemDisk) -> Result<(), Fail> {
     for calls in 0..=disk.calls() {
         for torn in TORN {
-            if after_crash(alloc, disk, calls, torn) != Some(1) {
-                return false;
-            }
+            assert_eq!(rt; after_crash(alloc, disk, calls, torn)?, 1, "{calls}");
         }
     }
-    true
+    Ok(())
 }
 
 // A store of version 1 opens with its entry and is one of version 2 then. A crash meanwhile leaves the entry.
@@ -210,11 +274,11 @@ fn is_upgraded(rt: &impl Abort, alloc: Global) -> Result<(), Fail> {
         let mut bytes = WHOLE;
         bytes[7] = version;
         let disk = MemDisk::new(alloc, &bytes, &[])?;
-        let (journal, count) = opened(alloc, disk).ok_or("not opened")?;
+        let journal = opened(rt, alloc, disk, 1)?;
         let disk = journal.close();
         bytes[7] = b'2';
-        assert_eq!(rt; (count, disk.bytes()), (1, bytes.as_slice()));
-        assert!(rt; always_leaves_one(alloc, &disk));
+        assert_eq!(rt; disk.bytes(), bytes.as_slice());
+        always_leaves_one(rt, alloc, &disk)?;
     }
     Ok(())
 }

@@ -5,7 +5,8 @@ ghost use Rattle.ps_hall_tests.specs.Passes.{IsFree, Reads, Writes};
 
 use ps_disk::Disk;
 use ps_hall::{ArriveRefusal, EndCause, Hall, Next, Opening, Outcome, Pass, Receipt};
-use ps_types::{Arrival, Bytes};
+use ps_journal::EntriesRefusal;
+use ps_types::{Arrival, Bytes, Memory};
 use std::alloc::Global;
 use std::process::Abort;
 use std::sync::Wait;
@@ -22,7 +23,7 @@ fn arrival(alloc: Global, line: &str) -> Result<Arrival, Fail>
     })
 }
 
-/// A line is answered, and durable.
+/// A line is answered, and durable. If memory is refused, the failure is that.
 fn arrives<B: Opening, D: Disk>(
     rt: &(impl Abort + Wait + Threads + Sync),
     alloc: Global,
@@ -34,7 +35,10 @@ fn arrives<B: Opening, D: Disk>(
     ensures { Reads B.origin hall.now.twin pass.new }
 {
     let arrival = arrival(alloc, line)?;
-    Ok(hall.arrive(rt, pass, &arrival))
+    match hall.arrive(rt, pass, &arrival) {
+        Err(ArriveRefusal::Memory) => Err(Fail::from(Memory)),
+        came => Ok(came),
+    }
 }
 
 /// The line makes an entry at that place.
@@ -53,6 +57,27 @@ pub fn commits<B: Opening, D: Disk>(
     let want = Receipt {
         place,
         outcome: Outcome::Committed,
+    };
+    assert_eq!(rt; came, Ok(want), "{line}");
+    Ok(())
+}
+
+/// The line's entry finds no room, and isn't made.
+pub fn finds_no_room<B: Opening, D: Disk>(
+    rt: &(impl Abort + Wait + Threads + Sync),
+    alloc: Global,
+    hall: &Hall<B, D>,
+    pass: &mut Pass<B, D>,
+    line: &str,
+    place: u64,
+) -> Result<(), Fail>
+    requires { Reads B.origin hall.now.twin pass.old }
+    ensures { Reads B.origin hall.now.twin pass.new }
+{
+    let came = arrives(rt, alloc, hall, pass, line)?;
+    let want = Receipt {
+        place,
+        outcome: Outcome::Full,
     };
     assert_eq!(rt; came, Ok(want), "{line}");
     Ok(())
@@ -92,7 +117,8 @@ pub fn recalls<B: Opening, D: Disk>(
             assert_eq!(rt; (entries.len(), hall.seen(pass)), (count, steps));
             Ok(())
         }
-        Err(_) => Err(Fail::new("no list")),
+        Err(EntriesRefusal::Memory) => Err(Fail::from(Memory)),
+        Err(EntriesRefusal::Store) => Err(Fail::new("no list")),
     }
 }
 

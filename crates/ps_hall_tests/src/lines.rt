@@ -7,6 +7,10 @@ pub const CREATE: &str =
 pub const MADE: &str =
     r#"{"a":{"from":"pubsub.example","id":"1","to":"ann@a.example/1","type":"result"},"n":"iq"}"#;
 
+/// The reply if the store has no room.
+pub const NO_ROOM: &str =
+    r#"{"a":{"from":"pubsub.example","id":"1","to":"ann@a.example/1","type":"error"},"c":[{"a":{"type":"wait"},"c":[{"n":"resource-constraint","ns":"urn:ietf:params:xml:ns:xmpp-stanzas"}],"n":"error"}],"n":"iq"}"#;
+
 /// A subscription, and its reply.
 pub const SUBSCRIBE: &str =
     r#"{"a":{"from":"ann@a.example/1","id":"2","to":"pubsub.example","type":"set"},"c":[{"c":[{"a":{"jid":"ann@a.example","node":"news"},"n":"subscribe"}],"n":"pubsub","ns":"http://jabber.org/protocol/pubsub"}],"n":"iq"}"#;

@@ -1,5 +1,5 @@
 // Lives of a hall, from its opening to its end.
-ghost use Rattle.std.specs.Prelude.{◌≡◌, ◌<◌, codes, length, OnOk};
+ghost use Rattle.std.specs.Prelude.{◌≡◌, ◌<◌, ◌≤◌, ◌^◌, codes, length, OnOk};
 ghost use Rattle.ps_trace.specs.Own.{AllDiffer};
 ghost use Rattle.ps_disk.specs.declared.memory.MemDisk.{MemDisk};
 ghost use Rattle.ps_hall.specs.Passes.{AreFresh, ArePasses};
@@ -7,13 +7,17 @@ ghost use Rattle.ps_hall.specs.Start.{MayStart};
 ghost use Rattle.ps_hall_tests.specs.Begun.{are_one};
 ghost use Rattle.ps_hall_tests.specs.Passes.{IsFree, Reads, Writes};
 
-use crate::calls::{commits, ends, goes, is_over, recalls, refuses, replies, tells, waits};
-use crate::lines::{CREATE, MADE, PUBLISH, PUBLISHED, SUBSCRIBE, SUBSCRIBED, TOLD, TOLD_NEXT};
-use crate::opened::{host_names, opens, service_name};
+use crate::calls::{
+    commits, ends, finds_no_room, goes, is_over, recalls, refuses, replies, tells, waits,
+};
+use crate::lines::{
+    CREATE, MADE, NO_ROOM, PUBLISH, PUBLISHED, SUBSCRIBE, SUBSCRIBED, TOLD, TOLD_NEXT,
+};
+use crate::opened::{ample, host_names, opens, service_name};
 use ps_disk::{Disk, MemDisk};
 use ps_hall::{ArriveRefusal, EndCause, Hall, HostPasses, NoHall, Opening, Pass};
 use ps_hall_open::Opened;
-use ps_hall_state::State;
+use ps_hall_state::{Limits, State};
 use ps_hall_store::Store;
 use ps_io::ConstClock;
 use ps_journal::Placed;
@@ -127,6 +131,26 @@ fn fails<B: Opening, D: Disk>(
     waits(rt, hall, &mut passes.writer)
 }
 
+// The entry of the line would pass the limit by a byte: its sender is told so, and the list stays as it is.
+fn is_full<B: Opening, D: Disk>(
+    rt: &(impl Abort + Wait + Threads + Sync),
+    alloc: Global,
+    hall: &Hall<B, D>,
+    passes: &mut HostPasses<B, D>,
+) -> Result<(), Fail>
+    requires reader { Reads B.origin hall.now.twin passes.old.reader }
+    requires writer { IsFree B.origin hall.now.twin passes.old.writer }
+    ensures reader { Reads B.origin hall.now.twin passes.new.reader }
+    ensures writer { Writes B.origin hall.now.twin passes.new.writer }
+{
+    let reader = &mut passes.reader;
+    finds_no_room(rt, alloc, hall, reader, CREATE, 1)?;
+    recalls(rt, alloc, hall, reader, 1, 2)?;
+    let writer = &mut passes.writer;
+    replies(rt, hall, writer, NO_ROOM)?;
+    waits(rt, hall, writer)
+}
+
 // The store was served before: its node and its subscription stand, and the notices are numbered on.
 fn goes_on<B: Opening, D: Disk>(
     rt: &(impl Abort + Wait + Threads + Sync),
@@ -210,6 +234,7 @@ fn writes<B: Opening, D: Disk>(
 enum Life {
     Whole,
     Failing,
+    Full,
     Second,
     Written,
     Ringing,
@@ -231,6 +256,7 @@ fn lives<B: Opening, D: Disk>(
     match life {
         Life::Whole => serves(rt, alloc, hall, first),
         Life::Failing => fails(rt, alloc, hall, first),
+        Life::Full => is_full(rt, alloc, hall, first),
         Life::Second => goes_on(rt, alloc, hall, first),
         Life::Written => writes(rt, alloc, hall, first),
         Life::Ringing => rings(rt, alloc, hall, first),
@@ -269,6 +295,22 @@ fn live<B: Opening>(
     }
 }
 
+// The header, the Boot and the closed gate take 31 bytes. A frame adds its gate, four bytes of length and its entries. That of the first line has 188 bytes
+// behind 24 of its own.
+const FIRST_MADE: u64 = 31 + (5 + 24 + 188);
+
+fn limits_of(life: Life) -> Limits
+    ensures { (result.changes ≤ 2 ^ 30) × (result.whole ≤ 2 ^ 30) }
+{
+    match life {
+        Life::Full => Limits {
+            changes: FIRST_MADE - 1,
+            whole: FIRST_MADE,
+        },
+        Life::Whole | Life::Failing | Life::Second | Life::Written | Life::Ringing => ample(),
+    }
+}
+
 // The disk is opened, and its host lives. The disk as it was is named apart, since the hall begins with what stood on it.
 fn opened(
     rt: &(impl Abort + Wait + Threads + Sync + RandomSource),
@@ -283,7 +325,7 @@ fn opened(
     requires service { service.now ≡ codes "pubsub.example" }
     requires hosts { hosts.now ≡ are_one }
 {
-    let opened = opens(rt, alloc, disk, service, hosts)?;
+    let opened = opens(rt, alloc, disk, service, hosts, limits_of(life))?;
     let Opened {
         state,
         store,
@@ -304,9 +346,8 @@ fn served(
     opened(rt, alloc, disk, &service, &hosts, life)
 }
 
-// The header, the Boot and the closed gate take 31 bytes. A frame adds its gate, four bytes of length and its entries: the three lines, of 188, 213 and 257
-// bytes behind 24 of their own, the notice that was handed with its address in 16, and the end of the host in 12.
-const LEFT: usize = 31 + (5 + 24 + 188) + (5 + 24 + 213) + (5 + 24 + 257) + (5 + 16) + (5 + 12);
+// The frames of the three lines, of 188, 213 and 257 bytes, that of the notice that was handed, with its address in 16, and that of the end of the host, in 12.
+const LEFT: usize = FIRST_MADE as usize + (5 + 24 + 213) + (5 + 24 + 257) + (5 + 16) + (5 + 12);
 
 #[test]
 fn a_host_is_served_from_the_opening_to_the_end(rt: HostRuntime) -> Result<(), Fail> {
@@ -340,6 +381,14 @@ fn a_store_that_was_served_goes_on(rt: HostRuntime) -> Result<(), Fail> {
     let disk = MemDisk::new(rt.alloc(), b"", &[])?;
     let disk = served(&rt, rt.alloc(), disk, Life::Whole)?;
     let _ = served(&rt, rt.alloc(), disk, Life::Second)?;
+    Ok(())
+}
+
+#[test]
+fn a_line_whose_entry_finds_no_room_is_told_so(rt: HostRuntime) -> Result<(), Fail> {
+    let disk = MemDisk::new(rt.alloc(), b"", &[])?;
+    let disk = served(&rt, rt.alloc(), disk, Life::Full)?;
+    assert_eq!(rt; disk.bytes().len(), 31);
     Ok(())
 }
 

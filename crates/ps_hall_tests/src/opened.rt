@@ -1,13 +1,13 @@
 // A store in memory is opened.
-ghost use Rattle.std.specs.Prelude.{◌≡◌, codes, IfOk};
+ghost use Rattle.std.specs.Prelude.{◌≡◌, ◌≤◌, ◌^◌, codes, IfOk};
 ghost use Rattle.ps_journal.specs.Places.{entries_in};
 ghost use Rattle.ps_hall.specs.Start.{MayStart};
 ghost use Rattle.ps_hall_tests.specs.Begun.{are_one, origin_of};
 
-use ps_disk::MemDisk;
-use ps_hall_open::{OpenRefusal, Opened, open};
+use ps_disk::{MemDisk, Torn};
+use ps_hall_open::{OpenRefusal, OpenWhy, Opened, open};
 use ps_hall_state::Limits;
-use ps_types::Text;
+use ps_types::{Memory, Text};
 use std::alloc::Global;
 use std::random::RandomSource;
 use std::test::Fail;
@@ -36,6 +36,95 @@ pub fn host_names(alloc: Global) -> Result<Vec<Text>, Fail>
     Ok(hosts)
 }
 
+/// Limits that no test comes to.
+pub fn ample() -> Limits
+    ensures { (result.changes ≤ 2 ^ 30) × (result.whole ≤ 2 ^ 30) }
+{
+    Limits {
+        changes: 10_000,
+        whole: 10_000,
+    }
+}
+
+/// A disk is opened within these limits, or not.
+pub fn opens_within<R: RandomSource + Threads + Sync>(
+    rt: &R,
+    alloc: Global,
+    disk: MemDisk,
+    service: &Text,
+    hosts: &[Text],
+    limits: Limits,
+) -> Result<Opened<MemDisk>, OpenRefusal<MemDisk>>
+    requires service { service.now ≡ codes "pubsub.example" }
+    requires hosts { hosts.now ≡ are_one }
+    requires bounded { (limits.changes ≤ 2 ^ 30) × (limits.whole ≤ 2 ^ 30) }
+    ensures { IfOk result (λ r. MayStart
+        (origin_of disk hosts.now service.now (entries_in r.entries.items) r.state r.store) r.state r.store hosts.now) }
+{
+    match open(rt, alloc, disk, service, hosts, limits) {
+        Ok(opened) => Ok(opened),
+        Err(refusal) => Err(refusal),
+    }
+}
+
+/// What was opened is let go, and its disk comes back.
+pub fn close(opened: Opened<MemDisk>) -> MemDisk {
+    let Opened {
+        state: _,
+        store,
+        entries: _,
+    } = opened;
+    store.close()
+}
+
+// Memory was refused to the opening, or to the disk, which fails then.
+fn is_short(disk: &MemDisk, why: OpenWhy) -> bool {
+    why == OpenWhy::Memory || (why == OpenWhy::Store && disk.refused() > 0)
+}
+
+// After a crash the disk is opened.
+fn opens_after<R: RandomSource + Threads + Sync>(
+    rt: &R,
+    alloc: Global,
+    disk: &MemDisk,
+    service: &Text,
+    hosts: &[Text],
+    torn: Torn,
+) -> Result<(), Fail>
+    requires service { service.now ≡ codes "pubsub.example" }
+    requires hosts { hosts.now ≡ are_one }
+{
+    let left = disk.crashed(alloc, disk.calls(), torn)?;
+    match opens_within(rt, alloc, left, service, hosts, ample()) {
+        Ok(opened) => {
+            let _ = close(opened);
+            Ok(())
+        }
+        Err(OpenRefusal { disk: _, why: _ }) => Err(Fail::new("not opened after a crash")),
+    }
+}
+
+/// Why a disk wasn't opened, and the disk. If memory was refused, the failure is that, and the disk is opened after any crash.
+pub fn why_not<R: RandomSource + Threads + Sync>(
+    rt: &R,
+    alloc: Global,
+    refusal: OpenRefusal<MemDisk>,
+    service: &Text,
+    hosts: &[Text],
+) -> Result<(MemDisk, OpenWhy), Fail>
+    requires service { service.now ≡ codes "pubsub.example" }
+    requires hosts { hosts.now ≡ are_one }
+{
+    let OpenRefusal { disk, why } = refusal;
+    if is_short(&disk, why) {
+        for torn in [Torn::Lost, Torn::Whole, Torn::Filled(1)] {
+            opens_after(rt, alloc, &disk, service, hosts, torn)?;
+        }
+        return Err(Fail::from(Memory));
+    }
+    Ok((disk, why))
+}
+
 /// A disk is opened.
 pub fn opens<R: RandomSource + Threads + Sync>(
     rt: &R,
@@ -43,18 +132,19 @@ pub fn opens<R: RandomSource + Threads + Sync>(
     disk: MemDisk,
     service: &Text,
     hosts: &[Text],
+    limits: Limits,
 ) -> Result<Opened<MemDisk>, Fail>
     requires service { service.now ≡ codes "pubsub.example" }
     requires hosts { hosts.now ≡ are_one }
+    requires bounded { (limits.changes ≤ 2 ^ 30) × (limits.whole ≤ 2 ^ 30) }
     ensures { IfOk result (λ r. MayStart
         (origin_of disk hosts.now service.now (entries_in r.entries.items) r.state r.store) r.state r.store hosts.now) }
 {
-    let limits = Limits {
-        changes: 10_000,
-        whole: 10_000,
-    };
-    match open(rt, alloc, disk, service, hosts, limits) {
+    match opens_within(rt, alloc, disk, service, hosts, limits) {
         Ok(opened) => Ok(opened),
-        Err(OpenRefusal { disk: _, why: _ }) => Err(Fail::new("not opened")),
+        Err(refusal) => {
+            let _ = why_not(rt, alloc, refusal, service, hosts)?;
+            Err(Fail::new("not opened"))
+        }
     }
 }

@@ -47,3 +47,12 @@ rings-requires-clause-writer g c κs within = first_free g.B.Opening.origin c.ar
 
 pub returns-in-Ringing : goal.returns-in-Ringing
 returns-in-Ringing g c = kept g.B.Opening.origin c.args.hall.now.twin c.args.passes.now.items c.rings.new.passes c.requires.some c.requires.fresh.all c.rings.ensures.reader c.rings.ensures.writer
+
+pub is_full-requires-clause-reader : goal.is_full-requires-clause-reader
+is_full-requires-clause-reader g c κs within = first_reads g.B.Opening.origin c.args.hall.now.twin c.args.passes.now.items c.index_mut-first.result.now (slice_get_read _ _ _ _ refl c.requires.some c.index_mut-first.ensures.value) c.requires.fresh
+
+pub is_full-requires-clause-writer : goal.is_full-requires-clause-writer
+is_full-requires-clause-writer g c κs within = first_free g.B.Opening.origin c.args.hall.now.twin c.args.passes.now.items c.index_mut-first.result.now (slice_get_read _ _ _ _ refl c.requires.some c.index_mut-first.ensures.value) c.requires.fresh
+
+pub returns-in-Full : goal.returns-in-Full
+returns-in-Full g c = kept g.B.Opening.origin c.args.hall.now.twin c.args.passes.now.items c.is_full.new.passes c.requires.some c.requires.fresh.all c.is_full.ensures.reader c.is_full.ensures.writer
