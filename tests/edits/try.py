@@ -29,7 +29,7 @@ TRIED = [
     "ps_access/pending_reads",
     "ps_access/publishers_anyone",
     "ps_affil/strangers_are_members",
-    "ps_audit/a_line_is_told_one_entry_late",
+    "ps_audit/a_line_is_told_at_another_entry",
     "ps_audit/a_node_that_is_gone_is_asked",
     "ps_audit/an_entry_is_passed_over",
     "ps_audit/another_rule_is_no_line",
