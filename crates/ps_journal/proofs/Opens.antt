@@ -8,7 +8,7 @@ use Rattle.ps_model.specs.Entries.{IsEntry, AreEntries, AreEntriesIn, spelling, 
 use Rattle.ps_model.specs.Damage.{BadFrame, BadHeader, NoEntry}
 use Rattle.ps_model.specs.Store.{is_header, is_second, is_unbegun, gate_at, Begun, Lists, spelled, joined, AreBodies, AreParts}
 use Rattle.ps_journal.specs.Settled.{IsSettledAt, IsSettled, IsUpgrading}
-use Rattle.ps_journal.specs.Judged.{IsDamaged, IsFound, IsStopped, IsRefused, StopsBefore, FramesRead, BadEntry, StoppedAt}
+use Rattle.ps_journal.specs.Judged.{IsDamaged, IsFound, IsStopped, StopsBefore, FramesRead, BadEntry, StoppedAt}
 use Rattle.ps_journal.specs.Opened.{ArePlaced, HasLength, IsWhyDamaged, IsWhyStopped}
 use Rattle.ps_journal.specs.declared.opening.JournalWhy.{JournalWhy}
 use Rattle.ps_journal.specs.declared.opening.JournalWhy.TheVariants as whys

@@ -5,7 +5,7 @@ use Rattle.ps_types.specs.declared.entry.Entry.{Entry}
 use Rattle.ps_model.specs.Entries.{spelling, body, IsEntry, in_version, IsEntryIn, AreEntriesIn, StandsAt}
 use Rattle.ps_record.proofs.Batches.{body_push}
 use Rattle.ps_record.proofs.EntryLaws.{one_entry}
-use Rattle.ps_journal.specs.Judged.{BodyRead, BodyStopped, IsRefused}
+use Rattle.ps_journal.specs.Judged.{BodyRead, BodyStopped}
 use Rattle.ps_journal.specs.Places.{places_in}
 use Rattle.ps_journal.specs.declared.judging.Placed.{Placed}
 use Rattle.ps_journal.proofs.Lists.{head_of}

@@ -1,4 +1,4 @@
-use Rattle.std.proofs.Common.{◌≡◌, List, ℕ, sym, subst}
+use Rattle.std.proofs.Common.{◌≡◌, List, sym, subst}
 use Rattle.ps_journal.specs.Opened.{ArePlaced, IsOpened}
 use Rattle.ps_journal.specs.declared.judging.Placed.{Placed}
 use Rattle.ps_journal.proofs.Opens.{why_damaged}
