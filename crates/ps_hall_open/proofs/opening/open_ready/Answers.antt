@@ -1,5 +1,4 @@
 use Rattle.std.proofs.Common.{◌+◌, ℕ, [], ◌∷◌, ◌++◌, sym, ap, ◌∙◌, subst, arith}
-use denote.Param.Send.{IsSync, given_sync}
 use Rattle.ps_types.specs.declared.entry.Entry.{Entry}
 use Rattle.ps_disk.proofs.Moments.{weaker}
 use Rattle.ps_journal.specs.Journal.{disk_of, length_of}
@@ -22,7 +21,7 @@ use Rattle.ps_hall_open.specs.declared.opened.ReadWhy.{ReadWhy}
 use Rattle.ps_hall_open.proofs.opening.open_ready.Goals as goal
 
 pub open_giving-requires : goal.open_giving-requires
-open_giving-requires g c = let ready = c.requires.ready in record { stands = (given_sync 0 g.row.R c.type_bounds.sync-R, taken_nothing c.args.ready.rebuilt ready.2.fresh) }
+open_giving-requires g c = let ready = c.requires.ready in record { stands = (record { shared = c.type_bounds.sync-R.shared }, taken_nothing c.args.ready.rebuilt ready.2.fresh) }
 
 pub restore-requires-clause-taken : goal.restore-requires-clause-taken
 restore-requires-clause-taken g c κs within = c.in-Ok.ensures.taken.1
@@ -37,7 +36,7 @@ returns-in-Err-clause-refused g c service hosts ready =
     let not = OpenNot D.tells (D.seen c.args.disk) (D.faults c.args.disk) (D.faults c.in-Err.refusal.disk) service c.args.limits.whole in
     subst not (sym c.from-why.ensures)
     (subst (λ (w : ReadWhy). not (open_why w)) (sym c.why_not.ensures)
-    (refused_journal D.tells (D.seen c.args.disk) service (D.faults c.args.disk) (D.faults c.in-Err.refusal.disk) c.args.limits.whole (λ ps. IsSync g.row.R × HasTaken ps c.open_giving.new.taker.rebuilt) (λ ps t. t.1.replayed.each) c.in-Err.refusal.why (λ tells. e.stopped tells) e.store))
+    (refused_journal D.tells (D.seen c.args.disk) service (D.faults c.args.disk) (D.faults c.in-Err.refusal.disk) c.args.limits.whole (λ ps. _ × HasTaken ps c.open_giving.new.taker.rebuilt) (λ ps t. t.1.replayed.each) c.in-Err.refusal.why (λ tells. e.stopped tells) e.store))
 
 pub returns-in-Err-clause-damaged : goal.returns-in-Err-clause-damaged
 returns-in-Err-clause-damaged g c tells =

@@ -1,6 +1,5 @@
 use Rattle.std.proofs.Common.{[], sym, subst, arith}
 use Rattle.std.proofs.lemmas.List.{length-map}
-use denote.Param.Send.{IsSync, given_sync}
 use Rattle.ps_disk.specs.Disk.{LeavesOnly}
 use Rattle.ps_journal.specs.Left.{LeavesList}
 use Rattle.ps_journal.specs.Opened.{LeftOrHas}
@@ -18,7 +17,7 @@ use Rattle.ps_hall_open.proofs.Timely.{placed_entries}
 use Rattle.ps_hall_open.proofs.read_only.open_taken.Goals as goal
 
 pub open_giving-requires : goal.open_giving-requires
-open_giving-requires g c = record { stands = (given_sync 0 g.row.R c.type_bounds.sync-R, taken_nothing c.args.rebuilt c.requires.fresh, c.requires.saw) }
+open_giving-requires g c = record { stands = (record { shared = c.type_bounds.sync-R.shared }, taken_nothing c.args.rebuilt c.requires.fresh, c.requires.saw) }
 
 pub returns-in-Err-clause-refused : goal.returns-in-Err-clause-refused
 returns-in-Err-clause-refused g c =
@@ -26,7 +25,7 @@ returns-in-Err-clause-refused g c =
     let e = c.in-Err.ensures in
     let all = c.open_giving.new.taker in
     subst (ReadNot D.tells (D.seen c.args.disk) (D.faults c.args.disk) (D.faults c.in-Err.refusal.disk)) (sym c.why_not-why.ensures)
-    (read_refused D.tells (D.seen c.args.disk) [] (D.faults c.args.disk) (D.faults c.in-Err.refusal.disk) 0 (λ ps. IsSync g.row.R × HasTaken ps all.rebuilt × g.O.Observer.saw c.args.observer all.observer (entries_in ps)) (λ ps t. t.1.replayed.each) c.in-Err.refusal.why (λ tells. e.stopped tells) e.store)
+    (read_refused D.tells (D.seen c.args.disk) [] (D.faults c.args.disk) (D.faults c.in-Err.refusal.disk) 0 (λ ps. _ × HasTaken ps all.rebuilt × g.O.Observer.saw c.args.observer all.observer (entries_in ps)) (λ ps t. t.1.replayed.each) c.in-Err.refusal.why (λ tells. e.stopped tells) e.store)
 
 pub returns-in-Err-clause-untouched : goal.returns-in-Err-clause-untouched
 returns-in-Err-clause-untouched g c tells =

@@ -1,6 +1,5 @@
 use Rattle.std.proofs.Common.{[], Err, ap, arith, sym, subst}
 use Rattle.std.proofs.lemmas.List.{length-map}
-use denote.Param.Send.{IsSync, given_sync}
 use Rattle.ps_journal.specs.declared.judging.Placed.{Placed}
 use Rattle.ps_hall_open.specs.Reads.{ReadNot}
 use Rattle.ps_hall_open.specs.Replayed.{HasTaken}
@@ -10,14 +9,14 @@ use Rattle.ps_hall_open.proofs.Timely.{placed_entries}
 use Rattle.ps_hall_open.proofs.reading.kept_on.Goals as goal
 
 pub look_giving-requires : goal.look_giving-requires
-look_giving-requires g c = record { stands = (given_sync 0 g.row.R c.type_bounds.sync-R, taken_nothing c.in_ok-rebuilt.rebuilt c.in_ok-rebuilt.ensures) }
+look_giving-requires g c = record { stands = (record { shared = c.type_bounds.sync-R.shared }, taken_nothing c.in_ok-rebuilt.rebuilt c.in_ok-rebuilt.ensures) }
 
 pub returns-in-Err-clause-refused : goal.returns-in-Err-clause-refused
 returns-in-Err-clause-refused g c =
     let D = g.D.Disk in
     let e = c.in-Err.ensures in
     subst (ReadNot D.tells (D.seen c.args.disk.now) (D.faults c.args.disk.now) (D.faults c.look_giving.new.disk)) (sym c.why_not.ensures)
-    (read_refused D.tells (D.seen c.args.disk.now) [] (D.faults c.args.disk.now) (D.faults c.look_giving.new.disk) 0 (λ ps. IsSync g.row.R × HasTaken ps c.look_giving.new.taker.rebuilt) (λ ps t. t.1.replayed.each) c.in-Err.why (λ tells. e.stopped tells) (λ is. e.store (ap Err is)))
+    (read_refused D.tells (D.seen c.args.disk.now) [] (D.faults c.args.disk.now) (D.faults c.look_giving.new.disk) 0 (λ ps. _ × HasTaken ps c.look_giving.new.taker.rebuilt) (λ ps t. t.1.replayed.each) c.in-Err.why (λ tells. e.stopped tells) (λ is. e.store (ap Err is)))
 
 pub returns-in-Ok-clause-kept : goal.returns-in-Ok-clause-kept
 returns-in-Ok-clause-kept g c =

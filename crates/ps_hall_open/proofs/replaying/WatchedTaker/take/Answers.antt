@@ -1,5 +1,4 @@
-use denote.Param.Send.{param_sync}
 use Rattle.ps_hall_open.proofs.replaying.WatchedTaker.take.Goals as goal
 
 pub take_placed-requires-sync-R : goal.take_placed-requires-sync-R
-take_placed-requires-sync-R g c κs within = let s = c.requires.stands in param_sync 0 g.row.R s.2.0
+take_placed-requires-sync-R g c κs within = let s = c.requires.stands in record { shared = s.2.0.shared }
