@@ -44,7 +44,7 @@ impl<'a> Explaining<'a> {
 
     /// The lines of the entries that were seen.
     pub fn into_lines(self) -> Vec<ExplainLine>
-        ensures { (start : Explaining) (E : List Entry) → TellsOn start self E
+        ensures { (start : Explaining) (E : List Entry) → TellsOn start self.entry E
             → result.items ≡ history E start.who.now start.node.now }
     {
         let Explaining {

@@ -99,7 +99,7 @@ fn explain_by<R: RandomSource + Threads + Sync, D: Disk>(
     disk: D,
 ) -> AuditRun<D>
     requires none { TellsOn explaining explaining [] }
-    ensures { Audited D.tells (explain_report explaining.who.now explaining.node.now) (held_on D.Disk disk)
+    ensures { Audited D.tells (explain_report explaining.entry.who.now explaining.entry.node.now) (held_on D.Disk disk)
         (held_on D.Disk result.disk) (D.left_since result.disk) result.report }
 {
     match observe(rt, alloc, disk, explaining) {

@@ -19,5 +19,5 @@ reader_list-requires-clause-addresses c =
     let E = c.requires.replayed.0 in
     let node = c.args.node.now in
     let row = row_seen c.in-Some.row in
-    let left : book_of c.tables-tables.result.now ≡ (replay E).book = c.tables-tables.ensures.book ∙ ap (λ (s : State). s.book) c.requires.replayed.2.1 in
-    subst (λ (b : Book). Each IsAddress (known b row)) (sym left) (known-addresses E c.requires.replayed.2.0 node row (ap (λ (b : Book). node_at node b.nodes) (sym left) ∙ sym c.in-Some.ensures.row))
+    let left : book_of c.tables-tables.result.now ≡ (replay E).book = c.tables-tables.ensures.book ∙ ap (λ (s : State). s.book) c.requires.replayed.2 in
+    subst (λ (b : Book). Each IsAddress (known b row)) (sym left) (known-addresses E c.requires.replayed.1 node row (ap (λ (b : Book). node_at node b.nodes) (sym left) ∙ sym c.in-Some.ensures.row))

@@ -19,7 +19,7 @@ returns-in-Err g c =
     (audit-refused D R old refusal.disk e.later e.any_moment refusal.why e.refused e.untouched))
 
 pub read_by-requires-clause-replayed : goal.read_by-requires-clause-replayed
-read_by-requires-clause-replayed g c = (entries_in c.in-Ok.observed.entries.items, (c.in-Ok.ensures.lawful, c.in-Ok.ensures.state))
+read_by-requires-clause-replayed g c = (entries_in c.in-Ok.observed.entries.items, c.in-Ok.ensures.lawful, c.in-Ok.ensures.state)
 
 pub returns-in-Ok : goal.returns-in-Ok
 returns-in-Ok g c =
