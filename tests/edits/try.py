@@ -32,7 +32,7 @@ TRIED = [
     "ps_affil/strangers_are_members",
     "ps_args/host_with_a_resource",
     "ps_args/seventeen_streams",
-    "ps_audit/a_line_is_told_one_entry_late",
+    "ps_audit/a_line_is_told_at_another_entry",
     "ps_audit/a_node_that_is_gone_is_asked",
     "ps_audit/an_entry_is_passed_over",
     "ps_audit/another_rule_is_no_line",

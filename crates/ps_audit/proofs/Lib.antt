@@ -1,5 +1,6 @@
 mod Decoded
 mod Going
 mod Walks
+mod Seen
 mod Adding
 mod Rows

@@ -1,17 +1,17 @@
 -- A history is told entry by entry.
-use Rattle.std.proofs.Common.{◌≡◌, ℕ, suc, ◌+◌, ◌<◌, arith, Bool, true, false, List, [], ◌∷◌, ◌++◌, length, Option, Some, refl, sym, ap, subst, ◌∙◌, append-nil}
+use Rattle.std.proofs.Common.{◌≡◌, ℕ, suc, ◌+◌, ◌<◌, arith, Bool, true, false, List, [], ◌∷◌, ◌++◌, length, Option, Some, refl, sym, ap, ◌∙◌, append-nil}
 use Rattle.std.specs.Prelude.{slice_get}
 use Rattle.ps_types.specs.declared.entry.Entry.{Entry}
 use Rattle.ps_types.specs.declared.jid.Jid.{Jid}
 use Rattle.ps_types.specs.declared.node.NodeKey.{NodeKey}
 use Rattle.ps_model.specs.After.{after}
-use Rattle.ps_model.specs.Book.{State, empty_state}
+use Rattle.ps_model.specs.Book.{State}
 use Rattle.ps_audit_laws.specs.declared.told.ExplainLine.{ExplainLine}
 use Rattle.ps_audit_laws.specs.declared.told.Four.{Four}
 use Rattle.ps_audit_laws.specs.History.{history, is_told, verdicts_after}
 use Rattle.ps_audit_laws.specs.Verdicts.{four_at}
 use Rattle.ps_audit_laws.proofs.Telling.{last, lines, lines-more, quiet, stays}
-use Rattle.ps_audit.proofs.Going.{Going, going-begins, going-on}
+use Rattle.ps_audit.proofs.Going.{Going, going-on}
 
 -- so many entries were taken, and the lines up to there are told
 pub record Walk (E : List Entry) (who : Jid) (node : NodeKey) (i : ℕ) (state : State) (at : ℕ) (newest : Option Four) (told : List ExplainLine) : Type 0 where
@@ -61,18 +61,6 @@ module _ (E : List Entry) (who : Jid) (node : NodeKey) (i : ℕ) (state : State)
         same-line true h = line-is (one-more w.counted) next-four w.listed ∙ sym (lines-more E who node i ∙ ap (λ (b : Bool). lines E who node i ++ last E who node b (suc i)) h)
         same-line false h = absurd (differs (next-four ∙ quiet E who node i h ∙ sym w.asked))
 
-pub walk-begins : (E : List Entry) (who : Jid) (node : NodeKey) (state : State) (four : Option Four) → state ≡ empty_state → four ≡ four_at state.book node who
-    → Walk E who node 0 state 0 four (record { after = 0; four = four } ∷ [])
-walk-begins E who node state four e f =
-    let first : four ≡ verdicts_after E who node 0 = f ∙ ap (λ (s : State). four_at s.book node who) e in
-    record { going = going-begins E state e; counted = refl; asked = first; listed = λ k. record { after = 0; four = first k } ∷ [] }
-
 pub walk-ends : (E : List Entry) (who : Jid) (node : NodeKey) (i : ℕ) (state : State) (at : ℕ) (newest : Option Four) (told : List ExplainLine) → Walk E who node i state at newest told
     → i ≡ length E → told ≡ history E who node
 walk-ends E who node i state at newest told w e = w.listed ∙ ap (lines E who node) e
-
--- the same walk by equal parts
-pub walk-as : (E : List Entry) (who : Jid) (node : NodeKey) (state : State) (at i j : ℕ) → i ≡ j → (newest last : Option Four) → newest ≡ last → (told all : List ExplainLine) → told ≡ all
-    → Walk E who node i state at newest told → Walk E who node j state at last all
-walk-as E who node state at i j e newest last f told all h w = subst (λ (xs : List ExplainLine). Walk E who node j state at last xs) h
-    (subst (λ (four : Option Four). Walk E who node j state at four told) f (subst (λ (k : ℕ). Walk E who node k state at newest told) e w))

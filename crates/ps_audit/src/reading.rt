@@ -1,30 +1,24 @@
-// Who may read a node of a list of entries.
-ghost use Rattle.std.specs.Prelude.{◌<◌, ◌^◌, IfOk, length};
+// Who may read a node at a State.
+ghost use Rattle.std.specs.Prelude.{◌≡◌, List, IfOk};
 ghost use Rattle.ps_audit.specs.Listed.{AreReaders};
-ghost use Rattle.ps_model.specs.Entries.{AreEntries};
 ghost use Rattle.ps_model.specs.Replay.{lawful, replay};
+ghost use Rattle.ps_types.specs.declared.entry.Entry.{Entry};
 
 use crate::listing::{ReaderList, reader_list};
-use crate::replaying::replayed;
 use ps_base::Memory;
-use ps_types::{Entry, NodeKey};
+use ps_core::Service;
+use ps_types::NodeKey;
 use std::alloc::Global;
-use std::random::RandomSource;
-use std::thread::Threads;
 
-/// Who may read a node after all entries, or None where the node doesn't stand. The runtime gives the secret by which rows are found; no answer rests on it.
-pub fn readers<R: RandomSource + Threads + Sync>(
-    rt: &R,
+/// Who may read a node after all entries, or None where the node doesn't stand.
+pub fn readers(
     alloc: Global,
-    entries: &[Entry],
+    service: &Service,
     node: &NodeKey,
 ) -> Result<Option<ReaderList>, Memory>
-    requires lawful { lawful entries.now }
-    requires entries { AreEntries entries.now }
-    requires few { length entries.now < 2 ^ 62 }
-    ensures { IfOk result (λ list. AreReaders (replay entries.now).book node.now list) }
+    requires replayed { (E : List Entry) × lawful E × (service.now.state ≡ replay E) }
+    ensures { IfOk result (λ list. AreReaders service.now.state.book node.now list) }
 {
-    let service = replayed(rt, alloc, entries)?;
     let tables = service.tables();
     match tables.nodes.get(node) {
         None => Ok(None),

@@ -1,15 +1,19 @@
 // The store is opened, and its entries are audited.
-ghost use Rattle.std.specs.Prelude.{◌≡◌, ◌<◌, ◌^◌, Err, IfOk, length};
-ghost use Rattle.ps_model.specs.Entries.{AreEntries};
-ghost use Rattle.ps_model.specs.Replay.{lawful};
+ghost use Rattle.std.specs.Prelude.{◌≡◌, [], List, Err, IfOk};
+ghost use Rattle.ps_audit.specs.Told.{TellsOn};
+ghost use Rattle.ps_model.specs.Replay.{lawful, replay};
+ghost use Rattle.ps_types.specs.declared.entry.Entry.{Entry};
 ghost use Rattle.ps_audit_run.specs.Audited.{Audited, held_on, told_by};
-ghost use Rattle.ps_audit_run.specs.Report.{explain_report, history_report, list_report, readers_report};
+ghost use Rattle.ps_audit_run.specs.Report.{explain_report, history_report, list_report, readers_in, readers_report};
 
 use crate::lines::{explain_line, known_line, no_node_line, others_line};
-use ps_audit::{ExplainLine, ReadOnly, ReadOnlyRefusal, ReadWhy, explain, open_read, readers};
+use ps_audit::{
+    ExplainLine, Explaining, Nobody, Observed, ReadOnlyRefusal, ReadWhy, observe, readers,
+};
 use ps_base::{Bytes, Listed, Memory};
+use ps_core::Service;
 use ps_disk::Disk;
-use ps_types::{Entry, Jid, NodeKey, Verdict};
+use ps_types::{Jid, NodeKey, Verdict};
 use std::alloc::Global;
 use std::random::RandomSource;
 use std::thread::Threads;
@@ -31,23 +35,6 @@ fn history_lines(alloc: Global, history: &[ExplainLine]) -> Result<Listed<Bytes>
     Ok(lines)
 }
 
-// The lines of what led to the verdicts.
-fn explained<R: RandomSource + Threads + Sync>(
-    rt: &R,
-    alloc: Global,
-    entries: &[Entry],
-    who: &Jid,
-    node: &NodeKey,
-) -> Result<Listed<Bytes>, Memory>
-    requires lawful { lawful entries.now }
-    requires entries { AreEntries entries.now }
-    requires few { length entries.now < 2 ^ 62 }
-    ensures { IfOk result (λ lines. lines ≡ explain_report who.now node.now entries.now) }
-{
-    let history = explain(rt, alloc, entries, who, node)?;
-    history_lines(alloc, &history)
-}
-
 // The lines of a list of readers.
 fn listed(alloc: Global, known: &[(Jid, Verdict)], others: Verdict) -> Result<Listed<Bytes>, Memory>
     ensures { IfOk result (λ lines. lines ≡ list_report known.now others) }
@@ -61,18 +48,11 @@ fn listed(alloc: Global, known: &[(Jid, Verdict)], others: Verdict) -> Result<Li
 }
 
 // The lines of those who may read a node.
-fn read_by<R: RandomSource + Threads + Sync>(
-    rt: &R,
-    alloc: Global,
-    entries: &[Entry],
-    node: &NodeKey,
-) -> Result<Listed<Bytes>, Memory>
-    requires lawful { lawful entries.now }
-    requires entries { AreEntries entries.now }
-    requires few { length entries.now < 2 ^ 62 }
-    ensures { IfOk result (λ lines. lines ≡ readers_report node.now entries.now) }
+fn read_by(alloc: Global, service: &Service, node: &NodeKey) -> Result<Listed<Bytes>, Memory>
+    requires replayed { (E : List Entry) × lawful E × (service.now.state ≡ replay E) }
+    ensures { IfOk result (λ lines. lines ≡ readers_in service.now.state.book node.now) }
 {
-    match readers(rt, alloc, entries, node)? {
+    match readers(alloc, service, node)? {
         None => {
             let mut lines = Listed::new(alloc);
             lines.push(no_node_line(alloc)?)?;
@@ -111,6 +91,33 @@ fn refused<D: Disk>(refusal: ReadOnlyRefusal<D>) -> AuditRun<D>
     }
 }
 
+// The same of a store whose entries this sees.
+fn explain_by<R: RandomSource + Threads + Sync, D: Disk>(
+    rt: &R,
+    alloc: Global,
+    explaining: Explaining<'_>,
+    disk: D,
+) -> AuditRun<D>
+    requires none { TellsOn explaining explaining [] }
+    ensures { Audited D.tells (explain_report explaining.entry.who.now explaining.entry.node.now) (held_on D.Disk disk)
+        (held_on D.Disk result.disk) (D.left_since result.disk) result.report }
+{
+    match observe(rt, alloc, disk, explaining) {
+        Err(refusal) => refused(refusal),
+        Ok(observed) => {
+            let Observed {
+                disk,
+                service: _,
+                observer,
+                entries: _,
+            } = observed;
+            let history = observer.into_lines();
+            let lines = history_lines(alloc, &history);
+            told(disk, lines)
+        }
+    }
+}
+
 /// Reports how the verdicts for an address at a node of the store on a disk came about. The runtime gives the secret by which rows are found; no answer rests
 /// on it.
 pub fn run_explain<R: RandomSource + Threads + Sync, D: Disk>(
@@ -123,13 +130,9 @@ pub fn run_explain<R: RandomSource + Threads + Sync, D: Disk>(
     ensures { Audited D.tells (explain_report who.now node.now) (held_on D.Disk disk) (held_on D.Disk result.disk)
         (D.left_since result.disk) result.report }
 {
-    match open_read(rt, alloc, disk) {
-        Err(refusal) => refused(refusal),
-        Ok(store) => {
-            let ReadOnly { disk, entries } = store;
-            let lines = explained(rt, alloc, &entries, who, node);
-            told(disk, lines)
-        }
+    match Explaining::new(alloc, who, node) {
+        Err(Memory) => told(disk, Err(Memory)),
+        Ok(explaining) => explain_by(rt, alloc, explaining, disk),
     }
 }
 
@@ -143,11 +146,16 @@ pub fn run_readers<R: RandomSource + Threads + Sync, D: Disk>(
     ensures { Audited D.tells (readers_report node.now) (held_on D.Disk disk) (held_on D.Disk result.disk)
         (D.left_since result.disk) result.report }
 {
-    match open_read(rt, alloc, disk) {
+    match observe(rt, alloc, disk, Nobody {}) {
         Err(refusal) => refused(refusal),
-        Ok(store) => {
-            let ReadOnly { disk, entries } = store;
-            let lines = read_by(rt, alloc, &entries, node);
+        Ok(observed) => {
+            let Observed {
+                disk,
+                service,
+                observer: _,
+                entries: _,
+            } = observed;
+            let lines = read_by(alloc, &service, node);
             told(disk, lines)
         }
     }

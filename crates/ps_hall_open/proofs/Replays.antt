@@ -1,33 +1,30 @@
 -- Entries that are taken one after the other.
-use Rattle.std.proofs.Common.{◌≡◌, ◌≢◌, inl, inr, ℕ, zero, suc, ◌+◌, ◌<◌, ◌≤◌, ◌^◌, true, false, List, [], ◌∷◌, ◌++◌, Some, length, get_or, take, refl, ap, sym, ◌∙◌, subst, arith, length-take}
-use Rattle.std.specs.Prelude.{slice_get}
-use Rattle.std.proofs.lemmas.List.{map-append, length-map, take_more, take_all}
+use Rattle.std.proofs.Common.{◌≡◌, ◌≢◌, inl, inr, ℕ, ◌<◌, ◌^◌, Bool, true, false, List, [], ◌∷◌, ◌++◌, length, ap, sym, ◌∙◌, subst, arith, length-append}
+use Rattle.std.proofs.lemmas.List.{map-append, length-map}
 use Rattle.ps_types.specs.Address.{IsLabel, dotted}
 use Rattle.ps_types.specs.declared.entry.Entry.{Entry}
 use Rattle.ps_types.specs.declared.entry.Entry.TheVariants.{Boot}
-use Rattle.ps_model.specs.At.{IsDamagedAt, IsStore}
+use Rattle.ps_model.specs.At.{IsBadNext, IsDamagedAt, IsStore}
 use Rattle.ps_model.specs.Book.{State, empty_state}
 use Rattle.ps_model.specs.CoreLaws.{IsLawful}
-use Rattle.ps_model.specs.Damage.{ReadUpTo}
-use Rattle.ps_model.specs.Entries.{IsEntry, IsHostName, spelling}
+use Rattle.ps_model.specs.Entries.{IsEntry, IsHostName}
 use Rattle.ps_model.specs.After.{after, notices_at}
 use Rattle.ps_model.specs.Replay.{accepted, lawful, replay}
-use Rattle.ps_model.specs.Store.{spelled}
+use Rattle.ps_model.specs.Store.{is_second, spelled}
 use Rattle.ps_model.specs.TheCore.{the_core}
 use Rattle.ps_model.proofs.Going.{lawful-more, replay-append}
 use Rattle.ps_model.proofs.TheLaws.{of-places, the-laws}
-use Rattle.ps_journal.specs.Judged.{IsDamaged}
+use Rattle.ps_journal.specs.Judged.{IsStopped, StopsBefore}
 use Rattle.ps_journal.specs.Opened.{IsOpened}
 use Rattle.ps_journal.specs.Places.{entries_in}
 use Rattle.ps_journal.specs.declared.judging.Placed.{Placed}
 use Rattle.ps_journal.proofs.Opens.{found_spells}
-use Rattle.ps_journal.proofs.Placing.{IsReadAt, before_read, found_read}
 use Rattle.ps_types.specs.declared.entry.Notice.{Notice}
 use Rattle.ps_hall_state.specs.Stand.{QueuesStand}
 use Rattle.ps_hall_state.proofs.Stepping.{count-is}
 use Rattle.ps_hall_open.specs.Begun.{IsBoot}
 use Rattle.ps_hall_open.specs.Opens.{IsRestored}
-use Rattle.ps_hall_open.specs.Replayed.{IsFresh, IsReplayed, IsTaken, StopsAt, unhanded}
+use Rattle.ps_hall_open.specs.Replayed.{HasTaken, IsFresh, IsReplayed, IsTaken, is_refused, unhanded}
 use Rattle.ps_hall_open.specs.declared.opened.Rebuilt.{Rebuilt}
 use Rattle.ps_hall_open.proofs.Queues.{queues_boot, queues_none, queues_taken}
 
@@ -62,66 +59,54 @@ replayed_none r fresh = record { each = tt; state = fresh.state; queues = queues
 
 -- ---- one entry more
 
-entries_more : (placed : List Placed) (i : ℕ) (one : Placed) → i < length placed → one ≡ get_or placed i one → entries_in (take (i + 1) placed) ≡ entries_in (take i placed) ++ one.entry ∷ []
-entries_more placed i one within is =
-    ap entries_in (take_more placed i one within ∙ ap (λ (x : Placed). take i placed ++ x ∷ []) (sym is)) ∙ map-append (λ (p : Placed). p.entry) (take i placed) (one ∷ [])
+module _ (placed : List Placed) (one : Placed) (old new : Rebuilt) (so_far : HasTaken placed old) where
+  count-here : old.service.state.count ≡ length placed
+  count-here = ap (λ (t : State). t.count) so_far.replayed.state ∙ (count-is (entries_in placed) ∙ length-map placed (λ (p : Placed). p.entry))
 
-pub replayed_few : (placed : List Placed) (i : ℕ) (r : Rebuilt) → IsReplayed (entries_in (take i placed)) r → length placed ≤ 2 ^ 61 → r.service.state.count < 2 ^ 62
-replayed_few placed i r is few =
-    let count : r.service.state.count ≡ length (entries_in (take i placed)) = ap (λ (t : State). t.count) is.state ∙ count-is (entries_in (take i placed)) in
-    let size : length (entries_in (take i placed)) ≡ length (take i placed) = length-map (take i placed) (λ (p : Placed). p.entry) in
-    omega (arith, count, size, length-take i placed)
+  pub taken_more : IsEntry one.entry → old.service.state.count < 2305843009213693951 → IsTaken old new one.entry true → HasTaken (placed ++ one ∷ []) new
+  taken_more entry room taken =
+      let E = entries_in placed in
+      let is = so_far.replayed in
+      let more : entries_in (placed ++ one ∷ []) ≡ E ++ one.entry ∷ [] = map-append (λ (p : Placed). p.entry) placed (one ∷ []) in
+      let waits = taken.2 ∙ ap (λ (t : State). unhanded one.entry (old.queues.waiting ++ notices_at t one.entry)) is.state in
+      record {
+        few = omega (arith, count-here, room, length-append placed (one ∷ []));
+        replayed = record {
+          each = subst lawful (sym more) (lawful-more E one.entry empty_state is.each (subst (λ (t : State). accepted t one.entry ≡ true) is.state taken.0));
+          state = taken.1 ∙ (ap (λ (t : State). after t one.entry) is.state ∙ (sym (replay-snoc E one.entry) ∙ ap replay (sym more)));
+          queues = subst (λ (l : List Entry). QueuesStand new.queues.waiting l) (sym more) (queues_taken E old.queues.waiting new.queues.waiting one.entry (lawful-core E is.each) entry is.queues waits);
+          held = taken.3 ∙ is.held;
+        };
+      }
 
-pub replayed_more : (placed : List Placed) (i : ℕ) (one : Placed) (old new : Rebuilt) → i < length placed → one ≡ get_or placed i one → IsEntry one.entry → IsReplayed (entries_in (take i placed)) old → IsTaken old new one.entry true
-    → IsReplayed (entries_in (take (i + 1) placed)) new
-replayed_more placed i one old new within is entry so_far taken =
-    let E = entries_in (take i placed) in
-    let more = entries_more placed i one within is in
-    let waits = taken.2 ∙ ap (λ (t : State). unhanded one.entry (old.queues.waiting ++ notices_at t one.entry)) so_far.state in
-    record {
-      each = subst lawful (sym more) (lawful-more E one.entry empty_state so_far.each (subst (λ (t : State). accepted t one.entry ≡ true) so_far.state taken.0));
-      state = taken.1 ∙ (ap (λ (t : State). after t one.entry) so_far.state ∙ (sym (replay-snoc E one.entry) ∙ ap replay (sym more)));
-      queues = subst (λ (l : List Entry). QueuesStand new.queues.waiting l) (sym more) (queues_taken E old.queues.waiting new.queues.waiting one.entry (lawful-core E so_far.each) entry so_far.queues waits);
-      held = taken.3 ∙ so_far.held;
-    }
+  -- it isn't accepted, and all stays
+  pub taken_none : IsTaken old new one.entry false → is_refused placed one × HasTaken placed new
+  taken_none taken =
+      let is = so_far.replayed in (
+        subst (λ (t : State). accepted t one.entry ≡ false) is.state taken.0,
+        record {
+          few = so_far.few;
+          replayed = record { each = is.each; state = taken.1 ∙ is.state; queues = subst (λ (q : List Notice). QueuesStand q (entries_in placed)) (sym taken.2) is.queues; held = taken.3 ∙ is.held };
+        },
+      )
 
-pub replayed_all : (placed : List Placed) (i : ℕ) (r : Rebuilt) → length placed ≤ i → IsReplayed (entries_in (take i placed)) r → IsReplayed (entries_in placed) r
-replayed_all placed i r all is = subst (λ (l : List Placed). IsReplayed (entries_in l) r) (take_all i placed all) is
-
-pub stops_here : (placed : List Placed) (i : ℕ) (one : Placed) (r : Rebuilt) → slice_get placed i ≡ Some one → IsReplayed (entries_in (take i placed)) r → accepted r.service.state one.entry ≡ false → StopsAt placed one.at
-stops_here placed i one r here is rejected = record { number = i; one = one; here = here; stands = refl; each = is.each; not = subst (λ (t : State). accepted t one.entry ≡ false) is.state rejected }
+-- before the first
+pub taken_nothing : (r : Rebuilt) → IsFresh r → HasTaken [] r
+taken_nothing r fresh = record { few = omega arith; replayed = replayed_none r fresh }
 
 -- ---- where a store is damaged
 
-bad_at : (bytes : List ℕ) (before : List Entry) (p : Placed) (at : ℕ) → IsReadAt bytes before p → p.at ≡ at → lawful before → accepted (replay before) p.entry ≡ false → IsDamagedAt bytes at
-bad_at bytes before p at read stands each rejected =
-    inr (inr (record { before = before; behind = spelling p.entry ++ read.behind; reads = subst (λ (n : ℕ). ReadUpTo bytes before (spelling p.entry ++ read.behind) n) stands read.reads; each = each; bad = inr (p.entry, read.behind, read.suits, refl, rejected) }))
+stops_damaged : (second : Bool) (placed : List Placed) (behind : List ℕ) → StopsBefore is_refused second placed behind → IsBadNext second (entries_in placed) behind
+stops_damaged second placed behind (inl none) = inl none
+stops_damaged second placed behind (inr stands) = inr (stands.one.entry, stands.rest, stands.is, stands.stands, stands.not)
 
-none_here : (k : ℕ) (p : Placed) → slice_get [] k ≡ Some p → ⊥
-none_here zero p h = cc h
-none_here (suc k) p h = cc h
-
-none_stops : (placed : List Placed) (at : ℕ) → placed ≡ [] → StopsAt placed at → ⊥
-none_stops placed at none stops = none_here stops.number stops.one (subst (λ (l : List Placed). slice_get l stops.number ≡ Some stops.one) none stops.here)
-
--- an entry of a store that is spelled isn't accepted
-pub opened_damaged : (bytes : List ℕ) (placed : List Placed) (at : ℕ) → IsOpened bytes placed → StopsAt placed at → IsDamagedAt bytes at
-opened_damaged bytes placed at (inl found) stops =
-    bad_at bytes (entries_in (take stops.number placed)) stops.one at (found_read bytes placed found.0 found.1 stops.number stops.one stops.here) stops.stands stops.each stops.not
-opened_damaged bytes placed at (inr unbegun) stops = absurd (none_stops placed at unbegun.2 stops)
-
--- an entry isn't spelled, and all before it are accepted
-pub damaged_there : (bytes : List ℕ) (before : List Placed) (at : ℕ) (r : Rebuilt) → IsDamaged bytes at before → IsReplayed (entries_in before) r → IsDamagedAt bytes at
-damaged_there bytes before at r (inl header) is = inl header.0
-damaged_there bytes before at r (inr (inl bad_frame)) is = inr (inl bad_frame.0)
-damaged_there bytes before at r (inr (inr entry)) is = inr (inr (record { before = entries_in before; behind = entry.behind; reads = entry.read; each = is.each; bad = inl entry.bad }))
-
--- or one of those isn't
-pub damaged_before : (bytes : List ℕ) (before : List Placed) (at first : ℕ) → IsDamaged bytes at before → StopsAt before first → IsDamagedAt bytes first
-damaged_before bytes before at first (inl header) stops = absurd (none_stops before first header.1 stops)
-damaged_before bytes before at first (inr (inl bad_frame)) stops = absurd (none_stops before first bad_frame.1 stops)
-damaged_before bytes before at first (inr (inr entry)) stops =
-    bad_at bytes (entries_in (take stops.number before)) stops.one first (before_read bytes at before entry stops.number stops.one stops.here) stops.stands stops.each stops.not
+-- what was taken is lawful
+module _ (taken : List Placed → Type 0) (each : (ps : List Placed) → taken ps → lawful (entries_in ps)) where
+  pub stopped_damaged : (bytes : List ℕ) (at : ℕ) (placed : List Placed) → IsStopped taken is_refused bytes at placed → IsDamagedAt bytes at
+  stopped_damaged bytes at placed (inl header) = inl header.0
+  stopped_damaged bytes at placed (inr (inl bad_frame)) = inr (inl bad_frame.0)
+  stopped_damaged bytes at placed (inr (inr s)) =
+      inr (inr (record { before = entries_in placed; behind = s.behind; reads = s.read; each = each placed s.stands; bad = stops_damaged (is_second bytes) placed s.behind s.bad }))
 
 -- a store that was opened, where each entry is accepted
 pub opened_spells : (bytes : List ℕ) (placed : List Placed) → IsOpened bytes placed → spelled bytes (entries_in placed)

@@ -25,7 +25,6 @@ use Rattle.ps_hall_state.specs.declared.state.State.{State}
 use Rattle.ps_hall_store.specs.Stand.{BeganFrom, IsOpened, OpenedAt, StoreStands, disk_in, firm_of, length_in, mark_of}
 use Rattle.ps_hall_store.specs.declared.store.Store.{Store}
 use Rattle.ps_hall_open.specs.Begun.{NotBegun, frame_of}
-use Rattle.ps_hall_open.specs.Replayed.{StopsAt}
 use Rattle.ps_hall_open.specs.declared.opened.OpenWhy.{OpenWhy}
 use Rattle.ps_hall_open.specs.declared.opened.OpenWhy.TheVariants as why
 use Rattle.ps_hall_open.specs.declared.opened.Rebuilt.{Rebuilt}
@@ -40,10 +39,10 @@ pub record IsRestored (entries : List Entry) (boot : Entry) (r : Rebuilt) : Type
   pub queues : QueuesStand r.queues.waiting (entries ++ boot ∷ [])
   pub held : r.queues.held ≡ []
 
--- why the entries or the Boot weren't taken
+-- why the Boot wasn't taken behind these
 abbrev pub NotRestored : {D : Type 0} {g : Ghosts D}
     → Journal D g → Journal D g → List Placed → Entry → ℕ → OpenWhy → Type 0
-NotRestored old new placed boot whole (why.Damaged at) = StopsAt placed at
+NotRestored old new placed boot whole (why.Damaged at) = ⊥
 NotRestored old new placed boot whole why.Store = NotBegun old new boot whole why.Store
 NotRestored old new placed boot whole why.Full = NotBegun old new boot whole why.Full × lawful (entries_in placed)
 NotRestored old new placed boot whole why.Memory = Unit {0}

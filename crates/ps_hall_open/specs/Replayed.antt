@@ -1,5 +1,5 @@
 -- What comes of a list of entries that was read from a store.
-use Rattle.std.specs.Prelude.{◌≡◌, ℕ, Bool, true, false, List, [], ◌++◌, take, Some, slice_get}
+use Rattle.std.specs.Prelude.{◌≡◌, ◌<◌, ◌^◌, Bool, true, false, List, [], ◌++◌, length}
 use Rattle.ps_base.specs.Rows.{without_first}
 use Rattle.ps_model.specs.Book.{empty_state}
 use Rattle.ps_model.specs.After.{after, notices_at}
@@ -12,8 +12,6 @@ use Rattle.ps_journal.specs.declared.judging.Placed.{Placed}
 use Rattle.ps_outbox.specs.Boxes.{is_to}
 use Rattle.ps_hall_state.specs.Stand.{QueuesStand}
 use Rattle.ps_hall_open.specs.declared.opened.Rebuilt.{Rebuilt}
-use Rattle.ps_hall_open.specs.declared.replaying.Replayed.{Replayed}
-use Rattle.ps_hall_open.specs.declared.replaying.Replayed.TheVariants.{All, Bad, Memory}
 
 -- before the first entry
 pub record IsFresh (r : Rebuilt) : Type 0 where
@@ -35,7 +33,8 @@ IsTaken old new e true =
     (accepted old.service.state e ≡ true) × (new.service.state ≡ after old.service.state e)
     × (new.queues.waiting ≡ unhanded e (old.queues.waiting ++ notices_at old.service.state e))
     × (new.queues.held ≡ old.queues.held)
-IsTaken old new e false = accepted old.service.state e ≡ false
+IsTaken old new e false = (accepted old.service.state e ≡ false) × (new.service.state ≡ old.service.state)
+    × (new.queues.waiting ≡ old.queues.waiting) × (new.queues.held ≡ old.queues.held)
 
 -- these entries are accepted one after the other, and this is the State that they leave, with the notices that are not handed, of which none is in hand
 pub record IsReplayed (entries : List Entry) (r : Rebuilt) : Type 0 where
@@ -44,16 +43,11 @@ pub record IsReplayed (entries : List Entry) (r : Rebuilt) : Type 0 where
   pub queues : QueuesStand r.queues.waiting entries
   pub held : r.queues.held ≡ []
 
--- the entry at this offset is the first that isn't accepted
-pub record StopsAt (placed : List Placed) (at : ℕ) : Type 0 where
-  pub number : ℕ
-  pub one : Placed
-  pub here : slice_get placed number ≡ Some one
-  pub stands : one.at ≡ at
-  pub each : lawful (entries_in (take number placed))
-  pub not : accepted (replay (entries_in (take number placed))) one.entry ≡ false
+-- these were taken, and are not so many that a number of them has no room
+pub record HasTaken (placed : List Placed) (r : Rebuilt) : Type 0 where
+  pub few : length placed < 2 ^ 61
+  pub replayed : IsReplayed (entries_in placed) r
 
-abbrev pub IsReplayedAs : List Placed → Rebuilt → Replayed → Type 0
-IsReplayedAs placed r All = IsReplayed (entries_in placed) r
-IsReplayedAs placed r (Bad at) = StopsAt placed at
-IsReplayedAs placed r Memory = Unit {0}
+-- after these the entry isn't accepted
+abbrev pub is_refused : List Placed → Placed → Type 0
+is_refused placed one = accepted (replay (entries_in placed)) one.entry ≡ false

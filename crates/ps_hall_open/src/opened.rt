@@ -1,17 +1,18 @@
 // What comes of an opening.
+use crate::replaying::Observer;
 use ps_base::Memory;
 use ps_disk::Disk;
 use ps_hall_state::{Service, State};
 use ps_hall_store::Store;
-use ps_journal::Placed;
+use ps_journal::Trail;
 use ps_outbox::Outboxes;
 use ps_types::Entry;
 
-/// The state and the store, before the first step, and the entries that the store had, each with its offset.
+/// The state and the store, before the first step, and the entries that the store had, each with its offset, which only proofs read.
 pub struct Opened<D: Disk> {
     pub state: State,
     pub store: Store<D>,
-    pub entries: Vec<Placed>,
+    pub entries: Trail,
 }
 
 /// What entries leave: the service, and the notices that are not handed.
@@ -21,11 +22,11 @@ pub struct Rebuilt {
     pub queues: Outboxes,
 }
 
-/// What a store keeps: what its entries leave, and the entries, each with its offset.
+/// What a store keeps: what its entries leave, and the entries, each with its offset, which only proofs read.
 #[derive(Drop)]
 pub struct Kept {
     pub rebuilt: Rebuilt,
-    pub entries: Vec<Placed>,
+    pub entries: Trail,
 }
 
 /// Why a store was not read.
@@ -36,6 +37,14 @@ pub enum ReadWhy {
     /// The disk failed.
     Store,
     Memory,
+}
+
+/// The disk of a store that was opened to read it, the service after its entries, what saw them, and the entries, which only proofs read.
+pub struct Observed<D: Disk, O: Observer + Drop> {
+    pub disk: D,
+    pub service: Service,
+    pub observer: O,
+    pub entries: Trail,
 }
 
 /// The disk of a store that was opened to read it, and its entries.

@@ -13,12 +13,13 @@ ghost use Rattle.ps_hall_open.specs.Opens.{IsMadeOf, IsOpen, IsStill, OpenNot, S
 use crate::opened::{OpenRefusal, OpenWhy, Opened, Rebuilt};
 use crate::reading::why_not;
 use crate::readying::{Ready, make_ready};
+use crate::replaying::Replay;
 use crate::restoring::restore;
 use ps_base::Memory;
 use ps_disk::Disk;
 use ps_hall_state::{HostRow, Limits, State};
 use ps_hall_store::Store;
-use ps_journal::{Journal, JournalRefusal, Placed};
+use ps_journal::{Journal, JournalRefusal, Trail};
 use ps_types::Text;
 use std::alloc::Global;
 use std::random::RandomSource;
@@ -31,7 +32,7 @@ fn made_of<D: Disk>(
     rebuilt: Rebuilt,
     rows: Vec<HostRow>,
     limits: Limits,
-    entries: Vec<Placed>,
+    entries: Trail,
 ) -> Opened<D>
     ensures made { IsMadeOf journal rebuilt rows.items limits result.state result.store }
     ensures entries { result.entries ≡ entries }
@@ -97,15 +98,21 @@ fn open_ready<R: Threads + Sync, D: Disk>(
         boot,
         rows,
     } = ready;
-    let mut rebuilt = rebuilt;
-    match Journal::open(alloc, disk) {
+    let mut replay = Replay { rt, alloc, rebuilt };
+    match Journal::open_giving(alloc, disk, &mut replay) {
         Err(refusal) => {
             let JournalRefusal { disk, why } = refusal;
-            let why = OpenWhy::from(why_not(rt, alloc, &mut rebuilt, why));
+            let why = OpenWhy::from(why_not(why));
             Err(OpenRefusal { disk, why })
         }
         Ok((journal, placed)) => {
             let mut journal = journal;
+            let Replay {
+                rt: _,
+                alloc: _,
+                rebuilt,
+            } = replay;
+            let mut rebuilt = rebuilt;
             let whole = limits.whole;
             match restore(rt, alloc, &mut journal, &mut rebuilt, &boot, &placed, whole) {
                 Err(why) => Err(OpenRefusal {

@@ -2,60 +2,27 @@
 ghost use Rattle.std.specs.Prelude.{◌≡◌, ◌≤◌, IfErr, IfOk, OnOk};
 ghost use Rattle.ps_disk.specs.Disk.{LeavesOnly, MayLeave};
 ghost use Rattle.ps_model.specs.At.{IsStore};
-ghost use Rattle.ps_model.specs.Entries.{AreEntries};
-ghost use Rattle.ps_journal.specs.Opened.{IfWhyDamaged};
-ghost use Rattle.ps_journal.specs.Places.{entries_in};
 ghost use Rattle.ps_journal.specs.Settled.{IsQuiet};
 ghost use Rattle.ps_hall_open.specs.Reads.{IsKept, ReadNot, entries_of};
-ghost use Rattle.ps_hall_open.specs.Refused.{IfDamaged, IsDamagedThere, IsWhy};
-ghost use Rattle.ps_hall_open.specs.Replayed.{IsFresh};
+ghost use Rattle.ps_hall_open.specs.Refused.{read_why};
 
-use crate::opened::{Kept, ReadWhy, Rebuilt, StoreRead};
+use crate::opened::{Kept, ReadWhy, StoreRead};
 use crate::readying::nothing;
-use crate::replaying::{MOST, Replayed, replay, take_all};
+use crate::replaying::Replay;
 use ps_disk::Disk;
-use ps_journal::{JournalWhy, Placed, look};
+use ps_journal::{JournalWhy, look_giving};
 use std::alloc::Global;
 use std::random::RandomSource;
 use std::thread::Threads;
 
-// Where a damaged store is damaged: at an entry that isn't accepted, if one stands before the one that isn't spelled.
-fn damage<R: Threads + Sync>(
-    rt: &R,
-    alloc: Global,
-    rebuilt: &mut Rebuilt,
-    at: u64,
-    before: &Vec<Placed>,
-) -> ReadWhy
-    requires entries { AreEntries (entries_in before.now.items) }
-    requires fresh { IsFresh rebuilt.old }
-    ensures { IfDamaged result (IsDamagedThere at before.now.items) }
-{
-    if before.len() >= MOST {
-        return ReadWhy::Memory;
-    }
-    match replay(rt, alloc, rebuilt, before) {
-        Replayed::All => ReadWhy::Damaged { at },
-        Replayed::Bad(first) => ReadWhy::Damaged { at: first },
-        Replayed::Memory => ReadWhy::Memory,
-    }
-}
-
-/// Why a store is not opened where its journal isn't.
-pub(crate) fn why_not<R: Threads + Sync>(
-    rt: &R,
-    alloc: Global,
-    rebuilt: &mut Rebuilt,
-    why: JournalWhy,
-) -> ReadWhy
-    requires before { IfWhyDamaged why (λ at before. AreEntries (entries_in before)) }
-    requires fresh { IsFresh rebuilt.old }
-    ensures { IsWhy why result }
+/// Why a store is not read where its journal isn't.
+pub(crate) fn why_not(why: JournalWhy) -> ReadWhy
+    ensures { result ≡ read_why why }
 {
     match why {
         JournalWhy::Store => ReadWhy::Store,
         JournalWhy::Memory => ReadWhy::Memory,
-        JournalWhy::Damaged { at, before } => damage(rt, alloc, rebuilt, at, &before),
+        JournalWhy::Damaged { at, before: _ } => ReadWhy::Damaged { at },
     }
 }
 
@@ -75,13 +42,18 @@ fn kept_on<R: RandomSource + Threads + Sync, D: Disk>(
     ensures any_moment { D.tells → LeavesOnly D.moment D.left_since disk.old disk.new
         (MayLeave (D.synced disk.old) (D.written disk.old)) }
 {
-    let mut rebuilt = nothing(rt, alloc)?;
-    match look(alloc, disk) {
-        Err(why) => Err(why_not(rt, alloc, &mut rebuilt, why)),
-        Ok(entries) => match take_all(rt, alloc, &mut rebuilt, &entries) {
-            Ok(()) => Ok(Kept { rebuilt, entries }),
-            Err(why) => Err(why),
-        },
+    let rebuilt = nothing(rt, alloc)?;
+    let mut replay = Replay { rt, alloc, rebuilt };
+    match look_giving(alloc, disk, &mut replay) {
+        Err(why) => Err(why_not(why)),
+        Ok(entries) => {
+            let Replay {
+                rt: _,
+                alloc: _,
+                rebuilt,
+            } = replay;
+            Ok(Kept { rebuilt, entries })
+        }
     }
 }
 

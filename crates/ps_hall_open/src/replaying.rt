@@ -1,25 +1,21 @@
 // The entries of a store are taken one after the other.
-ghost use Rattle.std.specs.Prelude.{◌≡◌, ◌<◌, ◌≤◌, ◌^◌, ◌++◌, IfErr, IfOk, OnOk, length};
-ghost use Rattle.ps_model.specs.Entries.{AreEntries, IsEntry};
+ghost use Rattle.std.specs.Prelude.{◌≡◌, ◌<◌, ◌^◌, ◌++◌, ◌∷◌, [], List, Ok, true, false, length, IfOk, OnOk};
+ghost use denote.Param.Send.{IsSync};
+ghost use Rattle.ps_model.specs.Entries.{IsEntry, spelling};
+ghost use Rattle.ps_model.specs.Replay.{lawful, replay};
 ghost use Rattle.ps_journal.specs.Places.{entries_in};
-ghost use Rattle.ps_hall_open.specs.Refused.{IfDamaged};
-ghost use Rattle.ps_hall_open.specs.Replayed.{IsFresh, IsReplayed, IsReplayedAs, IsTaken, StopsAt, unhanded};
+ghost use Rattle.ps_journal.specs.declared.judging.Placed.{Placed};
+ghost use Rattle.ps_types.specs.declared.entry.Entry.{Entry};
+ghost use Rattle.ps_hall_open.specs.Replayed.{HasTaken, IsTaken, is_refused, unhanded};
 
-use crate::opened::{ReadWhy, Rebuilt};
+use crate::opened::Rebuilt;
 use ps_base::Memory;
-use ps_journal::Placed;
+use ps_hall_state::Service;
+use ps_journal::{Placed, Taker};
 use ps_outbox::Outboxes;
 use ps_types::{Entry, Notice};
 use std::alloc::Global;
 use std::thread::Threads;
-
-/// What came of a list of entries: all were taken, or the one at an offset isn't accepted.
-#[derive(Clone, Copy)]
-pub(crate) enum Replayed {
-    All,
-    Bad(u64),
-    Memory,
-}
 
 // The notices go to the ends of their queues.
 fn add_all(alloc: Global, queues: &mut Outboxes, notices: Vec<Notice>) -> Result<(), Memory>
@@ -67,50 +63,102 @@ fn take_one<R: Threads + Sync>(
     Ok(true)
 }
 
-/// Takes the entries in order, as far as each is accepted.
-pub(crate) fn replay<R: Threads + Sync>(
+/// No more entries than this are taken; the numbers of a state count on it.
+const MOST: u64 = (1 << 61) - 1;
+
+// Takes an entry, if it is accepted behind those that were taken.
+fn take_placed<R: Threads + Sync>(
     rt: &R,
     alloc: Global,
     rebuilt: &mut Rebuilt,
-    placed: &Vec<Placed>,
-) -> Replayed
-    requires entries { AreEntries (entries_in placed.now.items) }
-    requires fresh { IsFresh rebuilt.old }
-    requires few { length placed.now.items ≤ 2 ^ 61 }
-    ensures replayed { IsReplayedAs placed.now.items rebuilt.new result }
+    one: &Placed,
+) -> Result<bool, Memory>
+    requires entry { IsEntry one.now.entry }
+    ensures took { (placed : List Placed) → HasTaken placed rebuilt.old
+        → result ≡ Ok true → HasTaken (placed ++ one.now ∷ []) rebuilt.new }
+    ensures refuses { (placed : List Placed) → HasTaken placed rebuilt.old
+        → result ≡ Ok false → is_refused placed one.now × HasTaken placed rebuilt.new }
 {
-    'entries: for one in placed {
-        match take_one(rt, alloc, rebuilt, &one.entry) {
-            Ok(true) => {}
-            Ok(false) => return Replayed::Bad(one.at),
-            Err(Memory) => return Replayed::Memory,
-        }
+    if rebuilt.service.count() >= MOST {
+        return Err(Memory);
     }
-    Replayed::All
+    take_one(rt, alloc, rebuilt, &one.entry)
 }
 
-/// No more entries than this are taken; the numbers of a state count on it.
-pub(crate) const MOST: usize = 1 << 61;
+/// What takes the entries of a store as they are read, and what they leave so far.
+#[derive(Drop)]
+pub(crate) struct Replay<'a, R: Threads + Sync> {
+    pub rt: &'a R,
+    pub alloc: Global,
+    pub rebuilt: Rebuilt,
+}
 
-/// Takes the entries of a store that was read.
-pub(crate) fn take_all<R: Threads + Sync>(
-    rt: &R,
-    alloc: Global,
-    rebuilt: &mut Rebuilt,
-    placed: &Vec<Placed>,
-) -> Result<(), ReadWhy>
-    requires entries { AreEntries (entries_in placed.now.items) }
-    requires fresh { IsFresh rebuilt.old }
-    ensures replayed { OnOk result (IsReplayed (entries_in placed.now.items) rebuilt.new) }
-    ensures few { OnOk result (length placed.now.items < 2 ^ 61) }
-    ensures err { IfErr result (λ why. IfDamaged why (StopsAt placed.now.items)) }
-{
-    if placed.len() >= MOST {
-        return Err(ReadWhy::Memory);
+impl<'a, R: Threads + Sync> Taker for Replay<'a, R> {
+    // What it calls wants the runtime shared among threads.
+    ghost stands = { λ _ replay placed. IsSync R.row × HasTaken placed replay.rebuilt };
+
+    ghost refused = { is_refused };
+
+    fn take(&mut self, one: Placed) -> Result<bool, Memory> {
+        take_placed(self.rt, self.alloc, &mut self.rebuilt, &one)
     }
-    match replay(rt, alloc, rebuilt, placed) {
-        Replayed::All => Ok(()),
-        Replayed::Bad(at) => Err(ReadWhy::Damaged { at }),
-        Replayed::Memory => Err(ReadWhy::Memory),
+}
+
+/// What sees the entries of a store one after the other, as they are taken.
+pub trait Observer {
+    /// These are the entries that the second has seen since it was the first.
+    ghost saw: { Self → Self → List Entry → Type 0 };
+
+    /// Sees an entry, after which the service is at this State.
+    fn see(&mut self, service: &Service, entry: Entry) -> Result<(), Memory>
+        requires entry { IsEntry entry }
+        requires short { length (spelling entry) < 2 ^ 32 }
+        ensures saw { (start : Self) (E : List Entry) → saw start self.old E → lawful (E ++ entry ∷ [])
+            → service.now.state ≡ replay (E ++ entry ∷ []) → OnOk result (saw start self.new (E ++ entry ∷ [])) };
+}
+
+impl Observer for Vec<Entry> {
+    ghost saw = { λ _ v entries. v.items ≡ entries };
+
+    fn see(&mut self, _service: &Service, entry: Entry) -> Result<(), Memory> {
+        self.push(entry)?;
+        Ok(())
+    }
+}
+
+/// An observer that needs none of them.
+#[derive(Drop)]
+pub struct Nobody {}
+
+impl Observer for Nobody {
+    ghost saw = { λ _ _ _. Unit {0} };
+
+    fn see(&mut self, _service: &Service, _entry: Entry) -> Result<(), Memory> {
+        Ok(())
+    }
+}
+
+/// The same, and an observer sees the entries.
+#[derive(Drop)]
+pub(crate) struct Watched<'a, R: Threads + Sync, O: Observer + Drop> {
+    pub rt: &'a R,
+    pub alloc: Global,
+    pub rebuilt: Rebuilt,
+    pub observer: O,
+}
+
+impl<'a, R: Threads + Sync, O: Observer + Drop> Taker for Watched<'a, R, O> {
+    ghost stands = { λ start it placed. IsSync R.row × HasTaken placed it.rebuilt
+        × O.saw start.observer it.observer (entries_in placed) };
+
+    ghost refused = { is_refused };
+
+    fn take(&mut self, one: Placed) -> Result<bool, Memory> {
+        if !take_placed(self.rt, self.alloc, &mut self.rebuilt, &one)? {
+            return Ok(false);
+        }
+        let Placed { at: _, entry } = one;
+        self.observer.see(&self.rebuilt.service, entry)?;
+        Ok(true)
     }
 }

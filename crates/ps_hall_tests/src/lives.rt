@@ -20,7 +20,7 @@ use ps_hall_open::Opened;
 use ps_hall_state::{Limits, State};
 use ps_hall_store::Store;
 use ps_io::ConstClock;
-use ps_journal::Placed;
+use ps_journal::Trail;
 use ps_streams::{ReadEnd, read_stream, write_stream};
 use ps_types::Text;
 use ps_wire::{Lines, LinesRefusal, MemSink, MemSource};
@@ -263,7 +263,7 @@ fn lives<B: Opening, D: Disk>(
     }
 }
 
-fn let_go(_entries: Vec<Placed>) {}
+fn let_go(_entries: Trail) {}
 
 // What was opened is named by the arguments.
 fn live<B: Opening>(
@@ -271,7 +271,7 @@ fn live<B: Opening>(
     alloc: Global,
     state: State,
     store: Store<MemDisk>,
-    entries: Vec<Placed>,
+    entries: Trail,
     hosts: &[Text],
     _service: &Text,
     life: Life,

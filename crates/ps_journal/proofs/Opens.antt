@@ -5,10 +5,13 @@ use Rattle.std.proofs.lemmas.List.{map-append}
 use Rattle.ps_disk.specs.Disk.{MayLeave}
 use Rattle.ps_types.specs.declared.entry.Entry.{Entry}
 use Rattle.ps_model.specs.Entries.{IsEntry, AreEntries, AreEntriesIn, spelling, body}
+use Rattle.ps_model.specs.Damage.{BadFrame, BadHeader, NoEntry}
 use Rattle.ps_model.specs.Store.{is_header, is_second, is_unbegun, gate_at, Begun, Lists, spelled, joined, AreBodies, AreParts}
 use Rattle.ps_journal.specs.Settled.{IsSettledAt, IsSettled, IsUpgrading}
-use Rattle.ps_journal.specs.Judged.{IsDamaged, IsFound, FramesRead, BadEntry}
-use Rattle.ps_journal.specs.Opened.{ArePlaced, HasLength}
+use Rattle.ps_journal.specs.Judged.{IsDamaged, IsFound, IsStopped, StopsBefore, FramesRead, BadEntry, StoppedAt}
+use Rattle.ps_journal.specs.Opened.{ArePlaced, HasLength, IsWhyDamaged, IsWhyStopped}
+use Rattle.ps_journal.specs.declared.opening.JournalWhy.{JournalWhy}
+use Rattle.ps_journal.specs.declared.opening.JournalWhy.TheVariants as whys
 use Rattle.ps_journal.specs.Places.{places_in, places, entries_in}
 use Rattle.ps_journal.specs.declared.judging.Placed.{Placed}
 use Rattle.ps_journal.proofs.Bodies.{size_of}
@@ -52,9 +55,10 @@ lists_in bytes E header (inr unbegun) = absurd (cc (header, unbegun.0))
 pub upgrading_spells : (bytes : List ℕ) (E : List Entry) (lists : Lists bytes E) (c : List ℕ) → IsUpgrading bytes (map body lists.parts) c → spelled c E
 upgrading_spells bytes E lists c u = lists_same c lists.parts E (parts_upgraded (is_second bytes) (is_second c) lists.parts u.stays lists.each) lists.are u.begun
 
--- frames that are right, with an entry that isn't spelled
-pub stopped_damaged : (bytes : List ℕ) (placed : List Placed) (at gate : ℕ) → FramesRead bytes placed (Some at) gate → BadEntry bytes at placed
-stopped_damaged bytes placed at gate read =
+-- frames that are right, with an entry that isn't spelled or taken
+pub stopped_there : (taken : List Placed → Type 0) (refused : List Placed → Placed → Type 0) (bytes : List ℕ) (placed : List Placed) (at gate : ℕ) → taken placed → FramesRead refused bytes placed (Some at) gate
+    → StoppedAt taken refused bytes at placed
+stopped_there taken refused bytes placed at gate stands read =
     let s = read.judged in
     let before = places 8 s.parts in
     let last = places_in (gate_at (map body s.parts) + 5) s.entries in
@@ -72,7 +76,37 @@ stopped_damaged bytes placed at gate read =
       };
       bad = s.bad;
       placed = s.places;
+      stands = stands;
     }
+
+-- the header is damaged, or a frame
+pub bad_stopped : (taken : List Placed → Type 0) (refused : List Placed → Placed → Type 0) (bytes : List ℕ) (at : ℕ) (before : List Placed) → before ≡ [] → BadHeader bytes at ⊎ BadFrame bytes at → IsStopped taken refused bytes at before
+bad_stopped taken refused bytes at before none (inl header) = inl (header, none)
+bad_stopped taken refused bytes at before none (inr frame) = inr (inl (frame, none))
+
+pub bad_damaged : (bytes : List ℕ) (at : ℕ) (before : List Placed) → before ≡ [] → BadHeader bytes at ⊎ BadFrame bytes at → IsDamaged bytes at before
+bad_damaged bytes at before none (inl header) = inl (header, none)
+bad_damaged bytes at before none (inr frame) = inr (inl (frame, none))
+
+-- where nothing is refused, an entry isn't spelled
+module _ (taken : List Placed → Type 0) where
+  not_spelled : (second : Bool) (before : List Placed) (behind : List ℕ) → StopsBefore (λ ps p. ⊥) second before behind → NoEntry second behind
+  not_spelled second before behind (inl none) = none
+  not_spelled second before behind (inr stands) = absurd stands.not
+
+  pub bad_entry : (bytes : List ℕ) (at : ℕ) (before : List Placed) → StoppedAt taken (λ ps p. ⊥) bytes at before → BadEntry bytes at before
+  bad_entry bytes at before s = record { behind = s.behind; read = s.read; bad = not_spelled (is_second bytes) before s.behind s.bad; placed = s.placed }
+
+  pub is_damaged : (bytes : List ℕ) (at : ℕ) (before : List Placed) → IsStopped taken (λ ps p. ⊥) bytes at before → IsDamaged bytes at before
+  is_damaged bytes at before (inl header) = inl header
+  is_damaged bytes at before (inr (inl frame)) = inr (inl frame)
+  is_damaged bytes at before (inr (inr entry)) = inr (inr (bad_entry bytes at before entry))
+
+-- so a store whose entries none refuses isn't opened for damage alone
+pub why_damaged : (taken : List Placed → Type 0) (bytes : List ℕ) (why : JournalWhy) → IsWhyStopped taken (λ ps p. ⊥) bytes why → IsWhyDamaged bytes why
+why_damaged taken bytes (whys.Damaged at before) stopped = is_damaged taken bytes at before.items stopped
+why_damaged taken bytes whys.Store stopped = tt
+why_damaged taken bytes whys.Memory stopped = tt
 
 pub none_before : (bytes : List ℕ) (E : List Entry) → is_header (take 8 bytes) ≡ false → is_unbegun bytes ≡ true → spelled bytes E → E ≡ []
 none_before bytes E header unbegun spells = one_list bytes E [] spells (inr (header, unbegun, refl))
@@ -131,10 +165,10 @@ in_parts : (second : Bool) (fs : List (List Entry)) → AreParts second fs → A
 in_parts second [] each = tt
 in_parts second (f ∷ fs) each = all_append IsEntry f (joined fs) (in_body second f each.0) (in_parts second fs each.1)
 
-pub found_before : (bytes : List ℕ) (at : ℕ) (before : List Placed) → IsDamaged bytes at before → AreEntries (entries_in before)
-found_before bytes at before (inl header) = subst (λ (placed : List Placed). AreEntries (entries_in placed)) (sym header.1) tt
-found_before bytes at before (inr (inl frame)) = subst (λ (placed : List Placed). AreEntries (entries_in placed)) (sym frame.1) tt
-found_before bytes at before (inr (inr bad)) =
+pub stopped_before : (taken : List Placed → Type 0) (refused : List Placed → Placed → Type 0) (bytes : List ℕ) (at : ℕ) (before : List Placed) → IsStopped taken refused bytes at before → AreEntries (entries_in before)
+stopped_before taken refused bytes at before (inl header) = subst (λ (placed : List Placed). AreEntries (entries_in placed)) (sym header.1) tt
+stopped_before taken refused bytes at before (inr (inl frame)) = subst (λ (placed : List Placed). AreEntries (entries_in placed)) (sym frame.1) tt
+stopped_before taken refused bytes at before (inr (inr bad)) =
     let read = bad.read in
     let second = is_second bytes in
     subst AreEntries (sym read.are) (all_append IsEntry (joined read.parts) read.entries (in_parts second read.parts read.each) (in_body second read.entries read.each_entry))

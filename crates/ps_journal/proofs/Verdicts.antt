@@ -121,8 +121,8 @@ places_push at (x ∷ fs) f =
     ap (λ (l : List Placed). places_in (at + 5) x ++ l) (places_push (at + (5 + length (body x))) fs f ∙ ap (λ (n : ℕ). places (at + (5 + length (body x))) fs ++ places_in n f) next)
     ∙ sym (append_assoc (places_in (at + 5) x) (places (at + (5 + length (body x))) fs) (places_in (at + length (frames (map body (x ∷ fs))) + 5) f))
 
-pub still_stopped : (second : Bool) (bs : List (List ℕ)) (b : List ℕ) (found : List Placed) (stop : ℕ) → Stopped second bs found stop → Stopped second (bs ++ b ∷ []) found stop
-still_stopped second bs b found stop s = record {
+pub still_stopped : (refused : List Placed → Placed → Type 0) (second : Bool) (bs : List (List ℕ)) (b : List ℕ) (found : List Placed) (stop : ℕ) → Stopped refused second bs found stop → Stopped refused second (bs ++ b ∷ []) found stop
+still_stopped refused second bs b found stop s = record {
   parts = s.parts;
   entries = s.entries;
   behind = s.behind;
@@ -135,8 +135,9 @@ still_stopped second bs b found stop s = record {
   stops = s.stops;
 }
 
-pub judged_more : (second : Bool) (bs : List (List ℕ)) (b : List ℕ) (at : ℕ) (old new : List Placed) (next : Option ℕ) → AllRead second bs old → at ≡ gate_at bs + 5 → Walked second at b old new next → Judged second (bs ++ b ∷ []) new next
-judged_more second bs b at old new None all is w =
+pub judged_more : (refused : List Placed → Placed → Type 0) (second : Bool) (bs : List (List ℕ)) (b : List ℕ) (at : ℕ) (old new : List Placed) (next : Option ℕ)
+    → AllRead second bs old → at ≡ gate_at bs + 5 → Walked refused second at b old new next → Judged refused second (bs ++ b ∷ []) new next
+judged_more refused second bs b at old new None all is w =
     let here : at ≡ gate_at (map body all.parts) + 5 = is ∙ ap (λ (l : List (List ℕ)). gate_at l + 5) all.are in
     record {
       parts = all.parts ++ w.entries ∷ [];
@@ -144,7 +145,7 @@ judged_more second bs b at old new None all is w =
       are = (λ i. all.are i ++ w.are i ∷ []) ∙ sym (map_push body all.parts w.entries);
       places = w.found ∙ (λ i. all.places i ++ places_in (here i) w.entries) ∙ sym (places_push 8 all.parts w.entries);
     }
-judged_more second bs b at old new (Some stop) all is w =
+judged_more refused second bs b at old new (Some stop) all is w =
     let here : at ≡ gate_at (map body all.parts) + 5 = is ∙ ap (λ (l : List (List ℕ)). gate_at l + 5) all.are in
     record {
       parts = all.parts;
@@ -161,15 +162,15 @@ judged_more second bs b at old new (Some stop) all is w =
 
 -- ---- the frames so far
 
-pub record FramesSoFar (bytes : List ℕ) (found : List Placed) (stop : Option ℕ) (rest : List ℕ) : Type 0 where
+pub record FramesSoFar (refused : List Placed → Placed → Type 0) (bytes : List ℕ) (found : List Placed) (stop : Option ℕ) (rest : List ℕ) : Type 0 where
   pub bodies : List (List ℕ)
   pub each : AreBodies bodies
   pub split : bytes ≡ take 8 bytes ++ frames bodies ++ rest
   pub followed : bodies ≢ [] → rest ≢ []
-  pub judged : Judged (is_second bytes) bodies found stop
+  pub judged : Judged refused (is_second bytes) bodies found stop
 
-pub at_start : (bytes : List ℕ) → FramesSoFar bytes [] None (drop 8 bytes)
-at_start bytes = record {
+pub at_start : (refused : List Placed → Placed → Type 0) (bytes : List ℕ) → FramesSoFar refused bytes [] None (drop 8 bytes)
+at_start refused bytes = record {
   bodies = [];
   each = tt;
   split = sym (take-append-drop 8 bytes) ∙ ap (λ (l : List ℕ). l ++ drop 8 bytes) (sym (append-nil (take 8 bytes)));
@@ -177,7 +178,7 @@ at_start bytes = record {
   judged = record { parts = []; each = tt; are = refl; places = refl };
 }
 
-module _ (bytes : List ℕ) (found : List Placed) (stop : Option ℕ) (rest : List ℕ) (header : is_header (take 8 bytes) ≡ true) (s : FramesSoFar bytes found stop rest) where
+module _ (refused : List Placed → Placed → Type 0) (bytes : List ℕ) (found : List Placed) (stop : Option ℕ) (rest : List ℕ) (header : is_header (take 8 bytes) ≡ true) (s : FramesSoFar refused bytes found stop rest) where
   pub stands : length bytes - length rest ≡ gate_at s.bodies
   stands = omega (arith, ap length s.split, length-append (take 8 bytes ++ frames s.bodies) rest, length-append (take 8 bytes) (frames s.bodies), header_size bytes header)
 
@@ -197,7 +198,7 @@ module _ (bytes : List ℕ) (found : List Placed) (stop : Option ℕ) (rest : Li
     not_whole = (at_bad rest e).not_whole;
   }
 
-  pub all_read : stride_at rest ≡ shut → FramesRead bytes found stop (length bytes - length rest)
+  pub all_read : stride_at rest ≡ shut → FramesRead refused bytes found stop (length bytes - length rest)
   all_read e = record {
     bodies = s.bodies;
     begun = begun_from (take 8 bytes) s.bodies rest bytes header s.each (at_shut rest e) s.split;
@@ -205,15 +206,22 @@ module _ (bytes : List ℕ) (found : List Placed) (stop : Option ℕ) (rest : Li
     stands = stands;
   }
 
-  pub one_more : (b after : List ℕ) (newer : List Placed) (next : Option ℕ) → IsBytes bytes → stride_at rest ≡ whole b after → Judged (is_second bytes) (s.bodies ++ b ∷ []) newer next → FramesSoFar bytes newer next after
-  one_more b after newer next fits stands_there judged =
-      let frame_there = at_frame rest b after stands_there in
-      let tail = frame_there.tail in
-      let is : rest ≡ 1 ∷ tail = frame_there.is in
+  -- a frame stands there
+  there : (b after : List ℕ) → IsBytes bytes → (e : stride_at rest ≡ whole b after) → IsWhole (at_frame rest b after e).tail b after
+  there b after fits e =
+      let frame_there = at_frame rest b after e in
       let rest_is : drop (gate_at s.bodies) bytes ≡ rest =
       ap (λ (l : List ℕ). drop (gate_at s.bodies) l) s.split ∙ drop_at (take 8 bytes ++ frames s.bodies) rest (gate_at s.bodies) (omega (arith, length-append (take 8 bytes) (frames s.bodies), header_size bytes header)) in
-      let tail_fits : IsBytes tail = IsBytes-rest 1 tail (subst IsBytes (rest_is ∙ is) (IsBytes-drop (gate_at s.bodies) bytes fits)) in
-      let w = whole_takes tail (b, after) tail_fits frame_there.found in
+      let tail_fits : IsBytes frame_there.tail = IsBytes-rest 1 frame_there.tail (subst IsBytes (rest_is ∙ frame_there.is) (IsBytes-drop (gate_at s.bodies) bytes fits)) in
+      whole_takes frame_there.tail (b, after) tail_fits frame_there.found
+
+  pub frame_fits : (b after : List ℕ) → IsBytes bytes → stride_at rest ≡ whole b after → length b < 2 ^ 32
+  frame_fits b after fits e = (there b after fits e).is.fits
+
+  pub one_more : (b after : List ℕ) (newer : List Placed) (next : Option ℕ) → IsBytes bytes → stride_at rest ≡ whole b after → Judged refused (is_second bytes) (s.bodies ++ b ∷ []) newer next → FramesSoFar refused bytes newer next after
+  one_more b after newer next fits stands_there judged =
+      let is : rest ≡ 1 ∷ (at_frame rest b after stands_there).tail = (at_frame rest b after stands_there).is in
+      let w = there b after fits stands_there in
       let whole_rest : rest ≡ frame b ++ after = is ∙ ap (λ (l : List ℕ). 1 ∷ l) w.split in
       record {
         bodies = s.bodies ++ b ∷ [];

@@ -1,5 +1,5 @@
 -- Reading the entries of a body one after the other.
-use Rattle.std.proofs.Common.{Bool, true, false, ◌≡◌, ℕ, ◌+◌, ◌<◌, ◌≤◌, List, [], ◌∷◌, ◌++◌, length, drop, refl, sym, ap, ◌∙◌, append_assoc, arith, length-append, length-drop}
+use Rattle.std.proofs.Common.{Bool, true, false, ◌≡◌, inl, inr, ℕ, ◌+◌, ◌<◌, ◌≤◌, List, [], ◌∷◌, ◌++◌, length, drop, refl, sym, ap, ◌∙◌, append_assoc, arith, length-append, length-drop}
 use Rattle.std.proofs.lemmas.List.{append-nil, drop_at, drop_all}
 use Rattle.ps_types.specs.declared.entry.Entry.{Entry}
 use Rattle.ps_model.specs.Entries.{spelling, body, IsEntry, in_version, IsEntryIn, AreEntriesIn, StandsAt}
@@ -71,13 +71,26 @@ all_read second at bytes old new from s past = record {
   found = s.found;
 }
 
-pub stopped : (second : Bool) (at : ℕ) (bytes : List ℕ) (old new : List Placed) (from : ℕ) → SoFar second at bytes old new from → from < length bytes → ((e : Entry) → IsEntryIn second e → StandsAt bytes from e → ⊥) → BodyStopped second at bytes old new (at + from)
-stopped second at bytes old new from s within none = record {
-  entries = s.entries;
-  behind = drop from bytes;
-  each = s.each;
-  are = s.split;
-  bad = record { some = λ empty. omega (arith, ap length empty, length-drop from bytes); none = λ e rest is split. none e is (rest, split) };
-  found = s.found;
-  stops = ap (λ (n : ℕ). at + n) s.reached;
-}
+module _ (refused : List Placed → Placed → Type 0) (second : Bool) (at : ℕ) (bytes : List ℕ) (old new : List Placed) (from : ℕ) (s : SoFar second at bytes old new from) where
+  pub stopped : from < length bytes → ((e : Entry) → IsEntryIn second e → StandsAt bytes from e → ⊥) → BodyStopped refused second at bytes old new (at + from)
+  stopped within none = record {
+    entries = s.entries;
+    behind = drop from bytes;
+    each = s.each;
+    are = s.split;
+    bad = inl (record { some = λ empty. omega (arith, ap length empty, length-drop from bytes); none = λ e rest is split. none e is (rest, split) });
+    found = s.found;
+    stops = ap (λ (n : ℕ). at + n) s.reached;
+  }
+
+  -- the entry that stands there is refused
+  pub refused_there : (one : Placed) → IsEntryIn second one.entry → StandsAt bytes from one.entry → refused new one → BodyStopped refused second at bytes old new (at + from)
+  refused_there one is stands not = record {
+    entries = s.entries;
+    behind = drop from bytes;
+    each = s.each;
+    are = s.split;
+    bad = inr (record { one = one; rest = stands.0; is = is; stands = stands.1; not = not });
+    found = s.found;
+    stops = ap (λ (n : ℕ). at + n) s.reached;
+  }

@@ -2,7 +2,7 @@
 use Rattle.std.specs.Prelude.{◌≡◌, ◌⊎◌, ℕ, zero, suc, ◌+◌, Bool, true, false, ◌||◌, List, [], ◌∷◌, ◌++◌, length, take, drop, map, Option, Some, None, nat_le, ◌==◌, if◌then◌else◌}
 use Rattle.std.specs.Int.{w32}
 use Rattle.ps_types.specs.declared.entry.Entry.{Entry}
-use Rattle.ps_model.specs.Entries.{body, AreEntriesIn}
+use Rattle.ps_model.specs.Entries.{body, spelling, AreEntriesIn, IsEntryIn}
 use Rattle.ps_model.specs.Store.{is_header, is_second, is_unbegun, gate_at, Begun, AreParts}
 use Rattle.ps_model.specs.Damage.{BadHeader, BadFrame, NoEntry, ReadUpTo}
 use Rattle.ps_record.specs.Raw.{◌>>=◌, number_at}
@@ -14,6 +14,8 @@ use Rattle.ps_journal.specs.declared.judging.Verdict.{Verdict}
 use Rattle.ps_journal.specs.declared.judging.Verdict.TheVariants as verdicts
 use Rattle.ps_journal.specs.declared.judging.Stop.{Stop}
 use Rattle.ps_journal.specs.declared.judging.Stop.TheVariants as stops
+use Rattle.ps_journal.specs.declared.judging.Judgement.{Judgement}
+use Rattle.ps_journal.specs.declared.judging.Judgement.TheVariants as judgements
 
 -- behind an open gate: a body that isn't empty, and the bytes after it, one at least
 abbrev pub whole_at : List ℕ → Option (List ℕ × List ℕ)
@@ -42,25 +44,45 @@ stride steps.Shut = shut
 stride steps.Bad = bad
 stride (steps.Frame body after) = whole body.now after.now
 
--- one body, read entry by entry: all of it, or up to an entry that isn't spelled
+-- an entry stands there, and is refused after these
+pub record IsRefused (refused : List Placed → Placed → Type 0) (second : Bool) (before : List Placed) (behind : List ℕ) : Type 0 where
+  pub one : Placed
+  pub rest : List ℕ
+  pub is : IsEntryIn second one.entry
+  pub stands : behind ≡ spelling one.entry ++ rest
+  pub not : refused before one
+
+-- no entry stands there, or one that is refused after these
+abbrev pub StopsBefore : (List Placed → Placed → Type 0) → Bool → List Placed → List ℕ → Type 0
+StopsBefore refused second before behind = NoEntry second behind ⊎ IsRefused refused second before behind
+
+-- what was taken since some start
+abbrev pub Stands : {T : Type 0} → (T → T → List Placed → Type 0) → T → List Placed → Type 0
+Stands {T} stands now taken = (start : T) × stands start now taken
+
+-- since whichever start these were taken, those are now
+abbrev pub Follows : {T : Type 0} → (T → T → List Placed → Type 0) → T → List Placed → T → List Placed → Type 0
+Follows {T} stands old before now after = (start : T) → stands start old before → stands start now after
+
+-- one body, read entry by entry: all of it, or up to an entry that isn't spelled, or is refused
 pub record BodyRead (second : Bool) (at : ℕ) (bytes : List ℕ) (old new : List Placed) : Type 0 where
   pub entries : List Entry
   pub each : AreEntriesIn second entries
   pub are : bytes ≡ body entries
   pub found : new ≡ old ++ places_in at entries
 
-pub record BodyStopped (second : Bool) (at : ℕ) (bytes : List ℕ) (old new : List Placed) (stop : ℕ) : Type 0 where
+pub record BodyStopped (refused : List Placed → Placed → Type 0) (second : Bool) (at : ℕ) (bytes : List ℕ) (old new : List Placed) (stop : ℕ) : Type 0 where
   pub entries : List Entry
   pub behind : List ℕ
   pub each : AreEntriesIn second entries
   pub are : bytes ≡ body entries ++ behind
-  pub bad : NoEntry second behind
+  pub bad : StopsBefore refused second new behind
   pub found : new ≡ old ++ places_in at entries
   pub stops : stop ≡ at + length (body entries)
 
-abbrev pub Walked : Bool → ℕ → List ℕ → List Placed → List Placed → Option ℕ → Type 0
-Walked second at bytes old new None = BodyRead second at bytes old new
-Walked second at bytes old new (Some stop) = BodyStopped second at bytes old new stop
+abbrev pub Walked : (List Placed → Placed → Type 0) → Bool → ℕ → List ℕ → List Placed → List Placed → Option ℕ → Type 0
+Walked refused second at bytes old new None = BodyRead second at bytes old new
+Walked refused second at bytes old new (Some stop) = BodyStopped refused second at bytes old new stop
 
 -- ---- frames so far
 
@@ -70,7 +92,7 @@ pub record AllRead (second : Bool) (bs : List (List ℕ)) (found : List Placed) 
   pub are : bs ≡ map body parts
   pub places : found ≡ places 8 parts
 
-pub record Stopped (second : Bool) (bs : List (List ℕ)) (found : List Placed) (stop : ℕ) : Type 0 where
+pub record Stopped (refused : List Placed → Placed → Type 0) (second : Bool) (bs : List (List ℕ)) (found : List Placed) (stop : ℕ) : Type 0 where
   pub parts : List (List Entry)
   pub entries : List Entry
   pub behind : List ℕ
@@ -78,13 +100,13 @@ pub record Stopped (second : Bool) (bs : List (List ℕ)) (found : List Placed) 
   pub each : AreParts second parts
   pub each_entry : AreEntriesIn second entries
   pub are : bs ≡ map body parts ++ (body entries ++ behind) ∷ others
-  pub bad : NoEntry second behind
+  pub bad : StopsBefore refused second found behind
   pub places : found ≡ places 8 parts ++ places_in (gate_at (map body parts) + 5) entries
   pub stops : stop ≡ gate_at (map body parts) + 5 + length (body entries)
 
-abbrev pub Judged : Bool → List (List ℕ) → List Placed → Option ℕ → Type 0
-Judged second bs found None = AllRead second bs found
-Judged second bs found (Some stop) = Stopped second bs found stop
+abbrev pub Judged : (List Placed → Placed → Type 0) → Bool → List (List ℕ) → List Placed → Option ℕ → Type 0
+Judged refused second bs found None = AllRead second bs found
+Judged refused second bs found (Some stop) = Stopped refused second bs found stop
 
 -- ---- damage
 
@@ -94,6 +116,19 @@ pub record BadEntry (bytes : List ℕ) (at : ℕ) (before : List Placed) : Type 
   pub read : ReadUpTo bytes (entries_in before) behind at
   pub bad : NoEntry (is_second bytes) behind
   pub placed : before ≡ places 8 read.parts ++ places_in (gate_at (map body read.parts) + 5) read.entries
+
+-- the frames are right; the entries before the offset were taken, and the one there isn't spelled, or is refused
+pub record StoppedAt (taken : List Placed → Type 0) (refused : List Placed → Placed → Type 0) (bytes : List ℕ) (at : ℕ) (before : List Placed) : Type 0 where
+  pub behind : List ℕ
+  pub read : ReadUpTo bytes (entries_in before) behind at
+  pub bad : StopsBefore refused (is_second bytes) before behind
+  pub placed : before ≡ places 8 read.parts ++ places_in (gate_at (map body read.parts) + 5) read.entries
+  pub stands : taken before
+
+-- the header is damaged, or a frame, or there the entries stop that were taken
+abbrev pub IsStopped : (List Placed → Type 0) → (List Placed → Placed → Type 0) → List ℕ → ℕ → List Placed → Type 0
+IsStopped taken refused bytes at before =
+    (BadHeader bytes at × (before ≡ [])) ⊎ ((BadFrame bytes at × (before ≡ [])) ⊎ StoppedAt taken refused bytes at before)
 
 -- where a store is damaged, and the entries before, if it is an entry
 abbrev pub IsDamaged : List ℕ → ℕ → List Placed → Type 0
@@ -107,15 +142,23 @@ pub record IsFound (bytes : List ℕ) (found : List Placed) (gate : ℕ) : Type 
   pub stands : gate ≡ gate_at bodies
 
 -- all frames were read, up to a closed gate
-pub record FramesRead (bytes : List ℕ) (found : List Placed) (stop : Option ℕ) (gate : ℕ) : Type 0 where
+pub record FramesRead (refused : List Placed → Placed → Type 0) (bytes : List ℕ) (found : List Placed) (stop : Option ℕ) (gate : ℕ) : Type 0 where
   pub bodies : List (List ℕ)
   pub begun : Begun bytes bodies
-  pub judged : Judged (is_second bytes) bodies found stop
+  pub judged : Judged refused (is_second bytes) bodies found stop
   pub stands : gate ≡ gate_at bodies
 
 abbrev pub IsBadAt : List ℕ → Stop → Type 0
 IsBadAt bytes (stops.Frame at) = BadFrame bytes at
 IsBadAt bytes stops.Memory = Unit {0}
+
+-- what was found of the bytes, where all entries were taken that are answered
+abbrev pub IsJudgement : (List Placed → Type 0) → (List Placed → Placed → Type 0) → List ℕ → Judgement → Type 0
+IsJudgement taken refused bytes judgements.Unbegun = (is_header (take 8 bytes) ≡ false) × (is_unbegun bytes ≡ true) × taken []
+IsJudgement taken refused bytes (judgements.Begun found gate) = IsFound bytes found.items gate × taken found.items
+IsJudgement taken refused bytes (judgements.Bad at) = BadHeader bytes at ⊎ BadFrame bytes at
+IsJudgement taken refused bytes (judgements.Stopped at before) = StoppedAt taken refused bytes at before.items
+IsJudgement taken refused bytes judgements.Memory = Unit {0}
 
 abbrev pub IsVerdict : List ℕ → Verdict → Type 0
 IsVerdict bytes verdicts.Unbegun = (is_header (take 8 bytes) ≡ false) × (is_unbegun bytes ≡ true)

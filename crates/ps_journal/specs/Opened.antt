@@ -6,7 +6,7 @@ use Rattle.ps_types.specs.declared.entry.Entry.{Entry}
 use Rattle.ps_model.specs.Entries.{IsEntry, spelling}
 use Rattle.ps_model.specs.Store.{is_header, is_unbegun, gate_at, Begun, spelled}
 use Rattle.ps_journal.specs.Beginning.{beginning}
-use Rattle.ps_journal.specs.Judged.{IsDamaged, IsFound}
+use Rattle.ps_journal.specs.Judged.{IsDamaged, IsFound, IsStopped}
 use Rattle.ps_journal.specs.Places.{entries_in}
 use Rattle.ps_journal.specs.declared.judging.Placed.{Placed}
 use Rattle.ps_journal.specs.declared.opening.JournalWhy.{JournalWhy}
@@ -71,6 +71,10 @@ Upgrades old new = Holds old 7 (50 ∷ []) new
 -- where the store is damaged, it is so at that place, behind these entries
 abbrev pub IsWhyDamaged : List ℕ → JournalWhy → Type 0
 IsWhyDamaged bytes w = IfWhyDamaged w (λ at before. IsDamaged bytes at before)
+
+-- where the store isn't opened for its bytes, or for an entry that isn't taken, it is so at that place, and these were taken before
+abbrev pub IsWhyStopped : (List Placed → Type 0) → (List Placed → Placed → Type 0) → List ℕ → JournalWhy → Type 0
+IsWhyStopped taken refused bytes w = IfWhyDamaged w (λ at before. IsStopped taken refused bytes at before)
 
 -- where the store is damaged, its bytes stay
 abbrev pub StaysIfDamaged : JournalWhy → List ℕ → List ℕ → Type 0

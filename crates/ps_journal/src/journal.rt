@@ -7,6 +7,8 @@ use crate::judging::Placed;
 use crate::listing::entries_of;
 use crate::loading::{LoadRefusal, load};
 use crate::opening::{JournalWhy, Opening, open_store};
+use crate::taker::Taker;
+use crate::trail::Trail;
 use crate::writing::write_frame;
 use ps_base::{Failed, Memory};
 use ps_disk::Disk;
@@ -57,12 +59,63 @@ impl<D: Disk> Journal<D> {
     ghost use Rattle.ps_journal.specs.Places.{entries_in};
     ghost use Rattle.ps_journal.specs.Opened.{IsOpened, ArePlaced, HasLength, HasHeader, HasNoHeader, Upgrades, IfWhyDamaged};
     ghost use Rattle.ps_model.specs.Entries.{AreEntries};
-    ghost use Rattle.ps_journal.specs.Opened.{IsWhyDamaged, StaysIfDamaged, IsShortIfUnbegun, LeftOrHas};
+    ghost use Rattle.ps_journal.specs.Opened.{IsWhyDamaged, IsWhyStopped, StaysIfDamaged, IsShortIfUnbegun, LeftOrHas};
     ghost use Rattle.ps_journal.specs.Journal.{disk_of, length_of, broken_of, seen_in, synced_in, written_in, faults_in};
     ghost use Rattle.ps_journal.specs.Journal.{IsBroken, IsWhole, Has, StaysBroken, IsUntouched, HasFault, KeepsFirstFault};
     ghost use Rattle.ps_journal.specs.Journal.{IsAsLongAs, IsLongerBy, IsBegunIn, WouldPass, CrashLeaves, Keeps, Leaves, IsFrontIn};
     ghost use Rattle.ps_journal.specs.Journal.{IsTornBy, KeepsAtLeast};
     ghost use Rattle.ps_journal.specs.Left.{IsWithOrWithout};
+
+    /// Opens the store on a disk, begins an unbegun one, and upgrades one of version 1. It gives the entries with their offsets to a taker, one
+    /// after the other, and keeps none. Where one is refused it writes nothing. It begins with a sync.
+    pub fn open_giving<T: Taker>(
+        alloc: Global,
+        disk: D,
+        taker: &mut T,
+    ) -> Result<(Journal<D>, Trail), JournalRefusal<D>>
+        requires stands { T.stands taker.old taker.old [] }
+        ensures taken { IfOk result (λ r. T.stands taker.old taker.new r.1.items) }
+        // The bytes spell the entries, and still do, as a store of version 2.
+        ensures entries { D.tells → IfOk result (λ r. IsOpened (D.seen disk) r.1.items) }
+        ensures same { D.tells → IfOk result (λ r. Has r.0 (entries_in r.1.items)) }
+        ensures second { D.tells → IfOk result (λ r. is_second (seen_in r.0) ≡ true) }
+        // Of a store with a header, the eighth byte becomes the digit 2, and all others are as before.
+        ensures upgraded { D.tells → HasHeader (D.seen disk) → IfOk result (λ r. Upgrades (D.seen disk) (seen_in r.0)) }
+        // A store without a header is the nine bytes of a begun one, and what it had behind its first nine.
+        ensures begun { D.tells → HasNoHeader (D.seen disk) → IfOk result (λ r. IsBegunIn (D.seen disk) r.1.items r.0) }
+        // Each entry has a spelling of fewer than 2^32 bytes.
+        ensures each { IfOk result (λ r. ArePlaced r.1.items) }
+        // The length is that of the bytes up to the closed gate and with it, as before, and a crash now leaves the entries.
+        ensures long { D.tells → IfOk result (λ r. HasLength (D.seen disk) (length_of r.0)) }
+        ensures stands { D.tells → IfOk result (λ r. IsAsLongAs r.0 (length_of r.0)) }
+        ensures durable { D.tells → IfOk result (λ r. Keeps r.0 (entries_in r.1.items)) }
+        ensures whole { IfOk result (λ r. IsWhole r.0) }
+        // A damaged store is as before, and one of which an entry is refused.
+        ensures stopped { D.tells → IfErr result (λ e. IsWhyStopped (T.stands taker.old taker.new) T.refused (D.seen disk) e.why) }
+        // The entries before are such as a store may hold.
+        ensures before { IfErr result (λ e. IfWhyDamaged e.why (λ at before. AreEntries (entries_in before))) }
+        ensures untouched { D.tells → IfErr result (λ e. StaysIfDamaged e.why (D.seen disk) (D.seen e.disk)) }
+        ensures store { IfErr result (λ e. e.why ≡ JournalWhy.Store → Rose (D.faults disk) (D.faults e.disk)) }
+        ensures later { MatchResult result (λ r. D.faults disk ≤ faults_in r.0) (λ e. D.faults disk ≤ D.faults e.disk) }
+        // A crash at any moment of the call leaves what it might have left before, or the same entries.
+        ensures any_moment { D.tells → (E : List Entry) → spelled (D.seen disk) E → IsShortIfUnbegun (D.seen disk)
+            → MatchResult result
+            (λ r. LeavesOnly D.moment D.left_since disk (disk_of r.0) (LeftOrHas (D.synced disk) (D.written disk) E))
+            (λ e. LeavesOnly D.moment D.left_since disk e.disk (LeftOrHas (D.synced disk) (D.written disk) E)) }
+    {
+        let mut disk = disk;
+        match open_store(alloc, &mut disk, taker) {
+            Opening::Opened(trail, length) => Ok((
+                Journal {
+                    disk,
+                    length,
+                    broken: None,
+                },
+                trail,
+            )),
+            Opening::Refused(why) => Err(JournalRefusal { disk, why }),
+        }
+    }
 
     /// Opens the store on a disk, begins an unbegun one, and upgrades one of version 1. It answers the entries with their offsets.
     /// It begins with a sync.
@@ -95,17 +148,10 @@ impl<D: Disk> Journal<D> {
             (λ r. LeavesOnly D.moment D.left_since disk (disk_of r.0) (LeftOrHas (D.synced disk) (D.written disk) E))
             (λ e. LeavesOnly D.moment D.left_since disk e.disk (LeftOrHas (D.synced disk) (D.written disk) E)) }
     {
-        let mut disk = disk;
-        match open_store(alloc, &mut disk) {
-            Opening::Opened(placed, length) => Ok((
-                Journal {
-                    disk,
-                    length,
-                    broken: None,
-                },
-                placed,
-            )),
-            Opening::Refused(why) => Err(JournalRefusal { disk, why }),
+        let mut placed = Vec::new(alloc);
+        match Journal::open_giving(alloc, disk, &mut placed) {
+            Ok((journal, _)) => Ok((journal, placed)),
+            Err(refusal) => Err(refusal),
         }
     }
 

@@ -1,10 +1,13 @@
 // Judging the bytes of a store.
-ghost use Rattle.std.specs.Prelude.{◌≡◌, ◌≢◌, ◌++◌, ◌∷◌, ◌+◌, ◌<◌, ◌≤◌, ◌^◌, [], List, ℕ, true, length, take, map, option_map, IfOk, IfErr, IsTrue};
+ghost use Rattle.std.specs.Prelude.{◌≡◌, ◌≢◌, ◌++◌, ◌∷◌, ◌+◌, ◌<◌, ◌≤◌, ◌^◌, [], List, ℕ, true, length, take, map, option_map, IfOk, IfErr, IsTrue, OnOk};
 ghost use Rattle.ps_model.specs.Entries.{in_version};
 ghost use Rattle.ps_model.specs.Store.{is_header, is_second, gate_at};
-ghost use Rattle.ps_journal.specs.Judged.{Walked, Judged, FramesRead, IsBadAt, IsVerdict};
+ghost use Rattle.ps_journal.specs.Judged.{Walked, Judged, Follows, FramesRead, IsBadAt, IsJudgement, IsVerdict, Stands};
+ghost use Rattle.ps_journal.specs.declared.judging.Placed.{Placed};
 
 use crate::frames::{Step, step_of};
+use crate::taker::Taker;
+use crate::trail::Trail;
 use ps_base::Memory;
 use ps_record::{EntryRefusal, read_entry};
 use ps_types::Entry;
@@ -31,16 +34,21 @@ fn suits(second: bool, entry: &Entry) -> bool
     }
 }
 
-// Reads a body's entries, and says where one isn't spelled.
-fn entries_of(
+// Reads a body's entries, gives them to the taker, and says where one isn't spelled, or isn't taken.
+fn entries_of<T: Taker>(
     alloc: Global,
     second: bool,
     body: &[u8],
     at: u64,
-    placed: &mut Vec<Placed>,
+    taker: &mut T,
+    trail: &mut Trail,
 ) -> Result<Option<u64>, Memory>
-    requires { at + length body.now < 2 ^ 64 }
-    ensures { IfOk result (λ stop. Walked second at body.now placed.old.items placed.new.items stop) }
+    requires room { at + length body.now < 2 ^ 64 }
+    requires fits { length body.now < 2 ^ 32 }
+    requires stands { Stands T.stands taker.old trail.old.items }
+    ensures walked { IfOk result
+        (λ stop. Walked T.refused second at body.now trail.old.items trail.new.items stop) }
+    ensures stands { OnOk result (Follows T.stands taker.old trail.old.items taker.new trail.new.items) }
 {
     let mut from = 0;
     while from < body.len() as u64 {
@@ -49,10 +57,15 @@ fn entries_of(
                 if !suits(second, &entry) {
                     return Ok(Some(at + from));
                 }
-                placed.push(Placed {
+                let one = Placed {
                     at: at + from,
                     entry,
-                })?;
+                };
+                let longer = Trail::with(trail, &one);
+                if !taker.take(one)? {
+                    return Ok(Some(at + from));
+                }
+                *trail = longer;
                 from = next;
             }
             Err(EntryRefusal::Bad(_)) => return Ok(Some(at + from)),
@@ -62,22 +75,26 @@ fn entries_of(
     Ok(None)
 }
 
-// Reads the entries of one frame more, unless one before wasn't spelled.
-fn more_entries(
+// Reads the entries of one frame more, unless one before wasn't spelled, or wasn't taken.
+fn more_entries<T: Taker>(
     alloc: Global,
     second: bool,
     body: &[u8],
     at: u64,
-    placed: &mut Vec<Placed>,
+    taker: &mut T,
+    trail: &mut Trail,
     stop: Option<u64>,
 ) -> Result<Option<u64>, Memory>
-    requires { at + length body.now < 2 ^ 64 }
-    ensures { (bs : List (List ℕ)) → Judged second bs placed.old.items stop → at ≡ gate_at bs + 5
-        → IfOk result (λ next. Judged second (bs ++ body.now ∷ []) placed.new.items next) }
+    requires room { at + length body.now < 2 ^ 64 }
+    requires fits { length body.now < 2 ^ 32 }
+    requires stands { Stands T.stands taker.old trail.old.items }
+    ensures judged { (bs : List (List ℕ)) → Judged T.refused second bs trail.old.items stop → at ≡ gate_at bs + 5
+        → IfOk result (λ next. Judged T.refused second (bs ++ body.now ∷ []) trail.new.items next) }
+    ensures stands { OnOk result (Follows T.stands taker.old trail.old.items taker.new trail.new.items) }
 {
     match stop {
         Some(stop) => Ok(Some(stop)),
-        None => entries_of(alloc, second, body, at, placed),
+        None => entries_of(alloc, second, body, at, taker, trail),
     }
 }
 
@@ -112,15 +129,21 @@ fn is_unbegun(bytes: &[u8]) -> bool
     }
 }
 
-// Goes through the frames up to the closed gate, and reads their entries.
-fn frames_of(alloc: Global, bytes: &[u8]) -> Result<(Vec<Placed>, Option<u64>, u64), Stop>
+// Goes through the frames up to the closed gate, and reads their entries for the taker.
+fn frames_of<T: Taker>(
+    alloc: Global,
+    bytes: &[u8],
+    taker: &mut T,
+) -> Result<(Trail, Option<u64>, u64), Stop>
     requires long { 8 ≤ length bytes.now }
     requires header { is_header (take 8 bytes.now) ≡ true }
-    ensures read { IfOk result (λ r. FramesRead bytes.now r.0.items r.1 r.2) }
+    requires stands { Stands T.stands taker.old [] }
+    ensures read { IfOk result (λ r. FramesRead T.refused bytes.now r.0.items r.1 r.2) }
+    ensures stands { IfOk result (λ r. Follows T.stands taker.old [] taker.new r.0.items) }
     ensures bad { IfErr result (IsBadAt bytes.now) }
 {
     let second = is_second(bytes);
-    let mut placed = Vec::new(alloc);
+    let mut trail = Trail::new();
     let mut stop = None;
     let mut rest = &bytes[8..];
     'frames: loop {
@@ -128,13 +151,14 @@ fn frames_of(alloc: Global, bytes: &[u8]) -> Result<(Vec<Placed>, Option<u64>, u
         match step_of(rest) {
             Step::Bad => return Err(Stop::Frame(at)),
             Step::Frame(body, after) => {
-                stop = match more_entries(alloc, second, body, at + 5, &mut placed, stop) {
+                let next = more_entries(alloc, second, body, at + 5, taker, &mut trail, stop);
+                stop = match next {
                     Ok(next) => next,
                     Err(Memory) => return Err(Stop::Memory),
                 };
                 rest = after;
             }
-            Step::Shut => return Ok((placed, stop, at)),
+            Step::Shut => return Ok((trail, stop, at)),
         }
     }
 }
@@ -157,23 +181,51 @@ pub enum Verdict {
     Memory,
 }
 
+/// What the bytes of a store are, of which a taker was given the entries.
+#[derive(Drop)]
+pub(crate) enum Judgement {
+    Unbegun,
+    /// All entries were taken, and the closed gate stands there.
+    Begun(Trail, u64),
+    /// The header is damaged, or a frame, there.
+    Bad(u64),
+    /// These were taken, and the entry there isn't spelled, or wasn't taken.
+    Stopped(u64, Trail),
+    Memory,
+}
+
+/// Judges the bytes of a store, and gives its entries to the taker.
+pub(crate) fn judge_giving<T: Taker>(alloc: Global, bytes: &[u8], taker: &mut T) -> Judgement
+    requires stands { T.stands taker.old taker.old [] }
+    ensures { IsJudgement (T.stands taker.old taker.new) T.refused bytes.now result }
+{
+    if !has_header(bytes) {
+        if is_unbegun(bytes) {
+            return Judgement::Unbegun;
+        }
+        return Judgement::Bad(0);
+    }
+    match frames_of(alloc, bytes, taker) {
+        Ok((trail, stop, gate)) => match stop {
+            None => Judgement::Begun(trail, gate),
+            Some(at) => Judgement::Stopped(at, trail),
+        },
+        Err(Stop::Frame(at)) => Judgement::Bad(at),
+        Err(Stop::Memory) => Judgement::Memory,
+    }
+}
+
 /// Judges the bytes of a store.
 pub fn judge(alloc: Global, bytes: &[u8]) -> Verdict
     ensures { IsVerdict bytes.now result }
 {
-    if !has_header(bytes) {
-        if is_unbegun(bytes) {
-            return Verdict::Unbegun;
-        }
-        return Verdict::Damaged(0, Vec::new(alloc));
-    }
-    match frames_of(alloc, bytes) {
-        Ok((placed, stop, gate)) => match stop {
-            None => Verdict::Begun(placed, gate),
-            Some(at) => Verdict::Damaged(at, placed),
-        },
-        Err(Stop::Frame(at)) => Verdict::Damaged(at, Vec::new(alloc)),
-        Err(Stop::Memory) => Verdict::Memory,
+    let mut placed = Vec::new(alloc);
+    match judge_giving(alloc, bytes, &mut placed) {
+        Judgement::Unbegun => Verdict::Unbegun,
+        Judgement::Begun(_, gate) => Verdict::Begun(placed, gate),
+        Judgement::Bad(at) => Verdict::Damaged(at, Vec::new(alloc)),
+        Judgement::Stopped(at, _) => Verdict::Damaged(at, placed),
+        Judgement::Memory => Verdict::Memory,
     }
 }
 

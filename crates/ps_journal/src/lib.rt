@@ -4,6 +4,8 @@
 //! [`Journal::open`] judges the bytes, begins an unbegun store and upgrades one of version 1; [`Journal::append`] writes a frame behind
 //! the closed gate, syncs, opens the gate, and syncs again. [`look`] judges the bytes and writes nothing. Their contracts speak of every moment of the call, over every disk that tells
 //! its content: a crash leaves the entries before, or those and the whole batch, and once `append` has answered Ok it leaves the batch.
+//! Entries are given to a [`Taker`] one after the other, as they are read ([`Journal::open_giving`], [`look_giving`]), and none is kept; a contract names those
+//! that were given by a [`Trail`], a list that takes no memory. A taker may refuse one: the store isn't opened then, and its bytes stay.
 //! After a fault of the disk the journal answers `Store` for good, and the store is opened again.
 //!
 //! `specs/Judged.antt` says where a store is damaged, `specs/Left.antt` what a crash leaves of a journal, and `specs/Journal.antt` what
@@ -18,10 +20,14 @@ mod laws;
 mod listing;
 mod loading;
 mod opening;
+mod taker;
+mod trail;
 mod upgrading;
 mod writing;
 
 pub use journal::{AppendRefusal, EntriesRefusal, Journal, JournalRefusal};
 pub use judging::{Placed, Verdict, judge};
 pub use laws::{damaged_spells_nothing, one_damage, one_list, unbegun_spells};
-pub use opening::{JournalWhy, look};
+pub use opening::{JournalWhy, look, look_giving};
+pub use taker::Taker;
+pub use trail::Trail;

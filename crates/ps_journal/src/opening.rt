@@ -7,12 +7,14 @@ ghost use Rattle.ps_model.specs.Entries.{AreEntries};
 ghost use Rattle.ps_model.specs.Store.{is_header, is_second, is_unbegun, spelled};
 ghost use Rattle.ps_journal.specs.Places.{entries_in};
 ghost use Rattle.ps_journal.specs.Settled.{IsSettled, IsQuiet};
-ghost use Rattle.ps_journal.specs.Opened.{IfOpened, IfDamaged, IfWhyDamaged, IsStoreFault, IsOpened, IsWhyDamaged, IsBegunAnew, ArePlaced, HasLength};
-ghost use Rattle.ps_journal.specs.Judged.{IsDamaged};
+ghost use Rattle.ps_journal.specs.Opened.{IfOpened, IfDamaged, IfWhyDamaged, IsStoreFault, IsOpened, IsWhyDamaged, IsWhyStopped, IsBegunAnew, ArePlaced, HasLength};
+ghost use Rattle.ps_journal.specs.Judged.{IsStopped};
 
 use crate::beginning::begin;
-use crate::judging::{Placed, Verdict, judge};
+use crate::judging::{Judgement, Placed, judge_giving};
 use crate::loading::{LoadRefusal, load};
+use crate::taker::Taker;
+use crate::trail::Trail;
 use crate::upgrading::upgrade;
 use ps_base::Failed;
 use ps_disk::Disk;
@@ -21,8 +23,8 @@ use std::alloc::Global;
 /// Why a store was not opened.
 #[derive(Drop)]
 pub enum JournalWhy {
-    /// The bytes spell no list of entries: where, and the entries before, if it is an entry that isn't spelled.
-    Damaged { at: u64, before: Vec<Placed> },
+    /// The bytes spell no list of entries that are taken: where, and the entries before, if it is an entry.
+    Damaged { at: u64, before: Trail },
     /// The disk failed.
     Store,
     Memory,
@@ -30,7 +32,7 @@ pub enum JournalWhy {
 
 /// What came of opening: the entries, and the bytes up to the closed gate and with it.
 pub(crate) enum Opening {
-    Opened(Vec<Placed>, u64),
+    Opened(Trail, u64),
     Refused(JournalWhy),
 }
 
@@ -50,6 +52,43 @@ fn settle<D: Disk>(alloc: Global, disk: &mut D) -> Result<Vec<u8>, LoadRefusal>
     }
 }
 
+/// Gives a taker the entries of the store on a disk, of which nothing is written. It begins with a sync.
+pub fn look_giving<D: Disk, T: Taker>(
+    alloc: Global,
+    disk: &mut D,
+    taker: &mut T,
+) -> Result<Trail, JournalWhy>
+    requires stands { T.stands taker.old taker.old [] }
+    ensures entries { D.tells → IfOk result (λ placed. IsOpened (D.seen disk.old) placed.items) }
+    ensures taken { IfOk result (λ placed. T.stands taker.old taker.new placed.items) }
+    ensures each { IfOk result (λ placed. ArePlaced placed.items) }
+    ensures stopped { D.tells → IfErr result (IsWhyStopped (T.stands taker.old taker.new) T.refused (D.seen disk.old)) }
+    ensures before { IfErr result (λ why. IfWhyDamaged why (λ at before. AreEntries (entries_in before))) }
+    ensures store { IsErrOf result JournalWhy.Store → Rose (D.faults disk.old) (D.faults disk.new) }
+    ensures later { D.faults disk.old ≤ D.faults disk.new }
+    // The bytes stay, whatever the answer. Once it succeeds a crash leaves them and no others.
+    ensures seen { D.tells → D.seen disk.new ≡ D.seen disk.old }
+    ensures quiet { D.tells → OnOk result (IsQuiet (D.seen disk.new) (D.synced disk.new) (D.written disk.new)) }
+    // A crash at any moment of the call leaves what it might have left before.
+    ensures any_moment { D.tells → LeavesOnly D.moment D.left_since disk.old disk.new
+        (MayLeave (D.synced disk.old) (D.written disk.old)) }
+{
+    match settle(alloc, disk) {
+        Err(LoadRefusal::Store) => Err(JournalWhy::Store),
+        Err(LoadRefusal::Memory) => Err(JournalWhy::Memory),
+        Ok(bytes) => match judge_giving(alloc, &bytes, taker) {
+            Judgement::Memory => Err(JournalWhy::Memory),
+            Judgement::Bad(at) => Err(JournalWhy::Damaged {
+                at,
+                before: Trail::new(),
+            }),
+            Judgement::Stopped(at, before) => Err(JournalWhy::Damaged { at, before }),
+            Judgement::Begun(trail, _) => Ok(trail),
+            Judgement::Unbegun => Ok(Trail::new()),
+        },
+    }
+}
+
 /// The entries of the store on a disk with their offsets, of which nothing is written. It begins with a sync.
 pub fn look<D: Disk>(alloc: Global, disk: &mut D) -> Result<Vec<Placed>, JournalWhy>
     ensures entries { D.tells → IfOk result (λ placed. IsOpened (D.seen disk.old) placed.items) }
@@ -65,21 +104,18 @@ pub fn look<D: Disk>(alloc: Global, disk: &mut D) -> Result<Vec<Placed>, Journal
     ensures any_moment { D.tells → LeavesOnly D.moment D.left_since disk.old disk.new
         (MayLeave (D.synced disk.old) (D.written disk.old)) }
 {
-    match settle(alloc, disk) {
-        Err(LoadRefusal::Store) => Err(JournalWhy::Store),
-        Err(LoadRefusal::Memory) => Err(JournalWhy::Memory),
-        Ok(bytes) => match judge(alloc, &bytes) {
-            Verdict::Memory => Err(JournalWhy::Memory),
-            Verdict::Damaged(at, before) => Err(JournalWhy::Damaged { at, before }),
-            Verdict::Begun(placed, _) => Ok(placed),
-            Verdict::Unbegun => Ok(Vec::new(alloc)),
-        },
+    let mut placed = Vec::new(alloc);
+    match look_giving(alloc, disk, &mut placed) {
+        Ok(_) => Ok(placed),
+        Err(why) => Err(why),
     }
 }
 
-/// Opens the store on a disk. It begins an unbegun one, and upgrades one of version 1.
-pub(crate) fn open_store<D: Disk>(alloc: Global, disk: &mut D) -> Opening
+/// Opens the store on a disk, and gives its entries to a taker. It begins an unbegun one, and upgrades one of version 1.
+pub(crate) fn open_store<D: Disk, T: Taker>(alloc: Global, disk: &mut D, taker: &mut T) -> Opening
+    requires stands { T.stands taker.old taker.old [] }
     ensures opened { D.tells → IfOpened result (λ placed len. IsOpened (D.seen disk.old) placed) }
+    ensures taken { IfOpened result (λ placed len. T.stands taker.old taker.new placed) }
     ensures spells { D.tells → IfOpened result (λ placed len. spelled (D.seen disk.new) (entries_in placed)) }
     ensures upgraded { D.tells → is_header (take 8 (D.seen disk.old)) ≡ true
         → IfOpened result (λ placed len. Holds (D.seen disk.old) 7 (50 ∷ []) (D.seen disk.new)) }
@@ -91,7 +127,8 @@ pub(crate) fn open_store<D: Disk>(alloc: Global, disk: &mut D) -> Opening
     ensures settled { D.tells → IfOpened result
         (λ placed len. IsSettled (D.seen disk.new) (D.synced disk.new) (D.written disk.new) len) }
     ensures some { IfOpened result (λ placed len. 1 ≤ len) }
-    ensures damaged { D.tells → IfDamaged result (λ at before. IsDamaged (D.seen disk.old) at before) }
+    ensures stopped { D.tells → IfDamaged result
+        (λ at before. IsStopped (T.stands taker.old taker.new) T.refused (D.seen disk.old) at before) }
     ensures before { IfDamaged result (λ at before. AreEntries (entries_in before)) }
     ensures untouched { D.tells → IfDamaged result (λ at before. D.seen disk.new ≡ D.seen disk.old) }
     ensures store { IsStoreFault result → Rose (D.faults disk.old) (D.faults disk.new) }
@@ -105,16 +142,20 @@ pub(crate) fn open_store<D: Disk>(alloc: Global, disk: &mut D) -> Opening
     match settle(alloc, disk) {
         Err(LoadRefusal::Store) => Opening::Refused(JournalWhy::Store),
         Err(LoadRefusal::Memory) => Opening::Refused(JournalWhy::Memory),
-        Ok(bytes) => match judge(alloc, &bytes) {
-            Verdict::Memory => Opening::Refused(JournalWhy::Memory),
-            Verdict::Damaged(at, before) => Opening::Refused(JournalWhy::Damaged { at, before }),
-            Verdict::Begun(placed, gate) => match upgrade(disk, &bytes) {
+        Ok(bytes) => match judge_giving(alloc, &bytes, taker) {
+            Judgement::Memory => Opening::Refused(JournalWhy::Memory),
+            Judgement::Bad(at) => Opening::Refused(JournalWhy::Damaged {
+                at,
+                before: Trail::new(),
+            }),
+            Judgement::Stopped(at, before) => Opening::Refused(JournalWhy::Damaged { at, before }),
+            Judgement::Begun(trail, gate) => match upgrade(disk, &bytes) {
                 Err(Failed) => Opening::Refused(JournalWhy::Store),
-                Ok(()) => Opening::Opened(placed, gate + 1),
+                Ok(()) => Opening::Opened(trail, gate + 1),
             },
-            Verdict::Unbegun => match begin(disk, &bytes) {
+            Judgement::Unbegun => match begin(disk, &bytes) {
                 Err(Failed) => Opening::Refused(JournalWhy::Store),
-                Ok(()) => Opening::Opened(Vec::new(alloc), 9),
+                Ok(()) => Opening::Opened(Trail::new(), 9),
             },
         },
     }

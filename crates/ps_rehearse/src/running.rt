@@ -16,7 +16,7 @@ use ps_endpoints::Port;
 use ps_hall_open::{OpenRefusal, Opened, open};
 use ps_hall_store::Store;
 use ps_io::Clock;
-use ps_journal::Placed;
+use ps_journal::Trail;
 use ps_types::Text;
 use ps_wire::{Lines, Sink, Source};
 use ps_workers::{Ended, Hall, Limits, NoHall, Opening, Room, State, serve};
@@ -39,7 +39,7 @@ pub(crate) struct Ran<D: Disk, L, C, K> {
     pub ended: Vec<Ended<L, C, K>>,
 }
 
-fn let_go(_entries: Vec<Placed>) {}
+fn let_go(_entries: Trail) {}
 
 // All streams are served in a hall over what was opened, which is named by the arguments.
 fn live<
@@ -54,7 +54,7 @@ fn live<
     alloc: Global,
     state: State,
     store: Store<D>,
-    entries: Vec<Placed>,
+    entries: Trail,
     hosts: &[Text],
     _service: &Text,
     ports: Vec<Port<Lines<S>, C, K>>,

@@ -18,7 +18,7 @@ use ps_endpoints::Port;
 use ps_hall_open::{OpenRefusal, OpenWhy, Opened, open};
 use ps_hall_store::Store;
 use ps_io::Clock;
-use ps_journal::Placed;
+use ps_journal::Trail;
 use ps_status::Status;
 use ps_types::Text;
 use ps_wire::{Lines, Sink, Source};
@@ -73,7 +73,7 @@ fn ports_of<L: Drop, C: Drop, K: Drop>(
     back
 }
 
-fn let_go(_entries: Vec<Placed>) {}
+fn let_go(_entries: Trail) {}
 
 // All streams are served in a hall over what was opened, which is named by the arguments.
 fn live<
@@ -88,7 +88,7 @@ fn live<
     alloc: Global,
     state: State,
     store: Store<D>,
-    entries: Vec<Placed>,
+    entries: Trail,
     hosts: &[Text],
     _service: &Text,
     ports: Vec<Port<Lines<S>, C, K>>,

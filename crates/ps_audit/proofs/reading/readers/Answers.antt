@@ -12,12 +12,12 @@ use Rattle.ps_audit.proofs.Rows.{row-stands}
 use Rattle.ps_audit.proofs.reading.readers.Goals as goal
 
 pub reader_list-requires-clause-stands : goal.reader_list-requires-clause-stands
-reader_list-requires-clause-stands g c = row-stands c.args.node.now c.tables-tables.result.now.nodes.rows (row_seen c.in-Some.row) (sym c.in-Some.ensures.row)
+reader_list-requires-clause-stands c = row-stands c.args.node.now c.tables-tables.result.now.nodes.rows (row_seen c.in-Some.row) (sym c.in-Some.ensures.row)
 
 pub reader_list-requires-clause-addresses : goal.reader_list-requires-clause-addresses
-reader_list-requires-clause-addresses g c =
-    let E = c.args.entries.now in
+reader_list-requires-clause-addresses c =
+    let E = c.requires.replayed.0 in
     let node = c.args.node.now in
     let row = row_seen c.in-Some.row in
-    let left : book_of c.tables-tables.result.now ≡ (replay E).book = c.tables-tables.ensures.book ∙ ap (λ (s : State). s.book) c.in_ok-service.ensures in
-    subst (λ (b : Book). Each IsAddress (known b row)) (sym left) (known-addresses E c.requires.lawful node row (ap (λ (b : Book). node_at node b.nodes) (sym left) ∙ sym c.in-Some.ensures.row))
+    let left : book_of c.tables-tables.result.now ≡ (replay E).book = c.tables-tables.ensures.book ∙ ap (λ (s : State). s.book) c.requires.replayed.2 in
+    subst (λ (b : Book). Each IsAddress (known b row)) (sym left) (known-addresses E c.requires.replayed.1 node row (ap (λ (b : Book). node_at node b.nodes) (sym left) ∙ sym c.in-Some.ensures.row))

@@ -1,29 +1,33 @@
 use Rattle.std.proofs.Common.{◌+◌, ℕ, [], ◌∷◌, ◌++◌, sym, ap, ◌∙◌, subst, arith}
-use Rattle.std.specs.Global.{Vec}
 use Rattle.ps_types.specs.declared.entry.Entry.{Entry}
 use Rattle.ps_disk.proofs.Moments.{weaker}
 use Rattle.ps_journal.specs.Journal.{disk_of, length_of}
 use Rattle.ps_journal.proofs.Lists.{one_list}
 use Rattle.ps_journal.specs.Left.{LeavesList}
 use Rattle.ps_journal.specs.Places.{entries_in}
-use Rattle.ps_journal.specs.declared.judging.Placed.{Placed}
+use Rattle.ps_journal.specs.declared.trail.Trail.{Trail}
 use Rattle.ps_model.specs.Store.{spelled}
 use Rattle.ps_hall_open.specs.Begun.{frame_of}
 use Rattle.ps_hall_open.specs.Left.{Fronts, IsOpenLeft, OpenLeaves}
 use Rattle.ps_hall_open.specs.Opens.{IsOpen, IsRestored, OpenNot, StaysIfDamaged}
 use Rattle.ps_hall_open.proofs.Fronts.{fronts_opened, fronts_then, still_opened, still_read}
 use Rattle.ps_hall_open.proofs.Openings.{opens}
-use Rattle.ps_hall_open.proofs.Refusals.{damaged_stays, journal_left, open_left, refused_journal, refused_restore, unaccepted_stays}
-use Rattle.ps_hall_open.proofs.Replays.{name_some, opened_spells, opened_store}
-use Rattle.ps_hall_open.proofs.Timely.{placed_entries}
+use Rattle.ps_hall_open.proofs.Refusals.{damaged_stays, journal_left, open_left, refused_journal, refused_restore, undamaged}
+use Rattle.ps_hall_open.proofs.Replays.{name_some, opened_spells, opened_store, taken_nothing}
+use Rattle.ps_hall_open.specs.Refused.{open_why}
+use Rattle.ps_hall_open.specs.Replayed.{HasTaken}
 use Rattle.ps_hall_open.specs.declared.opened.OpenWhy.{OpenWhy}
+use Rattle.ps_hall_open.specs.declared.opened.ReadWhy.{ReadWhy}
 use Rattle.ps_hall_open.proofs.opening.open_ready.Goals as goal
+
+pub open_giving-requires : goal.open_giving-requires
+open_giving-requires g c = let ready = c.requires.ready in record { stands = (record { shared = c.type_bounds.sync-R.shared }, taken_nothing c.args.ready.rebuilt ready.2.fresh) }
+
+pub restore-requires-clause-taken : goal.restore-requires-clause-taken
+restore-requires-clause-taken g c κs within = c.in-Ok.ensures.taken.1
 
 pub restore-requires-clause-boot : goal.restore-requires-clause-boot
 restore-requires-clause-boot g c κs within = let ready = c.requires.ready in (ready.0, ready.2.boot, ready.2.name)
-
-pub restore-requires-clause-entries : goal.restore-requires-clause-entries
-restore-requires-clause-entries g c κs within = placed_entries c.in-Ok.placed.items c.in-Ok.ensures.each
 
 pub returns-in-Err-clause-refused : goal.returns-in-Err-clause-refused
 returns-in-Err-clause-refused g c service hosts ready =
@@ -31,14 +35,16 @@ returns-in-Err-clause-refused g c service hosts ready =
     let e = c.in-Err.ensures in
     let not = OpenNot D.tells (D.seen c.args.disk) (D.faults c.args.disk) (D.faults c.in-Err.refusal.disk) service c.args.limits.whole in
     subst not (sym c.from-why.ensures)
-    (refused_journal D.tells (D.seen c.args.disk) service (D.faults c.args.disk) (D.faults c.in-Err.refusal.disk) c.args.limits.whole c.in-Err.refusal.why c.why_not.result (λ tells. e.damaged tells) c.why_not.ensures e.store)
+    (subst (λ (w : ReadWhy). not (open_why w)) (sym c.why_not.ensures)
+    (refused_journal D.tells (D.seen c.args.disk) service (D.faults c.args.disk) (D.faults c.in-Err.refusal.disk) c.args.limits.whole (λ ps. _ × HasTaken ps c.open_giving.new.taker.rebuilt) (λ ps t. t.1.replayed.each) c.in-Err.refusal.why (λ tells. e.stopped tells) e.store))
 
 pub returns-in-Err-clause-damaged : goal.returns-in-Err-clause-damaged
 returns-in-Err-clause-damaged g c tells =
     let D = g.D.Disk in
     let old = D.seen c.args.disk in
     let new = D.seen c.in-Err.refusal.disk in
-    subst (λ (w : OpenWhy). StaysIfDamaged w old new) (sym c.from-why.ensures) (damaged_stays old new c.in-Err.refusal.why c.why_not.result (c.in-Err.ensures.untouched tells) c.why_not.ensures)
+    subst (λ (w : OpenWhy). StaysIfDamaged w old new) (sym c.from-why.ensures)
+    (subst (λ (w : ReadWhy). StaysIfDamaged (open_why w) old new) (sym c.why_not.ensures) (damaged_stays old new c.in-Err.refusal.why (c.in-Err.ensures.untouched tells)))
 
 pub returns-in-Err-clause-still : goal.returns-in-Err-clause-still
 returns-in-Err-clause-still g c tells none E spells short not =
@@ -46,9 +52,8 @@ returns-in-Err-clause-still g c tells none E spells short not =
 
 pub returns-in-Err-restore-clause-damaged : goal.returns-in-Err-restore-clause-damaged
 returns-in-Err-restore-clause-damaged g c tells =
-    let e = c.in-Ok.ensures in
-    unaccepted_stays c.in-Ok.journal c.restore.new.journal c.args.disk c.close.result c.in-Ok.placed.items c.args.ready.boot c.args.limits.whole c.in-Err-restore.why c.close.ensures c.in-Err-restore.ensures.untouched
-    (e.upgraded tells) (λ no. (e.begun tells no).none) c.in-Err-restore.ensures.err
+    let D = g.D.Disk in
+    undamaged c.in-Ok.journal c.restore.new.journal c.in-Ok.placed.items c.args.ready.boot c.args.limits.whole c.in-Err-restore.why (D.seen c.args.disk) (D.seen c.close.result) c.in-Err-restore.ensures.err
 
 pub returns-in-Err-restore-clause-still : goal.returns-in-Err-restore-clause-still
 returns-in-Err-restore-clause-still g c tells none E spells short not =
@@ -120,7 +125,7 @@ returns-clause-opened g c service hosts ready =
     let new = disk_of c.restore.new.journal in
     let restored = subst (λ (b : Entry). IsRestored E b c.restore.new.rebuilt) ready.boot done.restored in
     let size = done.length ∙ ap (λ (n : ℕ). length_of c.in-Ok.journal + n) (ap frame_of ready.boot) in
-    subst (λ (es : Vec Placed). IsOpen c.args.disk service hosts c.args.limits (entries_in es.items) c.made_of.result.state c.made_of.result.store) (sym c.made_of.ensures.entries)
+    subst (λ (es : Trail). IsOpen c.args.disk service hosts c.args.limits (entries_in es.items) c.made_of.result.state c.made_of.result.store) (sym c.made_of.ensures.entries)
     (opens c.restore.new.journal c.restore.new.rebuilt c.args.ready.rows.items c.args.limits _ _ c.made_of.ensures.made c.args.disk service hosts E (length_of c.in-Ok.journal) (name_some service ready.name) ready.hosts_are ready.rows restored
     c.requires.bounded.0 c.requires.bounded.1 (λ tells. opened_store (D.seen c.args.disk) c.in-Ok.placed.items (e.entries tells) done.restored.each) (λ tells. e.long tells) size (omega (arith, done.room, done.length)) done.unbroken
     (λ tells. subst (λ (b : Entry). spelled (D.seen new) (E ++ b ∷ [])) ready.boot (done.entries tells (e.same tells)))
