@@ -145,7 +145,8 @@ fn is_full<B: Opening, D: Disk>(
 {
     let reader = &mut passes.reader;
     finds_no_room(rt, alloc, hall, reader, CREATE, 1)?;
-    recalls(rt, alloc, hall, reader, 1, 2)?;
+    // The Boot alone. The line has two steps, and the flush before the entries are read one.
+    recalls(rt, alloc, hall, reader, 1, 3)?;
     let writer = &mut passes.writer;
     replies(rt, hall, writer, NO_ROOM)?;
     waits(rt, hall, writer)
