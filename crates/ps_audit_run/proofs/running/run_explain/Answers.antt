@@ -1,4 +1,4 @@
-use Rattle.std.proofs.Common.{◌≡◌, inl, sym, subst, arith}
+use Rattle.std.proofs.Common.{inl, sym, subst, arith}
 use Rattle.ps_disk.proofs.Moments.{started}
 use Rattle.ps_journal.specs.Opened.{LeftOrHas}
 use Rattle.ps_hall_open.specs.declared.opened.ReadWhy.TheVariants.{Memory}

@@ -18,8 +18,8 @@ returns-in-Err g c =
     (subst (λ r. Audited D.tells R (held_on D old) (held_on D refusal.disk) (D.left_since refusal.disk) r) (sym c.refused.ensures.report)
     (audit-refused D R old refusal.disk e.later e.any_moment refusal.why e.refused e.untouched))
 
-pub read_by-requires-clause-replayed : goal.read_by-requires-clause-replayed
-read_by-requires-clause-replayed g c = (entries_in c.in-Ok.observed.entries.items, c.in-Ok.ensures.lawful, c.in-Ok.ensures.state)
+pub read_by-lines-requires : goal.read_by-lines-requires
+read_by-lines-requires g c = record { replayed = (entries_in c.in-Ok.observed.entries.items, c.in-Ok.ensures.lawful, c.in-Ok.ensures.state) }
 
 pub returns-in-Ok : goal.returns-in-Ok
 returns-in-Ok g c =
