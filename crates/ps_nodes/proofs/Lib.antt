@@ -1,8 +1,9 @@
-pub mod MapRows
-pub mod Tallies
-pub mod Placing
-pub mod Marking
+pub mod Cuts
+pub mod Once
+pub mod Keys
+pub mod Filled
+pub mod Found
+pub mod Grown
 pub mod Listing
-pub mod Serving
 pub mod Naming
 pub mod Places

@@ -1,7 +1,6 @@
 -- The nodes of a name, at whatever service host or account, in the order of their making.
-use Rattle.std.specs.Prelude.{ℕ, Bool, List, [], ◌∷◌, bytes_eq, cond, filter, map, slice_get}
+use Rattle.std.specs.Prelude.{ℕ, Bool, List, bytes_eq, filter, map}
 use Rattle.std.specs.List.{enumerate_from}
-use Rattle.ps_rows.specs.Standing.{passes_at}
 use Rattle.ps_types.specs.declared.rows.NodeRow.{NodeRow}
 
 -- the node has the name
@@ -19,7 +18,3 @@ is_named_in name at = is_named name at.1
 -- the places of the nodes of the name, counted from 0
 abbrev pub places_at : List ℕ → List NodeRow → List ℕ
 places_at name rows = map place_in (filter (is_named_in name) (enumerate_from 0 rows))
-
--- the place, if the node there has the name
-abbrev pub place_at : List ℕ → ℕ → List NodeRow → List ℕ
-place_at name place rows = cond (passes_at (is_named name) (slice_get rows place)) (place ∷ []) []

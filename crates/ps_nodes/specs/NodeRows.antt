@@ -1,14 +1,9 @@
--- A node's key and what stands at it, as a row.
+-- A node's row, as it is seen by its parts, and where it stands.
 use Rattle.std.specs.Prelude.{◌≡◌, ℕ, Bool, true, false, List, Option, Some, None, slice_get}
 use Rattle.ps_types.specs.declared.node.NodeKey.{NodeKey}
 use Rattle.ps_types.specs.declared.rows.NodeRow.{NodeRow}
 use Rattle.ps_types.specs.Nodes.{is_node}
-use Rattle.ps_nodes.specs.declared.nodes.NodeRest.{NodeRest}
 use Rattle.ps_nodes.specs.declared.nodes.NodeRef.{NodeRef}
-
--- the row of a key and what stands at it
-abbrev pub row_of : NodeKey × NodeRest → NodeRow
-row_of (key, rest) = record { key = key; creator = rest.creator; config = rest.config }
 
 -- the row that is seen by its parts
 abbrev pub row_seen : NodeRef → NodeRow

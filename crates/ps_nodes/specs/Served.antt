@@ -1,6 +1,5 @@
 -- The nodes of a service host or an account, in the order of their making.
-use Rattle.std.specs.Prelude.{ℕ, List, filter, map, slice_get}
-use Rattle.ps_rows.specs.Standing.{passing}
+use Rattle.std.specs.Prelude.{List, filter, map}
 use Rattle.ps_types.specs.declared.jid.Jid.{Jid}
 use Rattle.ps_types.specs.declared.node.NodeKey.{NodeKey}
 use Rattle.ps_types.specs.declared.rows.NodeRow.{NodeRow}
@@ -12,7 +11,3 @@ key_in row = row.key
 -- the keys of the nodes of the service host or the account
 abbrev pub keys_at : Jid → List NodeRow → List NodeKey
 keys_at service rows = map key_in (filter (is_node_of service) rows)
-
--- the key of the node at the place, if it is one of these
-abbrev pub key_at : Jid → ℕ → List NodeRow → List NodeKey
-key_at service place rows = map key_in (passing (is_node_of service) (slice_get rows place))

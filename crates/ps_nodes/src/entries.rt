@@ -1,137 +1,97 @@
-// The map of the nodes, seen as rows.
-ghost use Rattle.std.specs.Prelude.{◌≡◌, false, ◌+◌, ◌<◌, ◌≤◌, [], ◌∷◌, ◌++◌, true, IfOk, IfSome, slice_get, option_copied, option_map, map, count_by};
-ghost use Rattle.indexmap.specs.IndexMap.{spare, values, index_map_len};
-ghost use Rattle.ps_types.specs.Nodes.{node_at, config_at, stands, made_by, nodes_with, nodes_without};
-ghost use Rattle.ps_types.specs.Same.{same_bare};
-ghost use Rattle.ps_nodes.specs.NodeRows.{IsAlone, is_there, row_of, row_seen};
+// The rows in their places.
+ghost use Rattle.std.specs.Prelude.{◌≡◌, true, [], IfSome, slice_get, option_copied};
+ghost use Rattle.ps_chains.specs.Marks.{mark_at};
+ghost use Rattle.ps_rows.specs.Standing.{passes_at, seen, standing};
+ghost use Rattle.ps_types.specs.Nodes.{is_node, made_by, node_at, stands};
+ghost use Rattle.ps_nodes.specs.Gaps.{empties};
+ghost use Rattle.ps_nodes.specs.NodeRows.{IsAlone, is_there, row_seen};
+ghost use Rattle.ps_nodes.specs.Kept.{AreFull, AreOnce};
 
-use crate::nodes::{NodeRef, NodeRest};
-use indexmap::IndexMap;
-use ps_chains::Seeded;
-use ps_types::{Jid, NodeConfig, NodeKey, NodeRow};
-use std::alloc::AllocError;
+use crate::asks::{MadeBy, NodeOf};
+use crate::gaps::{cut_of, rank_of};
+use crate::nodes::NodeRef;
+use ps_rows::{Index, Slots, count_node, seek};
+use ps_types::{Jid, NodeKey, NodeRow};
 
-/// Nodes by their keys, which are hashed by a seed.
-pub type NodeMap = IndexMap<NodeKey, NodeRest, Seeded>;
+/// Where the row of a node stands.
+pub fn seek_node(slots: &Slots<NodeRow>, node: &NodeKey) -> Option<usize>
+    ensures before { seen (is_node node.now) result slots.now.rows ≡ [] }
+    ensures here { IfSome result (λ place. passes_at (is_node node.now) (mark_at slots.now.rows place) ≡ true) }
+{
+    let ask = NodeOf { node };
+    seek(slots, Index::Key, &ask)
+}
+
+/// The row of a node.
+pub fn row_in<'a>(slots: &'a Slots<NodeRow>, node: &NodeKey) -> Option<&'a NodeRow>
+    ensures { option_copied result ≡ node_at node.now (standing slots.now.rows) }
+{
+    match seek_node(slots, node) {
+        Some(place) => slots.get(place),
+        None => None,
+    }
+}
 
 /// Whether the node stands.
-pub fn holds(nodes: &NodeMap, node: &NodeKey) -> bool
-    ensures { result ≡ stands node.now (map row_of nodes.now.entries) }
+pub fn holds(slots: &Slots<NodeRow>, node: &NodeKey) -> bool
+    ensures { result ≡ stands node.now (standing slots.now.rows) }
 {
-    nodes.contains_key(node)
+    row_in(slots, node).is_some()
 }
 
-/// The node at this place, in the order in which nodes were made.
-pub fn row_at(nodes: &NodeMap, at: usize) -> Option<NodeRef<'_>>
-    ensures { option_map row_seen result ≡ slice_get (map row_of nodes.now.entries) at }
-{
-    match nodes.get_index(at) {
-        Some((key, rest)) => Some(seen(key, rest)),
-        None => None,
-    }
-}
-
-/// The node of this key.
-pub fn row_in<'a>(nodes: &'a NodeMap, node: &NodeKey) -> Option<NodeRef<'a>>
-    ensures { option_map row_seen result ≡ node_at node.now (map row_of nodes.now.entries) }
-{
-    match nodes.get_key_value(node) {
-        Some((key, rest)) => Some(seen(key, rest)),
-        None => None,
-    }
-}
-
-/// The place of a node, which no other row is of.
-pub fn place_in(nodes: &NodeMap, node: &NodeKey) -> Option<usize>
-    ensures here { IfSome result (λ at. is_there node.now (slice_get (map row_of nodes.now.entries) at) ≡ true) }
-    ensures alone { IsAlone node.now (map row_of nodes.now.entries) result }
-{
-    nodes.get_index_of(node)
-}
-
-fn seen<'a>(key: &'a NodeKey, rest: &'a NodeRest) -> NodeRef<'a>
-    ensures { row_seen result ≡ row_of (key.now, rest.now) }
+/// The row by its parts.
+pub fn parts(row: &NodeRow) -> NodeRef<'_>
+    ensures { row_seen result ≡ row.now }
 {
     NodeRef {
-        key,
-        creator: &rest.creator,
-        config: &rest.config,
+        key: &row.key,
+        creator: &row.creator,
+        config: &row.config,
     }
 }
 
-/// The configuration of the node of this key.
-pub fn config_in<'a>(nodes: &'a NodeMap, node: &NodeKey) -> Option<&'a NodeConfig>
-    ensures { option_copied result ≡ config_at node.now (map row_of nodes.now.entries) }
+/// The row that stands after as many others as given.
+pub fn nth<'a>(slots: &'a Slots<NodeRow>, gaps: &[usize], at: usize) -> Option<&'a NodeRow>
+    requires gaps { gaps.now ≡ empties 0 slots.now.rows }
+    ensures { option_copied result ≡ slice_get (standing slots.now.rows) at }
 {
-    match nodes.get(node) {
-        Some(rest) => Some(&rest.config),
+    let _places = slots.len();
+    if at >= slots.standing() {
+        return None;
+    }
+    slots.get(at + cut_of(gaps, at + 1, true))
+}
+
+/// How many rows stand before the row of a node, which no other row is of.
+pub fn place_in(slots: &Slots<NodeRow>, gaps: &[usize], node: &NodeKey) -> Option<usize>
+    requires gaps { gaps.now ≡ empties 0 slots.now.rows }
+    requires once { AreOnce (standing slots.now.rows) }
+    ensures here { IfSome result (λ at. is_there node.now (slice_get (standing slots.now.rows) at) ≡ true) }
+    ensures alone { IsAlone node.now (standing slots.now.rows) result }
+{
+    match seek_node(slots, node) {
+        Some(place) => Some(rank_of(gaps, place)),
         None => None,
     }
 }
 
-/// A count of all nodes: it takes time with their number.
-pub fn made_among(nodes: &NodeMap, who: &Jid) -> usize
-    ensures { result ≡ made_by who.now (map row_of nodes.now.entries) }
+/// How many nodes a bare address made. Where another address has its digest, those of both are gone through.
+pub fn made_in(slots: &Slots<NodeRow>, who: &Jid) -> usize
+    ensures { result ≡ made_by who.now (standing slots.now.rows) }
 {
-    of_maker(nodes, who)
+    let ask = MadeBy { who };
+    count_node(slots, &ask)
 }
 
-fn of_maker(nodes: &NodeMap, who: &Jid) -> usize
-    ensures { result ≡ count_by (λ rest. same_bare who.now rest.creator) (values nodes.now) }
+/// The same rows, with no empty place.
+pub fn filled(slots: Slots<NodeRow>) -> Slots<NodeRow>
+    ensures rows { standing result.rows ≡ standing slots.rows }
+    ensures full { AreFull result.rows }
 {
-    nodes
-        .values()
-        .filter(|rest| who.same_bare(&rest.creator))
-        .count()
-}
-
-/// Adds a node at the end, for which there is room, and whose key has no node yet.
-pub fn add(nodes: &mut NodeMap, row: NodeRow)
-    requires room { 0 < spare nodes.old }
-    requires absent { stands row.key (map row_of nodes.old.entries) ≡ false }
-    ensures rows { map row_of nodes.new.entries ≡ map row_of nodes.old.entries ++ row ∷ [] }
-    ensures room { spare nodes.old ≤ spare nodes.new + 1 }
-{
-    let NodeRow {
-        key,
-        creator,
-        config,
-    } = row;
-    let _ = nodes.insert(key, NodeRest { creator, config });
-}
-
-/// Gives a node this configuration, and tells whether it stands; where it does not, nothing changes.
-pub fn set_config_in(nodes: &mut NodeMap, node: &NodeKey, config: NodeConfig) -> bool
-    ensures there { result ≡ stands node.now (map row_of nodes.old.entries) }
-    ensures rows { map row_of nodes.new.entries ≡ nodes_with node.now config (map row_of nodes.old.entries) }
-    ensures room { spare nodes.old ≤ spare nodes.new }
-    ensures len { index_map_len nodes.new ≡ index_map_len nodes.old }
-{
-    match nodes.get_mut(node) {
-        Some(rest) => {
-            rest.config = config;
-            true
-        }
-        None => false,
+    if slots.standing() == slots.len() {
+        return slots;
     }
-}
-
-/// Removes a node, and tells whether it stood. The others keep their order.
-pub fn remove_from(nodes: &mut NodeMap, node: &NodeKey) -> bool
-    ensures there { result ≡ stands node.now (map row_of nodes.old.entries) }
-    ensures rows { map row_of nodes.new.entries ≡ nodes_without node.now (map row_of nodes.old.entries) }
-    ensures room { spare nodes.old ≤ spare nodes.new }
-    ensures fewer { index_map_len nodes.new ≤ index_map_len nodes.old }
-{
-    nodes.shift_remove(node).is_some()
-}
-
-/// A copy of all nodes, in their order.
-///
-/// # Errors
-/// AllocError, where there is no memory for it.
-pub fn copy_of(nodes: &NodeMap) -> Result<NodeMap, AllocError>
-    ensures { IfOk result (λ n. map row_of n.entries ≡ map row_of nodes.now.entries) }
-{
-    nodes.clone()
+    let mut packed = slots;
+    packed.pack();
+    packed
 }

@@ -5,14 +5,14 @@ ghost use Rattle.ps_nodes.specs.NodeRows.{IsAlone, is_there, row_seen};
 ghost use Rattle.ps_nodes.specs.Named.{places_at};
 ghost use Rattle.ps_nodes.specs.Served.{keys_at};
 
-use crate::entries::{NodeMap, config_in, copy_of, holds, place_in, row_at, row_in, set_config_in};
-use crate::makers::{Tally, made_in, tallies_of};
-use crate::marks::{By, digest_of, mark_all, marks_of};
+use crate::asks::Given;
+use crate::entries::{filled, holds, made_in, nth, parts, place_in, row_in, seek_node};
+use crate::gaps::reserve;
 use crate::named::places_among;
+use crate::names::{empty, names_of, pack};
 use crate::served::keys_among;
-use crate::tallied::{add_tallied, remove_tallied, reserve};
-use indexmap::IndexMap;
-use ps_chains::{Chains, Seeded};
+use ps_chains::Chains;
+use ps_rows::{Slots, text_digest};
 use ps_types::{Jid, Memory, NodeConfig, NodeKey, NodeRow, Text};
 use std::alloc::Global;
 use std::marker::Model;
@@ -20,13 +20,6 @@ use std::marker::Model;
 /// A node of the key is there already.
 #[derive(Clone, Copy, PartialEq, Eq, Debug)]
 pub struct Exists;
-
-/// What a node has beside its key.
-#[derive(Clone, Drop)]
-pub struct NodeRest {
-    pub creator: Jid,
-    pub config: NodeConfig,
-}
 
 /// A node's row, by its parts.
 #[derive(Clone, Copy)]
@@ -38,41 +31,33 @@ pub struct NodeRef<'a> {
 
 /// The nodes in the order of their making, and how many more are taken without memory. All digests go by the seed.
 pub struct Nodes {
-    nodes: NodeMap,
-    made: IndexMap<u64, Tally>,
-    served: Chains,
+    slots: Slots<NodeRow>,
     named: Chains,
-    seed: u64,
+    gaps: Vec<usize>,
 }
 
 // By hand, so that a table is let go by one call wherever a function ends.
 impl Drop for Nodes {
     fn drop(self) {
         let Nodes {
-            nodes: _,
-            made: _,
-            served: _,
+            slots: _,
             named: _,
-            seed: _,
+            gaps: _,
         } = self;
     }
 }
 
 impl Model for Nodes {
-    ghost use Rattle.std.specs.Prelude.{map};
     ghost use Rattle.ps_base.specs.Rows.{Table};
+    ghost use Rattle.ps_rows.specs.Standing.{standing};
     ghost use Rattle.ps_types.specs.declared.rows.NodeRow.{NodeRow};
-    ghost use Rattle.ps_nodes.specs.NodeRows.{row_of};
-    ghost use Rattle.ps_nodes.specs.Marks.{IsIndexed, room_with};
+    ghost use Rattle.ps_nodes.specs.Kept.{IsKept, room_of};
 
     ghost Value = { Table NodeRow };
 
-    ghost view = { λ t. record {
-      rows = map row_of t.nodes.entries;
-      spare = room_with t.nodes t.made t.served t.named;
-    } };
+    ghost view = { λ t. record { rows = standing t.slots.rows; spare = room_of t.slots t.named t.gaps } };
 
-    ghost invariant = { λ t. IsIndexed t.seed t.nodes t.made t.served t.named };
+    ghost invariant = { λ t. IsKept t.slots t.named t.gaps };
 }
 
 impl Nodes {
@@ -88,11 +73,9 @@ impl Nodes {
         ensures empty { IfOk result (λ t. t.rows ≡ []) }
     {
         Ok(Nodes {
-            nodes: IndexMap::with_hasher(alloc, Seeded { seed }),
-            made: IndexMap::new(alloc),
-            served: Chains::new(alloc),
+            slots: Slots::new(alloc, seed),
             named: Chains::new(alloc),
-            seed,
+            gaps: Vec::new(alloc),
         })
     }
 
@@ -100,14 +83,17 @@ impl Nodes {
     pub fn len(&self) -> u64
         ensures len { result ≡ length self.now.rows }
     {
-        self.nodes.len() as u64
+        self.slots.standing() as u64
     }
 
     /// The node at a place, counted from 0.
     pub fn row(&self, at: u64) -> Option<NodeRef<'_>>
         ensures row { option_map row_seen result ≡ slice_get self.now.rows at }
     {
-        row_at(&self.nodes, at as usize)
+        match nth(&self.slots, &self.gaps, at as usize) {
+            Some(row) => Some(parts(row)),
+            None => None,
+        }
     }
 
     /// Makes room, so that at least this many more nodes are taken without memory.
@@ -116,40 +102,61 @@ impl Nodes {
         ensures room { OnOk result (rows ≤ self.new.spare) }
         ensures kept { self.old.spare ≤ self.new.spare }
     {
-        reserve(&mut self.nodes, &mut self.made, rows as usize)?;
-        self.served.reserve(rows as usize)?;
-        self.named.reserve(rows as usize)
+        self.tidy(rows as usize);
+        self.grow(rows as usize)
+    }
+
+    /// Packs the places, where that is worth its time and there is no room for the rows.
+    fn tidy(&mut self, rows: usize)
+        ensures rows { self.new.rows ≡ self.old.rows }
+        ensures kept { self.old.spare ≤ self.new.spare }
+    {
+        if self.slots.standing() <= self.slots.len() - self.slots.len() / 4 {
+            if self.gaps.capacity() - self.slots.len() < rows {
+                pack(&mut self.slots, &mut self.named, &mut self.gaps);
+            }
+        }
+    }
+
+    fn grow(&mut self, rows: usize) -> Result<(), Memory>
+        ensures rows { self.new.rows ≡ self.old.rows }
+        ensures room { OnOk result (rows ≤ self.new.spare) }
+        ensures kept { self.old.spare ≤ self.new.spare }
+    {
+        let Some(places) = self.slots.len().checked_add(rows) else {
+            return Err(Memory);
+        };
+        self.slots.grow(rows)?;
+        self.named.reserve(rows)?;
+        Ok(reserve(&mut self.gaps, places)?)
     }
 
     /// A table with the same rows.
     pub fn copy(&self) -> Result<Nodes, Memory>
         ensures rows { IfOk result (λ t. t.rows ≡ self.now.rows) }
     {
-        let nodes = copy_of(&self.nodes)?;
-        let made = tallies_of(self.seed, &nodes)?;
-        let served = marks_of(*nodes.allocator(), By::Service, self.seed, &nodes)?;
-        let named = marks_of(*nodes.allocator(), By::Name, self.seed, &nodes)?;
-        Ok(Nodes {
-            nodes,
-            made,
-            served,
-            named,
-            seed: self.seed,
-        })
+        let alloc = *self.gaps.allocator();
+        let slots = filled(self.slots.copy()?);
+        let named = names_of(alloc, &slots)?;
+        let gaps = Vec::with_capacity(alloc, slots.len())?;
+        Ok(Nodes { slots, named, gaps })
     }
 
     /// Whether a node stands.
     pub fn has(&self, node: &NodeKey) -> bool
         ensures there { result ≡ stands node.now self.now.rows }
     {
-        holds(&self.nodes, node)
+        holds(&self.slots, node)
     }
 
     /// The row of a node.
     pub fn get(&self, node: &NodeKey) -> Option<NodeRef<'_>>
         ensures row { option_map row_seen result ≡ node_at node.now self.now.rows }
     {
-        row_in(&self.nodes, node)
+        match row_in(&self.slots, node) {
+            Some(row) => Some(parts(row)),
+            None => None,
+        }
     }
 
     /// The place of a node, counted from 0. No other row is of that node.
@@ -157,7 +164,7 @@ impl Nodes {
         ensures here { IfSome result (λ at. is_there node.now (slice_get self.now.rows at) ≡ true) }
         ensures alone { IsAlone node.now self.now.rows result }
     {
-        match place_in(&self.nodes, node) {
+        match place_in(&self.slots, &self.gaps, node) {
             Some(at) => Some(at as u64),
             None => None,
         }
@@ -167,28 +174,31 @@ impl Nodes {
     pub fn config(&self, node: &NodeKey) -> Option<&NodeConfig>
         ensures config { option_copied result ≡ config_at node.now self.now.rows }
     {
-        config_in(&self.nodes, node)
+        match row_in(&self.slots, node) {
+            Some(row) => Some(&row.config),
+            None => None,
+        }
     }
 
     /// How many nodes a bare address made.
     pub fn made_by(&self, who: &Jid) -> u64
         ensures made { result ≡ made_by who.now self.now.rows }
     {
-        made_in(self.seed, &self.nodes, &self.made, who) as u64
+        made_in(&self.slots, who) as u64
     }
 
     /// The keys of the nodes of a service host or an account, in the order of their making.
     pub fn keys_of(&self, alloc: Global, service: &Jid) -> Result<Vec<NodeKey>, Memory>
         ensures keys { IfOk result (λ keys. keys.items ≡ keys_at service.now self.now.rows) }
     {
-        keys_among(alloc, self.seed, &self.nodes, &self.served, service)
+        keys_among(alloc, &self.slots, service)
     }
 
     /// The places of the nodes of a name, counted from 0, in the order of their making.
     pub fn places_named(&self, alloc: Global, name: &Text) -> Result<Vec<u64>, Memory>
         ensures places { IfOk result (λ places. places.items ≡ places_at name.now self.now.rows) }
     {
-        places_among(alloc, self.seed, &self.nodes, &self.named, name)
+        places_among(alloc, &self.slots, &self.gaps, &self.named, name)
     }
 
     /// Adds a node as the last one, where its key is new. It takes no memory.
@@ -199,13 +209,11 @@ impl Nodes {
         ensures err { OnErr result (self.new.rows ≡ self.old.rows) }
         ensures room { self.old.spare ≤ self.new.spare + 1 }
     {
-        if holds(&self.nodes, &row.key) {
+        if holds(&self.slots, &row.key) {
             return Err(Exists);
         }
-        let service = digest_of(By::Service, self.seed, &row.key);
-        let name = digest_of(By::Name, self.seed, &row.key);
-        add_tallied(self.seed, &mut self.nodes, &mut self.made, row);
-        self.served.push(service);
+        let name = text_digest(self.slots.seed(), &row.key.name);
+        self.slots.push(row);
         self.named.push(name);
         Ok(())
     }
@@ -216,7 +224,13 @@ impl Nodes {
         ensures rows { self.new.rows ≡ nodes_with node.now config self.old.rows }
         ensures room { self.old.spare ≤ self.new.spare }
     {
-        set_config_in(&mut self.nodes, node, config)
+        match seek_node(&self.slots, node) {
+            Some(place) => {
+                self.slots.update(place, Given { config });
+                true
+            }
+            None => false,
+        }
     }
 
     /// Takes a node away, and answers whether it stood. The others keep their order. It takes no memory.
@@ -225,10 +239,13 @@ impl Nodes {
         ensures rows { self.new.rows ≡ nodes_without node.now self.old.rows }
         ensures room { self.old.spare ≤ self.new.spare }
     {
-        let stood = remove_tallied(self.seed, &mut self.nodes, &mut self.made, node);
-        mark_all(By::Service, self.seed, &mut self.served, &self.nodes);
-        mark_all(By::Name, self.seed, &mut self.named, &self.nodes);
-        stood
+        match seek_node(&self.slots, node) {
+            Some(place) => {
+                empty(&mut self.slots, &mut self.named, &mut self.gaps, place);
+                true
+            }
+            None => false,
+        }
     }
 
     /// Takes away the row of a node, as every table does. It takes no memory.

@@ -1,16 +1,16 @@
 -- The digests of the rows of each table, and which of its rows are kin: of one node, one collection, or one bare address.
-use Rattle.std.specs.Prelude.{◌≡◌, ℕ, Bool, true, ◌&&◌, bytes_eq, Decides}
+use Rattle.std.specs.Prelude.{◌≡◌, ℕ, Bool, bytes_eq, Decides}
 use Rattle.std.proofs.Common.{sym, refl, ◌∙◌}
 use Rattle.std.proofs.lemmas.Slice.Eq.{bytes_eq-Decides}
 use Rattle.std.proofs.lemmas.Bool.Decides.{Decides-and}
 use Rattle.ps_types.proofs.Same.{same_node-Decides}
 use Rattle.ps_types.specs.Same.{same_node, same_bare}
 use Rattle.ps_types.specs.declared.jid.Jid.{Jid}
-use Rattle.ps_types.specs.declared.node.NodeKey.{NodeKey}
 use Rattle.ps_types.specs.declared.rows.AffilRow.{AffilRow}
 use Rattle.ps_types.specs.declared.rows.CountRow.{CountRow}
 use Rattle.ps_types.specs.declared.rows.ItemRow.{ItemRow}
 use Rattle.ps_types.specs.declared.rows.LinkRow.{LinkRow}
+use Rattle.ps_types.specs.declared.rows.NodeRow.{NodeRow}
 use Rattle.ps_types.specs.declared.rows.ResourceRow.{ResourceRow}
 use Rattle.ps_types.specs.declared.rows.RosterRow.{RosterRow}
 use Rattle.ps_types.specs.declared.rows.SubRow.{SubRow}
@@ -99,6 +99,19 @@ link_kin x y = same_node x.collection y.collection
 
 pub link_kin_is : IsKin link_kin
 link_kin_is = decided (λ x. x.collection) same_node same_node-Decides
+
+-- a node by its key, by the bare address that made it, and by the service host or account that it belongs to
+abbrev pub node_by : ℕ → Index → NodeRow → ℕ
+node_by seed Key row = node_digest seed row.key
+node_by seed Node row = bare_digest seed row.creator
+node_by seed Bare row = bare_digest seed row.key.service
+
+-- the nodes that one bare address made are kin
+abbrev pub node_kin : NodeRow → NodeRow → Bool
+node_kin x y = same_bare x.creator y.creator
+
+pub node_kin_is : IsKin node_kin
+node_kin_is = bare_kin (λ x. x.creator)
 
 -- a contact by its account and address, and by its account
 abbrev pub roster_by : ℕ → Index → RosterRow → ℕ

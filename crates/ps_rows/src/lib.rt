@@ -21,6 +21,7 @@ pub use digests::{
     text_digest,
 };
 pub use index::Index;
-pub use row::{Ask, Row};
+pub use row::{Ask, Change, Row};
 pub use rows::Rows;
 pub use slots::Slots;
+pub use walks::{count_node, seek};

@@ -4,12 +4,12 @@ ghost use Rattle.ps_types.specs.Affils.{is_affil_of};
 ghost use Rattle.ps_types.specs.Subs.{is_sub_of};
 ghost use Rattle.ps_types.specs.Counts.{is_count_of};
 ghost use Rattle.ps_rows.specs.Digests.{bare_at_digest, jid_at_digest};
-ghost use Rattle.ps_rows.specs.RowKeys.{item_by, item_kin, item_kin_is, affil_by, affil_kin, affil_kin_is, sub_by, sub_kin, sub_kin_is, count_by, count_kin, count_kin_is, link_by, link_kin, link_kin_is};
+ghost use Rattle.ps_rows.specs.RowKeys.{item_by, item_kin, item_kin_is, affil_by, affil_kin, affil_kin_is, sub_by, sub_kin, sub_kin_is, count_by, count_kin, count_kin_is, link_by, link_kin, link_kin_is, node_by, node_kin, node_kin_is};
 
 use crate::digests::{bare_at_digest, bare_digest, item_digest, jid_at_digest, node_digest};
 use crate::index::Index;
 use crate::row::{Ask, Row};
-use ps_types::{AffilRow, CountRow, ItemRow, LinkRow, SubRow};
+use ps_types::{AffilRow, CountRow, ItemRow, LinkRow, NodeRow, SubRow};
 
 impl Row for ItemRow {
     ghost by = { item_by };
@@ -151,4 +151,24 @@ impl Row for LinkRow {
     }
 
     ghost kin_is = { link_kin_is };
+}
+
+impl Row for NodeRow {
+    ghost by = { node_by };
+
+    ghost kin = { node_kin };
+
+    fn digest(&self, seed: u64, index: Index) -> u64 {
+        match index {
+            Index::Key => node_digest(seed, &self.key),
+            Index::Node => bare_digest(seed, &self.creator),
+            Index::Bare => bare_digest(seed, &self.key.service),
+        }
+    }
+
+    fn is_kin(&self, other: &NodeRow) -> bool {
+        self.creator.same_bare(&other.creator)
+    }
+
+    ghost kin_is = { node_kin_is };
 }

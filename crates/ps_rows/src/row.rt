@@ -1,4 +1,4 @@
-// What a row tells of itself, and what is asked of rows.
+// What a row tells of itself, what is asked of rows, and how one is changed.
 ghost use Rattle.std.specs.Prelude.{◌≡◌, ◌<◌, ◌^◌, ℕ, Bool};
 
 use crate::index::Index;
@@ -35,4 +35,13 @@ pub trait Ask<R> {
 
     fn digest(&self, seed: u64) -> u64
         ensures { result ≡ seeks seed self.now };
+}
+
+/// A change of a row.
+pub trait Change<R>: Drop {
+    ghost makes: { Self → R → R };
+
+    /// The row once it is changed.
+    fn make(self, row: R) -> R
+        ensures { result ≡ makes self row };
 }

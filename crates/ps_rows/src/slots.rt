@@ -1,5 +1,5 @@
 // Rows in places.
-ghost use Rattle.std.specs.Prelude.{◌≡◌, ℕ, ◌+◌, ◌<◌, ◌≤◌, [], ◌∷◌, ◌++◌, List, Option, Some, None, IfOk, OnOk, length, slice_set, slice_get, option_copied, vec_len, vec_capacity, is_some, true, if◌then◌else◌, ◌&&◌};
+ghost use Rattle.std.specs.Prelude.{◌≡◌, ℕ, ◌+◌, ◌<◌, ◌≤◌, [], ◌∷◌, ◌++◌, List, Option, Some, None, IfOk, OnOk, length, slice_set, slice_get, option_copied, option_map, vec_len, vec_capacity, is_some, true, if◌then◌else◌, ◌&&◌};
 ghost use Rattle.ps_chains.specs.Marks.{mark_at, count_of, FirstFrom, LastBelow};
 ghost use Rattle.ps_rows.specs.Standing.{marked_by, marks_of, packed, standing};
 ghost use Rattle.std.specs.List.{AllZip};
@@ -8,7 +8,7 @@ ghost use Rattle.ps_rows.specs.Kin.{IsPure, kin_at};
 ghost use Rattle.ps_rows.specs.declared.index.Index.TheVariants.{Node};
 
 use crate::index::Index;
-use crate::row::Row;
+use crate::row::{Change, Row};
 use ps_base::Memory;
 use ps_chains::Chains;
 use std::alloc::Global;
@@ -214,6 +214,19 @@ impl<R: Row> Slots<R> {
         put(&mut self.slots, place, Some(row));
     }
 
+    /// Changes the row at a place, if one stands there, and none of its digests. It takes no memory.
+    pub fn update<C: Change<R>>(&mut self, place: usize, change: C)
+        requires alike { (index : Index) (old : R) → mark_at self.old.rows place ≡ Some old
+            → R.by self.old.seed index (C.makes change old) ≡ R.by self.old.seed index old }
+        requires kin { (old : R) → mark_at self.old.rows place ≡ Some old → R.kin old (C.makes change old) ≡ true }
+        ensures rows { self.new.rows
+            ≡ slice_set self.old.rows place (option_map (C.makes change) (mark_at self.old.rows place)) }
+        ensures seed { self.new.seed ≡ self.old.seed }
+        ensures room { self.old.spare ≤ self.new.spare }
+    {
+        apply(&mut self.slots, place, change);
+    }
+
     /// Takes the empty places away. It takes no memory.
     pub fn pack(&mut self)
         ensures rows { self.new.rows ≡ packed self.old.rows }
@@ -251,7 +264,8 @@ impl<R: Row> Slots<R> {
         }
     }
 
-    fn grow(&mut self, rows: usize) -> Result<(), Memory>
+    /// Makes room, so that at least this many more rows are taken without memory. Each row keeps its place.
+    pub fn grow(&mut self, rows: usize) -> Result<(), Memory>
         ensures rows { self.new.rows ≡ self.old.rows }
         ensures seed { self.new.seed ≡ self.old.seed }
         ensures room { OnOk result (rows ≤ self.new.spare) }
@@ -327,6 +341,18 @@ fn put<R: Drop>(slots: &mut Vec<Option<R>>, place: usize, slot: Option<R>)
 {
     if place < slots.len() {
         slots[place] = slot;
+    }
+}
+
+fn apply<R: Drop, C: Change<R>>(slots: &mut Vec<Option<R>>, place: usize, change: C)
+    ensures rows { slots.new.items
+        ≡ slice_set slots.old.items place (option_map (C.makes change) (mark_at slots.old.items place)) }
+    ensures room { vec_capacity slots.new ≡ vec_capacity slots.old }
+{
+    if place < slots.len() {
+        if let Some(row) = slots[place].take() {
+            slots[place] = Some(change.make(row));
+        }
     }
 }
 
