@@ -1,28 +1,13 @@
 -- The host that a word is.
-use Rattle.std.proofs.Common.{◌≡◌, ℕ, List, [], ◌∷◌, ◌==◌, ◌&&◌, length, Bool, true, false, cond, map, Option, Some, None, option_and_then, option_map, refl, sym, ap, ◌∙◌, subst, arith}
+use Rattle.std.proofs.Common.{◌≡◌, ℕ, List, [], ◌∷◌, ◌==◌, ◌&&◌, length, Bool, true, false, cond, map, Option, Some, None, option_and_then, refl, sym, ap, ◌∙◌, subst, arith}
 use Rattle.std.proofs.lemmas.Bool.Decides.{nat_tests}
-use Rattle.ps_types.specs.Address.{IsAddress, IsLabel, Parts, Spells, address_of, dotted, lower}
-use Rattle.ps_types.specs.Cutting.{parts_from}
+use Rattle.ps_types.specs.Address.{IsAddress, IsLabel, Spells, dotted, lower}
 use Rattle.ps_types.specs.declared.jid.Jid.{Jid}
-use Rattle.ps_types.proofs.AddressLaws.{parts-again, spells-from}
 use Rattle.ps_types.proofs.Lowered.{spelled-is}
 use Rattle.ps_model.specs.Entries.{IsHostName, of_host}
 use Rattle.ps_model.specs.Stanza.{jid_of}
 use Rattle.ps_model.proofs.Splits.{jid-spelled}
 use Rattle.ps_args.specs.Words.{host_in, host_of}
-
-spelled-jid : (text : List ℕ) (j : Jid) → Spells text j → Some j ≡ jid_of text
-spelled-jid text j s = ap (λ (k : Jid). Some k) s.3 ∙ sym (ap (option_map address_of) (ap parts_from s.2 ∙ parts-again s.0 s.1))
-
-pub host-spelled : (word : List ℕ) (j : Jid) → Spells word j → host_of word ≡ host_in j
-host-spelled word j s = ap (λ (o : Option Jid). option_and_then host_in o) (sym (spelled-jid word j s))
-
-none-step : (text : List ℕ) (found : Option Parts) → parts_from text ≡ found → ((j : Jid) → Spells text j → ⊥) → None ≡ option_map address_of found
-none-step text None e h = refl
-none-step text (Some p) e h = absurd (h (address_of p) (spells-from text p e))
-
-pub host-none : (word : List ℕ) → ((j : Jid) → Spells word j → ⊥) → host_of word ≡ None
-host-none word h = ap (λ (o : Option Jid). option_and_then host_in o) (sym (none-step word (parts_from word) refl h))
 
 -- ---- a host isn't empty
 

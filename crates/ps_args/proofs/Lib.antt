@@ -1,4 +1,5 @@
 pub mod Numbers
+pub mod Spelled
 pub mod Hosts
 pub mod Cut
 pub mod Well

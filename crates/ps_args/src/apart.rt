@@ -1,11 +1,18 @@
-// Whether the names of streams are names, and differ.
+// Whether names are names, and differ.
 ghost use Rattle.std.specs.Prelude.{◌≡◌, length, not, ◌==◌};
 ghost use Rattle.std.specs.List.{list_all, list_any};
 ghost use Rattle.std.specs.Str.{bytes_eq};
-ghost use Rattle.ps_args.specs.Words.{all_differ, are_hosts, are_names as are_names_by, hosts_of, names_of};
+ghost use Rattle.ps_args.specs.Words.{all_differ, are_hosts, are_names as are_names_by, are_two as are_two_by, hosts_of, names_of};
 
 use crate::command::Stream;
 use ps_types::Text;
+
+/// Whether both are names, and differ.
+pub fn are_two(one: &Text, other: &Text) -> bool
+    ensures { result ≡ are_two_by one.now other.now }
+{
+    (!one.is_empty() && !other.is_empty()) && !one.is(other.as_str())
+}
 
 // Whether a stream has the host.
 fn has_host(streams: &[Stream], host: &Text) -> bool

@@ -32,8 +32,8 @@ fn value_of(text: &str) -> Option<u128>
     }
 }
 
-/// The number that 1 to 20 digits write, where it is one of these.
-pub(crate) fn number_between(least: u64, most: u64, text: &str) -> Option<u64>
+/// The number that 1 to 20 decimal digits write, where it is from `least` to `most`.
+pub fn number_between(least: u64, most: u64, text: &str) -> Option<u64>
     ensures { result ≡ number_by least most text.now }
 {
     let number = value_of(text)?;

@@ -13,12 +13,16 @@
 //! one host, one source or one sink; a store is not compacted into itself.
 #![tactic(auto)]
 
+mod addresses;
 mod apart;
 mod command;
 mod digits;
 mod refusal;
 mod words;
 
+pub use addresses::{read_address, read_host};
+pub use apart::are_two;
 pub use command::{Command, Stream};
+pub use digits::number_between;
 pub use refusal::WordsRefusal;
 pub use words::read_words;

@@ -1,40 +1,18 @@
 // The words of a command.
 ghost use Rattle.std.specs.Prelude.{◌≡◌, Some, None, IfOk, IsErrOf};
-ghost use Rattle.ps_args.specs.Words.{command_of, host_in as host_in_address, host_of};
+ghost use Rattle.ps_args.specs.Words.{command_of};
 ghost use Rattle.ps_args.specs.Words.{is_few as is_few_by, is_serve as is_serve_by};
 ghost use Rattle.ps_args.specs.Words.{compacted, rehearsed, served_by, stream_in, streams_of};
 ghost use Rattle.ps_args.specs.Well.{IsWell};
 
-use crate::apart::{are_apart, are_names};
+use crate::addresses::read_host;
+use crate::apart::{are_apart, are_names, are_two};
 use crate::command::{Command, Stream};
 use crate::digits::number_between;
 use crate::refusal::WordsRefusal;
 use ps_base::Listed;
-use ps_types::{Jid, JidRefusal, Text};
+use ps_types::Text;
 use std::alloc::Global;
-
-// The host that a word is, in lower case.
-fn read_host(alloc: Global, word: &Text) -> Result<Text, WordsRefusal>
-    ensures ok { IfOk result (λ h. host_of word.now ≡ Some h) }
-    ensures usage { IsErrOf result WordsRefusal.Usage → host_of word.now ≡ None }
-{
-    match Jid::read(alloc, word.as_str().as_bytes()) {
-        Ok(address) => host_in(address),
-        Err(JidRefusal::Malformed) => Err(WordsRefusal::Usage),
-        Err(JidRefusal::Memory) => Err(WordsRefusal::Memory),
-    }
-}
-
-fn host_in(address: Jid) -> Result<Text, WordsRefusal>
-    ensures ok { IfOk result (λ h. host_in_address address ≡ Some h) }
-    ensures usage { IsErrOf result WordsRefusal.Usage → host_in_address address ≡ None }
-{
-    if address.local.is_empty() && address.resource.is_empty() {
-        Ok(address.into_host())
-    } else {
-        Err(WordsRefusal::Usage)
-    }
-}
 
 fn read_stream(
     alloc: Global,
@@ -137,7 +115,7 @@ fn read_compact(store: &Text, new: &Text) -> Result<Command, WordsRefusal>
     ensures ok { IfOk result (λ c. compacted store.now new.now ≡ Some c) }
     ensures usage { IsErrOf result WordsRefusal.Usage → compacted store.now new.now ≡ None }
 {
-    if store.is_empty() || (new.is_empty() || store.is(new.as_str())) {
+    if !are_two(store, new) {
         return Err(WordsRefusal::Usage);
     }
     Ok(Command::Compact {

@@ -1,21 +1,11 @@
 // The words of the commands that feed a follower, and of the follower's.
 ghost use Rattle.std.specs.Prelude.{◌≡◌, Some, None, IfOk, IsErrOf};
-ghost use Rattle.ps_args.specs.Words.{are_two as are_two_by};
 ghost use Rattle.ps_commands.specs.Words.{are_three as are_three_by, fed_by, followed_by};
 
-use crate::addresses::read_host;
 use crate::command::{Command, FeedWords, FollowWords};
-use crate::digits::number_between;
-use ps_args::WordsRefusal;
+use ps_args::{WordsRefusal, are_two, number_between, read_host};
 use ps_types::Text;
 use std::alloc::Global;
-
-// Whether both are names, and differ.
-fn are_two(one: &Text, other: &Text) -> bool
-    ensures { result ≡ are_two_by one.now other.now }
-{
-    (!one.is_empty() && !other.is_empty()) && !one.is(other.as_str())
-}
 
 // Whether all three are names, and differ.
 fn are_three(one: &Text, other: &Text, third: &Text) -> bool

@@ -15,7 +15,6 @@
 
 mod addresses;
 mod command;
-mod digits;
 mod follower;
 mod mirror;
 mod reports;

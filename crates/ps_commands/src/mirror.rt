@@ -2,10 +2,9 @@
 ghost use Rattle.std.specs.Prelude.{◌≡◌, Some, None, IfOk, IsErrOf};
 ghost use Rattle.ps_commands.specs.Words.{items_in, mirrored_by};
 
-use crate::addresses::{read_address, read_node};
+use crate::addresses::read_node;
 use crate::command::{Command, MirrorWords};
-use crate::digits::number_between;
-use ps_args::WordsRefusal;
+use ps_args::{WordsRefusal, number_between, read_address};
 use ps_types::Text;
 use std::alloc::Global;
 

@@ -2,9 +2,9 @@
 ghost use Rattle.std.specs.Prelude.{◌≡◌, Some, None, IfOk, IsErrOf};
 ghost use Rattle.ps_commands.specs.Words.{explained_by, readers_by};
 
-use crate::addresses::{read_address, read_node};
+use crate::addresses::read_node;
 use crate::command::{Command, ExplainWords, ReadersWords};
-use ps_args::WordsRefusal;
+use ps_args::{WordsRefusal, read_address};
 use ps_types::Text;
 use std::alloc::Global;
 

@@ -1,5 +1,5 @@
 -- What a record does, by its place and the bytes that are there.
-use Rattle.std.proofs.Common.{◌≡◌, ℕ, zero, suc, ◌+◌, ◌<◌, arith, Bool, true, false, List, [], ◌∷◌, ◌++◌, length, get_or, Some, option_map, refl, sym, ap, subst, ◌∙◌}
+use Rattle.std.proofs.Common.{◌≡◌, ℕ, ◌+◌, ◌<◌, arith, Bool, true, false, List, [], ◌∷◌, ◌++◌, length, get_or, Some, option_map, refl, sym, ap, subst, ◌∙◌}
 use Rattle.std.specs.Prelude.{◌==◌, slice_get, bytes_eq, if◌then◌else◌}
 use Rattle.std.proofs.lemmas.Bool.Decides.{Decides-eqb}
 use Rattle.std.proofs.lemmas.List.{length-map, map-append}
@@ -11,6 +11,7 @@ use Rattle.ps_model.specs.Entries.{spelling}
 use Rattle.ps_model.specs.Replay.{accepted, replay, replay_from}
 use Rattle.ps_model.proofs.Going.{replay-append}
 use Rattle.ps_follow_laws.specs.Feed.{Fate, Sent, adds, beyond, differs, entries_with, fate, fate_at, refused, repeats, stop_by}
+use Rattle.ps_follow_laws.proofs.Catching.{get-there}
 use Rattle.ps_follow.specs.Following.{Stands, TakesAs, stop_in}
 use Rattle.ps_follow.specs.declared.taking.Took.{Took}
 use Rattle.ps_follow.specs.declared.taking.Took.TheVariants.{Taken, Bad, Gap, Differs}
@@ -62,11 +63,6 @@ took-gap state log E s is past =
     let n = log-length state log E is in
     let f = away E s (λ e. absurd (omega (arith, e, n, past))) ∙ ap (λ o. fate_at o s.entry) (slice_get_past E s.place (omega (arith, n, past))) in
     stays E s state log beyond Gap f refl refl is
-
-get-there : (xs : List Entry) (k : ℕ) → k < length xs → (x : Entry) × (slice_get xs k ≡ Some x)
-get-there [] k h = absurd (omega (arith, h))
-get-there (x ∷ xs) zero h = (x, refl)
-get-there (x ∷ xs) (suc k) h = get-there xs k (omega (arith, h))
 
 pub took-there : (state : State) (log : List (List ℕ)) (E : List Entry) (s : Sent) (d : List ℕ) (b : Bool) → Stands state log E → s.place < length log
     → bytes_eq (get_or log s.place d) (spelling s.entry) ≡ b

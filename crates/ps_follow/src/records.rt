@@ -6,7 +6,7 @@ ghost use Rattle.ps_model.specs.Entries.{IsEntry, spelling};
 ghost use Rattle.ps_follow.specs.Next.{IsNextOf, sent};
 
 use ps_base::{Bytes, Memory};
-use ps_record::{EntryRefusal, put_entry, read_entry};
+use ps_record::{EntryRefusal, MAX_BYTES, put_entry, read_entry};
 use ps_types::Entry;
 use std::alloc::Global;
 
@@ -26,9 +26,6 @@ pub enum Next {
         size: usize,
     },
 }
-
-/// The longest entry of a record.
-const MAX_SIZE: u32 = 1 << 30;
 
 fn place_in(head: &[u8]) -> u64
     requires { length head.now ≡ 8 }
@@ -78,7 +75,7 @@ pub fn next_record(alloc: Global, bytes: &[u8]) -> Result<Next, Memory>
     let (first, rest) = bytes.split_at(8);
     let (second, behind) = rest.split_at(4);
     let size = size_in(second);
-    if size > MAX_SIZE {
+    if u64::from(size) > MAX_BYTES {
         return Ok(Next::Long);
     }
     if behind.len() < size as usize {

@@ -15,7 +15,7 @@ use Rattle.ps_follow_laws.proofs.Streaming.{next-front, next-ok}
 
 -- ---- places
 
-get-there : (xs : List Entry) (k : ℕ) → k < length xs → (x : Entry) × (slice_get xs k ≡ Some x)
+pub get-there : (xs : List Entry) (k : ℕ) → k < length xs → (x : Entry) × (slice_get xs k ≡ Some x)
 get-there [] k h = absurd (omega (arith, h))
 get-there (x ∷ xs) zero h = (x, refl)
 get-there (x ∷ xs) (suc k) h = get-there xs k (omega (arith, h))

@@ -8,10 +8,10 @@ use Rattle.std.proofs.lemmas.List.{drop_at, take-append-drop, length-take-le}
 use Rattle.std.proofs.lemmas.Nat.{be_bytes_4, be_bytes_8}
 use Rattle.ps_types.specs.declared.entry.Entry.{Entry}
 use Rattle.ps_model.specs.Entries.{IsEntryIn, spelling}
-use Rattle.ps_model.proofs.OneList.{entry_one}
+use Rattle.ps_model.proofs.OneList.{entry_one, front_one}
 use Rattle.ps_spelling_laws.proofs.Entries.{Begins, BeginsWithNone, entry-decided}
 use Rattle.ps_follow_laws.specs.Feed.{Ends, Fate, Fed, IsNoEntry, IsPart, IsSent, Sent, Stop, Stops, adds, after_sent, bad, beyond, differs, fate, feed_of, gap, goes_on, is_long, is_whole, max_size, other, refused, repeats, sent_bytes, size_at, stop_by}
-use Rattle.ps_follow_laws.proofs.Heads.{flat, front_one, length-sent, size-sent, wide32, wide64}
+use Rattle.ps_follow_laws.proofs.Heads.{flat, length-sent, size-sent}
 use Rattle.ps_follow_laws.proofs.Piecewise.{sized}
 
 -- ---- bytes
@@ -103,8 +103,8 @@ module _ (bytes : List ℕ) (are : Each IsByte bytes) (short : is_long bytes ≡
   body-is : (q : Sent) (more : List ℕ) → IsSent q → bytes ≡ sent_bytes q ++ more → body ≡ spelling q.entry
   body-is q more is e =
       let n : size ≡ length (spelling q.entry) = ap size_at e ∙ size-sent q more is in
-      let p = front_one (to_be_bytes w64 place) (to_be_bytes w64 q.place) _ _ (wide64.len place ∙ sym (wide64.len q.place)) (sym parts ∙ e ∙ flat q more) in
-      let r = front_one (to_be_bytes w32 size) (to_be_bytes w32 (length (spelling q.entry))) _ _ (wide32.len size ∙ sym (wide32.len (length (spelling q.entry)))) p.1 in
+      let p = front_one (to_be_bytes w64 place) (to_be_bytes w64 q.place) _ _ refl (sym parts ∙ e ∙ flat q more) in
+      let r = front_one (to_be_bytes w32 size) (to_be_bytes w32 (length (spelling q.entry))) _ _ refl p.1 in
       (front_one body (spelling q.entry) left more (body-size ∙ n) r.1).0
 
   pub none-of : ((q : Sent) → IsSent q → body ≡ spelling q.entry → ⊥) → IsNoEntry bytes

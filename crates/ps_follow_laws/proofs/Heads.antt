@@ -1,43 +1,22 @@
 -- The heads of records: where one stands, it is the one that stands there.
-use Rattle.std.proofs.Common.{◌≡◌, ℕ, ◌+◌, ◌<◌, ◌≤◌, ◌^◌, Bool, true, false, List, [], ◌++◌, length, take, drop, refl, sym, ap, ◌∙◌, append_assoc, arith, length-append}
+use Rattle.std.proofs.Common.{◌≡◌, ℕ, ◌+◌, ◌<◌, ◌≤◌, ◌^◌, Bool, true, false, List, [], ◌++◌, length, take, refl, sym, ap, ◌∙◌, append_assoc, arith, length-append}
 use Rattle.std.specs.Prelude.{◌&&◌, nat_le, nat_lt}
-use Rattle.std.specs.Int.{Width, w32, w64, byte_len, from_be_bytes, to_be_bytes}
+use Rattle.std.specs.Int.{w32, w64, from_be_bytes, to_be_bytes}
 use Rattle.std.proofs.lemmas.Bool.{true≢false}
 use Rattle.std.proofs.lemmas.Bool.Decides.{nat_tests}
 use Rattle.std.proofs.lemmas.List.{take_at, drop_at}
-use Rattle.std.proofs.lemmas.Nat.{from_be_bytes-to_be_bytes_4, from_be_bytes-to_be_bytes_8}
+use Rattle.std.proofs.lemmas.Nat.{from_be_bytes-to_be_bytes_4}
 use Rattle.ps_model.specs.Entries.{spelling}
-use Rattle.ps_model.proofs.OneList.{entry_one}
+use Rattle.ps_model.proofs.OneList.{entry_one, front_one, number_one, wide32, wide64}
 use Rattle.ps_follow_laws.specs.Feed.{IsSent, Sent, has_head, is_long, is_whole, max_size, sent_bytes, size_at}
 
 -- ---- fields
 
-pub record IsWide (w : Width) (limit : ℕ) : Type 0 where
-  pub len : (n : ℕ) → length (to_be_bytes w n) ≡ byte_len w
-  pub again : (n : ℕ) → n < limit → from_be_bytes w (to_be_bytes w n) ≡ n
-
-pub wide32 : IsWide w32 (2 ^ 32)
-wide32 = record { len = λ n. refl; again = λ n lt. from_be_bytes-to_be_bytes_4 n lt }
-
-pub wide64 : IsWide w64 (2 ^ 64)
-wide64 = record { len = λ n. refl; again = λ n lt. from_be_bytes-to_be_bytes_8 n lt }
-
-pub front_one : (t u x y : List ℕ) → length t ≡ length u → t ++ x ≡ u ++ y → (t ≡ u) × (x ≡ y)
-front_one t u x y len same = (
-  sym (take_at t x (length t) refl) ∙ ap (take (length t)) same ∙ take_at u y (length t) (sym len),
-  sym (drop_at t x (length t) refl) ∙ ap (drop (length t)) same ∙ drop_at u y (length t) (sym len),
-)
-
-number_one : (w : Width) (limit : ℕ) (wide : IsWide w limit) (n m : ℕ) (x y : List ℕ) → n < limit → m < limit → to_be_bytes w n ++ x ≡ to_be_bytes w m ++ y → (n ≡ m) × (x ≡ y)
-number_one w limit wide n m x y fits fits' same =
-    let p = front_one (to_be_bytes w n) (to_be_bytes w m) x y (wide.len n ∙ sym (wide.len m)) same in
-    (sym (wide.again n fits) ∙ ap (from_be_bytes w) p.0 ∙ wide.again m fits', p.1)
-
-text_one : (w : Width) (limit : ℕ) (wide : IsWide w limit) (t u x y : List ℕ) → length t < limit → length u < limit
-    → (to_be_bytes w (length t) ++ t) ++ x ≡ (to_be_bytes w (length u) ++ u) ++ y → (t ≡ u) × (x ≡ y)
-text_one w limit wide t u x y fits fits' same =
-    let p = number_one w limit wide (length t) (length u) (t ++ x) (u ++ y) fits fits'
-    (sym (append_assoc (to_be_bytes w (length t)) t x) ∙ same ∙ append_assoc (to_be_bytes w (length u)) u y) in
+text_one : (t u x y : List ℕ) → length t < 2 ^ 32 → length u < 2 ^ 32
+    → (to_be_bytes w32 (length t) ++ t) ++ x ≡ (to_be_bytes w32 (length u) ++ u) ++ y → (t ≡ u) × (x ≡ y)
+text_one t u x y fits fits' same =
+    let p = number_one w32 (2 ^ 32) wide32 (length t) (length u) (t ++ x) (u ++ y) fits fits'
+    (sym (append_assoc (to_be_bytes w32 (length t)) t x) ∙ same ∙ append_assoc (to_be_bytes w32 (length u)) u y) in
     front_one t u x y p.0 p.1
 
 -- ---- tests
@@ -67,7 +46,7 @@ unfolding body_of
 sent_one s q x y is is' same =
     let p = number_one w64 (2 ^ 64) wide64 s.place q.place (body_of s ++ x) (body_of q ++ y) is.place is'.place
     (sym (append_assoc (to_be_bytes w64 s.place) (body_of s) x) ∙ same ∙ append_assoc (to_be_bytes w64 q.place) (body_of q) y) in
-    let r = text_one w32 (2 ^ 32) wide32 (spelling s.entry) (spelling q.entry) x y (omega (arith, is.short)) (omega (arith, is'.short)) p.1 in
+    let r = text_one (spelling s.entry) (spelling q.entry) x y (omega (arith, is.short)) (omega (arith, is'.short)) p.1 in
     let e = entry_one s.entry q.entry [] [] is.entry.entry is'.entry.entry (ap (λ (t : List ℕ). t ++ []) r.0) in
     (same-sent s q p.0 e.0, r.1)
 
@@ -88,14 +67,11 @@ size-sent s more is = ap size_at (flat s more) ∙ size-flat s.place (length (sp
 
 pub length-sent : (s : Sent) → length (sent_bytes s) ≡ 12 + length (spelling s.entry)
 length-sent s =
-    omega (
-      arith,
-      length-append (to_be_bytes w64 s.place) (to_be_bytes w32 (length (spelling s.entry)) ++ spelling s.entry),
-      length-append (to_be_bytes w32 (length (spelling s.entry)))
-          (spelling s.entry),
-      wide64.len s.place,
-      wide32.len (length (spelling s.entry)),
-    )
+    let place : length (to_be_bytes w64 s.place) ≡ 8 = refl in
+    let size : length (to_be_bytes w32 (length (spelling s.entry))) ≡ 4 = refl in
+    let all = length-append (to_be_bytes w64 s.place) (to_be_bytes w32 (length (spelling s.entry)) ++ spelling s.entry) in
+    let rest = length-append (to_be_bytes w32 (length (spelling s.entry))) (spelling s.entry) in
+    omega (arith, all, rest, place, size)
 
 length-more : (s : Sent) (more : List ℕ) → 12 + length (spelling s.entry) ≤ length (sent_bytes s ++ more)
 length-more s more = omega (arith, length-sent s, length-append (sent_bytes s) more)

@@ -4,6 +4,6 @@ pub mod Ending
 pub mod Piecewise
 pub mod Streaming
 pub mod Having
-mod Catching
+pub mod Catching
 pub mod Answering
 mod Cases

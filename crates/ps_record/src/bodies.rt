@@ -8,8 +8,8 @@ use ps_base::Memory;
 use ps_types::Entry;
 use std::alloc::Global;
 
-/// How many bytes the entries of a batch have at most.
-const MOST: usize = 1 << 30;
+/// How many bytes an entry, a batch of them and a store have at most.
+pub const MAX_BYTES: u64 = 1 << 30;
 
 /// Why entries are no batch.
 #[derive(Clone, Copy, PartialEq, Eq, Debug)]
@@ -50,12 +50,12 @@ fn put_one(alloc: Global, bytes: &mut Vec<u8>, entry: &Entry) -> Result<(), Batc
     ensures long { IsErrOf result BatchRefusal.Long → 2 ^ 30 < length bytes.old.items + length (spelling entry.now) }
 {
     let print = print_of(alloc, entry)?;
-    if print.len() > MOST {
+    if print.len() as u64 > MAX_BYTES {
         return Err(BatchRefusal::Long);
     }
     know(entry);
     put(alloc, bytes, entry, print.as_slice())?;
-    if bytes.len() > MOST {
+    if bytes.len() as u64 > MAX_BYTES {
         Err(BatchRefusal::Long)
     } else {
         Ok(())

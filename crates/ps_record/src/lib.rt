@@ -18,8 +18,8 @@ mod reading;
 mod writing;
 
 pub use batch::Batch;
-pub use bodies::BatchRefusal;
+pub use bodies::{BatchRefusal, MAX_BYTES};
 pub use laws::one_entry;
 pub use raw::u32_at;
-pub use reading::{EntryRefusal, read_entry};
+pub use reading::{EntryRefusal, is_moment, read_entry};
 pub use writing::{print_of, put_entry};

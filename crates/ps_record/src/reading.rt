@@ -1,6 +1,7 @@
 // Reading an entry.
 ghost use Rattle.std.specs.Prelude.{◌≡◌, ◌+◌, ◌≤◌, ◌<◌, ◌↔◌, length, IfOk, IfErr, IsTrue, MatchResult};
 ghost use Rattle.ps_types.specs.declared.entry.Entry.{Entry};
+ghost use Rattle.ps_model.specs.BaseAfter.{is_early};
 ghost use Rattle.ps_model.specs.Entries.{spelling, IsEntry, IsMoment, StandsAt};
 ghost use Rattle.ps_record.specs.Raw.{view, fields_of, Fit};
 ghost use Rattle.ps_record.specs.Reading.{OnBad, IsCause};
@@ -21,8 +22,10 @@ pub enum EntryRefusal {
 /// 9999-01-01T00:00:00Z, in seconds since 1970-01-01T00:00:00Z.
 const END_OF_TIME: u64 = 253_370_764_800;
 
-fn is_moment(moment: Option<u64>) -> bool
-    ensures { IsTrue result ↔ IsMoment moment }
+/// Whether it is the moment of an entry: none, or one before the year 9999.
+pub fn is_moment(moment: Option<u64>) -> bool
+    ensures moment { IsTrue result ↔ IsMoment moment }
+    ensures early { result ≡ is_early moment }
 {
     match moment {
         None => true,

@@ -1,26 +1,14 @@
 -- Entries, flushes and crashes keep the fronts of two worlds alike.
-use Rattle.std.proofs.Common.{◌≡◌, ℕ, zero, suc, ◌+◌, ◌<◌, ◌≤◌, Bool, true, false, cond, List, [], ◌∷◌, ◌++◌, Option, Some, None, length, take, refl, sym, ap, ◌∙◌, subst, arith, length-append}
+use Rattle.std.proofs.Common.{◌≡◌, ℕ, zero, suc, ◌+◌, ◌≤◌, Bool, true, false, List, [], ◌∷◌, ◌++◌, Option, Some, None, length, take, refl, sym, ap, ◌∙◌, subst, arith, length-append}
 use Rattle.std.specs.Prelude.{nat_le}
 use Rattle.std.proofs.lemmas.Bool.{leb-true, leb-false}
-use Rattle.std.proofs.lemmas.Bool.Decides.{nat_tests}
 use Rattle.ps_types.specs.declared.entry.Entry.{Entry}
 use Rattle.ps_types.specs.declared.entry.Entry.TheVariants.{Boot}
 use Rattle.ps_model.specs.Core.{Core}
 use Rattle.ps_model.specs.Machine.{counted, crashes, flushes}
 use Rattle.ps_model.specs.World.{World, ends, first, more_entries, with_entry}
-use Rattle.ps_secrecy.proofs.Fronts.{AllBy, Fits, Fronts}
-
-module _ {X : Type 0} where
-  take-front : (p : ℕ) (xs ys : List X) → p ≤ length xs → take p (xs ++ ys) ≡ take p xs
-  take-front zero xs ys h = refl
-  take-front (suc p) [] ys h = absurd (omega arith)
-  take-front (suc p) (x ∷ xs) ys h = ap (λ r. x ∷ r) (take-front p xs ys (omega arith))
-
-  take-whole : (n : ℕ) (xs : List X) → length xs ≤ n → take n xs ≡ xs
-  take-whole zero [] h = refl
-  take-whole zero (x ∷ xs) h = absurd (omega arith)
-  take-whole (suc n) [] h = refl
-  take-whole (suc n) (x ∷ xs) h = ap (λ r. x ∷ r) (take-whole n xs (omega arith))
+use Rattle.ps_world.proofs.Lists.{by-more, by-snoc, by-take, ends-all, ends-before, ends-le, take-front, take-whole}
+use Rattle.ps_secrecy.proofs.Fronts.{Fits, Fronts}
 
 length-both : {X Y : Type 0} → (n : ℕ) (xs : List X) (ys : List Y) → length xs ≡ length ys → length (take n xs) ≡ length (take n ys)
 length-both zero xs ys h = refl
@@ -28,40 +16,6 @@ length-both (suc n) [] [] h = refl
 length-both (suc n) [] (y ∷ ys) h = absurd (omega (arith, h))
 length-both (suc n) (x ∷ xs) [] h = absurd (omega (arith, h))
 length-both (suc n) (x ∷ xs) (y ∷ ys) h = ap suc (length-both n xs ys (omega (arith, h)))
-
-ends-le : (m : ℕ) (made : List ℕ) → ends m made ≤ length made
-ends-le m [] = omega arith
-ends-le m (t ∷ ts) = let r : ends m ts ≤ length ts = ends-le m ts in elim (nat_le t m) as (λ b. cond b (suc (ends m ts)) (ends m ts) ≤ suc (length ts)) [ true ↦ omega arith | false ↦ omega arith ]
-
-all_step : (k n t a b : ℕ) → t ≤ n → n ≤ k → a ≡ b → cond (nat_le t k) (suc a) a ≡ suc b
-all_step k n t a b h l e = grind (arith, nat_tests)
-
-ends-all : (k n : ℕ) (made : List ℕ) → AllBy n made → n ≤ k → ends k made ≡ length made
-ends-all k n [] all h = refl
-ends-all k n (t ∷ ts) all h = all_step k n t (ends k ts) (length ts) all.0 h (ends-all k n ts all.1 h)
-
-none_step : (k t a b : ℕ) → a ≡ b → cond (nat_le t k) (suc a) a ≡ cond (nat_le t k) (suc b) b
-none_step k t a b e = rw e refl
-
-base_none : (k t a b : ℕ) → k < t → cond (nat_le t k) a b ≡ b
-base_none k t a b h = grind (arith, nat_tests)
-
-ends-before : (k t : ℕ) (made : List ℕ) → k < t → ends k (made ++ t ∷ []) ≡ ends k made
-ends-before k t [] h = base_none k t 1 0 h
-ends-before k t (u ∷ us) h = none_step k u (ends k (us ++ t ∷ [])) (ends k us) (ends-before k t us h)
-
-by-more : (m n : ℕ) (made : List ℕ) → m ≤ n → AllBy m made → AllBy n made
-by-more m n [] h all = tt
-by-more m n (t ∷ ts) h all = let l : t ≤ m = all.0 in (omega arith, by-more m n ts h all.1)
-
-by-snoc : (n t : ℕ) (made : List ℕ) → t ≤ n → AllBy n made → AllBy n (made ++ t ∷ [])
-by-snoc n t [] h all = (h, tt)
-by-snoc n t (u ∷ us) h all = (all.0, by-snoc n t us h all.1)
-
-by-take : (n c : ℕ) (made : List ℕ) → AllBy n made → AllBy n (take c made)
-by-take n zero made all = tt
-by-take n (suc c) [] all = tt
-by-take n (suc c) (t ∷ ts) all = (all.0, by-take n c ts all.1)
 
 -- ---- one world
 

@@ -13,7 +13,8 @@ use Rattle.ps_model.specs.TwoWorlds.{IsShutOut}
 use Rattle.ps_model.specs.World.{zeros}
 use Rattle.ps_secrecy.proofs.AlikeHosts.{IsCore}
 use Rattle.ps_secrecy.proofs.AlikeWorlds.{AlikeWorlds, IsHeard}
-use Rattle.ps_secrecy.proofs.Fronts.{AllBy, Fits}
+use Rattle.ps_world.specs.Sound.{AllBy}
+use Rattle.ps_secrecy.proofs.Fronts.{Fits}
 use Rattle.ps_secrecy.specs.Runs.{ArePairs, AreDenied}
 use Rattle.ps_secrecy.proofs.AlikeRuns.{AlikeRuns}
 use Rattle.ps_secrecy.proofs.ChangeLaws.{beside-itself}

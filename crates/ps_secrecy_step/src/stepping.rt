@@ -8,6 +8,7 @@ ghost use Rattle.ps_secrecy_step.specs.Outsider.{LearnsNothing, course};
 use crate::deed::{Deed, Said};
 use ps_base::Memory;
 use ps_core::Service;
+use ps_record::is_moment;
 use ps_types::{Bytes, Elem, Entry, Jid};
 use ps_wire::print_tree;
 use std::alloc::Global;
@@ -46,10 +47,7 @@ fn is_timely(entry: &Entry) -> bool
     ensures { IsTrue result ↔ IsTimely entry.now }
 {
     match entry {
-        Entry::Change { moment, .. } => match moment {
-            Some(moment) => *moment < 253_370_764_800,
-            None => true,
-        },
+        Entry::Change { moment, .. } => is_moment(*moment),
         _ => true,
     }
 }

@@ -1,8 +1,8 @@
 use Rattle.std.proofs.Common.{◌≡◌, ℕ, List, Err, Some, subst, sym, ◌∙◌}
 use Rattle.ps_types.specs.Address.{Spells}
 use Rattle.ps_types.specs.declared.jid.Jid.{Jid}
-use Rattle.ps_commands.proofs.Spelled.{none-spelled, spelled-jid}
-use Rattle.ps_commands.proofs.addresses.read_address.Goals as goal
+use Rattle.ps_args.proofs.Spelled.{none-spelled, spelled-jid}
+use Rattle.ps_args.proofs.addresses.read_address.Goals as goal
 
 pub returns-in-Ok-clause-ok : goal.returns-in-Ok-clause-ok
 returns-in-Ok-clause-ok c =
