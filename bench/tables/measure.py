@@ -17,7 +17,7 @@ program = "out/tables_bench"
 for line in peak([program])[0]:
     words = line.split()
     if len(words) == 3 and words[0] not in ("places", "held"):
-        print(f"{words[0]:10} {words[1]:>8} times, {int(words[2]) * 1000 / int(words[1]):8.0f} ns")
+        print(f"{words[0]:18} {words[1]:>8} times, {int(words[2]) * 1000 / int(words[1]):8.0f} ns")
     elif words:
         print(line)
 for table, rows in (("items", "item_rows"), ("subs", "sub_rows")):

@@ -156,3 +156,20 @@ fn the_nodes_of_a_name_keep_their_order(rt: HostRuntime) -> Result<(), Fail> {
     assert!(rt; are_at(alloc, &copy, "mood", &[0, 1, 3, 4])?);
     Ok(())
 }
+
+#[test]
+fn the_empty_places_are_taken_away(rt: HostRuntime) -> Result<(), Fail> {
+    let alloc = rt.alloc();
+    let mut nodes = Nodes::new(alloc)?;
+    let new = personal(alloc, &mut nodes)?;
+    let gone = [
+        nodes.delete(&key_at(alloc, "bob@b.example", "mood")?),
+        nodes.delete(&key_at(alloc, "ann@a.example", "tune")?),
+    ];
+    assert!(rt; new == [true, true, true, true, true] && gone == [true, true]);
+    nodes.reserve(100)?;
+    assert!(rt; are_at(alloc, &nodes, "mood", &[0, 1, 2])?);
+    assert!(rt; makes_at(alloc, &mut nodes, "ann@a.example", "tune")?);
+    assert!(rt; are_at(alloc, &nodes, "tune", &[3])?);
+    Ok(())
+}
