@@ -78,7 +78,7 @@ CASES = {
     "two creates at once": ([], ([create(ANN, 1, "news")], [create(BOB, 1, "other")])),
 }
 # Of these a call on a file fails in the whole run too, which so ends with status 3: the file, its host, and the number of the call, as fail.c of tests/faults counts.
-FAILING = {"three notices, of which the second can't be written": ("sink", "b.example", 4)}
+FAILING = {"three notices, of which the second can't be written": ("sink", "b.example", 2)}
 STREAM = 3
 
 

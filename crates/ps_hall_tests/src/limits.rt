@@ -32,7 +32,7 @@ fn within<R: RandomSource + Threads + Sync>(
     match opens_within(rt, alloc, disk, &service, &hosts, limits) {
         Ok(opened) => Ok((close(opened), None)),
         Err(refusal) => {
-            let (disk, why) = why_not(rt, alloc, refusal, &service, &hosts)?;
+            let (disk, why) = why_not(rt, alloc, refusal)?;
             Ok((disk, Some(why)))
         }
     }

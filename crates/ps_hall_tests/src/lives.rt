@@ -13,7 +13,7 @@ use crate::calls::{
 use crate::lines::{
     CREATE, MADE, NO_ROOM, PUBLISH, PUBLISHED, SUBSCRIBE, SUBSCRIBED, TOLD, TOLD_NEXT,
 };
-use crate::opened::{ample, host_names, opens, service_name};
+use crate::opened::{ample, host_names, opens, opens_again, service_name};
 use ps_disk::{Disk, MemDisk};
 use ps_hall::{ArriveRefusal, EndCause, Hall, HostPasses, NoHall, Opening, Pass};
 use ps_hall_open::Opened;
@@ -22,7 +22,7 @@ use ps_hall_store::Store;
 use ps_io::ConstClock;
 use ps_journal::Trail;
 use ps_streams::{ReadEnd, read_stream, write_stream};
-use ps_types::Text;
+use ps_types::{Memory, Text};
 use ps_wire::{Lines, LinesRefusal, MemSink, MemSource};
 use std::alloc::Global;
 use std::marker::Brand;
@@ -191,7 +191,7 @@ fn is_read<B: Opening, D: Disk>(
             assert_eq!(rt; end, ReadEnd::Ended);
             Ok(())
         }
-        Err(LinesRefusal { source: _ }) => Err(Fail::new("no reader of lines")),
+        Err(LinesRefusal { source: _ }) => Err(Fail::from(Memory)),
     }
 }
 
@@ -266,9 +266,9 @@ fn lives<B: Opening, D: Disk>(
 
 fn let_go(_entries: Trail) {}
 
-// What was opened is named by the arguments.
+// What was opened is named by the arguments. Where memory is refused to the hall, the disk is opened again.
 fn live<B: Opening>(
-    rt: &(impl Abort + Wait + Threads + Sync),
+    rt: &(impl Abort + Wait + Threads + Sync + RandomSource),
     alloc: Global,
     state: State,
     store: Store<MemDisk>,
@@ -290,8 +290,8 @@ fn live<B: Opening>(
             Ok(disk)
         }
         Err(NoHall { state: _, store }) => {
-            let _ = store.close();
-            Err(Fail::new("no hall"))
+            opens_again(rt, alloc, &store.close())?;
+            Err(Fail::from(Memory))
         }
     }
 }

@@ -82,20 +82,17 @@ fn is_short(disk: &MemDisk, why: OpenWhy) -> bool {
     why == OpenWhy::Memory || (why == OpenWhy::Store && disk.refused() > 0)
 }
 
-// After a crash the disk is opened.
+// After this crash the disk is opened.
 fn opens_after<R: RandomSource + Threads + Sync>(
     rt: &R,
     alloc: Global,
     disk: &MemDisk,
-    service: &Text,
-    hosts: &[Text],
     torn: Torn,
-) -> Result<(), Fail>
-    requires service { service.now ≡ codes "pubsub.example" }
-    requires hosts { hosts.now ≡ are_one }
-{
+) -> Result<(), Fail> {
+    let service = service_name(alloc)?;
+    let hosts = host_names(alloc)?;
     let left = disk.crashed(alloc, disk.calls(), torn)?;
-    match opens_within(rt, alloc, left, service, hosts, ample()) {
+    match opens_within(rt, alloc, left, &service, &hosts, ample()) {
         Ok(opened) => {
             let _ = close(opened);
             Ok(())
@@ -104,22 +101,27 @@ fn opens_after<R: RandomSource + Threads + Sync>(
     }
 }
 
+/// After any crash the disk is opened.
+pub fn opens_again<R: RandomSource + Threads + Sync>(
+    rt: &R,
+    alloc: Global,
+    disk: &MemDisk,
+) -> Result<(), Fail> {
+    for torn in [Torn::Lost, Torn::Whole, Torn::Filled(1)] {
+        opens_after(rt, alloc, disk, torn)?;
+    }
+    Ok(())
+}
+
 /// Why a disk wasn't opened, and the disk. If memory was refused, the failure is that, and the disk is opened after any crash.
 pub fn why_not<R: RandomSource + Threads + Sync>(
     rt: &R,
     alloc: Global,
     refusal: OpenRefusal<MemDisk>,
-    service: &Text,
-    hosts: &[Text],
-) -> Result<(MemDisk, OpenWhy), Fail>
-    requires service { service.now ≡ codes "pubsub.example" }
-    requires hosts { hosts.now ≡ are_one }
-{
+) -> Result<(MemDisk, OpenWhy), Fail> {
     let OpenRefusal { disk, why } = refusal;
     if is_short(&disk, why) {
-        for torn in [Torn::Lost, Torn::Whole, Torn::Filled(1)] {
-            opens_after(rt, alloc, &disk, service, hosts, torn)?;
-        }
+        opens_again(rt, alloc, &disk)?;
         return Err(Fail::from(Memory));
     }
     Ok((disk, why))
@@ -143,7 +145,7 @@ pub fn opens<R: RandomSource + Threads + Sync>(
     match opens_within(rt, alloc, disk, service, hosts, limits) {
         Ok(opened) => Ok(opened),
         Err(refusal) => {
-            let _ = why_not(rt, alloc, refusal, service, hosts)?;
+            let _ = why_not(rt, alloc, refusal)?;
             Err(Fail::new("not opened"))
         }
     }
