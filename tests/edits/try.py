@@ -242,6 +242,9 @@ TRIED = [
     "ps_workers/last_frame_longer_than_it_is",
     "ps_workers/passes_of_a_host_swapped",
     "ps_workers/unread_source_told_as_read",
+    "pubsubd/every_status_is_done",
+    "pubsubd/program_name_is_a_word",
+    "pubsubd/words_are_not_run",
 ]
 
 
