@@ -217,7 +217,7 @@ TRIED = [
     "ps_streams/gone_is_not_said",
     "ps_streams/line_without_room_is_dropped",
     "ps_streams/notice_is_not_recorded",
-    "ps_streams/notice_is_recorded_before_it_is_written",
+    "ps_streams/notice_is_recorded_and_not_written",
     "ps_streams/read_fault_told_as_memory",
     "ps_streams/refusal_taken_as_the_end",
     "ps_streams/waits_for_room_before_it_flushes",
