@@ -1,5 +1,6 @@
 #!/usr/bin/env python3
-"""Checks that each must-fail edit still fits the text that it changes: its file is there, and each old text stands in it exactly once.
+"""Checks that each must-fail edit still fits the text that it changes: its file is there, and each old text stands in it exactly once;
+and that each edit that try.py lists is there.
 
     check.py
 
@@ -8,6 +9,7 @@ bodies of the same kind for which it has no time: `python3 tests/edits/try.py NA
 """
 
 import pathlib
+import re
 import sys
 
 ROOT = pathlib.Path(__file__).resolve().parents[2]
@@ -35,6 +37,9 @@ def main():
     for edit in sorted(edits):
         name = edit.parts[-3] if edit.parts[-2] == "must-fail" else edit.parts[-2]
         lost += [f"{edit.relative_to(ROOT)}: {it}" for it in misfits(edit, ROOT / "crates" / name)]
+    listed = re.search(r"(?s)TRIED = \[(.*?)\]", (ROOT / "tests/edits/try.py").read_text())[1]
+    there = {f"{it.parts[-2]}/{it.stem}" for it in ROOT.glob("tests/edits/*/*.edit")}
+    lost += [f"tests/edits/try.py lists {it}, which isn't there" for it in re.findall(r'"([^"=]+)', listed) if "/" in it and it not in there]
     print("\n".join([*lost, f"{len(edits)} edits, {len(lost)} misfits"]))
     return 1 if lost or not edits else 0
 

@@ -200,8 +200,10 @@ TRIED = [
     "ps_serve/always_store_damaged",
     "ps_serve/always_stream_fault",
     "ps_serve/always_usage",
+    "ps_serve/changes_are_full_at_a_hundred_bytes=ps_serve::storing::serve_store",
     "ps_serve/damaged_store_is_written_over",
     "ps_serve/store_full_before_a_line",
+    "ps_serve/store_is_spoiled_without_memory",
     "ps_status/all_but_the_first_left_out",
     "ps_status/code_of_another_status",
     "ps_status/failed_report_of_lines_hidden",
@@ -215,7 +217,7 @@ TRIED = [
     "ps_streams/gone_is_not_said",
     "ps_streams/line_without_room_is_dropped",
     "ps_streams/notice_is_not_recorded",
-    "ps_streams/notice_is_recorded_before_it_is_written",
+    "ps_streams/notice_is_recorded_and_not_written",
     "ps_streams/read_fault_told_as_memory",
     "ps_streams/refusal_taken_as_the_end",
     "ps_streams/waits_for_room_before_it_flushes",
@@ -240,6 +242,9 @@ TRIED = [
     "ps_workers/last_frame_longer_than_it_is",
     "ps_workers/passes_of_a_host_swapped",
     "ps_workers/unread_source_told_as_read",
+    "pubsubd/every_status_is_done",
+    "pubsubd/program_name_is_a_word",
+    "pubsubd/words_are_not_run",
 ]
 
 
