@@ -118,7 +118,7 @@ TRIED = [
     "ps_hall_flush/leaves_what_is_not_flushed",
     "ps_hall_flush/mark_of_the_state_tells_no_fault=ps_hall_flush::home::HomeAnnals::mark",
     "ps_hall_flush/settles_what_came_since",
-    "ps_hall_open/an_unlawful_store_is_read",
+    "ps_hall_open/an_unlawful_store_is_read=ps_hall_open::replaying::WatchedTaker::take",
     "ps_hall_open/damaged_store_is_written_over",
     "ps_hall_open/handed_notice_stays",
     "ps_hall_open/no_entries_are_answered",
