@@ -28,6 +28,7 @@ fn read_host(alloc: Global, word: &Text) -> Result<Text, WordsRefusal>
 fn host_in(address: Jid) -> Result<Text, WordsRefusal>
     ensures ok { IfOk result (λ h. host_in_address address ≡ Some h) }
     ensures usage { IsErrOf result WordsRefusal.Usage → host_in_address address ≡ None }
+    ensures memory { IsErrOf result WordsRefusal.Memory → ⊥ }
 {
     if address.local.is_empty() && address.resource.is_empty() {
         Ok(address.into_host())
@@ -123,6 +124,7 @@ fn read_serve(
 fn read_rehearse(seed: &Text, count: &Text) -> Result<Command, WordsRefusal>
     ensures ok { IfOk result (λ c. rehearsed seed.now count.now ≡ Some c) }
     ensures usage { IsErrOf result WordsRefusal.Usage → rehearsed seed.now count.now ≡ None }
+    ensures memory { IsErrOf result WordsRefusal.Memory → ⊥ }
 {
     let Some(seed) = number_between(0, u64::MAX, seed.as_str()) else {
         return Err(WordsRefusal::Usage);

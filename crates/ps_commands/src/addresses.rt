@@ -23,6 +23,7 @@ pub(crate) fn read_address(alloc: Global, word: &Text) -> Result<Jid, WordsRefus
 fn host_in(address: Jid) -> Result<Text, WordsRefusal>
     ensures ok { IfOk result (λ h. host_in_address address ≡ Some h) }
     ensures usage { IsErrOf result WordsRefusal.Usage → host_in_address address ≡ None }
+    ensures memory { IsErrOf result WordsRefusal.Memory → ⊥ }
 {
     if address.local.is_empty() && address.resource.is_empty() {
         Ok(address.into_host())
@@ -43,6 +44,7 @@ pub(crate) fn read_host(alloc: Global, word: &Text) -> Result<Text, WordsRefusal
 fn bare_in(address: Jid) -> Result<Jid, WordsRefusal>
     ensures ok { IfOk result (λ j. bare_in_address address ≡ Some j) }
     ensures usage { IsErrOf result WordsRefusal.Usage → bare_in_address address ≡ None }
+    ensures memory { IsErrOf result WordsRefusal.Memory → ⊥ }
 {
     if address.resource.is_empty() {
         Ok(address)
