@@ -1,5 +1,5 @@
 // The Boot with which the two values begin.
-ghost use Rattle.std.specs.Prelude.{◌≡◌, ◌≢◌, ◌∷◌, ◌++◌, ◌+◌, ◌<◌, ◌≤◌, ◌^◌, [], List, ℕ, Some, true, IfErr, IfOk, OnOk};
+ghost use Rattle.std.specs.Prelude.{◌≡◌, ◌≢◌, ◌∷◌, ◌++◌, ◌+◌, ◌<◌, ◌≤◌, ◌^◌, [], List, ℕ, Some, true, IfErr, IfOk, IsErrOf, OnOk};
 ghost use Rattle.ps_model.specs.After.{after};
 ghost use Rattle.ps_model.specs.Replay.{accepted};
 ghost use Rattle.ps_journal.specs.Journal.{Has, IsWhole, Keeps, Leaves, disk_of, faults_in, length_of};
@@ -44,6 +44,8 @@ fn append_boot<D: Disk>(
     ensures length { OnOk result (length_of journal.new ≡ length_of journal.old + frame_of boot.now) }
     ensures room { OnOk result (length_of journal.old + frame_of boot.now ≤ whole) }
     ensures err { IfErr result (NotBegun journal.old journal.new boot.now whole) }
+    // It takes no memory.
+    ensures memory { IsErrOf result OpenWhy.Memory → ⊥ }
     ensures untouched { IfErr result (λ why. why ≢ OpenWhy.Store → disk_of journal.new ≡ disk_of journal.old) }
     ensures later { faults_in journal.old ≤ faults_in journal.new }
     ensures entries { D.tells → (E : List Entry) → Has journal.old E

@@ -40,6 +40,7 @@ fn end_unread(refusal: HandedRefusal) -> ReadEnd
     ensures store { result ≡ ReadEnd.Store → refusal ≡ HandedRefusal.Store }
     ensures from_store { refusal ≡ HandedRefusal.Store → result ≡ ReadEnd.Store }
     ensures full { result ≡ ReadEnd.Full → refusal ≡ HandedRefusal.Full }
+    ensures from_full { refusal ≡ HandedRefusal.Full → result ≡ ReadEnd.Full }
 {
     match refusal {
         HandedRefusal::Store => ReadEnd::Store,
