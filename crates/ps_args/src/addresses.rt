@@ -22,6 +22,7 @@ pub fn read_address(alloc: Global, word: &Text) -> Result<Jid, WordsRefusal>
 fn host_in(address: Jid) -> Result<Text, WordsRefusal>
     ensures ok { IfOk result (λ h. host_in_address address ≡ Some h) }
     ensures usage { IsErrOf result WordsRefusal.Usage → host_in_address address ≡ None }
+    ensures memory { IsErrOf result WordsRefusal.Memory → ⊥ }
 {
     if address.local.is_empty() && address.resource.is_empty() {
         Ok(address.into_host())

@@ -101,6 +101,7 @@ fn read_serve(
 fn read_rehearse(seed: &Text, count: &Text) -> Result<Command, WordsRefusal>
     ensures ok { IfOk result (λ c. rehearsed seed.now count.now ≡ Some c) }
     ensures usage { IsErrOf result WordsRefusal.Usage → rehearsed seed.now count.now ≡ None }
+    ensures memory { IsErrOf result WordsRefusal.Memory → ⊥ }
 {
     let Some(seed) = number_between(0, u64::MAX, seed.as_str()) else {
         return Err(WordsRefusal::Usage);

@@ -9,6 +9,7 @@ use std::alloc::Global;
 fn bare_in(address: Jid) -> Result<Jid, WordsRefusal>
     ensures ok { IfOk result (λ j. bare_in_address address ≡ Some j) }
     ensures usage { IsErrOf result WordsRefusal.Usage → bare_in_address address ≡ None }
+    ensures memory { IsErrOf result WordsRefusal.Memory → ⊥ }
 {
     if address.resource.is_empty() {
         Ok(address)
