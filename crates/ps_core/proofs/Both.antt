@@ -9,3 +9,8 @@ and_left false b h = absurd (cc)
 pub and_right : (a b : Bool) → (a && b) ≡ true → b ≡ true
 and_right true b h = h
 and_right false b h = absurd (cc)
+
+pub not_right : (a b : Bool) → b ≡ false → (a && b) ≡ false
+not_right a true h = absurd (cc)
+not_right true false h = refl
+not_right false false h = refl

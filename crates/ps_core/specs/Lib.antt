@@ -5,6 +5,7 @@ pub mod Stages
 pub mod Answers
 pub mod Lines
 pub mod Requests
+pub mod Accepting
 pub mod Rows
 pub mod Wants
 pub mod Told

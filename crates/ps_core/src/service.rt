@@ -1,5 +1,5 @@
 // The service: what it answers, and the entry that it prepares and commits.
-ghost use Rattle.std.specs.Prelude.{◌≡◌, ◌<◌, ◌^◌, [], true, false, IfOk, OnOk, OnErr, IfSome, IsSome, Some, None, map, option_copied};
+ghost use Rattle.std.specs.Prelude.{◌≡◌, ◌<◌, ◌^◌, [], true, false, IfOk, OnOk, OnErr, IfSome, IsSome, Some, None, map, option_copied, option_map};
 ghost use Rattle.ps_model.specs.After.{after, notices_at};
 ghost use Rattle.ps_model.specs.Base.{book_rows};
 ghost use Rattle.ps_model.specs.Book.{empty_state};
@@ -7,6 +7,7 @@ ghost use Rattle.ps_model.specs.Replay.{accepted};
 ghost use Rattle.ps_model.specs.Replies.{reply_to, entry_of};
 ghost use Rattle.ps_access.specs.Tables.{book_of};
 ghost use Rattle.ps_book_laws.specs.Addressed.{IsTimely};
+ghost use Rattle.ps_core.specs.Accepting.{IsJudged, IsPrepared};
 ghost use Rattle.ps_core.specs.Answers.{full_by};
 ghost use Rattle.ps_core.specs.Counted.{AreFewMade};
 ghost use Rattle.ps_core.specs.Requests.{IsRequestOf};
@@ -17,7 +18,7 @@ ghost use Rattle.ps_core.specs.Wants.{BackHasWants, HasWants};
 ghost use Rattle.ps_filter.specs.Wants.{AreWants};
 ghost use Rattle.ps_compact_export.specs.Written.{written};
 
-use crate::accepting::accepts_at;
+use crate::accepting::{Acceptance, acceptance_at};
 use crate::answers::{Answer, WithRequest, answer_at};
 use crate::half::Half;
 use crate::numbers::{Numbers, numbers_of, reserve_for};
@@ -195,9 +196,19 @@ impl Service {
     pub fn accepts(&self, entry: &Entry) -> Result<bool, Memory>
         ensures accepted { IfOk result (λ b. b ≡ accepted self.now.state entry.now) }
     {
+        match self.acceptance(entry)? {
+            Acceptance::Yes(_) => Ok(true),
+            Acceptance::No => Ok(false),
+        }
+    }
+
+    // The same with its request.
+    fn acceptance(&self, entry: &Entry) -> Result<Acceptance, Memory>
+        ensures { IfOk result (λ a. IsJudged self.now.state entry.now a) }
+    {
         // It is read for its range, by which a notice more to anyone fits.
         let _count = self.front.count;
-        accepts_at(self.alloc, &self.front, &self.tallies, entry)
+        acceptance_at(self.alloc, &self.front, &self.tallies, entry)
     }
 
     /// The entry that is prepared, if one is.
@@ -289,6 +300,33 @@ impl Service {
         )?;
         put_stage(&mut self.stage, Stage::Prepared(kept, numbers));
         Ok(notices)
+    }
+
+    /// Prepares the entry itself if it is accepted here, and gives the notices that it will make; none where it isn't accepted, and then what was
+    /// prepared stays. Its tree is taken as a request once. After an error nothing is prepared.
+    pub fn prepare_accepted<R: Threads + Sync>(
+        &mut self,
+        rt: &R,
+        entry: Entry,
+    ) -> Result<Option<Vec<Notice>>, Memory>
+        requires timely { IsTimely entry }
+        requires few { self.old.state.count < 2 ^ 62 }
+        ensures state { self.new.state ≡ self.old.state }
+        ensures prepared { IfOk result
+            (λ o. IsPrepared self.old self.new entry (option_map (λ v. v.items) o)) }
+        ensures err { OnErr result (self.new.prepared ≡ None) }
+    {
+        match self.acceptance(&entry) {
+            Ok(Acceptance::Yes(request)) => {
+                let notices = self.prepare_own(rt, entry, request)?;
+                Ok(Some(notices))
+            }
+            Ok(Acceptance::No) => Ok(None),
+            Err(Memory) => {
+                self.unprepare();
+                Err(Memory)
+            }
+        }
     }
 
     // The request that the tree of an entry is taken as, which is accepted here.

@@ -1,4 +1,5 @@
-// An entry that is prepared in the place of another, one that is prepared once more after memory was refused, and one that is handed over.
+// An entry that is prepared in the place of another, one that is prepared once more after memory was refused, one that is handed
+// over, and one that is prepared only while it is accepted.
 ghost use Rattle.std.specs.Prelude.{◌≡◌, ◌<◌, ◌^◌, true, IfOk, OnOk, Some};
 ghost use Rattle.ps_model.specs.Replay.{accepted};
 ghost use Rattle.ps_book_laws.specs.Addressed.{IsTimely};
@@ -17,6 +18,9 @@ const NEWS: &str =
 
 const OTHER: &str =
     r#"{"a":{"from":"ann@a.example/1","id":"1","to":"pubsub.example","type":"set"},"c":[{"c":[{"a":{"node":"other"},"n":"create"}],"n":"pubsub","ns":"http://jabber.org/protocol/pubsub"}],"n":"iq"}"#;
+
+const THIRD: &str =
+    r#"{"a":{"from":"ann@a.example/1","id":"1","to":"pubsub.example","type":"set"},"c":[{"c":[{"a":{"node":"third"},"n":"create"}],"n":"pubsub","ns":"http://jabber.org/protocol/pubsub"}],"n":"iq"}"#;
 
 const MADE: &str =
     r#"{"a":{"from":"pubsub.example","id":"1","to":"ann@a.example/1","type":"result"},"n":"iq"}"#;
@@ -118,6 +122,34 @@ fn hands_over(
     Ok(())
 }
 
+// The entry is prepared since it is accepted. Once it is committed its line isn't the next any more, so it is accepted no longer and nothing
+// is prepared.
+fn is_taken_once(
+    rt: &(impl Abort + Threads + Sync),
+    alloc: Global,
+    service: &mut Service,
+    line: u64,
+    text: &str,
+) -> Result<(), Fail> {
+    let (entry, _) = made_by(alloc, service, line, text)?;
+    let again = entry.clone()?;
+    let timely = is_timely(&entry) && is_timely(&again);
+    assert!(rt; timely);
+    assert!(rt; service.count() < 1000);
+    match service.prepare_accepted(rt, entry)? {
+        Some(_) => {
+            assert_eq!(rt; prepared_line(service), Some(line));
+            service.commit();
+        }
+        None => return Err(Fail::new("not accepted")),
+    }
+    assert!(rt; service.count() < 1000);
+    let notices = service.prepare_accepted(rt, again)?;
+    assert!(rt; notices.is_none());
+    assert_eq!(rt; prepared_line(service), None);
+    Ok(())
+}
+
 fn is_answered(
     rt: &impl Abort,
     alloc: Global,
@@ -152,6 +184,9 @@ fn goes(
     is_answered(rt, alloc, service, NEWS, CONFLICT)?;
     is_answered(rt, alloc, service, OTHER, CONFLICT)?;
     assert_eq!(rt; service.count(), 3);
+    is_taken_once(rt, alloc, service, 8, THIRD)?;
+    is_answered(rt, alloc, service, THIRD, CONFLICT)?;
+    assert_eq!(rt; service.count(), 4);
     Ok(())
 }
 
