@@ -1,5 +1,5 @@
 // The entries of a store are taken one after the other.
-ghost use Rattle.std.specs.Prelude.{◌≡◌, ◌<◌, ◌^◌, ◌++◌, ◌∷◌, [], List, Ok, true, false, length, IfOk, OnOk};
+ghost use Rattle.std.specs.Prelude.{◌≡◌, ◌<◌, ◌^◌, ◌++◌, ◌∷◌, [], List, Ok, true, false, length, IfOk, IfSome, IsSome, OnOk};
 ghost use denote.Param.Send.{IsSync};
 ghost use Rattle.ps_model.specs.Entries.{IsEntry, spelling};
 ghost use Rattle.ps_model.specs.Replay.{lawful, replay};
@@ -43,24 +43,47 @@ fn drop_handed(queues: &mut Outboxes, entry: &Entry)
     }
 }
 
+// What the entry that is prepared does to the queues.
+fn queue_prepared(
+    alloc: Global,
+    service: &Service,
+    queues: &mut Outboxes,
+    notices: Vec<Notice>,
+) -> Result<(), Memory>
+    requires prepared { IsSome service.now.prepared }
+    ensures waiting { IfSome service.now.prepared
+        (λ entry. OnOk result (queues.new.waiting ≡ unhanded entry (queues.old.waiting ++ notices.items))) }
+    ensures held { queues.new.held ≡ queues.old.held }
+{
+    add_all(alloc, queues, notices)?;
+    match service.prepared() {
+        Some(entry) => {
+            drop_handed(queues, entry);
+            Ok(())
+        }
+        None => unreachable!(),
+    }
+}
+
 // Takes an entry and its notices, if it is accepted.
 fn take_one<R: Threads + Sync>(
     rt: &R,
     alloc: Global,
     rebuilt: &mut Rebuilt,
-    entry: &Entry,
+    entry: Entry,
 ) -> Result<bool, Memory>
-    requires entry { IsEntry entry.now }
+    requires entry { IsEntry entry }
     requires few { rebuilt.old.service.state.count < 2 ^ 62 }
-    ensures taken { IfOk result (λ b. IsTaken rebuilt.old rebuilt.new entry.now b) }
+    ensures taken { IfOk result (λ b. IsTaken rebuilt.old rebuilt.new entry b) }
 {
-    if !rebuilt.service.accepts(entry)? {
-        return Ok(false);
+    match rebuilt.service.prepare_accepted(rt, entry)? {
+        Some(notices) => {
+            queue_prepared(alloc, &rebuilt.service, &mut rebuilt.queues, notices)?;
+            rebuilt.service.commit();
+            Ok(true)
+        }
+        None => Ok(false),
     }
-    let notices = rebuilt.service.apply(rt, entry)?;
-    add_all(alloc, &mut rebuilt.queues, notices)?;
-    drop_handed(&mut rebuilt.queues, entry);
-    Ok(true)
 }
 
 /// No more entries than this are taken; the numbers of a state count on it.
@@ -71,18 +94,18 @@ fn take_placed<R: Threads + Sync>(
     rt: &R,
     alloc: Global,
     rebuilt: &mut Rebuilt,
-    one: &Placed,
+    one: Placed,
 ) -> Result<bool, Memory>
-    requires entry { IsEntry one.now.entry }
+    requires entry { IsEntry one.entry }
     ensures took { (placed : List Placed) → HasTaken placed rebuilt.old
-        → result ≡ Ok true → HasTaken (placed ++ one.now ∷ []) rebuilt.new }
+        → result ≡ Ok true → HasTaken (placed ++ one ∷ []) rebuilt.new }
     ensures refuses { (placed : List Placed) → HasTaken placed rebuilt.old
-        → result ≡ Ok false → is_refused placed one.now × HasTaken placed rebuilt.new }
+        → result ≡ Ok false → is_refused placed one × HasTaken placed rebuilt.new }
 {
     if rebuilt.service.count() >= MOST {
         return Err(Memory);
     }
-    take_one(rt, alloc, rebuilt, &one.entry)
+    take_one(rt, alloc, rebuilt, one.entry)
 }
 
 /// What takes the entries of a store as they are read, and what they leave so far.
@@ -100,7 +123,7 @@ impl<'a, R: Threads + Sync> Taker for Replay<'a, R> {
     ghost refused = { is_refused };
 
     fn take(&mut self, one: Placed) -> Result<bool, Memory> {
-        take_placed(self.rt, self.alloc, &mut self.rebuilt, &one)
+        take_placed(self.rt, self.alloc, &mut self.rebuilt, one)
     }
 }
 
@@ -154,10 +177,11 @@ impl<'a, R: Threads + Sync, O: Observer + Drop> Taker for Watched<'a, R, O> {
     ghost refused = { is_refused };
 
     fn take(&mut self, one: Placed) -> Result<bool, Memory> {
-        if !take_placed(self.rt, self.alloc, &mut self.rebuilt, &one)? {
+        // The service keeps the entry that it takes.
+        let entry = one.entry.clone()?;
+        if !take_placed(self.rt, self.alloc, &mut self.rebuilt, one)? {
             return Ok(false);
         }
-        let Placed { at: _, entry } = one;
         self.observer.see(&self.rebuilt.service, entry)?;
         Ok(true)
     }

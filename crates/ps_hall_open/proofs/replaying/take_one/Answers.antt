@@ -1,5 +1,5 @@
 use Rattle.ps_hall_open.proofs.Timely.{entry-timely}
 use Rattle.ps_hall_open.proofs.replaying.take_one.Goals as goal
 
-pub apply-requires-clause-timely : goal.apply-requires-clause-timely
-apply-requires-clause-timely g c κs within = entry-timely c.args.entry.now c.requires.entry
+pub prepare_accepted-requires-clause-timely : goal.prepare_accepted-requires-clause-timely
+prepare_accepted-requires-clause-timely g c κs within = entry-timely c.args.entry c.requires.entry
