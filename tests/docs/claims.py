@@ -4,7 +4,8 @@
     claims.py [FILE..]      FILE: docs/claims.md where none is given
 
 A reference reads `crate/file` `function`: `clause`, `clause`, with the file in the crate's src, and other functions of the file
-behind it; one without clauses names a whole contract. A relation of specs is named as `crate/File` `Word`, with the file in the crate's specs.
+behind it; one without clauses names a whole contract. A relation of specs is named as `crate/File` `Word`, with the file in the crate's specs, and
+its fields as clauses are.
 """
 
 import pathlib
@@ -36,7 +37,10 @@ def lacks(reference, names):
         return [f"{reference}: no such file"]
     text = path.read_text()
     if is_spec:
-        return [f"{reference}: no {word}" for word, _ in NAMED.findall(names) if not re.search(rf"\b{word}\b", text)]
+        words = [word for word, _ in NAMED.findall(names)]
+        fields = [it for _, clauses in NAMED.findall(names) for it in re.findall(r"\w+", clauses)]
+        lacking = [it for it in words if not re.search(rf"\b{it}\b", text)]
+        return [f"{reference}: no {it}" for it in lacking + [it for it in fields if not re.search(rf"\bpub {it} :", text)]]
     contracts, missing = contracts_of(text), []
     for function, clauses in NAMED.findall(names):
         name = function.rpartition("::")[2]

@@ -2,9 +2,9 @@
 //!
 //! A [`Hall`] has a `Twin` (`ps_twin`) of two values (`ps_hall_flush`): the state in a [`Home`], and the store in an [`Archive`]. Each caller has a
 //! [`Pass`], which names its host, and whose seat knows what the caller has seen. A reader's calls are [`Hall::lay`], of one line, and
-//! [`Hall::flush`] behind one or several; [`Hall::arrive`], which is both for one line; and [`Hall::gone`]. A writer's are [`Hall::next`], [`Hall::handed`] and
-//! [`Hall::writer_ended`], and between them [`Hall::rest`], which the other calls end by a bell. While one caller writes a frame, which may have the entries of
-//! many, the others go on with the state; whose entries it has made durable writes none.
+//! [`Hall::flush`] behind one or several; [`Hall::arrive`], which is both for one line; and [`Hall::gone`]. A writer's are [`Hall::next`], [`Hall::handed`], which
+//! records a run of notices, and [`Hall::writer_ended`]. Between calls either may [`Hall::rest`], until the bell of its host rings or a time is over. While one
+//! caller writes a frame, which may have the entries of many, the others go on with the state; a caller whose entries are durable then writes no frame.
 //!
 //! Both values stand for one list of deeds (`ps_trace`): the steps of the machine, each with the pass that made it. What a call promises is told by what its
 //! pass had seen before and has seen since (`specs/Calls.antt`): what others had added, and then the steps that the call made, of which the answer tells at

@@ -3,7 +3,7 @@
 //! [`open`] reads the entries, takes each before it reads the next, and keeps none; it appends a Boot, and answers a [`ps_hall_state::State`]
 //! and a [`ps_hall_store::Store`] that stand for the world of the machine which begins with that list and the Boot (`specs/Opens.antt`, `IsOpen`). Replaying
 //! fills the queues too: an entry's notices go to the ends of the queues of their addresses, and an entry that tells of a notice that was handed takes the
-//! first of its address away. So each queue has what is not handed, in order. Nothing is flushed and no step was made.
+//! first of its address away. So each queue has what is not handed, in order. All entries are durable, and no step was made.
 //!
 //! Where it answers an [`OpenRefusal`], the disk comes back with the cause: the offset of the damage, a fault of the disk, a Boot for which there is no
 //! room, or no memory. A crash at any moment of the call leaves what it might have left before, the entries, or those and the Boot. The store that was

@@ -10,8 +10,10 @@
 //! It stands for a world of the machine: it keeps what the world holds, the entries that wait are those after the ones of all frames that were
 //! begun, and the queue of a bare address has exactly its notices that are not handed, in order (`specs/Stand.antt`, `Stands`). What a call does is
 //! said of every world that the state stands for: `Goes` gives the world after the call's steps, and `specs/Arrive.antt`, `specs/Next.antt` and
-//! `specs/Gone.antt` say the answers with their causes, told of that world. Where memory runs out a call does nothing: the entry is prepared, its
-//! notices have room and its bytes stand in the batch before anything is taken.
+//! `specs/Gone.antt` say the answers with their causes, told of that world.
+//!
+//! Where memory runs out a call makes no step, and the state stands for the same world. A call that makes an entry prepares it, makes room for its notices and
+//! adds its bytes to the batch before it takes anything; [`State::next`] copies a notice and holds its address before it counts the step. Room that was made stays.
 #![tactic(auto)]
 
 mod adding;

@@ -10,7 +10,7 @@
 //! - An address that is held isn't ready: so who hands out notices may have several of different addresses in hand, and gives each back by
 //!   [`Outboxes::release`]. Room for an address for which nothing waits is given up by [`Outboxes::forget`].
 //! - A push, a peek and a drop go to the queue of their address by its digest (`ps_rows`). The next ready address of a host is found among those with room
-//!   that aren't held; where notices are pushed in the order of their entries, the first of the host says whether there is any.
+//!   that aren't held. If notices were pushed in the order of their entries and the first one to the host isn't durable, none is: then no address is looked at.
 //! - [`first_in_first_out`] is the law on the queues: a push adds to the end of its own queue, a drop takes from the front of its own, and no
 //!   other queue changes.
 #![tactic(auto)]

@@ -139,8 +139,8 @@ fn run_words<R: RandomSource + Wait + Threads + Sync, W: World>(
 /// writer of its own, and all work beside one another. However they interleave, the store holds one list of entries; each reply is the access rules' answer
 /// at a prefix of it, no older than its stream's earlier replies; each address is handed, in the order of the entries, exactly the notices that the rules
 /// grant, after a stop at most one of them again (`Runs`, `Headline`, `ServesStream`). A crash at any moment of the run leaves a prefix that holds all entries
-/// that the store had at its start; one at its end leaves a prefix that holds every entry on which something rests that was written (`HasOneList`,
-/// `IsAcknowledged`). Each other answer than [`Status::Done`] has its cause, but for want of memory.
+/// that the store had at its start, or what one before could have left; one at its end leaves a prefix that holds every entry on which something rests that was
+/// written (`HasOneList`, `IsAcknowledged`). Each other answer than [`Status::Done`] and [`Status::Memory`] has its cause.
 ///
 /// A store is compacted to a new one where its bytes have a list of entries and the new one's are those of an empty store: the new store spells the rows of the
 /// list, which serve on as the list would, and a crash leaves of it no entries or all (`Compacts`, `ComesOf`). The store's own list stays.

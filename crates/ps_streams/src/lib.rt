@@ -7,12 +7,14 @@
 //! failed or gave all that it may, each line that a newline ended came; all that it laid was flushed before it said that its reader has ended, but after a
 //! fault of the disk; `SaidGone`, `FoundClosed` and `FoundOver` go with its causes.
 //!
-//! [`write_stream`] asks the hall for what its host is to be told, writes each reply and each notice as a line to its sink, records the notices that were
-//! written, many together, behind so many lines and before it waits, and says at the end that the writer has ended; where a Record finds no room the hall has
-//! said so. What it promises is told of what its pass saw and of what the sink was given (`specs/Speaking.antt`): `Speaks`, the words that the pass said are
+//! [`write_stream`] asks the hall for what its host is to be told and writes each reply and each notice as a line to its sink. It records the notices that it
+//! wrote many together: after a run of so many lines or bytes, and before it waits. At the end it says that the writer has ended; where a Record finds no room
+//! the hall has said so.
+//!
+//! What it promises is told of what its pass saw and of what the sink was given (`specs/Speaking.antt`): `Speaks`, the words that the pass said are
 //! those that were written, each whole but for one at a cut, and of no notice is there a Record that was not written whole; `EndsOnce`, it says last and once
-//! that the writer has ended; `IsWriterDone`, at the end of its own accord it found before that all was said and no reader ran; `HadNoRoom` goes with the want
-//! of room; `FindsLanded`, each Record that it made is flushed, but after a fault of the disk.
+//! that the writer has ended; `IsWriterDone`, at the end of its own accord it found before that all was said and no reader ran; `HadNoRoom` goes with a
+//! Record that found no room; `FindsLanded`, each Record that it made is flushed, but after a fault of the disk.
 #![tactic(auto)]
 
 mod idle;

@@ -40,7 +40,7 @@ fn has_ended(why: EndCause) -> bool
     }
 }
 
-// So many lines a writer writes behind a notice at most, or so many bytes, before it records what it has in hand.
+// Once a writer has written so many lines, or at least so many bytes, it records what it has in hand and counts anew. Replies count too.
 const MOST_LINES: u64 = 512;
 
 const MOST_BYTES: u64 = 262_144;

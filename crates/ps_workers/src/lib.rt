@@ -2,8 +2,8 @@
 //!
 //! [`serve`] has a reader and a writer for each host of a hall (`ps_hall`), each in a thread of its own: the reader takes the lines of the host's source and
 //! has the hall answer them, the writer writes what the host is told to its sink (`ps_streams`). Once all have ended it closes the hall, writes the entries
-//! that still wait unless the disk has failed, and gives back the state, the store and each stream with the causes of its two ends. It takes no memory: what
-//! it needs stands in a [`Room`].
+//! that still wait unless the disk has failed, and gives back the state, the store and each stream with the causes of its two ends. Its lists are those of a
+//! [`Room`], so only a worker can be refused memory.
 //!
 //! What it promises (`specs/Headline.antt`, `Serves`) is told of the world at the end and of what each source, clock and sink told before and after, and of
 //! nothing between:
@@ -20,10 +20,11 @@
 //! - `IsAllSaid`: where no worker met a fault of the disk, nothing is left to say or to record for a stream whose writer finished; its sink has all (`ReadsWhole`).
 //! - An address of a host that is not served keeps its notices.
 //!
-//! `specs/Told.antt` has the words for a host's lines, `specs/Sinks.antt` those for the bytes of its sink, `specs/Working.antt` what one worker is given and makes, `specs/Teams.antt` the workers of all hosts,
-//! `specs/Closing.antt` what the state and the store are at the end.
+//! `specs/Told.antt` has the words for a host's lines, `specs/Sinks.antt` those for the bytes of its sink, `specs/Working.antt` what one worker is given and
+//! makes, `specs/Teams.antt` the workers of all hosts, `specs/Closing.antt` what the state and the store are at the end.
 //!
-//! Nothing is promised of waiting: not that a worker comes to its end, nor when. Where the system refuses a thread all workers end with `Memory`.
+//! Nothing is promised of waiting: not that a worker comes to its end, nor when. Where the system refuses a thread no worker begins: each
+//! writer ends with `Memory`, each reader with that or with the cause for which its Gone was refused.
 #![tactic(auto)]
 
 mod closing;
