@@ -7,23 +7,16 @@ use Rattle.ps_types.specs.declared.entry.Entry.{Entry}
 use Rattle.ps_io.specs.Held.{Held, HeldStore, Same, SameLeft, SameLefts}
 use Rattle.ps_commands.specs.declared.command.FeedWords.{FeedWords}
 use Rattle.ps_model.specs.At.{IsStore}
-use Rattle.ps_model.specs.Entries.{AreEntries}
 use Rattle.ps_model.specs.Store.{spelled}
 use Rattle.ps_journal.specs.Left.{LeavesList}
 use Rattle.ps_journal.specs.Opened.{HasHeader, IsShortIfUnbegun, LeftOrHas, Upgrades}
-use Rattle.ps_hall_open.specs.OpenRead.{AreShort, IfFoundDamaged, StaysOrUpgrades}
+use Rattle.ps_hall_open.specs.OpenRead.{IfFoundDamaged, StaysOrUpgrades}
 use Rattle.ps_hall_open.specs.Reads.{ReadNot}
 use Rattle.ps_hall_open.specs.declared.opened.ReadWhy.{ReadWhy}
-use Rattle.ps_follow_run.specs.Feeding.{AreFeedable}
 use Rattle.ps_status.specs.Outside.{Outside, SameStreams, held_as}
 use Rattle.ps_status.specs.declared.status.Status.{Status}
 use Rattle.ps_status.proofs.Moved.{untouched-told}
 use Rattle.ps_follow_command.specs.Feeding.{FedFrom, Feeds, HasRead}
-
--- what is read can be fed
-pub feedable : (E : List Entry) → AreEntries E → AreShort E → AreFeedable E
-feedable [] each short = tt
-feedable (e ∷ E) each short = ((each.0, short.0), feedable E each.1 short.1)
 
 -- ---- the disk
 

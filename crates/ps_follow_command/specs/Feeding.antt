@@ -13,9 +13,10 @@ use Rattle.ps_hall_open.specs.OpenRead.{IfFoundDamaged, StaysOrUpgrades}
 use Rattle.ps_hall_open.specs.Reads.{ReadNot}
 use Rattle.ps_hall_open.specs.declared.opened.ReadWhy.{ReadWhy}
 use Rattle.ps_hall_open.specs.declared.opened.ReadWhy.TheVariants as why
-use Rattle.ps_follow_run.specs.Feeding.{FedOut}
+use Rattle.ps_follow_run.specs.Feeding.{AreRecords, FedOut}
 use Rattle.ps_follow_run.specs.declared.feeding.FeedEnd.{FeedEnd}
 use Rattle.ps_follow_run.specs.declared.feeding.FeedEnd.TheVariants as end
+use Rattle.ps_follow_command.specs.declared.feeding.Feeding.{Feeding}
 use Rattle.ps_status.specs.Leaving.{Touched}
 use Rattle.ps_status.specs.Outside.{Outside, Untouched}
 use Rattle.ps_status.specs.declared.status.Status.{Status}
@@ -36,7 +37,10 @@ why_status why.Memory = Memory
 abbrev pub end_status : FeedEnd → Status
 end_status end.Done = Done
 end_status end.WriteFault = StreamFault
-end_status end.Memory = Memory
+
+-- from whichever place it makes records, they are those of these entries
+abbrev pub Collects : Feeding → Feeding → List Entry → Type 0
+Collects start now E = (from : ℕ) → AreRecords from [] start.records → AreRecords from E now.records
 
 -- The entries that a store has, or why they were not read. The bytes still have them, and so does what a crash leaves; of a store with a header
 -- the eighth byte is the digit 2, and all others are as before.

@@ -6,14 +6,17 @@ ghost use Rattle.ps_status.specs.Leaving.{LeavesBut};
 ghost use Rattle.ps_status.specs.Outside.{held_as, outside};
 ghost use Rattle.ps_status.specs.Telling.{reported_from};
 ghost use Rattle.ps_follow_run.specs.Following.{held_sink};
-ghost use Rattle.ps_follow_command.specs.Feeding.{FedFrom, Feeds, end_status, feed_openings, feed_touches, why_status};
+ghost use Rattle.ps_follow_command.specs.Feeding.{Collects, FedFrom, Feeds, end_status, feed_openings, feed_touches, why_status};
 
+use ps_base::Memory;
 use ps_commands::FeedWords;
+use ps_core::Service;
 use ps_disk::Disk;
-use ps_follow_run::{FeedEnd, run_feed};
-use ps_hall_open::{ReadOnly, ReadOnlyRefusal, ReadWhy, open_read};
+use ps_follow_run::{FeedEnd, Records, run_feed};
+use ps_hall_open::{Observed, Observer, ReadOnlyRefusal, ReadWhy, observe};
 use ps_io::{Missing, World};
 use ps_status::{Status, refused};
+use ps_types::Entry;
 use ps_wire::Sink;
 use std::alloc::Global;
 use std::random::RandomSource;
@@ -35,7 +38,20 @@ fn fed(end: FeedEnd) -> Status
     match end {
         FeedEnd::Done => Status::Done,
         FeedEnd::WriteFault => Status::StreamFault,
-        FeedEnd::Memory => Status::Memory,
+    }
+}
+
+// What makes records of the entries as they are taken.
+#[derive(Drop)]
+struct Feeding {
+    records: Records,
+}
+
+impl Observer for Feeding {
+    ghost saw = { Collects };
+
+    fn see(&mut self, _service: &Service, entry: Entry) -> Result<(), Memory> {
+        self.records.push(&entry)
     }
 }
 
@@ -50,14 +66,22 @@ fn feed_disk<R: RandomSource + Threads + Sync, D: Disk, K: Sink>(
     ensures { FedFrom D.tells from (held_as D.Disk disk) (held_as D.Disk result.1) (D.left_since result.1)
         (held_sink K.Sink sink.old) (held_sink K.Sink sink.new) result.0 }
 {
-    match open_read(rt, alloc, disk) {
+    let feeding = Feeding {
+        records: Records::new(alloc, from),
+    };
+    match observe(rt, alloc, disk, feeding) {
         Err(refusal) => {
             let ReadOnlyRefusal { disk, why } = refusal;
             (not_read(why), disk)
         }
-        Ok(store) => {
-            let ReadOnly { disk, entries } = store;
-            let end = run_feed(alloc, &entries, from, sink);
+        Ok(observed) => {
+            let Observed {
+                disk,
+                service: _,
+                observer,
+                entries: _,
+            } = observed;
+            let end = run_feed(&observer.records, sink);
             (fed(end), disk)
         }
     }

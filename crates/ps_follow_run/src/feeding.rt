@@ -1,17 +1,58 @@
-// The entries of a store, written as a feed.
-ghost use Rattle.std.specs.Prelude.{◌≡◌, ◌<◌, ◌≤◌, ◌^◌, IsErrOf, OnOk, length};
-ghost use Rattle.std.specs.Io.KnownBytes.{Appends};
-ghost use Rattle.ps_base.specs.Causes.{Rose};
+// The records of a store's entries, written as a feed.
+ghost use Rattle.std.specs.Prelude.{◌<◌, ◌∷◌, ◌++◌, ◌^◌, [], List, ℕ, OnOk, length};
 ghost use Rattle.ps_model.specs.Entries.{IsEntry, spelling};
-ghost use Rattle.ps_wire.specs.Writing.{AppendsFront};
-ghost use Rattle.ps_follow_run.specs.Feeding.{AreFeedable, FedOut, record_at};
+ghost use Rattle.ps_types.specs.declared.entry.Entry.{Entry};
+ghost use Rattle.ps_follow_run.specs.Feeding.{AreRecords, FedOut};
 ghost use Rattle.ps_follow_run.specs.Following.{held_sink};
 
 use crate::writing::write_bytes;
+use ps_base::Memory;
 use ps_follow::put_record;
 use ps_types::Entry;
 use ps_wire::Sink;
 use std::alloc::Global;
+
+/// The records of the entries of a store from a place on, as the entries come.
+#[derive(Drop)]
+pub struct Records {
+    alloc: Global,
+    from: u64,
+    next: u64,
+    bytes: Vec<u8>,
+}
+
+impl Records {
+    /// Before the first entry.
+    pub fn new(alloc: Global, from: u64) -> Records
+        ensures { AreRecords from [] result }
+    {
+        Records {
+            alloc,
+            from,
+            next: 0,
+            bytes: Vec::new(alloc),
+        }
+    }
+
+    /// Takes the next entry, which has a record if it stands at that place or behind it.
+    pub fn push(&mut self, entry: &Entry) -> Result<(), Memory>
+        requires entry { IsEntry entry.now }
+        requires short { length (spelling entry.now) < 2 ^ 32 }
+        ensures { (from : ℕ) (E : List Entry) → AreRecords from E self.old
+            → OnOk result (AreRecords from (E ++ entry.now ∷ []) self.new) }
+    {
+        let place = self.next;
+        let Some(next) = place.checked_add(1) else {
+            return Err(Memory);
+        };
+        if place >= self.from {
+            let record = put_record(self.alloc, place, entry)?;
+            self.bytes.extend_from_slice(record.as_slice())?;
+        }
+        self.next = next;
+        Ok(())
+    }
+}
 
 /// How the writing of a feed ended.
 #[derive(Clone, Copy, PartialEq, Eq, Debug)]
@@ -20,43 +61,15 @@ pub enum FeedEnd {
     Done,
     /// The sink failed.
     WriteFault,
-    Memory,
 }
 
-// Writes the record of an entry.
-fn write_record<K: Sink>(
-    alloc: Global,
-    place: u64,
-    entry: &Entry,
-    sink: &mut K,
-) -> Result<(), FeedEnd>
-    requires entry { IsEntry entry.now }
-    requires short { length (spelling entry.now) < 2 ^ 32 }
-    ensures whole { OnOk result (Appends (K.written sink.old) (K.written sink.new) (record_at place entry.now)) }
-    ensures front { AppendsFront (K.written sink.old) (K.written sink.new) (record_at place entry.now) }
-    ensures never { IsErrOf result FeedEnd.Done → ⊥ }
-    ensures later { K.faults sink.old ≤ K.faults sink.new }
-    ensures fault { IsErrOf result FeedEnd.WriteFault → Rose (K.faults sink.old) (K.faults sink.new) }
+/// Writes the records; where the place is past the last entry, none.
+pub fn run_feed<K: Sink>(records: &Records, sink: &mut K) -> FeedEnd
+    ensures { (from : ℕ) (E : List Entry) → AreRecords from E records.now
+        → FedOut E from (held_sink K.Sink sink.old) (held_sink K.Sink sink.new) result }
 {
-    let Ok(record) = put_record(alloc, place, entry) else {
-        return Err(FeedEnd::Memory);
-    };
-    match write_bytes(sink, record.as_slice()) {
-        Ok(()) => Ok(()),
-        Err(_) => Err(FeedEnd::WriteFault),
+    match write_bytes(sink, &records.bytes) {
+        Ok(()) => FeedEnd::Done,
+        Err(_) => FeedEnd::WriteFault,
     }
-}
-
-/// Writes the records of the entries from a place on, each as it comes to it; where the place is past the last, none.
-pub fn run_feed<K: Sink>(alloc: Global, entries: &[Entry], from: u64, sink: &mut K) -> FeedEnd
-    requires { AreFeedable entries.now }
-    ensures { FedOut entries.now from (held_sink K.Sink sink.old) (held_sink K.Sink sink.new) result }
-{
-    let start = from as usize;
-    'entries: for place in start..entries.len() {
-        if let Err(why) = write_record(alloc, place as u64, &entries[place], sink) {
-            return why;
-        }
-    }
-    FeedEnd::Done
 }

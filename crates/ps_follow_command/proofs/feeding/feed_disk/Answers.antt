@@ -1,9 +1,11 @@
-use Rattle.std.proofs.Common.{refl, sym, subst}
+use Rattle.std.proofs.Common.{refl}
 use Rattle.std.specs.Prelude.{Ok, Err}
-use Rattle.ps_follow_run.specs.Feeding.{AreFeedable, FedOut}
-use Rattle.ps_follow_run.specs.Following.{held_sink}
-use Rattle.ps_follow_command.proofs.Fed.{feedable, read-entries, read-refused}
+use Rattle.ps_journal.specs.Places.{entries_in}
+use Rattle.ps_follow_command.proofs.Fed.{read-entries, read-refused}
 use Rattle.ps_follow_command.proofs.feeding.feed_disk.Goals as goal
+
+pub observe-requires-clause-saw : goal.observe-requires-clause-saw
+observe-requires-clause-saw g c = λ from are. are
 
 pub returns-in-Err : goal.returns-in-Err
 returns-in-Err g c =
@@ -17,19 +19,12 @@ returns-in-Err g c =
 
 pub returns-in-Ok : goal.returns-in-Ok
 returns-in-Ok g c =
-    let store = c.in-Ok.store in
+    let store = c.in-Ok.observed in
+    let E = entries_in store.entries.items in
     let e = c.in-Ok.ensures in
     let end = c.run_feed-end.result in
-    let before = held_sink g.K.Sink c.args.sink.now in
-    let after = held_sink g.K.Sink c.run_feed-end.new.sink in
     record {
-      outcome = Ok store.entries.items;
-      read = read-entries g.D.Disk c.args.disk store.disk e.later e.any_moment store.entries.items e.store e.stands e.durable e.upgraded;
-      wrote = (end, c.fed.ensures, subst (λ es. FedOut es c.args.from before after end) c.deref.ensures.value c.run_feed-end.ensures);
+      outcome = Ok E;
+      read = read-entries g.D.Disk c.args.disk store.disk e.later e.any_moment E e.store e.stands e.durable e.upgraded;
+      wrote = (end, c.fed.ensures, c.run_feed-end.ensures c.args.from E (e.saw c.args.from c.new.ensures));
     }
-
-pub run_feed-end-requires : goal.run_feed-end-requires
-run_feed-end-requires g c =
-    let entries = c.in-Ok.store.entries.items in
-    let e = c.in-Ok.ensures in
-    subst AreFeedable (sym c.deref.ensures.value) (feedable entries e.entries e.short)
