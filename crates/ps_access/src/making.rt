@@ -36,7 +36,7 @@ pub fn must_have_room(tables: &Tables, request: &Request) -> Result<(), PlanRefu
 }
 
 fn may_be_put_into(tables: &Tables, row: &NodeRef<'_>, who: &Jid) -> Result<(), PlanRefusal>
-    ensures { Passes result (collection_by (Some (row_seen row.now)) (book_of tables.now) who.now) }
+    ensures passes { Passes result (collection_by (Some (row_seen row.now)) (book_of tables.now) who.now) }
     ensures memory { IsErrOf result PlanRefusal.Memory → ⊥ }
 {
     allow(own_verdict(affiliation_of(tables, row.key, who)))?;

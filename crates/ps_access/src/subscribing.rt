@@ -26,7 +26,7 @@ pub fn base_options(tables: &Tables, node: &NodeKey, who: &Jid) -> SubOptions
 }
 
 fn options_in(form: &Form, base: SubOptions) -> Result<SubOptions, PlanRefusal>
-    ensures { PassesWith result (denial_of (model.options_or (table.read_options form.now base)))
+    ensures options { PassesWith result (denial_of (model.options_or (table.read_options form.now base)))
         (model.options_or (table.read_options form.now base)) }
     ensures memory { IsErrOf result PlanRefusal.Memory → ⊥ }
 {
@@ -37,7 +37,8 @@ fn options_in(form: &Form, base: SubOptions) -> Result<SubOptions, PlanRefusal>
 }
 
 fn options_given(form: &Option<Form>, base: SubOptions) -> Result<SubOptions, PlanRefusal>
-    ensures { PassesWith result (denial_of (model.options_given form.now base)) (model.options_given form.now base) }
+    ensures options { PassesWith result (denial_of (model.options_given form.now base))
+        (model.options_given form.now base) }
     ensures memory { IsErrOf result PlanRefusal.Memory → ⊥ }
 {
     match form {

@@ -22,7 +22,8 @@ use std::alloc::Global;
 
 fn check(tables: &Tables, request: &Request, node: &NodeKey, who: &Jid) -> Result<(), PlanRefusal>
     requires node { node.now ≡ node_of request.now node.now.name }
-    ensures { Passes result (first_denial (options_get_steps (book_of tables.now) request.now node.now.name who.now)) }
+    ensures passes { Passes result
+        (first_denial (options_get_steps (book_of tables.now) request.now node.now.name who.now)) }
     ensures memory { IsErrOf result PlanRefusal.Memory → ⊥ }
 {
     must_stand(tables, node)?;

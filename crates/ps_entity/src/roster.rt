@@ -65,7 +65,7 @@ fn has_room(tables: &Tables, who: &Jid, contact: &Jid) -> bool
 }
 
 fn check(tables: &Tables, request: &Request, item: &AskContact) -> Result<(), PlanRefusal>
-    ensures { Passes result (first_denial (roster_set_steps (book_of tables.now) request.now item.now)) }
+    ensures passes { Passes result (first_denial (roster_set_steps (book_of tables.now) request.now item.now)) }
     ensures memory { IsErrOf result PlanRefusal.Memory → ⊥ }
 {
     pass_if(may_tell(tables, request), Condition::C11)?;
@@ -130,7 +130,8 @@ pub(crate) fn plan_roster_set(
     request: &Request,
     item: &AskContact,
 ) -> Result<Plan, PlanRefusal>
-    ensures { Agrees result (outcome (first_denial (roster_set_steps (book_of tables.now) request.now item.now)) None)
+    ensures agrees { Agrees result
+        (outcome (first_denial (roster_set_steps (book_of tables.now) request.now item.now)) None)
         (not (same_rosters (roster_change request.now.from item.now (book_of tables.now)).rosters
         (book_of tables.now).rosters)) }
     ensures memory { IsErrOf result PlanRefusal.Memory → ⊥ }

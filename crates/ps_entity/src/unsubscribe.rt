@@ -19,7 +19,7 @@ fn check(
     subid: &Text,
 ) -> Result<(), PlanRefusal>
     requires node { node.now ≡ node_of request.now node.now.name }
-    ensures { Passes result
+    ensures passes { Passes result
         (first_denial (unsubscribe_steps (book_of tables.now) request.now node.now.name who.now subid.now)) }
     ensures memory { IsErrOf result PlanRefusal.Memory → ⊥ }
 {

@@ -30,7 +30,7 @@ pub(crate) fn entry_plan(commits: bool) -> Plan
 
 /// The last step of a setting kind, which passes where its test holds, and whether an entry is made: unless all stays as it was.
 pub(crate) fn decided(holds: bool, stays: bool, why: Condition) -> Result<bool, PlanRefusal>
-    ensures { Settles result (unless holds why) (not stays) }
+    ensures settles { Settles result (unless holds why) (not stays) }
     ensures memory { IsErrOf result PlanRefusal.Memory → ⊥ }
 {
     if holds {
