@@ -3,7 +3,7 @@ mod Coming
 mod Taking
 mod Steps
 mod Finishing
-mod Records
+mod Recorded
 mod Resting
 mod Rising
 pub mod OfTheFeed
