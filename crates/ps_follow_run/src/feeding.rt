@@ -45,10 +45,12 @@ impl Records {
         let Some(next) = place.checked_add(1) else {
             return Err(Memory);
         };
-        if place >= self.from {
-            let record = put_record(self.alloc, place, entry)?;
-            self.bytes.extend_from_slice(record.as_slice())?;
+        if place < self.from {
+            self.next = next;
+            return Ok(());
         }
+        let record = put_record(self.alloc, place, entry)?;
+        self.bytes.extend_from_slice(record.as_slice())?;
         self.next = next;
         Ok(())
     }
