@@ -5,7 +5,7 @@ use Rattle.ps_follow_command.proofs.Fed.{read-entries, read-refused}
 use Rattle.ps_follow_command.proofs.feeding.feed_disk.Goals as goal
 
 pub observe-requires-clause-saw : goal.observe-requires-clause-saw
-observe-requires-clause-saw g c = λ lives from are. are
+observe-requires-clause-saw g c = λ row lives from are. are
 
 pub returns-in-Err : goal.returns-in-Err
 returns-in-Err g c =
