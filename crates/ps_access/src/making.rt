@@ -1,5 +1,5 @@
 // The steps that keep a node from being made (XEP-0060 §8.1, XEP-0248).
-ghost use Rattle.std.specs.Prelude.{◌≡◌, Some};
+ghost use Rattle.std.specs.Prelude.{◌≡◌, Some, IsErrOf};
 ghost use Rattle.ps_model.specs.Access.{own_by};
 ghost use Rattle.ps_model.specs.CheckCreate as model;
 ghost use Rattle.ps_model.specs.CheckCreate.{node_limit_step};
@@ -27,6 +27,7 @@ pub fn max_nodes() -> u64
 /// The step that the sender has made fewer nodes than an address may.
 pub fn must_have_room(tables: &Tables, request: &Request) -> Result<(), PlanRefusal>
     ensures passes { Passes result (node_limit_step (book_of tables.now) request.now) }
+    ensures memory { IsErrOf result PlanRefusal.Memory → ⊥ }
 {
     pass_if(
         tables.nodes.made_by(&request.from) < max_nodes(),
@@ -35,7 +36,8 @@ pub fn must_have_room(tables: &Tables, request: &Request) -> Result<(), PlanRefu
 }
 
 fn may_be_put_into(tables: &Tables, row: &NodeRef<'_>, who: &Jid) -> Result<(), PlanRefusal>
-    ensures { Passes result (collection_by (Some (row_seen row.now)) (book_of tables.now) who.now) }
+    ensures passes { Passes result (collection_by (Some (row_seen row.now)) (book_of tables.now) who.now) }
+    ensures memory { IsErrOf result PlanRefusal.Memory → ⊥ }
 {
     allow(own_verdict(affiliation_of(tables, row.key, who)))?;
     pass_if(is_collection(row.config.node_type), Condition::C14)

@@ -1,5 +1,5 @@
 // The steps that the checks of several kinds of request share.
-ghost use Rattle.std.specs.Prelude.{◌≡◌, true, IfOk, OnOk};
+ghost use Rattle.std.specs.Prelude.{◌≡◌, true, IfOk, OnOk, IsErrOf};
 ghost use Rattle.ps_types.specs.Nodes.{node_at, stands};
 ghost use Rattle.ps_types.specs.declared.denial.Condition.TheVariants.{C12};
 ghost use Rattle.ps_model.specs.CheckForms.{node_of};
@@ -24,6 +24,7 @@ pub fn key_of(request: &Request, name: &Text) -> Result<NodeKey, Memory>
 /// A step that passes where its test holds.
 pub fn pass_if(holds: bool, why: Condition) -> Result<(), PlanRefusal>
     ensures passes { Passes result (unless holds why) }
+    ensures memory { IsErrOf result PlanRefusal.Memory → ⊥ }
 {
     if holds {
         Ok(())
@@ -35,6 +36,7 @@ pub fn pass_if(holds: bool, why: Condition) -> Result<(), PlanRefusal>
 /// A step that passes unless the verdict denies.
 pub fn allow(verdict: Verdict) -> Result<(), PlanRefusal>
     ensures passes { Passes result (denied_by verdict) }
+    ensures memory { IsErrOf result PlanRefusal.Memory → ⊥ }
 {
     match verdict {
         Verdict::Denied(why) => Err(PlanRefusal::Denied(why)),
@@ -46,6 +48,7 @@ pub fn allow(verdict: Verdict) -> Result<(), PlanRefusal>
 pub fn must_stand(tables: &Tables, node: &NodeKey) -> Result<(), PlanRefusal>
     ensures passes { Passes result (unless (stands node.now tables.now.nodes.rows) C12) }
     ensures stands { OnOk result (stands node.now tables.now.nodes.rows ≡ true) }
+    ensures memory { IsErrOf result PlanRefusal.Memory → ⊥ }
 {
     if tables.nodes.has(node) {
         Ok(())
@@ -57,6 +60,7 @@ pub fn must_stand(tables: &Tables, node: &NodeKey) -> Result<(), PlanRefusal>
 /// The step that the node is no collection, where it stands.
 pub fn must_be_leaf(tables: &Tables, node: &NodeKey) -> Result<(), PlanRefusal>
     ensures passes { Passes result (leaf_by (node_at node.now tables.now.nodes.rows)) }
+    ensures memory { IsErrOf result PlanRefusal.Memory → ⊥ }
 {
     let Some(row) = tables.nodes.get(node) else {
         return Ok(());

@@ -1,5 +1,5 @@
 // What a subscription comes to: its options, and those that a form makes of them (XEP-0060 §6.3), and its state (§4.2).
-ghost use Rattle.std.specs.Prelude.{◌≡◌, true};
+ghost use Rattle.std.specs.Prelude.{◌≡◌, true, IsErrOf};
 ghost use Rattle.ps_types.specs.Nodes.{stands};
 ghost use Rattle.ps_types.specs.Options as table;
 ghost use Rattle.ps_model.specs.ChangeEntity as model;
@@ -26,8 +26,9 @@ pub fn base_options(tables: &Tables, node: &NodeKey, who: &Jid) -> SubOptions
 }
 
 fn options_in(form: &Form, base: SubOptions) -> Result<SubOptions, PlanRefusal>
-    ensures { PassesWith result (denial_of (model.options_or (table.read_options form.now base)))
+    ensures options { PassesWith result (denial_of (model.options_or (table.read_options form.now base)))
         (model.options_or (table.read_options form.now base)) }
+    ensures memory { IsErrOf result PlanRefusal.Memory → ⊥ }
 {
     match read_options(form, base) {
         Ok(options) => Ok(options),
@@ -36,7 +37,9 @@ fn options_in(form: &Form, base: SubOptions) -> Result<SubOptions, PlanRefusal>
 }
 
 fn options_given(form: &Option<Form>, base: SubOptions) -> Result<SubOptions, PlanRefusal>
-    ensures { PassesWith result (denial_of (model.options_given form.now base)) (model.options_given form.now base) }
+    ensures options { PassesWith result (denial_of (model.options_given form.now base))
+        (model.options_given form.now base) }
+    ensures memory { IsErrOf result PlanRefusal.Memory → ⊥ }
 {
     match form {
         Some(form) => {

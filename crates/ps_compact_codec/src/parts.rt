@@ -1,5 +1,5 @@
 // The parts of the tree of a row.
-ghost use Rattle.std.specs.Prelude.{◌≡◌, codes, option_map, IfOk};
+ghost use Rattle.std.specs.Prelude.{◌≡◌, codes, option_map, IfOk, IsErrOf};
 ghost use Rattle.ps_types.specs.Elem.{nodes};
 ghost use Rattle.ps_types.specs.Shape.{trees_in, trees_of};
 ghost use Rattle.ps_types.specs.Tree.{attr_of};
@@ -94,7 +94,8 @@ pub(crate) fn key_at(alloc: Global, tree: &Elem) -> Result<NodeKey, Unread>
 
 /// The number in that attribute.
 pub(crate) fn number_at(tree: &Elem, name: &str) -> Result<u64, Unread>
-    ensures { Gives result (held_number (fields.number_at name.now tree.now)) }
+    ensures number { Gives result (held_number (fields.number_at name.now tree.now)) }
+    ensures memory { IsErrOf result Unread.Memory → ⊥ }
 {
     match number_of(attr(tree, name).as_bytes()) {
         Some(number) => Ok(number),
@@ -104,7 +105,8 @@ pub(crate) fn number_at(tree: &Elem, name: &str) -> Result<u64, Unread>
 
 /// The moment of an item, which may be missing.
 pub(crate) fn moment_at(tree: &Elem) -> Result<Option<u64>, Unread>
-    ensures { Gives result (held_moment (attr_of (codes "moment") tree.now)) }
+    ensures moment { Gives result (held_moment (attr_of (codes "moment") tree.now)) }
+    ensures memory { IsErrOf result Unread.Memory → ⊥ }
 {
     match tree.attr("moment") {
         None => Ok(None),

@@ -30,6 +30,7 @@ impl From<AllocError> for Unread {
 fn put<T: Drop>(field: &mut T, value: Option<T>) -> Result<(), Unread>
     ensures ok { OnOk result (value ≡ Some field.new) }
     ensures bad { IsErrOf result Unread.Bad → value ≡ None }
+    ensures memory { IsErrOf result Unread.Memory → ⊥ }
 {
     match value {
         Some(value) => {

@@ -1,5 +1,5 @@
 // The items of a node, as they are asked for (XEP-0060 §6.5).
-ghost use Rattle.std.specs.Prelude.{◌≡◌, ◌≢◌, ◌==◌, ◌∷◌, [], if◌then◌else◌, length, map, true, false, Some, IfOk, OnOk};
+ghost use Rattle.std.specs.Prelude.{◌≡◌, ◌≢◌, ◌==◌, ◌∷◌, [], if◌then◌else◌, length, map, true, false, Some, IfOk, OnOk, IsErrOf};
 ghost use Rattle.std.specs.Char.{is_ascii_digit};
 ghost use Rattle.std.specs.List.{list_all};
 ghost use Rattle.std.specs.Str.Parse.{digits_value};
@@ -130,6 +130,7 @@ fn check(tables: &Tables, request: &Request, key: &NodeKey, max: &Text) -> Resul
     ensures passes { Passes result
         (first_denial (items_get_steps (book_of tables.now) request.now key.now.name max.now)) }
     ensures most { OnOk result (is_most max.now ≡ true) }
+    ensures memory { IsErrOf result PlanRefusal.Memory → ⊥ }
 {
     must_stand(tables, key)?;
     must_be_leaf(tables, key)?;

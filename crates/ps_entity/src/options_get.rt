@@ -1,5 +1,5 @@
 // To ask for the options of a subscription (XEP-0060 §6.3.2).
-ghost use Rattle.std.specs.Prelude.{◌≡◌, ◌∷◌, [], codes, false, Some, IfOk};
+ghost use Rattle.std.specs.Prelude.{◌≡◌, ◌∷◌, [], codes, false, Some, IfOk, IsErrOf};
 ghost use Rattle.ps_types.specs.Address.{jid_text};
 ghost use Rattle.ps_types.specs.Shape.{attrs_with};
 ghost use Rattle.ps_model.specs.CheckEntity.{options_get_steps};
@@ -22,7 +22,9 @@ use std::alloc::Global;
 
 fn check(tables: &Tables, request: &Request, node: &NodeKey, who: &Jid) -> Result<(), PlanRefusal>
     requires node { node.now ≡ node_of request.now node.now.name }
-    ensures { Passes result (first_denial (options_get_steps (book_of tables.now) request.now node.now.name who.now)) }
+    ensures passes { Passes result
+        (first_denial (options_get_steps (book_of tables.now) request.now node.now.name who.now)) }
+    ensures memory { IsErrOf result PlanRefusal.Memory → ⊥ }
 {
     must_stand(tables, node)?;
     pass_if(tables.subs.row_of(node, who).is_some(), Condition::C22)

@@ -1,5 +1,5 @@
 // A roster item that the router tells (RFC 6121 §2.1.6).
-ghost use Rattle.std.specs.Prelude.{◌≡◌, ◌||◌, not, None, Some, is_some, nat_lt, option_map};
+ghost use Rattle.std.specs.Prelude.{◌≡◌, ◌||◌, not, None, Some, is_some, nat_lt, option_map, IsErrOf};
 ghost use Rattle.ps_types.specs.Address.{bare};
 ghost use Rattle.ps_types.specs.Rosters.{contact_at, contact_count, roster_with};
 ghost use Rattle.ps_types.specs.Same.{same_jid};
@@ -65,7 +65,8 @@ fn has_room(tables: &Tables, who: &Jid, contact: &Jid) -> bool
 }
 
 fn check(tables: &Tables, request: &Request, item: &AskContact) -> Result<(), PlanRefusal>
-    ensures { Passes result (first_denial (roster_set_steps (book_of tables.now) request.now item.now)) }
+    ensures passes { Passes result (first_denial (roster_set_steps (book_of tables.now) request.now item.now)) }
+    ensures memory { IsErrOf result PlanRefusal.Memory → ⊥ }
 {
     pass_if(may_tell(tables, request), Condition::C11)?;
     let told = told_by(item.subscription.as_str());
@@ -129,9 +130,11 @@ pub(crate) fn plan_roster_set(
     request: &Request,
     item: &AskContact,
 ) -> Result<Plan, PlanRefusal>
-    ensures { Agrees result (outcome (first_denial (roster_set_steps (book_of tables.now) request.now item.now)) None)
+    ensures agrees { Agrees result
+        (outcome (first_denial (roster_set_steps (book_of tables.now) request.now item.now)) None)
         (not (same_rosters (roster_change request.now.from item.now (book_of tables.now)).rosters
         (book_of tables.now).rosters)) }
+    ensures memory { IsErrOf result PlanRefusal.Memory → ⊥ }
 {
     check(tables, request, item)?;
     Ok(Plan {

@@ -1,5 +1,5 @@
 // To unsubscribe (XEP-0060 §6.2).
-ghost use Rattle.std.specs.Prelude.{◌≡◌, true, None};
+ghost use Rattle.std.specs.Prelude.{◌≡◌, true, None, IsErrOf};
 ghost use Rattle.ps_model.specs.CheckEntity.{unsubscribe_steps};
 ghost use Rattle.ps_model.specs.CheckForms.{node_of};
 ghost use Rattle.ps_model.specs.Outcome.{outcome};
@@ -19,8 +19,9 @@ fn check(
     subid: &Text,
 ) -> Result<(), PlanRefusal>
     requires node { node.now ≡ node_of request.now node.now.name }
-    ensures { Passes result
+    ensures passes { Passes result
         (first_denial (unsubscribe_steps (book_of tables.now) request.now node.now.name who.now subid.now)) }
+    ensures memory { IsErrOf result PlanRefusal.Memory → ⊥ }
 {
     must_stand(tables, node)?;
     pass_if(subid.is_empty(), Condition::C15)?;

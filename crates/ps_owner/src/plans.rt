@@ -1,5 +1,5 @@
 // The plan of a request.
-ghost use Rattle.std.specs.Prelude.{◌≡◌, not, true, None};
+ghost use Rattle.std.specs.Prelude.{◌≡◌, not, true, None, IsErrOf};
 ghost use Rattle.ps_model.specs.Steps.{unless};
 ghost use Rattle.ps_access.specs.Plans.{Plans};
 ghost use Rattle.ps_access.specs.Tables.{book_of};
@@ -30,7 +30,8 @@ pub(crate) fn entry_plan(commits: bool) -> Plan
 
 /// The last step of a setting kind, which passes where its test holds, and whether an entry is made: unless all stays as it was.
 pub(crate) fn decided(holds: bool, stays: bool, why: Condition) -> Result<bool, PlanRefusal>
-    ensures { Settles result (unless holds why) (not stays) }
+    ensures settles { Settles result (unless holds why) (not stays) }
+    ensures memory { IsErrOf result PlanRefusal.Memory → ⊥ }
 {
     if holds {
         Ok(!stays)

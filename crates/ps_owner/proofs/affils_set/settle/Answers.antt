@@ -8,4 +8,4 @@ returns c =
     let is = c.in_ok-edit.ensures.edit in
     let keeps = c.keeps_owner-keeps.ensures (book_of c.args.tables.now) refl is in
     let stays = c.is_as_before.ensures ∙ same-affil_edit c.in_ok-edit.edit c.args.node.now c.args.rows.now c.args.tables.now.affils.rows is in
-    rw (keeps, stays) at c.decided.ensures
+    rw (keeps, stays) at c.decided.ensures.settles

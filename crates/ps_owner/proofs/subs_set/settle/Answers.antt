@@ -7,4 +7,4 @@ returns c =
     let is = c.in_ok-edit.ensures.edit in
     let few = c.are_few-few.ensures c.args.rows.now is in
     let stays = c.is_as_before.ensures ∙ same-sub_edit c.in_ok-edit.edit c.args.node.now c.args.rows.now c.args.tables.now.subs.rows is in
-    rw (few, stays) at c.decided.ensures
+    rw (few, stays) at c.decided.ensures.settles
