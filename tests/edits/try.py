@@ -93,7 +93,7 @@ TRIED = [
     "ps_effects/retract_purges",
     "ps_endpoints/clock_not_given_back",
     "ps_endpoints/ports_given_back_in_reverse",
-    "ps_entity/full_told_as_memory",
+    "ps_entity/full_told_as_memory=ps_entity::roster::check",
     "ps_entity/oldest_items",
     "ps_entity/subscribers_read=ps_entity::items::check",
     "ps_events/last_item_again",
