@@ -77,11 +77,14 @@ def publishing():
 
 
 def stores(count):
-    """Stores of so many changes: of nodes, of items, of subscriptions."""
+    """Stores of so many changes: of nodes, of items, of subscriptions, of items and of the notices that were handed."""
     nodes = [made(number) for number in range(100)]
     yield "nodes", [made(number) for number in range(count)]
     yield "publishes", nodes + [publish_to(number, 100) for number in range(count)]
     yield "subscriptions", nodes + [subscribe(number, 100) for number in range(count)]
+    # A publish that ten hear is eleven entries, since each notice that was handed is one.
+    readers = [subscribe(number, 1) for number in range(10)]
+    yield "entries of publishes that ten hear", [made(0)] + readers + [publish_to(number, 1) for number in range(count // 11)]
 
 
 def opening():

@@ -2,7 +2,7 @@
 # The program over its store. Wants `rt`, `cc` and `python3`. It proves and builds crates/pubsubd where it stands, or takes PROGRAM, and prints
 #   - publishes a second, one at a time, over a file on the disk of the folder STORE (a new one under /var/tmp), beside the raw limit of that disk: a
 #     loop in C with the same writes and the same two fdatasync calls (bench/journal/limit.c), by turns, ROUNDS times each (3), medians and their ratio;
-#   - seconds and peak memory for opening a store of CHANGES nodes, publishes and subscriptions (10000 100000), and their ratio. That store is made and lies in memory (FAST, /dev/shm).
+#   - seconds and peak memory for opening a store of CHANGES nodes, publishes, subscriptions, and publishes with notices that ten were handed (10000 100000), and their ratio. That store is made and lies in memory (FAST, /dev/shm).
 # With KILLS it kills the program that many times while it serves (tests/kill) on the disk of STORE.
 set -eu
 here=$(cd "$(dirname "$0")" && pwd)
