@@ -12,7 +12,7 @@ ghost use Rattle.ps_core.specs.Answers.{full_by, AnswersStanza};
 ghost use Rattle.ps_core.specs.Requests.{IsRequestOf};
 
 use crate::plans::plan;
-use crate::taking::{TakenLine, take_line};
+use crate::taking::{ReadLine, TakenLine, take_line, take_read};
 use ps_access::Tables;
 use ps_base::Memory;
 use ps_names::{ReplyHead, error_reply, refused, result_reply};
@@ -332,6 +332,36 @@ fn said(reply: Option<Elem>) -> WithRequest
             full: None,
         },
         request: None,
+    }
+}
+
+/// The same of a line that was read.
+pub fn answer_read(
+    alloc: Global,
+    tables: &Tables,
+    host: &Text,
+    line: u64,
+    arrival: &Arrival,
+    read: Option<ReadLine>,
+) -> Result<WithRequest, Memory> {
+    let origin = Origin {
+        host,
+        line,
+        moment: moment_in(arrival),
+    };
+    match take_read(alloc, host, &tables.service, read)? {
+        TakenLine::Silent => Ok(said(None)),
+        TakenLine::Refused(why) => {
+            let reply = refused(alloc, line, why)?;
+            Ok(said(Some(reply)))
+        }
+        TakenLine::Denied(head, why) => {
+            let reply = denied_stanza(alloc, head, why)?;
+            Ok(said(reply))
+        }
+        TakenLine::Asked(tree, request) => {
+            answer_request(alloc, tables, origin, tree, request, false)
+        }
     }
 }
 

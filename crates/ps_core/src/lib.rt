@@ -25,6 +25,7 @@ mod telling;
 mod wanting;
 
 pub use answers::{Answer, WithRequest};
+pub use taking::{ReadLine, read_arrival};
 pub use half::Half;
 pub use lines::LastLines;
 pub use numbers::Numbers;

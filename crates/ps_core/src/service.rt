@@ -19,7 +19,8 @@ ghost use Rattle.ps_filter.specs.Wants.{AreWants};
 ghost use Rattle.ps_compact_export.specs.Written.{written};
 
 use crate::accepting::{Acceptance, acceptance_at};
-use crate::answers::{Answer, WithRequest, answer_at};
+use crate::answers::{Answer, WithRequest, answer_at, answer_read};
+use crate::taking::ReadLine;
 use crate::half::Half;
 use crate::numbers::{Numbers, numbers_of, reserve_for};
 use crate::telling::told_by;
@@ -190,6 +191,17 @@ impl Service {
             (λ a. IfSome a.answer.entry (λ e. IsRequestOf self.now.state.book.service e a.request)) }
     {
         answer_at(self.alloc, &self.front.tables, host, line, arrival, false)
+    }
+
+    /// The same of a line that was read.
+    pub fn answer_of_read(
+        &self,
+        host: &Text,
+        line: u64,
+        arrival: &Arrival,
+        read: Option<ReadLine>,
+    ) -> Result<WithRequest, Memory> {
+        answer_read(self.alloc, &self.front.tables, host, line, arrival, read)
     }
 
     /// Whether an entry is accepted at this State.

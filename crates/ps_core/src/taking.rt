@@ -80,6 +80,36 @@ fn take_bytes(alloc: Global, host: &Text, service: &Text, bytes: &[u8]) -> Resul
     }
 }
 
+/// The tree of a line, read without the service.
+pub fn read_arrival(alloc: Global, arrival: &Arrival) -> Result<Option<ReadLine>, Memory> {
+    match arrival {
+        Arrival::Line { bytes, .. } => {
+            if is_blank(bytes.as_slice()) {
+                return Ok(None);
+            }
+            Ok(Some(read_line(alloc, bytes.as_slice())?))
+        }
+        Arrival::TooLong => Ok(Some(ReadLine::Refused(LineRefusal::L1))),
+    }
+}
+
+/// What a line that was read is taken as.
+pub fn take_read(
+    alloc: Global,
+    host: &Text,
+    service: &Text,
+    read: Option<ReadLine>,
+) -> Result<TakenLine, Memory> {
+    match read {
+        None => Ok(TakenLine::Silent),
+        Some(ReadLine::Refused(why)) => Ok(TakenLine::Refused(why)),
+        Some(ReadLine::Tree(tree)) => {
+            let found = take_tree(alloc, &tree, host, service)?;
+            Ok(found_in(host, service, tree, found))
+        }
+    }
+}
+
 /// What a line on the stream of the host is taken as.
 pub fn take_line(
     alloc: Global,

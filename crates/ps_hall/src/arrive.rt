@@ -11,7 +11,8 @@ use crate::hall::{Hall, Pass};
 use crate::leaving::leave_laid;
 use ps_disk::Disk;
 use ps_hall_flush::{FlushRefusal, Opening, flush_seat};
-use ps_hall_state::{ArriveRefusal, Receipt};
+use ps_hall_state::{ArriveRefusal, Receipt, read_arrival};
+use std::alloc::Global;
 use ps_types::Arrival;
 use std::sync::Wait;
 use std::thread::Threads;
@@ -22,6 +23,7 @@ impl<B: Opening, D: Disk> Hall<B, D> {
     pub fn lay<R: Wait + Threads + Sync>(
         &self,
         rt: &R,
+        alloc: Global,
         pass: &mut Pass<B, D>,
         arrival: &Arrival,
     ) -> Result<Receipt, ArriveRefusal>
@@ -35,8 +37,11 @@ impl<B: Opening, D: Disk> Hall<B, D> {
         ensures room { IfOk result
             (λ r. FoundRoom B.origin pass.old.host arrival.now r (seen_of pass.new.seat)) }
     {
+        let Ok(read) = read_arrival(alloc, arrival) else {
+            return Err(ArriveRefusal::Memory);
+        };
         let mut home = self.twin.enter(rt, &mut pass.seat);
-        let outcome = home.state.lay(rt, pass.at, arrival);
+        let outcome = home.state.lay(rt, pass.at, arrival, read);
         pass.concerns_others |= concerns_others(&home.state, pass.at, &outcome);
         leave_laid(
             &self.twin,
@@ -68,6 +73,7 @@ impl<B: Opening, D: Disk> Hall<B, D> {
     pub fn arrive<R: Wait + Threads + Sync>(
         &self,
         rt: &R,
+        alloc: Global,
         pass: &mut Pass<B, D>,
         arrival: &Arrival,
     ) -> Result<Receipt, ArriveRefusal>
@@ -77,7 +83,7 @@ impl<B: Opening, D: Disk> Hall<B, D> {
         ensures same { (pass.new.at ≡ pass.old.at) × (pass.new.host ≡ pass.old.host) }
         ensures arrived { SeatArrived B.origin pass.old.host pass.old.seat pass.new.seat arrival.now result }
     {
-        let receipt = self.lay(rt, pass, arrival)?;
+        let receipt = self.lay(rt, alloc, pass, arrival)?;
         match self.flush(rt, pass) {
             Ok(()) => Ok(receipt),
             Err(FlushRefusal::Store) => Err(ArriveRefusal::Store),

@@ -14,6 +14,7 @@ use crate::replies::{Replies, full_at, replies_at};
 use crate::rows::say_at;
 use crate::state::State;
 use ps_base::{Bytes, Memory};
+use ps_core::ReadLine;
 use ps_record::print_of;
 use ps_types::{Arrival, Entry, Request};
 use std::thread::Threads;
@@ -249,6 +250,7 @@ impl State {
         rt: &R,
         at: usize,
         arrival: &Arrival,
+        read: Option<ReadLine>,
     ) -> Result<Receipt, ArriveRefusal>
         requires here { at < length self.old.rows.items }
         requires few { self.old.steps < 2 ^ 63 }
@@ -259,7 +261,7 @@ impl State {
         ensures err { NotLaidAt self.old self.new at result }
         ensures kept { KeepsNumbers self.old self.new }
     {
-        match replies_at(self.alloc, &self.service, &self.rows, at, arrival) {
+        match replies_at(self.alloc, &self.service, &self.rows, at, arrival, read) {
             Err(Memory) => Err(ArriveRefusal::Memory),
             Ok(replies) => self.lay_open(rt, at, arrival, replies),
         }
@@ -273,6 +275,7 @@ impl State {
         rt: &R,
         at: usize,
         arrival: &Arrival,
+        read: Option<ReadLine>,
     ) -> Result<Receipt, ArriveRefusal>
         requires here { at < length self.old.rows.items }
         requires few { self.old.steps < 2 ^ 63 }
@@ -284,7 +287,7 @@ impl State {
     {
         match self.turned_away(at) {
             Some(refusal) => Err(refusal),
-            None => self.lay_row(rt, at, arrival),
+            None => self.lay_row(rt, at, arrival, read),
         }
     }
 }

@@ -28,5 +28,5 @@ mod rows;
 mod state;
 
 pub use answers::{ArriveRefusal, HandedRefusal, Limits, Next, Outcome, Receipt};
-pub use ps_core::Service;
+pub use ps_core::{ReadLine, Service, read_arrival};
 pub use state::{HostRow, Landing, State, Waiting};

@@ -7,7 +7,7 @@ ghost use Rattle.ps_hall_state.specs.Rows.{OfRow};
 
 use crate::state::HostRow;
 use ps_base::{Bytes, Memory};
-use ps_core::Service;
+use ps_core::{ReadLine, Service};
 use ps_types::{Arrival, Elem, Entry, Request};
 use ps_wire::print_tree;
 use std::alloc::Global;
@@ -36,6 +36,7 @@ pub(crate) fn replies_at(
     rows: &Vec<HostRow>,
     at: usize,
     arrival: &Arrival,
+    read: Option<ReadLine>,
 ) -> Result<Replies, Memory>
     requires here { at < length rows.now.items }
     requires lines { OfRow rows.now.items at (λ row. row.line < 2 ^ 63) }
@@ -44,7 +45,7 @@ pub(crate) fn replies_at(
     ensures request { IfOk result (λ a. IfSome a.entry (λ e. IsRequestOf service.now.state.book.service e a.request)) }
 {
     let row = &rows[at];
-    let answered = service.answer_with_room(&row.host, row.line + 1, arrival)?;
+    let answered = service.answer_of_read(&row.host, row.line + 1, arrival, read)?;
     let (answer, request) = answered.into_parts();
     let (reply, entry) = answer.into_said();
     let reply = printed(alloc, &reply)?;

@@ -198,6 +198,7 @@ fn make_room<B: Opening, D: Disk, R: Wait>(
 // Lays the line once there is room for its reply. An error: the reader is to end.
 fn take_line<B: Opening, D: Disk, R: Wait + Threads + Sync>(
     rt: &R,
+    alloc: Global,
     hall: &Hall<B, D>,
     pass: &mut Pass<B, D>,
     arrival: &Arrival,
@@ -214,7 +215,7 @@ fn take_line<B: Opening, D: Disk, R: Wait + Threads + Sync>(
     ensures room { IsErrOf result ReadEnd.Full → ⊥ }
 {
     for _ in rt.forever() {
-        match hall.lay(rt, pass, arrival) {
+        match hall.lay(rt, alloc, pass, arrival) {
             Ok(_) => return Ok(()),
             Err(ArriveRefusal::Again) => make_room(rt, hall, pass)?,
             Err(refusal) => return Err(end_of_line(refusal)),
@@ -276,7 +277,7 @@ fn read_next<B: Opening, D: Disk, R: Wait + Threads + Sync, S: Source, C: Clock>
 {
     flush_to_wait(rt, hall, pass, lines)?;
     match next_arrival(alloc, pass, lines, clock) {
-        Ok(Some(arrival)) => match take_line(rt, hall, pass, &arrival) {
+        Ok(Some(arrival)) => match take_line(rt, alloc, hall, pass, &arrival) {
             Ok(()) => Ok(true),
             Err(end) => Err(end),
         },
