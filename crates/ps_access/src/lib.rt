@@ -17,6 +17,7 @@ mod forms;
 mod ids;
 mod making;
 mod replies;
+mod resources;
 mod setting;
 mod steps;
 mod subscribing;
@@ -30,9 +31,10 @@ pub use forms::{
     config_from, config_given, form_in, is_collection, is_submitted, is_unmoved, new_config,
 };
 pub use ids::item_id;
-pub use making::{max_nodes, must_be_collection, must_have_room};
+pub use making::{max_nodes, max_subs, must_be_collection, must_have_room};
 pub use ps_types::{Rule, Verdict};
 pub use replies::about;
+pub use resources::has_caps;
 pub use setting::{new_sub, set_asked_affils, set_asked_subs, set_state, set_sub};
 pub use steps::{allow, key_of, must_be_leaf, must_stand, pass_if};
 pub use subscribing::{base_options, given_options, new_state};

@@ -1,9 +1,10 @@
-// The steps that keep a node from being made (XEP-0060 §8.1, XEP-0248).
+// The steps that keep a node from being made (XEP-0060 §8.1, XEP-0248), and the limits of an address and of a node.
 ghost use Rattle.std.specs.Prelude.{◌≡◌, Some, IsErrOf};
 ghost use Rattle.ps_model.specs.Access.{own_by};
 ghost use Rattle.ps_model.specs.CheckCreate as model;
 ghost use Rattle.ps_model.specs.CheckCreate.{node_limit_step};
 ghost use Rattle.ps_model.specs.CheckForms.{collection_step, collection_by};
+ghost use Rattle.ps_model.specs.CheckOwner as limits;
 ghost use Rattle.ps_model.specs.Steps.{first_denial};
 ghost use Rattle.ps_nodes.specs.NodeRows.{row_seen};
 ghost use Rattle.ps_access.specs.Plans.{Passes};
@@ -16,6 +17,13 @@ use crate::tables::Tables;
 use crate::verdicts::own_verdict;
 use ps_nodes::NodeRef;
 use ps_types::{Condition, Jid, PlanRefusal, Request, Text};
+
+/// The subscriptions of a node at most, pending ones among them.
+pub fn max_subs() -> u64
+    ensures subs { result ≡ limits.max_subs }
+{
+    65_536
+}
 
 /// The nodes that a bare address makes at most.
 pub fn max_nodes() -> u64

@@ -22,7 +22,7 @@ lower-some (x ∷ host) some e = cc e
 
 -- ---- it is a host as it is printed
 
-empty-if : (xs : List ℕ) → (length xs == 0) ≡ true → xs ≡ []
+pub empty-if : (xs : List ℕ) → (length xs == 0) ≡ true → xs ≡ []
 empty-if [] e = refl
 empty-if (x ∷ xs) e = let none : ⊥ = grind (arith, nat_tests) in absurd none
 

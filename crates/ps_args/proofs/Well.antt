@@ -155,7 +155,7 @@ served-well word over words c e = well-from word over words (host_of word) (stre
 
 -- ---- a command to compact
 
-some-name : (name : List ℕ) → not (length name == 0) ≡ true → name ≢ []
+pub some-name : (name : List ℕ) → not (length name == 0) ≡ true → name ≢ []
 some-name name is none = absurd (true≢false (sym is ∙ ap (λ (l : List ℕ). not (length l == 0)) none))
 
 two-apart : (store new : List ℕ) → not (bytes_eq store new) ≡ true → store ≢ new

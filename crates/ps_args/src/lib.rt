@@ -8,7 +8,7 @@
 //! - `rehearse SEED COUNT`, both 1 to 20 decimal digits (`number_between`): SEED below 2^64, COUNT from 1 to 100,000.
 //! - `compact PATH NEW`, two names that are not empty and differ (`are_two`).
 //!
-//! A command comes exactly where `command_of` has it, `Usage` only where it has none; want of memory may come in place of either. What a caller has of
+//! A command comes exactly where `command_of` has it, `Usage` only where it has none; out of memory may come in place of either. What a caller has of
 //! each command stands in `specs/Well.antt`, as `IsWell`: the hosts are hosts as they are printed, there are 1 to 16 streams, and no two of them have
 //! one host, one source or one sink; a store is not compacted into itself.
 #![tactic(auto)]

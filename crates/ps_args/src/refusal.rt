@@ -6,7 +6,7 @@ use std::alloc::AllocError;
 pub enum WordsRefusal {
     /// The grammar has no such words.
     Usage,
-    /// They were not read, for want of memory.
+    /// They were not read, since memory ran out.
     Memory,
 }
 

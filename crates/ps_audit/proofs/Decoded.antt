@@ -7,8 +7,8 @@ use Rattle.ps_types.specs.declared.denial.Rule.{Rule}
 use Rattle.ps_types.specs.declared.denial.Rule.TheVariants.{ByAffiliation, ByOpen, ByPresence, ByGroup, BySubscription, ByPublishModel}
 use Rattle.ps_types.specs.declared.denial.Verdict.{Verdict}
 use Rattle.ps_types.specs.declared.denial.Verdict.TheVariants.{Granted, Pending, Denied}
-use Rattle.ps_audit_laws.specs.declared.told.Four.{Four}
 use Rattle.ps_audit.specs.Codes.{verdict_code}
+use Rattle.ps_audit_laws.proofs.Texts.{same-four}
 
 all : List Verdict
 all =
@@ -69,6 +69,3 @@ pub verdict-one : (v w : Verdict) → verdict_code v ≡ verdict_code w → v �
 verdict-one v w e =
     let both : Some v ≡ Some w = sym (again v) ∙ ap verdict_of e ∙ again w in
     cc both
-
-pub four-one : (x y : Four) → x.read ≡ y.read → x.subscribe ≡ y.subscribe → x.publish ≡ y.publish → x.own ≡ y.own → x ≡ y
-four-one x y a b c d = λ i. record { read = a i; subscribe = b i; publish = c i; own = d i }

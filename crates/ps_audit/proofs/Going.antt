@@ -4,8 +4,9 @@ use Rattle.std.specs.Prelude.{slice_get}
 use Rattle.ps_types.specs.declared.entry.Entry.{Entry}
 use Rattle.ps_model.specs.After.{after}
 use Rattle.ps_model.specs.Book.{State, empty_state}
-use Rattle.ps_model.specs.Replay.{replay, replay_from}
+use Rattle.ps_model.specs.Replay.{replay}
 use Rattle.ps_model.proofs.Going.{replay-append}
+use Rattle.ps_model.proofs.TheLaws.{count-is}
 
 -- ---- an entry of a list
 
@@ -14,10 +15,6 @@ front-more zero [] e h = absurd (let no : None ≡ Some e = h in cc no)
 front-more zero (x ∷ E) e h = let same : x ≡ e = cc h in ap (λ (y : Entry). y ∷ []) same
 front-more (suc i) [] e h = absurd (let no : None ≡ Some e = h in cc no)
 front-more (suc i) (x ∷ E) e h = ap (λ (r : List Entry). x ∷ r) (front-more i E e h)
-
-pub count-from : (E : List Entry) (s : State) → (replay_from s E).count ≡ s.count + length E
-count-from [] s = omega arith
-count-from (e ∷ E) s = let h = count-from E (after s e) in omega (arith, h)
 
 -- ---- so many entries were taken
 

@@ -16,8 +16,8 @@ use Rattle.ps_audit_laws.specs.History.{is_told, verdicts_after}
 use Rattle.ps_audit_laws.specs.Verdicts.{four_at, four_text}
 use Rattle.ps_audit_laws.proofs.Telling.{last, lines, lines-more}
 use Rattle.ps_audit.specs.Told.{IsTold}
-use Rattle.ps_audit.proofs.Going.{count-from}
 use Rattle.ps_audit.proofs.Walks.{Walk, walk-ends, walk-quiet, walk-told}
+use Rattle.ps_model.proofs.TheLaws.{count-is}
 
 -- ---- a front of a list
 
@@ -88,7 +88,7 @@ module _ (E : List Entry) (who : Jid) (node : NodeKey) (newest : Option Four) (t
     -- a line, where they say another thing
     pub told-more : (four ≡ newest → ⊥) → (count : ℕ) → count ≡ state.count → IsTold (E ++ e ∷ []) who node four (told ++ record { after = count; four = four } ∷ [])
     told-more differs count counts =
-        let counted = counts ∙ ap (λ (s : State). s.count) is ∙ count-from (E ++ e ∷ []) empty_state in
+        let counted = counts ∙ ap (λ (s : State). s.count) is ∙ count-is (E ++ e ∷ []) empty_state in
         let size : count ≡ length E + 1 = omega (arith, counted, longer) in
         subst (λ (n : ℕ). IsTold (E ++ e ∷ []) who node four (told ++ record { after = n; four = four } ∷ [])) (sym size)
         (told-as (length E + 1) four (told ++ record { after = length E + 1; four = four } ∷ [])

@@ -2,7 +2,7 @@
 use Rattle.std.specs.Prelude.{◌≡◌, ◌⊎◌, ℕ, List, [], ◌∷◌, Result, Ok, Err}
 use Rattle.ps_types.specs.declared.entry.Entry.{Entry}
 use Rattle.ps_io.specs.declared.world.Kind.TheVariants.{Store}
-use Rattle.ps_io.specs.declared.world.Opening.{Opening}
+use Rattle.ps_io.specs.declared.world.OpenCall.{OpenCall}
 use Rattle.ps_commands.specs.declared.command.ExplainWords.{ExplainWords}
 use Rattle.ps_commands.specs.declared.command.ReadersWords.{ReadersWords}
 use Rattle.ps_hall_open.specs.declared.opened.ReadWhy.{ReadWhy}
@@ -15,7 +15,7 @@ use Rattle.ps_status.specs.declared.status.Status.{Status}
 use Rattle.ps_status.specs.declared.status.Status.TheVariants.{StoreDamaged, StoreFault, Memory}
 
 -- the store alone is opened and touched
-abbrev pub store_openings : List ℕ → List Opening
+abbrev pub store_openings : List ℕ → List OpenCall
 store_openings name = record { kind = Store; name = name } ∷ []
 
 abbrev pub store_touches : List ℕ → Touched

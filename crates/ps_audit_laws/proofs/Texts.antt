@@ -139,7 +139,7 @@ same-own : (x y : Four) → behind_publish x ≡ behind_publish y → x.own ≡ 
 unfolding behind_publish
 same-own x y e = verdict-one x.own y.own e
 
-same-four : (x y : Four) → x.read ≡ y.read → x.subscribe ≡ y.subscribe → x.publish ≡ y.publish → x.own ≡ y.own → x ≡ y
+pub same-four : (x y : Four) → x.read ≡ y.read → x.subscribe ≡ y.subscribe → x.publish ≡ y.publish → x.own ≡ y.own → x ≡ y
 same-four x y a b c d = λ i. record { read = a i; subscribe = b i; publish = c i; own = d i }
 
 whole-one : (x y : Four) → whole x ≡ whole y → x ≡ y

@@ -67,7 +67,7 @@ ask-is service t from target ask.Absent is = tt
 ask-is service t from target (ask.CapsAnswer node info) is = tt
 ask-is service t from target ask.Silent is = tt
 
-target-is : (to : List ℕ) (from target : Jid) → target_by to from ≡ Some target → IsAddress from → IsAddress target
+pub target-is : (to : List ℕ) (from target : Jid) → target_by to from ≡ Some target → IsAddress from → IsAddress target
 target-is [] from target e is = let same : bare from ≡ target = cc e in subst IsAddress same (bare-is from is)
 target-is (x ∷ to) from target e is = jid-is (x ∷ to) target e
 

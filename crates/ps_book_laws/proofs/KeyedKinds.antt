@@ -62,16 +62,13 @@ use Rattle.ps_book_laws.specs.Keys.{AreApart, affil_key, count_key, item_key, li
 use Rattle.ps_book_laws.proofs.Keyed.{affils-all, affils-set, counts-set, items-put, items-set, nodes-set, subs-all, subs-set, vers-set}
 use Rattle.ps_book_laws.proofs.Keys.{apart-filter, apart-push, apart-put, each-by, each-push, roster-key}
 use Rattle.ps_book_laws.proofs.Naming.{same_node-turned}
+use Rattle.ps_model.proofs.Splits.{unless-none}
 
 -- ---- steps that pass
 
 pub step-parts : (d : Option Condition) (ds : List (Option Condition)) → first_denial (d ∷ ds) ≡ None → (d ≡ None) × (first_denial ds ≡ None)
 step-parts None ds h = (refl, h)
 step-parts (Some why) ds h = absurd (cc h)
-
-pub unless-holds : (b : Bool) (why : Condition) → unless b why ≡ None → b ≡ true
-unless-holds true why h = refl
-unless-holds false why h = absurd (cc h)
 
 -- ---- nodes that stand
 
@@ -285,7 +282,7 @@ changed-keyed (ask.Create node form) r moment book ok is =
     let third = new_node_step (new_config r.target form) book r in
     let one = step-parts first (second ∷ third ∷ node_limit_step book r ∷ []) ok in
     let two = step-parts second (third ∷ node_limit_step book r ∷ []) one.1 in
-    create-by (new_config r.target form) r node book (not-true (stands (node_of r node) book.nodes) (unless-holds (not (stands (node_of r node) book.nodes)) C8 one.0)) (step-parts third (node_limit_step book r ∷ []) two.1).0 is
+    create-by (new_config r.target form) r node book (not-true (stands (node_of r node) book.nodes) (unless-none (not (stands (node_of r node) book.nodes)) C8 one.0)) (step-parts third (node_limit_step book r ∷ []) two.1).0 is
 changed-keyed (ask.Publish node items options) r moment book ok is = publish-keyed (node_at (node_of r node) book.nodes) r node items options moment book refl ok is
 changed-keyed (ask.Retract node ids notify) r moment book ok is = retract-keyed (node_of r node) ids book is
 changed-keyed (ask.Purge node) r moment book ok is = record { keys = record { nodes = is.keys.nodes; affils = is.keys.affils; subs = is.keys.subs; items = apart-filter item_key (λ x. not (is_item_at (node_of r node) x)) book.items is.keys.items; links = is.keys.links; rosters = is.keys.rosters; vers = is.keys.vers; counts = is.keys.counts }; links = is.links }

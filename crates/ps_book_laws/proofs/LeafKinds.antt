@@ -62,10 +62,11 @@ use Rattle.ps_model.specs.ItemIds.{item_id}
 use Rattle.std.specs.List.{AllByRecursion as Each}
 use Rattle.ps_book_laws.proofs.Parts.{AreAtLeaves}
 use Rattle.ps_book_laws.specs.Rows.{IsAtLeaf, is_leaf_at}
-use Rattle.ps_book_laws.proofs.KeyedKinds.{step-parts, unless-holds}
+use Rattle.ps_book_laws.proofs.KeyedKinds.{step-parts}
 use Rattle.ps_book_laws.proofs.Keys.{each-by, each-filter, each-keep, each-push}
 use Rattle.ps_book_laws.proofs.Naming.{same_node-turned}
 use Rattle.ps_book_laws.proofs.LinkedKinds.{cancelled-given}
+use Rattle.ps_model.proofs.Splits.{unless-none}
 
 kept-leaf : (o p : Option NodeRow) → is_leaf_at (option_map (λ row. row.config) o) ≡ true → is_leaf_at (option_map (λ row. row.config) (option_or o p)) ≡ true
 kept-leaf None p h = absurd (cc h)
@@ -102,7 +103,7 @@ new-leaves (Err why) r node moment items book none step is = is
 new-leaves (Ok config) r node moment items book none step is =
     let key = node_of r node in
     let row = new_node key r.from config in
-    let leaf = unless-holds (not (is_collection config.node_type)) C14 (step-parts (unless (not (is_collection config.node_type)) C14) (collection_step book r config.collection ∷ []) step).0 in
+    let leaf = unless-none (not (is_collection config.node_type)) C14 (step-parts (unless (not (is_collection config.node_type)) C14) (collection_step book r config.collection ∷ []) step).0 in
     published-leaves key config r.from moment items (created key r.from config book)
     (ap (λ (o : Option NodeRow). is_leaf_at (option_map (λ x. x.config) o)) (find-append (is_node key) book.nodes (row ∷ [])) ∙ last-leaf (node_at key book.nodes) row (same_node key key) (same_node-itself key) none leaf)
     (created-leaves key r.from config book is)
@@ -110,7 +111,7 @@ new-leaves (Ok config) r node moment items book none step is =
 publish-leaves : (o : Option NodeRow) (r : Request) (node : List ℕ) (items : List AskItem) (options : Option Tree) (moment : Option ℕ) (book : Book) → node_at (node_of r node) book.nodes ≡ o
     → first_denial (publish_by o book r node items options) ≡ None → AreAtLeaves book → AreAtLeaves (published_by o (node_of r node) r.from moment items options book)
 publish-leaves (Some row) r node items options moment book at ok is =
-    let leaf = unless-holds (not (is_collection row.config.node_type)) C10 (step-parts (leaf_by (Some row)) (denied_by (publish book (node_of r node) r.from) ∷ options_step options row.config ∷ item_steps row.config items) ok).0 in
+    let leaf = unless-none (not (is_collection row.config.node_type)) C10 (step-parts (leaf_by (Some row)) (denied_by (publish book (node_of r node) r.from) ∷ options_step options row.config ∷ item_steps row.config items) ok).0 in
     published-leaves (node_of r node) row.config r.from moment items book (ap (λ (o : Option NodeRow). is_leaf_at (option_map (λ x. x.config) o)) at ∙ leaf) is
 publish-leaves None r node items options moment book at ok is = mine (is_own_account r.target r.from) ok
   where
@@ -155,7 +156,7 @@ set-leaves node config row book found unmoved is =
 given-leaves : (given : Result NodeConfig Condition) (node : NodeKey) (row : NodeRow) (book : Book) → node_at node book.nodes ≡ Some row → given_step given row.config ≡ None → AreAtLeaves book → AreAtLeaves (configured node given book)
 given-leaves (Err why) node row book found ok is = is
 given-leaves (Ok config) node row book found ok is =
-    set-leaves node config row book found (unless-holds (is_unmoved row.config config) C14 ok) is
+    set-leaves node config row book found (unless-none (is_unmoved row.config config) C14 ok) is
 
 step-leaves : (form : Option Form) (node : NodeKey) (row : NodeRow) (book : Book) (b : Bool) → is_cancelled form ≡ b → node_at node book.nodes ≡ Some row
     → cond b None (given_step (config_given config_type row.config form) row.config) ≡ None → AreAtLeaves book → AreAtLeaves (configured node (config_given config_type row.config form) book)

@@ -14,3 +14,4 @@ pub mod AddressedKinds
 pub mod AddressedTaken
 pub mod EarlyKinds
 pub mod Addressed
+pub mod Timely

@@ -59,9 +59,10 @@ use Rattle.ps_model.proofs.NodeRows.{node_at-configured, node_at-with, node_at-w
 use Rattle.std.specs.List.{AllByRecursion as Each}
 use Rattle.ps_book_laws.proofs.Parts.{IsKeyed, IsLinked}
 use Rattle.ps_book_laws.specs.Linked.{IsConfigured, IsLinkRow, name_in}
-use Rattle.ps_book_laws.proofs.KeyedKinds.{no-link, stands-more, stands-new, stands-with, stands-without, step-parts, unless-holds}
+use Rattle.ps_book_laws.proofs.KeyedKinds.{no-link, stands-more, stands-new, stands-with, stands-without, step-parts}
 use Rattle.ps_book_laws.proofs.Keys.{each-by, each-push}
 use Rattle.ps_book_laws.proofs.Naming.{named-else, named-own, none-of, same_node-turned}
+use Rattle.ps_model.proofs.Splits.{unless-none}
 
 -- ---- a node is made
 
@@ -133,7 +134,7 @@ collection-is : (o : Option NodeRow) (book : Book) (who : Jid) → collection_by
 collection-is None book who h = absurd (cc h)
 collection-is (Some row) book who h =
     let last = unless (is_collection row.config.node_type) C14 in
-    unless-holds (is_collection row.config.node_type) C14 (step-parts last [] (step-parts (denied_by (own book row.key who)) (last ∷ []) h).1).0
+    unless-none (is_collection row.config.node_type) C14 (step-parts last [] (step-parts (denied_by (own book row.key who)) (last ∷ []) h).1).0
 
 into : (name : List ℕ) (book : Book) (r : Request) (node : NodeKey) → node.service ≡ r.target → collection_step book r name ≡ None → IsInto name node book.nodes
 unfolding IsInto
@@ -261,7 +262,7 @@ set-linked node config row book found unmoved is =
 given-linked : (given : Result NodeConfig Condition) (node : NodeKey) (row : NodeRow) (book : Book) → node_at node book.nodes ≡ Some row → given_step given row.config ≡ None → IsLinked book → IsLinked (configured node given book)
 given-linked (Err why) node row book found ok is = is
 given-linked (Ok config) node row book found ok is =
-    set-linked node config row book found (unless-holds (is_unmoved row.config config) C14 ok) is
+    set-linked node config row book found (unless-none (is_unmoved row.config config) C14 ok) is
 
 -- a cancelled form gives nothing
 cancelled-kind : (k : FormKind) → is_cancel k ≡ true → is_submit k ≡ false
@@ -314,14 +315,14 @@ changed-linked (ask.Create node form) r moment book ok keyed is =
     let third = new_node_step (new_config r.target form) book r in
     let one = step-parts first (second ∷ third ∷ node_limit_step book r ∷ []) ok in
     let two = step-parts second (third ∷ node_limit_step book r ∷ []) one.1 in
-    create-by (new_config r.target form) r node book (not-true (stands (node_of r node) book.nodes) (unless-holds (not (stands (node_of r node) book.nodes)) C8 one.0)) (step-parts third (node_limit_step book r ∷ []) two.1).0 keyed is
+    create-by (new_config r.target form) r node book (not-true (stands (node_of r node) book.nodes) (unless-none (not (stands (node_of r node) book.nodes)) C8 one.0)) (step-parts third (node_limit_step book r ∷ []) two.1).0 keyed is
 changed-linked (ask.Publish node items options) r moment book ok keyed is = publish-linked (node_at (node_of r node) book.nodes) r node items options moment book refl ok keyed is
 changed-linked (ask.Retract node ids notify) r moment book ok keyed is = retract-linked (node_of r node) ids book is
 changed-linked (ask.Purge node) r moment book ok keyed is = record { links = is.links; configured = is.configured }
 changed-linked (ask.Delete node) r moment book ok keyed is =
     let last = unless (not (has_children (node_of r node) book.links)) C14 in
     let two = step-parts (denied_by (own book (node_of r node) r.from)) (last ∷ []) (step-parts (stands_step book r node) (denied_by (own book (node_of r node) r.from) ∷ last ∷ []) ok).1 in
-    deleted-linked (node_of r node) book (not-true (has_children (node_of r node) book.links) (unless-holds (not (has_children (node_of r node) book.links)) C14 (step-parts last [] two.1).0)) is
+    deleted-linked (node_of r node) book (not-true (has_children (node_of r node) book.links) (unless-none (not (has_children (node_of r node) book.links)) C14 (step-parts last [] two.1).0)) is
 changed-linked (ask.ConfigGet node) r moment book ok keyed is = is
 changed-linked (ask.ConfigSet node form) r moment book ok keyed is =
     let last = config_by (node_at (node_of r node) book.nodes) form in

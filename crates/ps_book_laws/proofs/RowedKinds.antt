@@ -67,9 +67,10 @@ use Rattle.ps_model.specs.Words.{sub_of}
 use Rattle.std.specs.List.{AllByRecursion as Each}
 use Rattle.ps_book_laws.proofs.Parts.{IsRowed}
 use Rattle.ps_book_laws.specs.Rows.{IsAffilRow, IsCountRow, IsSubRow}
-use Rattle.ps_book_laws.proofs.KeyedKinds.{stands-more, stands-new, stands-with, stands-without, step-parts, unless-holds}
+use Rattle.ps_book_laws.proofs.KeyedKinds.{stands-more, stands-new, stands-with, stands-without, step-parts}
 use Rattle.ps_book_laws.proofs.Keys.{each-by, each-filter, each-put}
 use Rattle.ps_book_laws.proofs.Naming.{same_node-turned}
+use Rattle.ps_model.proofs.Splits.{unless-none}
 
 -- ---- rows that are set
 
@@ -212,7 +213,7 @@ answer-rowed (Some caps) who node info book is = usable-rowed (is_usable caps no
 
 -- the first step of a kind: the node stands
 first-stands : (book : Book) (r : Request) (node : List ℕ) (more : List (Option Condition)) → first_denial (stands_step book r node ∷ more) ≡ None → stands (node_of r node) book.nodes ≡ true
-first-stands book r node more ok = unless-holds (stands (node_of r node) book.nodes) C12 (step-parts (stands_step book r node) more ok).0
+first-stands book r node more ok = unless-none (stands (node_of r node) book.nodes) C12 (step-parts (stands_step book r node) more ok).0
 
 pub changed-rowed : (a : Ask) (r : Request) (moment : Option ℕ) (book : Book) → first_denial (steps_of a book r) ≡ None → IsRowed book → IsRowed (changed_by a r moment book)
 changed-rowed (ask.Create node form) r moment book ok is = created_by-rowed (new_config r.target form) (node_of r node) r.from book is

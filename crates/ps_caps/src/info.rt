@@ -79,7 +79,7 @@ fn forms_of(alloc: Global, query: &Elem) -> Result<Forms, Memory>
 }
 
 /// What an entity answers of itself by a `query` (XEP-0030 §3.1, with the forms of XEP-0128). An attribute that is missing is empty, and an
-/// `x` that is no form is skipped. The only refusal is want of memory.
+/// `x` that is no form is skipped. The only refusal is out of memory.
 pub fn read_info(alloc: Global, query: &Elem) -> Result<Info, Memory>
     ensures { IfOk result (λ info. info ≡ string.info_of query.now) }
 {

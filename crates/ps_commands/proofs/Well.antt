@@ -19,19 +19,13 @@ use Rattle.ps_commands.specs.declared.command.Command.TheVariants.{Explain, Read
 use Rattle.ps_args.specs.Well.{IsWell as IsWellFirst}
 use Rattle.ps_args.specs.declared.command.Command.{Command as First}
 use Rattle.ps_args.specs.declared.command.Command.TheVariants as first
-use Rattle.ps_args.proofs.Hosts.{host-name, host-some}
+use Rattle.ps_args.proofs.Hosts.{host-name, host-some, empty-if}
+use Rattle.ps_args.proofs.Well.{some-name}
 
 -- what a choice gave where the other way gives nothing
 chosen : {A : Type 0} (t : Bool) (x y : A) → cond t (Some x) None ≡ Some y → (t ≡ true) × (x ≡ y)
 chosen true x y e = (refl, cc e)
 chosen false x y e = absurd (cc e)
-
-empty-if : (xs : List ℕ) → (length xs == 0) ≡ true → xs ≡ []
-empty-if [] e = refl
-empty-if (x ∷ xs) e = let none : ⊥ = grind (arith, nat_tests) in absurd none
-
-some-name : (name : List ℕ) → not (length name == 0) ≡ true → name ≢ []
-some-name name is none = absurd (true≢false (sym is ∙ ap (λ (l : List ℕ). not (length l == 0)) none))
 
 two-apart : (one other : List ℕ) → not (bytes_eq one other) ≡ true → one ≢ other
 two-apart one other is same = absurd (true≢false (sym is ∙ ap not ((bytes_eq-Decides one other).1 same)))

@@ -9,7 +9,7 @@
 //! - `follow HOST FEED IN OUT`: HOST is a host, and becomes lower case; FEED, IN and OUT are not empty and differ (`are_three`).
 //! - `mirror SERVICE NODE ADDRESS MAX IN`: SERVICE, NODE and ADDRESS as for `explain`, MAX is 1 to 4 digits, from 1 to 1000 (`items_in`), IN is not empty.
 //!
-//! A command comes exactly where `command_of` has it, `Usage` only where it has none; want of memory may come in place of either. What a caller has of
+//! A command comes exactly where `command_of` has it, `Usage` only where it has none; out of memory may come in place of either. What a caller has of
 //! each command stands in `specs/Well.antt`, as `IsWell`: addresses are addresses, a feed is not the source of lines, and what ps_args says of the first three.
 #![tactic(auto)]
 

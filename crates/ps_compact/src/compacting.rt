@@ -11,7 +11,7 @@ ghost use Rattle.ps_journal.specs.Opened.{IsShortIfUnbegun};
 ghost use Rattle.ps_model.specs.At.{IsDamagedAt};
 ghost use Rattle.ps_model.specs.Base.{base};
 ghost use Rattle.ps_model.specs.Store.{spelled};
-ghost use Rattle.ps_hall_open.specs.Reads.{IsKept, entries_of};
+ghost use Rattle.ps_hall_open.specs.Reads.{ListIsKept, entries_of};
 
 use crate::listing::base_batch;
 use crate::writing::{WriteWhy, Written, find_empty, write_store};
@@ -69,7 +69,7 @@ fn why_ended(outcome: Result<(), WriteWhy>) -> CompactOutcome
 
 // Writes what is kept as a new store, where an empty one is known to be.
 fn write_base<D: Disk>(alloc: Global, kept: &mut Kept, new: D) -> Written<D>
-    requires kept { IsKept kept.old }
+    requires kept { ListIsKept kept.old }
     ensures done { D.tells → OnOk result.outcome
         (IsWrittenNew (D.seen new) (D.seen result.new) (base (entries_of kept.old))) }
     ensures serves { OnOk result.outcome (ServesOn (entries_of kept.old) (base (entries_of kept.old))) }
@@ -100,7 +100,7 @@ fn write_base<D: Disk>(alloc: Global, kept: &mut Kept, new: D) -> Written<D>
 
 // Writes what is kept as a new store, where an empty one is.
 fn write_kept<D: Disk>(alloc: Global, kept: &mut Kept, new: D) -> Written<D>
-    requires kept { IsKept kept.old }
+    requires kept { ListIsKept kept.old }
     ensures done { D.tells → OnOk result.outcome
         (IsWrittenNew (D.seen new) (D.seen result.new) (base (entries_of kept.old))) }
     ensures serves { OnOk result.outcome (ServesOn (entries_of kept.old) (base (entries_of kept.old))) }

@@ -5,7 +5,7 @@ ghost use Rattle.ps_compact.specs.Few.{AreHanded};
 ghost use Rattle.ps_compact.specs.Rows.{AreListed, rows_left};
 ghost use Rattle.ps_model.specs.Base.{base};
 ghost use Rattle.ps_model.specs.Entries.{body};
-ghost use Rattle.ps_hall_open.specs.Reads.{IsKept, entries_of};
+ghost use Rattle.ps_hall_open.specs.Reads.{ListIsKept, entries_of};
 ghost use Rattle.ps_compact_export.specs.Written.{written};
 
 use crate::counters::{add_counters, addresses, are_made_few};
@@ -39,7 +39,7 @@ fn entries_left(
 
 /// The batch of a compacted store, in whose place the entries were that led to what is kept.
 pub(crate) fn base_batch(alloc: Global, kept: &mut Kept) -> Result<Batch, BatchRefusal>
-    requires kept { IsKept kept.old }
+    requires kept { ListIsKept kept.old }
     ensures ok { IfOk result (λ b. b ≡ base (entries_of kept.old)) }
     ensures serves { OnOk result (ServesOn (entries_of kept.old) (base (entries_of kept.old))) }
     ensures long { IsErrOf result BatchRefusal.Long → 2 ^ 30 < length (body (base (entries_of kept.old))) }

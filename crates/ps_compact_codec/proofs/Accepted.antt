@@ -16,23 +16,16 @@ use Rattle.ps_model.specs.Replay.{row_accepted}
 use Rattle.ps_model.specs.Tallies.{made_for}
 use Rattle.ps_compact_codec.specs.Held.{has_held_numbers, if_held, is_held, is_held_moment}
 use Rattle.ps_compact_codec.specs.Laws.{AcceptedIsHeld, HeldIsAccepted}
+use Rattle.ps_config.proofs.Numbers.{and-left, and-right}
 
 -- ---- numbers
-
-second : (a b : Bool) → (a && b) ≡ true → b ≡ true
-second true b h = h
-second false b h = absurd (cc h)
-
-first : (a b : Bool) → (a && b) ≡ true → a ≡ true
-first true b h = refl
-first false b h = absurd (cc h)
 
 early : (m : Option ℕ) → is_early m ≡ true → is_held_moment m ≡ true
 early None h = refl
 early (Some n) h = let below : n < 253370764800 = ltb-true n 253370764800 h in lt-ltb n (2 ^ 64) (omega (arith, below))
 
 small : (n : ℕ) → is_number n ≡ true → is_held n ≡ true
-small n h = let below : n < 2 ^ 62 = ltb-true n (2 ^ 62) (second (nat_lt 0 n) (nat_lt n (2 ^ 62)) h) in lt-ltb n (2 ^ 64) (omega (arith, below))
+small n h = let below : n < 2 ^ 62 = ltb-true n (2 ^ 62) (and-right (nat_lt 0 n) (nat_lt n (2 ^ 62)) h) in lt-ltb n (2 ^ 64) (omega (arith, below))
 
 fifth : (a b c d e f : Bool) → (a && b && c && d && e && f) ≡ true → e ≡ true
 fifth a b c d e f h = grind (arith, nat_tests)
@@ -55,16 +48,16 @@ held : (r : BaseRow) (s : State) → accepts_row r s ≡ true → has_held_numbe
 held (node r) s h = refl
 held (affiliation r) s h = refl
 held (subscription r) s h = refl
-held (item r) s h = early r.moment (item-early (config_at r.node s.book.nodes) r s.book (second (is_well_formed (item r)) (has_place (item r) s) h))
+held (item r) s h = early r.moment (item-early (config_at r.node s.book.nodes) r s.book (and-right (is_well_formed (item r)) (has_place (item r) s) h))
 held (link r) s h = refl
 held (contact r) s h = refl
 held (ver r) s h = refl
 held (made r) s h =
     small r.made
-    (third (stands r.node s.book.nodes) (is_none (find (is_count_of r.node r.who) s.book.counts)) (is_number r.made) (second (is_well_formed (made r)) (has_place (made r) s) h))
+    (third (stands r.node s.book.nodes) (is_none (find (is_count_of r.node r.who) s.book.counts)) (is_number r.made) (and-right (is_well_formed (made r)) (has_place (made r) s) h))
 held (counter who handed) s h =
     small handed
-    (middle (is_bare who) (is_number handed) (made_for who s.tallies == 0) (second (is_well_formed (counter who handed)) (has_place (counter who handed) s) h))
+    (middle (is_bare who) (is_number handed) (made_for who s.tallies == 0) (and-right (is_well_formed (counter who handed)) (has_place (counter who handed) s) h))
 held (notice to line) s h = refl
 
 row-held : (o : Option BaseRow) (s : State) → row_accepted o s ≡ true → option_and_then if_held o ≡ o

@@ -1,13 +1,11 @@
 -- The address that a text spells, as the reader finds it.
-use Rattle.std.proofs.Common.{◌≡◌, ℕ, List, Option, Some, None, option_map, refl, sym, ap, ◌∙◌}
+use Rattle.std.proofs.Common.{◌≡◌, ℕ, List, Option, Some, None, option_map, refl, ap}
 use Rattle.ps_types.specs.Address.{Parts, Spells, address_of}
 use Rattle.ps_types.specs.Cutting.{parts_from}
 use Rattle.ps_types.specs.declared.jid.Jid.{Jid}
-use Rattle.ps_types.proofs.AddressLaws.{parts-again, spells-from}
+use Rattle.ps_types.proofs.AddressLaws.{spells-from}
 use Rattle.ps_model.specs.Stanza.{jid_of}
-
-pub jid-spelled : (text : List ℕ) (j : Jid) → Spells text j → jid_of text ≡ Some j
-jid-spelled text j s = ap (option_map address_of) (ap parts_from s.2 ∙ parts-again s.0 s.1) ∙ sym (ap (λ (k : Jid). Some k) s.3)
+use Rattle.ps_model.proofs.Spelling.{spells-jid}
 
 none-step : (text : List ℕ) (found : Option Parts) → parts_from text ≡ found → ((j : Jid) → Spells text j → ⊥) → option_map address_of found ≡ None
 none-step text None e h = refl

@@ -8,7 +8,7 @@ use Rattle.ps_forms.specs.declared.read.FormRefusal.TheVariants as form
 use Rattle.ps_compact_codec.specs.Said.{row_said}
 use Rattle.ps_compact_codec.specs.declared.parts.Unread.{Unread}
 use Rattle.ps_compact_codec.specs.declared.parts.Unread.TheVariants.{NoRow, Memory}
-use Rattle.ps_compact_codec.specs.declared.row.Row.{Row}
+use Rattle.ps_compact_codec.specs.declared.row.StoredRow.{StoredRow}
 
 -- exactly what is given
 abbrev pub Gives : {X : Type 0} → Result X Unread → Option X → Type 0
@@ -17,7 +17,7 @@ Gives (Err NoRow) given = given ≡ None
 Gives (Err Memory) given = Unit {0}
 
 -- exactly the row that is given
-abbrev pub Tells : Result Row Unread → Option BaseRow → Type 0
+abbrev pub Tells : Result StoredRow Unread → Option BaseRow → Type 0
 Tells (Ok row) given = given ≡ Some (row_said row)
 Tells (Err NoRow) given = given ≡ None
 Tells (Err Memory) given = Unit {0}

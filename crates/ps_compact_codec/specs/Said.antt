@@ -1,10 +1,10 @@
 -- The row of the model that a row is.
 use Rattle.ps_model.specs.BaseRows as base
 use Rattle.ps_model.specs.BaseRows.{BaseRow}
-use Rattle.ps_compact_codec.specs.declared.row.Row.{Row}
-use Rattle.ps_compact_codec.specs.declared.row.Row.TheVariants.{Node, Affiliation, Subscription, Item, Link, Contact, Ver, Made, Counter, Notice}
+use Rattle.ps_compact_codec.specs.declared.row.StoredRow.{StoredRow}
+use Rattle.ps_compact_codec.specs.declared.row.StoredRow.TheVariants.{Node, Affiliation, Subscription, Item, Link, Contact, Ver, Made, Counter, Notice}
 
-abbrev pub row_said : Row → BaseRow
+abbrev pub row_said : StoredRow → BaseRow
 row_said (Node r) = base.node r
 row_said (Affiliation r) = base.affiliation r
 row_said (Subscription r) = base.subscription r

@@ -1,6 +1,6 @@
 //! The rows of a compacted store, and the trees that they are written as.
 //!
-//! A compacted store begins with rows in the place of the entries that led to them, each written as a tree. A [`Row`] is such a row: one of a table, or of what is told beside them.
+//! A compacted store begins with rows in the place of the entries that led to them, each written as a tree. A [`StoredRow`] is such a row: one of a table, or of what is told beside them.
 //! A contract sees it as the model's `BaseRow` (`specs/Said.antt`).
 //!
 //! [`row_tree`] makes the tree of a row, as `BaseRows.row_tree` of the model says, and so do the calls for each kind. [`read_row`] reads the row that a tree is, as `BaseRead.row_of` says:
@@ -27,5 +27,5 @@ pub use laws::accepted_rows_are_held;
 pub use node_trees::{affil_tree, count_tree, item_tree, link_tree, node_tree, sub_tree};
 pub use people_trees::{contact_tree, counter_tree, notice_tree, ver_tree};
 pub use read::read_row;
-pub use row::Row;
+pub use row::StoredRow;
 pub use tree::row_tree;

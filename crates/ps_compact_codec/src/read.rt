@@ -11,7 +11,7 @@ ghost use Rattle.ps_compact_codec.specs.Said.{row_said};
 use crate::node_rows::{read_affil, read_count, read_item, read_link, read_node, read_sub};
 use crate::parts::Unread;
 use crate::people_rows::{read_contact, read_counter, read_notice, read_ver};
-use crate::row::Row;
+use crate::row::StoredRow;
 use crate::tree::row_tree;
 use ps_base::Memory;
 use ps_namespaces::BASE;
@@ -20,7 +20,7 @@ use ps_wire::print_tree;
 use std::alloc::Global;
 
 // What is read of a tree by its name.
-fn read_named(alloc: Global, tree: &Elem) -> Result<Row, Unread>
+fn read_named(alloc: Global, tree: &Elem) -> Result<StoredRow, Unread>
     ensures { Tells result (row_in tree.now) }
 {
     if !tree.ns.is(BASE) {
@@ -42,7 +42,7 @@ fn read_named(alloc: Global, tree: &Elem) -> Result<Row, Unread>
 }
 
 // Whether the tree is just what the row is written as.
-fn is_written(alloc: Global, row: &Row, tree: &Elem) -> Result<bool, Memory>
+fn is_written(alloc: Global, row: &StoredRow, tree: &Elem) -> Result<bool, Memory>
     ensures { IfOk result (λ is. is ≡ bytes_eq (print (base.row_tree (row_said row.now))) (print tree.now)) }
 {
     let written = print_tree(alloc, &row_tree(alloc, row)?)?;
@@ -51,7 +51,7 @@ fn is_written(alloc: Global, row: &Row, tree: &Elem) -> Result<bool, Memory>
 }
 
 /// The row that the tree is. A tree is a row only where it is just what the row is written as, and one with a number of 2^64 or more is read as none, as no State accepts it.
-pub fn read_row(alloc: Global, tree: &Elem) -> Result<Option<Row>, Memory>
+pub fn read_row(alloc: Global, tree: &Elem) -> Result<Option<StoredRow>, Memory>
     ensures row { IfOk result (λ row. option_map row_said row ≡ held_row_of tree.now) }
 {
     match read_named(alloc, tree) {

@@ -5,7 +5,7 @@ use ps_types::{
 
 /// A row that a compacted store begins with.
 #[derive(Clone, Drop)]
-pub enum Row {
+pub enum StoredRow {
     Node(NodeRow),
     Affiliation(AffilRow),
     Subscription(SubRow),

@@ -14,7 +14,7 @@ use crate::notices::{accepts_counter, accepts_notice, put_counter, put_notice};
 use crate::people::{accepts_contact, accepts_ver, put_contact, put_ver};
 use ps_access::Tables;
 use ps_base::Memory;
-use ps_compact_codec::Row;
+use ps_compact_codec::StoredRow;
 use ps_notice_numbers::Tallies;
 use std::alloc::Global;
 
@@ -23,48 +23,53 @@ pub fn accepts_row(
     alloc: Global,
     tables: &Tables,
     tallies: &Tallies,
-    row: &Row,
+    row: &StoredRow,
 ) -> Result<bool, Memory>
     requires fit { FitMore tallies.now.rows }
     ensures accepted { IfOk result (λ b.
         b ≡ model.accepts_row (row_said row.now) (state_at (book_of tables.now) tallies.now.rows)) }
 {
     match row {
-        Row::Node(row) => Ok(accepts_node(tables, row)),
-        Row::Affiliation(row) => Ok(accepts_affil(tables, row)),
-        Row::Subscription(row) => Ok(accepts_sub(tables, row)),
-        Row::Item(row) => Ok(accepts_item(tables, row)),
-        Row::Link(row) => Ok(accepts_link(tables, row)),
-        Row::Contact(row) => Ok(accepts_contact(tables, row)),
-        Row::Ver(row) => Ok(accepts_ver(tables, row)),
-        Row::Made(row) => Ok(accepts_count(tables, row)),
-        Row::Counter { who, handed } => Ok(accepts_counter(tallies, who, *handed)),
-        Row::Notice { to, line } => accepts_notice(alloc, tallies, to, line.as_str().as_bytes()),
+        StoredRow::Node(row) => Ok(accepts_node(tables, row)),
+        StoredRow::Affiliation(row) => Ok(accepts_affil(tables, row)),
+        StoredRow::Subscription(row) => Ok(accepts_sub(tables, row)),
+        StoredRow::Item(row) => Ok(accepts_item(tables, row)),
+        StoredRow::Link(row) => Ok(accepts_link(tables, row)),
+        StoredRow::Contact(row) => Ok(accepts_contact(tables, row)),
+        StoredRow::Ver(row) => Ok(accepts_ver(tables, row)),
+        StoredRow::Made(row) => Ok(accepts_count(tables, row)),
+        StoredRow::Counter { who, handed } => Ok(accepts_counter(tallies, who, *handed)),
+        StoredRow::Notice { to, line } => accepts_notice(
+            alloc,
+            tallies,
+            to,
+            line.as_str().as_bytes(),
+        ),
     }
 }
 
 /// Adds what a row adds to the tables: nothing where it is of notices.
-pub fn put_in_tables(tables: &mut Tables, row: Row) -> Result<(), Memory>
+pub fn put_in_tables(tables: &mut Tables, row: StoredRow) -> Result<(), Memory>
     requires key { has_own_key (row_said row) (book_of tables.old) ≡ true }
     ensures book { OnOk result (book_of tables.new ≡ book_with (row_said row) (book_of tables.old)) }
     ensures memory { OnErr result (book_of tables.new ≡ book_of tables.old) }
 {
     match row {
-        Row::Node(row) => put_node(tables, row),
-        Row::Affiliation(row) => put_affil(tables, row),
-        Row::Subscription(row) => put_sub(tables, row),
-        Row::Item(row) => put_item(tables, row),
-        Row::Link(row) => put_link(tables, row),
-        Row::Contact(row) => put_contact(tables, row),
-        Row::Ver(row) => put_ver(tables, row),
-        Row::Made(row) => put_count(tables, row),
-        Row::Counter { .. } => Ok(()),
-        Row::Notice { .. } => Ok(()),
+        StoredRow::Node(row) => put_node(tables, row),
+        StoredRow::Affiliation(row) => put_affil(tables, row),
+        StoredRow::Subscription(row) => put_sub(tables, row),
+        StoredRow::Item(row) => put_item(tables, row),
+        StoredRow::Link(row) => put_link(tables, row),
+        StoredRow::Contact(row) => put_contact(tables, row),
+        StoredRow::Ver(row) => put_ver(tables, row),
+        StoredRow::Made(row) => put_count(tables, row),
+        StoredRow::Counter { .. } => Ok(()),
+        StoredRow::Notice { .. } => Ok(()),
     }
 }
 
 /// Adds a row that is accepted: to the tables, or to the numbers of notices where it is of these.
-pub fn put_row(tables: &mut Tables, tallies: &mut Tallies, row: Row) -> Result<(), Memory>
+pub fn put_row(tables: &mut Tables, tallies: &mut Tallies, row: StoredRow) -> Result<(), Memory>
     requires accepted { model.accepts_row (row_said row) (state_at (book_of tables.old) tallies.old.rows) ≡ true }
     requires fit { FitMore tallies.old.rows }
     ensures book { OnOk result (book_of tables.new ≡ book_with (row_said row) (book_of tables.old)) }
@@ -73,8 +78,8 @@ pub fn put_row(tables: &mut Tables, tallies: &mut Tallies, row: Row) -> Result<(
     ensures tallies_kept { OnErr result (tallies.new.rows ≡ tallies.old.rows) }
 {
     match row {
-        Row::Counter { who, handed } => put_counter(tallies, who, handed),
-        Row::Notice { to, .. } => put_notice(tallies, to),
+        StoredRow::Counter { who, handed } => put_counter(tallies, who, handed),
+        StoredRow::Notice { to, .. } => put_notice(tallies, to),
         other => put_in_tables(tables, other),
     }
 }

@@ -5,8 +5,6 @@ use Rattle.std.specs.Fmt.{decimal}
 use Rattle.std.specs.Str.{bytes_eq}
 use Rattle.std.specs.Str.Parse.{digits_value}
 use Rattle.std.proofs.lemmas.Fmt.{digits_value-decimal}
-use Rattle.std.proofs.lemmas.Str.Parse.{IsNumeralModel, numerals_by_value, tells_all_ascii_digits}
-use Rattle.std.specs.Str.{all_ascii_digits}
 use Rattle.std.proofs.lemmas.Slice.Eq.{bytes_eq-Decides}
 use Rattle.ps_types.specs.declared.config.NodeConfig.{NodeConfig}
 use Rattle.ps_types.specs.declared.jid.Jid.{Jid}
@@ -39,6 +37,7 @@ use Rattle.ps_model.specs.Stanza.{jid_of}
 use Rattle.ps_model.specs.Words.{affil_of, affil_text, sub_of, sub_text}
 use Rattle.ps_types.specs.Values.{choice_of}
 use Rattle.ps_compact_laws.proofs.Facts.{ReadBack}
+use Rattle.ps_config.proofs.Numbers.{own}
 
 -- ---- the parts
 
@@ -75,9 +74,6 @@ depth-again false = refl
 type-again : (b : Bool) → choice_of type_choices (type_text b) ≡ Some b
 type-again true = refl
 type-again false = refl
-
-own : IsNumeralModel (λ ds. all_ascii_digits ds ≡ true) (digits_value 10)
-own = numerals_by_value _ tells_all_ascii_digits
 
 number-again : (n : ℕ) → n < 2 ^ 64 → digits_value 10 (decimal n) ≡ n
 number-again n few = digits_value-decimal own n few

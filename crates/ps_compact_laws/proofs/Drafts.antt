@@ -65,7 +65,7 @@ drafts-if : (to : Jid) (b : Bool) (o : Option Tree) → (b ≡ true → Drafts t
 drafts-if to true o is = is refl
 drafts-if to false o is = drafts-none to
 
-word : (s : List ℕ) → is_word s ≡ true → IsUtf8 s
+pub word : (s : List ℕ) → is_word s ≡ true → IsUtf8 s
 word s e = word-utf8 s e
 
 id-utf8 : (n : ℕ) → IsUtf8 (notice_id n)
@@ -182,11 +182,11 @@ found-key node (x ∷ nodes) row are e = at (same_node node x.key) refl e (found
     at true same e later = subst IsKeyText (sym ((same_node-Decides node x.key).0 same)) are.0.key
     at false far e later = later e
 
-read-key : (node : NodeKey) (who : Jid) (b : Book) (o : Option NodeRow) → Each NodeIs b.nodes → node_at node b.nodes ≡ o → is_granted (read_at o b node who) ≡ true → IsKeyText node
+pub read-key : (node : NodeKey) (who : Jid) (b : Book) (o : Option NodeRow) → Each NodeIs b.nodes → node_at node b.nodes ≡ o → is_granted (read_at o b node who) ≡ true → IsKeyText node
 read-key node who b None are e h = absurd (cc h)
 read-key node who b (Some row) are e h = found-key node b.nodes row are e
 
-may-key : (node : NodeKey) (who : Jid) (b : Book) → IsPrintable b → may_read b node who ≡ true → IsKeyText node
+pub may-key : (node : NodeKey) (who : Jid) (b : Book) → IsPrintable b → may_read b node who ≡ true → IsKeyText node
 may-key node who b is h = read-key node who b (node_at node b.nodes) is.nodes refl h
 
 config-key : (node : NodeKey) (nodes : List NodeRow) (o : Option NodeRow) (config : NodeConfig) → Each NodeIs nodes → node_at node nodes ≡ o → option_map (λ (r : NodeRow). r.config) o ≡ Some config → IsKeyText node

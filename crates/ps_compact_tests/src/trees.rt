@@ -1,5 +1,5 @@
 // The ten rows as trees, written by hand, and trees that are none.
-use ps_compact_codec::{Row, accepted_rows_are_held, read_row, row_tree};
+use ps_compact_codec::{StoredRow, accepted_rows_are_held, read_row, row_tree};
 use ps_types::{Affil, RosterState};
 use ps_wire::{print_tree, read_tree};
 use std::alloc::Global;
@@ -37,12 +37,12 @@ const NOTICE: &str =
     r#"{"a":{"jid":"bob@b.example"},"c":["{\"n\":\"message\"}"],"n":"notice","ns":"urn:pubsubd:base"}"#;
 
 // The row of that text.
-fn read(alloc: Global, text: &str) -> Result<Option<Row>, Fail> {
+fn read(alloc: Global, text: &str) -> Result<Option<StoredRow>, Fail> {
     let tree = read_tree(alloc, text.as_bytes())?;
     Ok(read_row(alloc, &tree)?)
 }
 
-fn is_printed_as(alloc: Global, row: &Row, text: &str) -> Result<bool, Fail> {
+fn is_printed_as(alloc: Global, row: &StoredRow, text: &str) -> Result<bool, Fail> {
     let printed = print_tree(alloc, &row_tree(alloc, row)?)?;
     Ok(printed.as_slice() == text.as_bytes())
 }
@@ -77,7 +77,7 @@ fn each_row_is_read_and_written(rt: HostRuntime) -> Result<(), Fail> {
 fn a_row_has_what_its_tree_says(rt: HostRuntime) -> Result<(), Fail> {
     let row = read(rt.alloc(), AFFILIATION)?;
     match &row {
-        Some(Row::Affiliation(affil)) => {
+        Some(StoredRow::Affiliation(affil)) => {
             assert!(rt; affil.affil == Affil::Owner);
             assert!(rt; affil.who.local.is("ann"));
             assert!(rt; affil.node.name.is("news"));
@@ -87,7 +87,7 @@ fn a_row_has_what_its_tree_says(rt: HostRuntime) -> Result<(), Fail> {
     }
     let row = read(rt.alloc(), ITEM)?;
     match &row {
-        Some(Row::Item(item)) => {
+        Some(StoredRow::Item(item)) => {
             assert!(rt; item.id.is("i1"));
             assert!(rt; item.moment == Some(1_700_000_000));
             assert!(rt; item.payload.is_some());
@@ -96,7 +96,7 @@ fn a_row_has_what_its_tree_says(rt: HostRuntime) -> Result<(), Fail> {
     }
     let row = read(rt.alloc(), CONTACT)?;
     match &row {
-        Some(Row::Contact(contact)) => {
+        Some(StoredRow::Contact(contact)) => {
             assert!(rt; contact.state == RosterState::Both);
             assert_eq!(rt; contact.groups.as_slice().len(), 2);
         }

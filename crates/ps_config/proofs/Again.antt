@@ -23,8 +23,8 @@ use Rattle.ps_types.specs.Config.{ConfigRow, after_row, read_rows, read_config, 
 use Rattle.ps_types.specs.Options.{read_options, options_form}
 use Rattle.ps_types.specs.Values.{boolean_in, boolean_text, are_digits, number_of, choice_in}
 use Rattle.ps_config.specs.Bounds.{IsConfig}
-use Rattle.ps_config.specs.declared.row.Row.{Row}
-use Rattle.ps_config.specs.declared.row.Row.TheVariants as row
+use Rattle.ps_config.specs.declared.row.Setting.{Setting}
+use Rattle.ps_config.specs.declared.row.Setting.TheVariants as row
 use Rattle.ps_config.specs.Rows.{row_of, all_rows}
 use Rattle.ps_config.proofs.Numbers.{own}
 use Rattle.ps_config.proofs.Rows.{rows_named, one_row}
@@ -100,7 +100,7 @@ name-again text h = let few : nat_le (length text) 512 ≡ true = grind (arith, 
 -- ---- rows
 
 -- a configuration with the field of one row of another
-abbrev with_row : Row → NodeConfig → NodeConfig → NodeConfig
+abbrev with_row : Setting → NodeConfig → NodeConfig → NodeConfig
 with_row row.Title c d = record d { title = c.title }
 with_row row.DeliverNotifications c d = record d { deliver_notifications = c.deliver_notifications }
 with_row row.DeliverPayloads c d = record d { deliver_payloads = c.deliver_payloads }
@@ -119,7 +119,7 @@ with_row row.MaxPayloadSize c d = record d { max_payload_size = c.max_payload_si
 with_row row.NodeType c d = record d { node_type = c.node_type }
 with_row row.Collection c d = record d { collection = c.collection }
 
-row-again : (r : Row) (c d : NodeConfig) → IsConfig c → one_row r (config_form c) d ≡ Some (with_row r c d)
+row-again : (r : Setting) (c d : NodeConfig) → IsConfig c → one_row r (config_form c) d ≡ Some (with_row r c d)
 unfolding row_of
 row-again row.Title c d is = refl
 row-again row.DeliverNotifications c d is = ap (option_map (λ (b : Bool). record d { deliver_notifications = b })) (boolean-again c.deliver_notifications)
@@ -140,11 +140,11 @@ row-again row.NodeType c d is = ap (option_map (λ (x : NodeKind). record d { no
 row-again row.Collection c d is = ap (option_map (λ (t : List ℕ). record d { collection = t })) (name-again c.collection is.name)
 
 -- a configuration with the fields of these rows of another
-abbrev with_rows : List Row → NodeConfig → NodeConfig → NodeConfig
+abbrev with_rows : List Setting → NodeConfig → NodeConfig → NodeConfig
 with_rows [] c d = d
 with_rows (r ∷ rows) c d = with_rows rows c (with_row r c d)
 
-rows-again : (n : ℕ) (rows : List Row) (c d : NodeConfig) → IsConfig c → read_rows n (map row_of rows) (config_form c) d ≡ Ok (with_rows rows c d)
+rows-again : (n : ℕ) (rows : List Setting) (c d : NodeConfig) → IsConfig c → read_rows n (map row_of rows) (config_form c) d ≡ Ok (with_rows rows c d)
 rows-again n [] c d is = refl
 rows-again n (r ∷ rows) c d is =
     ap (λ (o : Option NodeConfig). after_row n o (λ x. read_rows (n + 1) (map row_of rows) (config_form c) x)) (row-again r c d is)

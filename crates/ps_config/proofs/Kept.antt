@@ -15,8 +15,8 @@ use Rattle.ps_types.specs.Config.{ConfigRow, row_change, after_row, read_rows, r
 use Rattle.ps_types.specs.Forms.{values_of}
 use Rattle.ps_types.specs.Values.{single, boolean_in, are_digits, number_of, choice_in}
 use Rattle.ps_config.specs.Bounds.{IsConfig}
-use Rattle.ps_config.specs.declared.row.Row.{Row}
-use Rattle.ps_config.specs.declared.row.Row.TheVariants as row
+use Rattle.ps_config.specs.declared.row.Setting.{Setting}
+use Rattle.ps_config.specs.declared.row.Setting.TheVariants as row
 use Rattle.ps_config.specs.Rows.{row_of, all_rows}
 use Rattle.ps_config.proofs.Numbers.{and-right, positive}
 use Rattle.ps_config.proofs.Rows.{rows_named, one_row}
@@ -70,7 +70,7 @@ set-kept : {X : Type 0} (set : X → NodeConfig) (o : Option X) (c : NodeConfig)
 set-kept set None c each e = absurd (cc)
 set-kept set (Some x) c each e = subst IsConfig (same_Some (set x) c e) (each x refl)
 
-row-kept : (r : Row) (d c : NodeConfig) (values : List (List ℕ)) → IsConfig d → (row_of r).change d values ≡ Some c → IsConfig c
+row-kept : (r : Setting) (d c : NodeConfig) (values : List (List ℕ)) → IsConfig d → (row_of r).change d values ≡ Some c → IsConfig c
 unfolding row_of
 row-kept row.Title d c values is e = set-kept (λ (x : List ℕ). record d { title = x }) (option_and_then (λ t. Some t) (single values)) c (λ x h. same-bounds (record d { title = x }) d refl refl refl is) e
 row-kept row.DeliverNotifications d c values is e = set-kept (λ (x : Bool). record d { deliver_notifications = x }) (boolean_in values) c (λ x h. same-bounds (record d { deliver_notifications = x }) d refl refl refl is) e
@@ -90,17 +90,17 @@ row-kept row.MaxPayloadSize d c values is e = set-kept (λ (x : ℕ). record d {
 row-kept row.NodeType d c values is e = set-kept (λ (x : NodeKind). record d { node_type = x }) (choice_in kind_choices values) c (λ x h. same-bounds (record d { node_type = x }) d refl refl refl is) e
 row-kept row.Collection d c values is e = set-kept (λ (x : List ℕ). record d { collection = x }) (option_and_then name_of (single values)) c (λ x h. record { some_items = is.some_items; most_items = is.most_items; some_bytes = is.some_bytes; most_bytes = is.most_bytes; name = name-bounds (single values) x h }) e
 
-given-kept : (r : Row) (given : Option (List (List ℕ))) (d c : NodeConfig) → IsConfig d → row_change (row_of r) d given ≡ Some c → IsConfig c
+given-kept : (r : Setting) (given : Option (List (List ℕ))) (d c : NodeConfig) → IsConfig d → row_change (row_of r) d given ≡ Some c → IsConfig c
 given-kept r None d c is e = subst IsConfig (same_Some d c e) is
 given-kept r (Some values) d c is e = row-kept r d c values is e
 
-step-kept : (n : ℕ) (r : Row) (rows : List Row) (form : Form) (d c : NodeConfig) (o : Option NodeConfig) → one_row r form d ≡ o → IsConfig d
+step-kept : (n : ℕ) (r : Setting) (rows : List Setting) (form : Form) (d c : NodeConfig) (o : Option NodeConfig) → one_row r form d ≡ o → IsConfig d
     → ((m : NodeConfig) → IsConfig m → read_rows (n + 1) (map row_of rows) form m ≡ Ok c → IsConfig c)
     → after_row n o (λ x. read_rows (n + 1) (map row_of rows) form x) ≡ Ok c → IsConfig c
 step-kept n r rows form d c None one is later e = absurd (cc)
 step-kept n r rows form d c (Some m) one is later e = later m (given-kept r (values_of (row_of r).var form) d m is one) e
 
-rows-kept : (n : ℕ) (rows : List Row) (form : Form) (d c : NodeConfig) → IsConfig d → read_rows n (map row_of rows) form d ≡ Ok c → IsConfig c
+rows-kept : (n : ℕ) (rows : List Setting) (form : Form) (d c : NodeConfig) → IsConfig d → read_rows n (map row_of rows) form d ≡ Ok c → IsConfig c
 rows-kept n [] form d c is e = let same : d ≡ c = cc in subst IsConfig same is
 rows-kept n (r ∷ rows) form d c is e = step-kept n r rows form d c (one_row r form d) refl is (λ m bounded h. rows-kept (n + 1) rows form m c bounded h) e
 

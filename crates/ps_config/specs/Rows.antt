@@ -2,11 +2,11 @@
 use Rattle.std.specs.Prelude.{ℕ, List, [], ◌∷◌, None}
 use Rattle.std.specs.List.{slice_index_or}
 use Rattle.ps_types.specs.Config.{ConfigRow, config_rows}
-use Rattle.ps_config.specs.declared.row.Row.{Row}
-use Rattle.ps_config.specs.declared.row.Row.TheVariants as row
+use Rattle.ps_config.specs.declared.row.Setting.{Setting}
+use Rattle.ps_config.specs.declared.row.Setting.TheVariants as row
 
 -- how many rows stand before it
-abbrev pub place_of : Row → ℕ
+abbrev pub place_of : Setting → ℕ
 place_of row.Title = 0
 place_of row.DeliverNotifications = 1
 place_of row.DeliverPayloads = 2
@@ -29,11 +29,11 @@ abbrev no_row : ConfigRow
 no_row = record { var = []; type = []; values = λ config. []; change = λ config values. None }
 
 -- the row of that name in the table
-unfoldable pub row_of : Row → ConfigRow
+unfoldable pub row_of : Setting → ConfigRow
 row_of r = slice_index_or config_rows (place_of r) no_row
 
 -- the rows in the order of the table
-abbrev pub all_rows : List Row
+abbrev pub all_rows : List Setting
 all_rows =
     row.Title ∷ row.DeliverNotifications ∷ row.DeliverPayloads ∷ row.NotifyConfig ∷ row.NotifyDelete ∷ row.NotifyRetract ∷ row.PersistItems ∷ row.MaxItems ∷ row.AccessModel
     ∷ row.PublishModel ∷ row.RosterGroupsAllowed ∷ row.SendLastPublishedItem ∷ row.PresenceBasedDelivery ∷ row.NotificationType ∷ row.MaxPayloadSize ∷ row.NodeType

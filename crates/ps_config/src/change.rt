@@ -2,7 +2,7 @@
 ghost use Rattle.std.specs.Prelude.{◌≡◌, Some, None, option_map, IfOk, OnOk, IsErrOf};
 ghost use Rattle.ps_config.specs.Rows.{row_of};
 
-use crate::row::Row;
+use crate::row::Setting;
 use crate::values::{
     access_in, boolean_in, kind_in, model_in, most_in, name_in, notice_in, send_in, single, size_in,
 };
@@ -73,29 +73,35 @@ fn put_texts(field: &mut Texts, values: &Texts) -> Result<(), Unread>
 pub(crate) fn change(
     alloc: Global,
     config: &mut NodeConfig,
-    row: Row,
+    row: Setting,
     values: &Texts,
 ) -> Result<(), Unread>
     ensures ok { OnOk result ((row_of row).change config.old values.now ≡ Some config.new) }
     ensures bad { IsErrOf result Unread.Bad → (row_of row).change config.old values.now ≡ None }
 {
     match row {
-        Row::Title => put_text(alloc, &mut config.title, single(values)),
-        Row::DeliverNotifications => put(&mut config.deliver_notifications, boolean_in(values)),
-        Row::DeliverPayloads => put(&mut config.deliver_payloads, boolean_in(values)),
-        Row::NotifyConfig => put(&mut config.notify_config, boolean_in(values)),
-        Row::NotifyDelete => put(&mut config.notify_delete, boolean_in(values)),
-        Row::NotifyRetract => put(&mut config.notify_retract, boolean_in(values)),
-        Row::PersistItems => put(&mut config.persist_items, boolean_in(values)),
-        Row::MaxItems => put(&mut config.max_items, most_in(values)),
-        Row::AccessModel => put(&mut config.access_model, access_in(values)),
-        Row::PublishModel => put(&mut config.publish_model, model_in(values)),
-        Row::RosterGroupsAllowed => put_texts(&mut config.roster_groups_allowed, values),
-        Row::SendLastPublishedItem => put(&mut config.send_last_published_item, send_in(values)),
-        Row::PresenceBasedDelivery => put(&mut config.presence_based_delivery, boolean_in(values)),
-        Row::NotificationType => put(&mut config.notification_type, notice_in(values)),
-        Row::MaxPayloadSize => put(&mut config.max_payload_size, size_in(values)),
-        Row::NodeType => put(&mut config.node_type, kind_in(values)),
-        Row::Collection => put_text(alloc, &mut config.collection, name_in(values)),
+        Setting::Title => put_text(alloc, &mut config.title, single(values)),
+        Setting::DeliverNotifications => put(&mut config.deliver_notifications, boolean_in(values)),
+        Setting::DeliverPayloads => put(&mut config.deliver_payloads, boolean_in(values)),
+        Setting::NotifyConfig => put(&mut config.notify_config, boolean_in(values)),
+        Setting::NotifyDelete => put(&mut config.notify_delete, boolean_in(values)),
+        Setting::NotifyRetract => put(&mut config.notify_retract, boolean_in(values)),
+        Setting::PersistItems => put(&mut config.persist_items, boolean_in(values)),
+        Setting::MaxItems => put(&mut config.max_items, most_in(values)),
+        Setting::AccessModel => put(&mut config.access_model, access_in(values)),
+        Setting::PublishModel => put(&mut config.publish_model, model_in(values)),
+        Setting::RosterGroupsAllowed => put_texts(&mut config.roster_groups_allowed, values),
+        Setting::SendLastPublishedItem => put(
+            &mut config.send_last_published_item,
+            send_in(values),
+        ),
+        Setting::PresenceBasedDelivery => put(
+            &mut config.presence_based_delivery,
+            boolean_in(values),
+        ),
+        Setting::NotificationType => put(&mut config.notification_type, notice_in(values)),
+        Setting::MaxPayloadSize => put(&mut config.max_payload_size, size_in(values)),
+        Setting::NodeType => put(&mut config.node_type, kind_in(values)),
+        Setting::Collection => put_text(alloc, &mut config.collection, name_in(values)),
     }
 }

@@ -4,9 +4,9 @@ ghost use Rattle.std.specs.List.{list_any};
 ghost use Rattle.ps_types.specs.Config.{config_rows};
 ghost use Rattle.ps_config.specs.Rows.{row_of, all_rows};
 
-use crate::row::{Row, rows, var_of};
+use crate::row::{Setting, rows, var_of};
 
-fn any_row(rows: &[Row], var: &str) -> bool
+fn any_row(rows: &[Setting], var: &str) -> bool
     ensures { result ≡ list_any (λ row. bytes_eq (row_of row).var var.now) rows.now }
 {
     rows.iter().any(|row| var_of(*row) == var)

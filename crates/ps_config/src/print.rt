@@ -4,7 +4,7 @@ ghost use Rattle.ps_types.specs.Config as table;
 ghost use Rattle.ps_config.specs.Cells.{cell_type, cell_values};
 ghost use Rattle.ps_config.specs.Rows.{row_of, all_rows};
 
-use crate::row::{Cell, Row, cell_of, rows, var_of};
+use crate::row::{Cell, Setting, cell_of, rows, var_of};
 use ps_base::Memory;
 use ps_namespaces::NODE_CONFIG;
 use ps_types::{Field, Fields, Form, FormKind, NodeConfig, Text, Texts};
@@ -59,7 +59,7 @@ fn values_of(alloc: Global, cell: &Cell<'_>) -> Result<Texts, Memory>
     }
 }
 
-fn config_field(alloc: Global, config: &NodeConfig, row: Row) -> Result<Field, Memory>
+fn config_field(alloc: Global, config: &NodeConfig, row: Setting) -> Result<Field, Memory>
     ensures { IfOk result (λ field. field ≡ table.config_field config.now (row_of row)) }
 {
     let cell = cell_of(config, row);

@@ -6,7 +6,7 @@ ghost use Rattle.ps_config.specs.Cause.{IsCause};
 ghost use Rattle.ps_config.specs.Rows.{row_of};
 
 use crate::change::{Unread, change};
-use crate::row::{Row, rows, var_of};
+use crate::row::{Setting, rows, var_of};
 use ps_forms::get;
 use ps_types::{Form, NodeConfig};
 use std::alloc::{AllocError, Global};
@@ -41,7 +41,7 @@ fn copy_of(base: &NodeConfig) -> Result<NodeConfig, AllocError>
 }
 
 // Reads one row. A field that isn't given stays.
-fn read_row(alloc: Global, config: &mut NodeConfig, row: Row, form: &Form) -> Result<(), Unread>
+fn read_row(alloc: Global, config: &mut NodeConfig, row: Setting, form: &Form) -> Result<(), Unread>
     ensures ok { OnOk result
         (table.row_change (row_of row) config.old (values_of (row_of row).var form.now) ≡ Some config.new) }
     ensures bad { IsErrOf result Unread.Bad

@@ -8,7 +8,7 @@ use ps_types::{Access, NodeConfig, NodeKind, NoticeKind, PublishModel, SendLast,
 
 /// A row of the configuration.
 #[derive(Clone, Copy)]
-pub(crate) enum Row {
+pub(crate) enum Setting {
     Title,
     DeliverNotifications,
     DeliverPayloads,
@@ -28,28 +28,28 @@ pub(crate) enum Row {
     Collection,
 }
 
-const ROWS: [Row; 17] = [
-    Row::Title,
-    Row::DeliverNotifications,
-    Row::DeliverPayloads,
-    Row::NotifyConfig,
-    Row::NotifyDelete,
-    Row::NotifyRetract,
-    Row::PersistItems,
-    Row::MaxItems,
-    Row::AccessModel,
-    Row::PublishModel,
-    Row::RosterGroupsAllowed,
-    Row::SendLastPublishedItem,
-    Row::PresenceBasedDelivery,
-    Row::NotificationType,
-    Row::MaxPayloadSize,
-    Row::NodeType,
-    Row::Collection,
+const ROWS: [Setting; 17] = [
+    Setting::Title,
+    Setting::DeliverNotifications,
+    Setting::DeliverPayloads,
+    Setting::NotifyConfig,
+    Setting::NotifyDelete,
+    Setting::NotifyRetract,
+    Setting::PersistItems,
+    Setting::MaxItems,
+    Setting::AccessModel,
+    Setting::PublishModel,
+    Setting::RosterGroupsAllowed,
+    Setting::SendLastPublishedItem,
+    Setting::PresenceBasedDelivery,
+    Setting::NotificationType,
+    Setting::MaxPayloadSize,
+    Setting::NodeType,
+    Setting::Collection,
 ];
 
 /// The rows in the order of the form.
-pub(crate) fn rows() -> &'static [Row]
+pub(crate) fn rows() -> &'static [Setting]
     ensures { result.now ≡ all_rows }
 {
     &ROWS
@@ -57,27 +57,27 @@ pub(crate) fn rows() -> &'static [Row]
 
 /// What the field of the row is called.
 #[tactic(auto, unfolding(crate::specs::Rows::row_of))]
-pub(crate) fn var_of(row: Row) -> &'static str
+pub(crate) fn var_of(row: Setting) -> &'static str
     ensures { result.now ≡ (row_of row).var }
 {
     match row {
-        Row::Title => "pubsub#title",
-        Row::DeliverNotifications => "pubsub#deliver_notifications",
-        Row::DeliverPayloads => "pubsub#deliver_payloads",
-        Row::NotifyConfig => "pubsub#notify_config",
-        Row::NotifyDelete => "pubsub#notify_delete",
-        Row::NotifyRetract => "pubsub#notify_retract",
-        Row::PersistItems => "pubsub#persist_items",
-        Row::MaxItems => "pubsub#max_items",
-        Row::AccessModel => "pubsub#access_model",
-        Row::PublishModel => "pubsub#publish_model",
-        Row::RosterGroupsAllowed => "pubsub#roster_groups_allowed",
-        Row::SendLastPublishedItem => "pubsub#send_last_published_item",
-        Row::PresenceBasedDelivery => "pubsub#presence_based_delivery",
-        Row::NotificationType => "pubsub#notification_type",
-        Row::MaxPayloadSize => "pubsub#max_payload_size",
-        Row::NodeType => "pubsub#node_type",
-        Row::Collection => "pubsub#collection",
+        Setting::Title => "pubsub#title",
+        Setting::DeliverNotifications => "pubsub#deliver_notifications",
+        Setting::DeliverPayloads => "pubsub#deliver_payloads",
+        Setting::NotifyConfig => "pubsub#notify_config",
+        Setting::NotifyDelete => "pubsub#notify_delete",
+        Setting::NotifyRetract => "pubsub#notify_retract",
+        Setting::PersistItems => "pubsub#persist_items",
+        Setting::MaxItems => "pubsub#max_items",
+        Setting::AccessModel => "pubsub#access_model",
+        Setting::PublishModel => "pubsub#publish_model",
+        Setting::RosterGroupsAllowed => "pubsub#roster_groups_allowed",
+        Setting::SendLastPublishedItem => "pubsub#send_last_published_item",
+        Setting::PresenceBasedDelivery => "pubsub#presence_based_delivery",
+        Setting::NotificationType => "pubsub#notification_type",
+        Setting::MaxPayloadSize => "pubsub#max_payload_size",
+        Setting::NodeType => "pubsub#node_type",
+        Setting::Collection => "pubsub#collection",
     }
 }
 
@@ -143,27 +143,27 @@ fn kind_text(kind: NodeKind) -> &'static str
 
 /// What the row holds in that configuration.
 #[tactic(auto, unfolding(crate::specs::Rows::row_of))]
-pub(crate) fn cell_of(config: &NodeConfig, row: Row) -> Cell<'_>
+pub(crate) fn cell_of(config: &NodeConfig, row: Setting) -> Cell<'_>
     ensures kind { cell_type result ≡ (row_of row).type }
     ensures values { cell_values result ≡ (row_of row).values config.now }
 {
     match row {
-        Row::Title => Cell::Line(&config.title),
-        Row::DeliverNotifications => Cell::Flag(config.deliver_notifications),
-        Row::DeliverPayloads => Cell::Flag(config.deliver_payloads),
-        Row::NotifyConfig => Cell::Flag(config.notify_config),
-        Row::NotifyDelete => Cell::Flag(config.notify_delete),
-        Row::NotifyRetract => Cell::Flag(config.notify_retract),
-        Row::PersistItems => Cell::Flag(config.persist_items),
-        Row::MaxItems => Cell::Number(config.max_items.get()),
-        Row::AccessModel => Cell::Word(access_text(config.access_model)),
-        Row::PublishModel => Cell::Word(model_text(config.publish_model)),
-        Row::RosterGroupsAllowed => Cell::Lines(&config.roster_groups_allowed),
-        Row::SendLastPublishedItem => Cell::Word(send_text(config.send_last_published_item)),
-        Row::PresenceBasedDelivery => Cell::Flag(config.presence_based_delivery),
-        Row::NotificationType => Cell::Word(notice_text(config.notification_type)),
-        Row::MaxPayloadSize => Cell::Number(config.max_payload_size),
-        Row::NodeType => Cell::Word(kind_text(config.node_type)),
-        Row::Collection => Cell::Line(&config.collection),
+        Setting::Title => Cell::Line(&config.title),
+        Setting::DeliverNotifications => Cell::Flag(config.deliver_notifications),
+        Setting::DeliverPayloads => Cell::Flag(config.deliver_payloads),
+        Setting::NotifyConfig => Cell::Flag(config.notify_config),
+        Setting::NotifyDelete => Cell::Flag(config.notify_delete),
+        Setting::NotifyRetract => Cell::Flag(config.notify_retract),
+        Setting::PersistItems => Cell::Flag(config.persist_items),
+        Setting::MaxItems => Cell::Number(config.max_items.get()),
+        Setting::AccessModel => Cell::Word(access_text(config.access_model)),
+        Setting::PublishModel => Cell::Word(model_text(config.publish_model)),
+        Setting::RosterGroupsAllowed => Cell::Lines(&config.roster_groups_allowed),
+        Setting::SendLastPublishedItem => Cell::Word(send_text(config.send_last_published_item)),
+        Setting::PresenceBasedDelivery => Cell::Flag(config.presence_based_delivery),
+        Setting::NotificationType => Cell::Word(notice_text(config.notification_type)),
+        Setting::MaxPayloadSize => Cell::Number(config.max_payload_size),
+        Setting::NodeType => Cell::Word(kind_text(config.node_type)),
+        Setting::Collection => Cell::Line(&config.collection),
     }
 }

@@ -13,7 +13,7 @@ use Rattle.ps_filter.specs.declared.want.Want.{Want}
 use Rattle.ps_filter.specs.Wants.{AreWants, SetsWants, asks_for, is_want_of, is_wanted}
 use Rattle.ps_filter.proofs.Following.{wanted-without}
 use Rattle.ps_core.specs.declared.half.Half.{Half}
-use Rattle.ps_core.specs.declared.numbers.Numbers.{Numbers}
+use Rattle.ps_core.specs.declared.numbers.NumberChange.{NumberChange}
 use Rattle.ps_core.specs.declared.service.Kept.{Kept}
 use Rattle.ps_core.specs.declared.service.Stage.{Stage}
 use Rattle.ps_core.specs.declared.service.Stage.TheVariants.{Prepared}
@@ -57,5 +57,5 @@ copied-wants front back e w h =
     subst (λ rows. AreWants rows back.tables.presence.rows) (sym w) (subst (λ rows. AreWants front.wants.rows rows) (sym p) h)
 
 -- of a prepared entry both copies have their wants
-pub prepared-wants : (at : Stage) (kept : Kept) (numbers : Numbers) (back : Half) → at ≡ Prepared kept numbers → BackHasWants at back → HasWants back
+pub prepared-wants : (at : Stage) (kept : Kept) (numbers : NumberChange) (back : Half) → at ≡ Prepared kept numbers → BackHasWants at back → HasWants back
 prepared-wants at kept numbers back is wants = subst (λ (s : Stage). BackHasWants s back) is wants

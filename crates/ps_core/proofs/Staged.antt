@@ -7,10 +7,10 @@ use Rattle.ps_model.specs.After.{after}
 use Rattle.ps_book_laws.specs.Addressed.{IsTimely}
 use Rattle.ps_core.specs.Counted.{AreFewMade, Holds}
 use Rattle.ps_core.specs.Numbers.{numbers_after}
-use Rattle.ps_core.specs.Stages.{AreNumbers, Follows, IsBack, IsKept, IsStage}
+use Rattle.ps_core.specs.Stages.{AreNumbers, Follows, IsBack, StageIsKept, IsStage}
 use Rattle.ps_core.specs.Requests.{IsRequestOf}
 use Rattle.ps_core.specs.States.{Part, fits_book, part_after, state_with}
-use Rattle.ps_core.specs.declared.numbers.Numbers.{Numbers}
+use Rattle.ps_core.specs.declared.numbers.NumberChange.{NumberChange}
 use Rattle.ps_core.specs.declared.service.Kept.{Kept}
 use Rattle.ps_core.specs.declared.service.Stage.{Stage}
 use Rattle.ps_core.specs.declared.service.Stage.TheVariants.{Even, Prepared, Behind, Stale}
@@ -22,8 +22,8 @@ back-staged (Prepared kept numbers) front back tallies is = tt
 back-staged (Behind kept) front back tallies is = is
 back-staged Stale front back tallies is = tt
 
-module _ (front back : Part) (kept : Kept) (numbers : Numbers) (before now : Table TallyRow) (follows : Follows front kept back) (are : AreNumbers front before kept.entry numbers) (done : now.rows ≡ numbers_after numbers before.rows) where
-  pub committed-kept : IsKept (Behind kept) back front now
+module _ (front back : Part) (kept : Kept) (numbers : NumberChange) (before now : Table TallyRow) (follows : Follows front kept back) (are : AreNumbers front before kept.entry numbers) (done : now.rows ≡ numbers_after numbers before.rows) where
+  pub committed-kept : StageIsKept (Behind kept) back front now
   committed-kept = record {
     holds = subst Holds (sym follows.is_after) (holds-after front kept.entry follows.is_accepted follows.is_timely follows.holds);
     few =

@@ -27,8 +27,8 @@ use Rattle.ps_compact_import.specs.States.{FitMore, has_own_key}
 use Rattle.ps_core.specs.Numbers.{Fit, IsCountOf, is_counter, numbers_after}
 use Rattle.ps_core.specs.Rows.{fits_row, is_bounded}
 use Rattle.ps_core.specs.States.{Part, fits_book, state_with}
-use Rattle.ps_core.specs.declared.numbers.Numbers.{Numbers}
-use Rattle.ps_core.specs.declared.numbers.Numbers.TheVariants.{Made, Set, Handed as Handed'}
+use Rattle.ps_core.specs.declared.numbers.NumberChange.{NumberChange}
+use Rattle.ps_core.specs.declared.numbers.NumberChange.TheVariants.{Made, Set, Handed as Handed'}
 use Rattle.ps_core.proofs.Both.{and_right}
 
 -- one more is made for an address at most
@@ -93,7 +93,7 @@ based count tallies o ns whos are is plain = by o plain ∙ ap (tallied_by talli
     by (Some (base.notice to line)) plain = refl
 
 -- it is what its notices say
-pub counted-is : (p : Part) (tallies : List TallyRow) (e : Entry) (ns : List Notice) (numbers : Numbers) → fits_book p.book e ≡ true → ns ≡ notices_at (state_with p tallies) e → IsCountOf e ns numbers
+pub counted-is : (p : Part) (tallies : List TallyRow) (e : Entry) (ns : List Notice) (numbers : NumberChange) → fits_book p.book e ≡ true → ns ≡ notices_at (state_with p tallies) e → IsCountOf e ns numbers
     → tallies_after (state_with p tallies) e ≡ numbers_after numbers tallies
 counted-is p tallies (Handed to) ns (Made whos) fits are is = absurd is
 counted-is p tallies (Handed to) ns (Handed' who) fits are is = ap (λ (j : Jid). one_handed j tallies) (sym is)
@@ -127,7 +127,7 @@ set-few o book who n fits is =
     ltb-true n (2 ^ 62) (and_right (nat_lt 0 n) (nat_lt n (2 ^ 62)) bounded)
 
 -- the numbers stay below the end of their type, and few
-pub counted-fit : (p : Part) (tallies : List TallyRow) (e : Entry) (ns : List Notice) (numbers : Numbers) → accepted (state_with p tallies) e ≡ true → fits_book p.book e ≡ true → p.count < 2 ^ 62 → AreFewMade p.count tallies → IsCountOf e ns numbers
+pub counted-fit : (p : Part) (tallies : List TallyRow) (e : Entry) (ns : List Notice) (numbers : NumberChange) → accepted (state_with p tallies) e ≡ true → fits_book p.book e ≡ true → p.count < 2 ^ 62 → AreFewMade p.count tallies → IsCountOf e ns numbers
     → Fit numbers tallies
 counted-fit p tallies (Handed to) ns (Handed' who) ok fits less few is =
     let has : handed_to to tallies < made_for to tallies = handed-has-one (state_with p tallies) to ok in
@@ -152,7 +152,7 @@ few-set count tallies who n small few = λ a. by a (same_bare a who) refl
     by a true e = let m = made-set a who n n tallies e in omega (arith, m, small)
     by a false e = let m = made-kept a who n n tallies e in let old = few a in omega (arith, m, old)
 
-pub counted-few : (count : ℕ) (tallies : List TallyRow) (numbers : Numbers) → Fit numbers tallies → AreFewMade count tallies → AreFewMade (count + 1) (numbers_after numbers tallies)
+pub counted-few : (count : ℕ) (tallies : List TallyRow) (numbers : NumberChange) → Fit numbers tallies → AreFewMade count tallies → AreFewMade (count + 1) (numbers_after numbers tallies)
 counted-few count tallies (Made whos) fit few = few-made count tallies whos.items few (short whos)
 counted-few count tallies (Handed' who) fit few = few-handed count tallies who few
 counted-few count tallies (Set who n) fit few = few-set count tallies who n fit few

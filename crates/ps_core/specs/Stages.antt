@@ -10,7 +10,7 @@ use Rattle.ps_core.specs.Counted.{AreFewMade, Holds}
 use Rattle.ps_core.specs.Numbers.{Fit, numbers_after, rows_set}
 use Rattle.ps_core.specs.Requests.{IsRequestOf}
 use Rattle.ps_core.specs.States.{Part, fits_book, part_after, state_with}
-use Rattle.ps_core.specs.declared.numbers.Numbers.{Numbers}
+use Rattle.ps_core.specs.declared.numbers.NumberChange.{NumberChange}
 use Rattle.ps_core.specs.declared.service.Kept.{Kept}
 use Rattle.ps_core.specs.declared.service.Stage.{Stage}
 use Rattle.ps_core.specs.declared.service.Stage.TheVariants.{Even, Prepared, Behind, Stale}
@@ -36,7 +36,7 @@ pub record Follows (old : Part) (kept : Kept) (new : Part) : Type 0 where
   pub is_after : new ≡ part_after old kept.entry
 
 -- what the entry does to the numbers is known, and there is room for it
-pub record AreNumbers (p : Part) (tallies : Table TallyRow) (e : Entry) (numbers : Numbers) : Type 0 where
+pub record AreNumbers (p : Part) (tallies : Table TallyRow) (e : Entry) (numbers : NumberChange) : Type 0 where
   pub is_after : tallies_after (state_with p tallies.rows) e ≡ numbers_after numbers tallies.rows
   pub room : rows_set numbers ≤ tallies.spare
   pub fit : Fit numbers tallies.rows
@@ -56,7 +56,7 @@ IsBack (Behind kept) front back = Follows back kept front
 IsBack Stale front back = Unit {0}
 
 -- the first copy is one that entries leave, the second is what the stage says, and the numbers are few
-pub record IsKept (stage : Stage) (front back : Part) (tallies : Table TallyRow) : Type 0 where
+pub record StageIsKept (stage : Stage) (front back : Part) (tallies : Table TallyRow) : Type 0 where
   pub holds : Holds front
   pub few : AreFewMade front.count tallies.rows
   pub staged : IsStage stage front back tallies

@@ -16,7 +16,7 @@ use crate::half::Half;
 use crate::plans::plan;
 use ps_access::Tables;
 use ps_base::Memory;
-use ps_compact_codec::{Row, read_row};
+use ps_compact_codec::{StoredRow, read_row};
 use ps_compact_import::accepts_row;
 use ps_notice_numbers::Tallies;
 use ps_request::{TakenTree, take_tree};
@@ -111,7 +111,7 @@ fn is_accepted_row(
 }
 
 // A row is let go by one call, so that its cases are met nowhere else.
-fn let_go(_row: Row) {}
+fn let_go(_row: StoredRow) {}
 
 // What an entry is that has no request.
 fn without_request(accepted: bool) -> Acceptance

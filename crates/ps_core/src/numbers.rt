@@ -4,16 +4,16 @@ ghost use Rattle.ps_model.specs.BaseRead.{row_of};
 ghost use Rattle.ps_core.specs.Numbers.{Fit, IsCountOf, IsCountOfRow, numbers_after, rows_set};
 ghost use Rattle.ps_core.specs.Rows.{is_held, is_held_row};
 ghost use Rattle.ps_compact_codec.specs.Said.{row_said};
-ghost use Rattle.ps_core.specs.declared.numbers.Numbers.TheVariants.{Made};
+ghost use Rattle.ps_core.specs.declared.numbers.NumberChange.TheVariants.{Made};
 
 use ps_base::Memory;
-use ps_compact_codec::{Row, read_row};
+use ps_compact_codec::{StoredRow, read_row};
 use ps_notice_numbers::Tallies;
 use ps_types::{Elem, Entry, Jid, Notice};
 use std::alloc::Global;
 
 /// What an entry does to the numbers of notices.
-pub enum Numbers {
+pub enum NumberChange {
     /// A notice more is made for each of these addresses.
     Made(Vec<Jid>),
     /// A notice more is handed to this one.
@@ -23,12 +23,12 @@ pub enum Numbers {
 }
 
 // By hand, so that its cases are met nowhere else.
-impl Drop for Numbers {
+impl Drop for NumberChange {
     fn drop(self) {
         match self {
-            Numbers::Made(_) => {}
-            Numbers::Handed(_) => {}
-            Numbers::Set(_, _) => {}
+            NumberChange::Made(_) => {}
+            NumberChange::Handed(_) => {}
+            NumberChange::Set(_, _) => {}
         }
     }
 }
@@ -45,20 +45,20 @@ fn addresses(alloc: Global, notices: &[Notice]) -> Result<Vec<Jid>, Memory>
 }
 
 // What a row of a compacted store does to the numbers.
-fn numbers_by(alloc: Global, row: Row, notices: &[Notice]) -> Result<Numbers, Memory>
+fn numbers_by(alloc: Global, row: StoredRow, notices: &[Notice]) -> Result<NumberChange, Memory>
     ensures { IfOk result (IsCountOfRow (Some (row_said row)) notices.now) }
 {
     match row {
-        Row::Counter { who, handed } => Ok(Numbers::Set(who, handed)),
+        StoredRow::Counter { who, handed } => Ok(NumberChange::Set(who, handed)),
         _ => {
             let whos = addresses(alloc, notices)?;
-            Ok(Numbers::Made(whos))
+            Ok(NumberChange::Made(whos))
         }
     }
 }
 
 // The same of its tree.
-fn numbers_of_row(alloc: Global, tree: &Elem, notices: &[Notice]) -> Result<Numbers, Memory>
+fn numbers_of_row(alloc: Global, tree: &Elem, notices: &[Notice]) -> Result<NumberChange, Memory>
     requires held { is_held_row (row_of tree.now) ≡ true }
     ensures { IfOk result (IsCountOfRow (row_of tree.now) notices.now) }
 {
@@ -73,25 +73,25 @@ pub(crate) fn numbers_of(
     alloc: Global,
     entry: &Entry,
     notices: &[Notice],
-) -> Result<Numbers, Memory>
+) -> Result<NumberChange, Memory>
     requires held { is_held entry.now ≡ true }
     ensures { IfOk result (IsCountOf entry.now notices.now) }
 {
     match entry {
-        Entry::Handed { to } => Ok(Numbers::Handed(to.clone()?)),
+        Entry::Handed { to } => Ok(NumberChange::Handed(to.clone()?)),
         Entry::Base { row } => numbers_of_row(alloc, row, notices),
-        _ => Ok(Numbers::Made(addresses(alloc, notices)?)),
+        _ => Ok(NumberChange::Made(addresses(alloc, notices)?)),
     }
 }
 
 /// Makes room for the rows that they set.
-pub(crate) fn reserve_for(tallies: &mut Tallies, numbers: &Numbers) -> Result<(), Memory>
+pub(crate) fn reserve_for(tallies: &mut Tallies, numbers: &NumberChange) -> Result<(), Memory>
     ensures rows { tallies.new.rows ≡ tallies.old.rows }
     ensures room { OnOk result (rows_set numbers.now ≤ tallies.new.spare) }
 {
     match numbers {
-        Numbers::Made(whos) => tallies.reserve(whos.len() as u64),
-        Numbers::Handed(_) | Numbers::Set(_, _) => tallies.reserve(1),
+        NumberChange::Made(whos) => tallies.reserve(whos.len() as u64),
+        NumberChange::Handed(_) | NumberChange::Set(_, _) => tallies.reserve(1),
     }
 }
 
@@ -106,7 +106,7 @@ fn make_each(tallies: &mut Tallies, whos: Vec<Jid>)
     }
 }
 
-impl Numbers {
+impl NumberChange {
     /// Does so, and takes no memory.
     pub(crate) fn count_in(self, tallies: &mut Tallies)
         requires room { rows_set self ≤ tallies.old.spare }
@@ -114,9 +114,9 @@ impl Numbers {
         ensures { tallies.new.rows ≡ numbers_after self tallies.old.rows }
     {
         match self {
-            Numbers::Made(whos) => make_each(tallies, whos),
-            Numbers::Handed(who) => tallies.hand(who),
-            Numbers::Set(who, number) => tallies.set(who, u128::from(number), u128::from(number)),
+            NumberChange::Made(whos) => make_each(tallies, whos),
+            NumberChange::Handed(who) => tallies.hand(who),
+            NumberChange::Set(who, n) => tallies.set(who, u128::from(n), u128::from(n)),
         }
     }
 }

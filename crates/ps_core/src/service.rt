@@ -21,7 +21,7 @@ ghost use Rattle.ps_compact_export.specs.Written.{written};
 use crate::accepting::{Acceptance, acceptance_at};
 use crate::answers::{Answer, WithRequest, answer_at};
 use crate::half::Half;
-use crate::numbers::{Numbers, numbers_of, reserve_for};
+use crate::numbers::{NumberChange, numbers_of, reserve_for};
 use crate::telling::told_by;
 use ps_access::Tables;
 use ps_base::Memory;
@@ -56,7 +56,7 @@ pub enum Stage {
     /// It is equal.
     Even,
     /// It is one entry ahead, and this is what the entry does to the numbers of notices.
-    Prepared(Kept, Numbers),
+    Prepared(Kept, NumberChange),
     /// It is one entry behind.
     Behind(Kept),
     /// It is to be made anew.
@@ -88,7 +88,7 @@ impl Drop for Service {
 
 impl Model for Service {
     ghost use Rattle.ps_core.specs.States.{part_of, state_of};
-    ghost use Rattle.ps_core.specs.Stages.{Held, IsKept, prepared_in};
+    ghost use Rattle.ps_core.specs.Stages.{Held, StageIsKept, prepared_in};
     ghost use Rattle.ps_core.specs.Wants.{HaveWants};
 
     ghost Value = { Held };
@@ -100,7 +100,7 @@ impl Model for Service {
 
     ghost view = { λ s. record { state = state_of s.front s.tallies.rows; prepared = prepared_in s.stage } };
 
-    ghost invariant = { λ s. IsKept s.stage (part_of s.front) (part_of s.back) s.tallies
+    ghost invariant = { λ s. StageIsKept s.stage (part_of s.front) (part_of s.back) s.tallies
         × HaveWants s.stage s.front s.back };
 }
 
@@ -410,7 +410,7 @@ fn told_and_counted<R: Threads + Sync>(
     back: &Half,
     tallies: &mut Tallies,
     kept: &Kept,
-) -> Result<(Vec<Notice>, Numbers), Memory>
+) -> Result<(Vec<Notice>, NumberChange), Memory>
     requires follows { Follows (part_of front.now) kept.now (part_of back.now) }
     requires accepted { accepted (state_of front.now tallies.old.rows) kept.now.entry ≡ true }
     requires few { AreFewMade front.now.count tallies.old.rows }

@@ -15,7 +15,7 @@ ghost use Rattle.ps_compact_codec.specs.Said.{row_said};
 use crate::half::Half;
 use crate::service::Kept;
 use ps_base::{Bytes, Memory};
-use ps_compact_codec::{Row, read_row};
+use ps_compact_codec::{StoredRow, read_row};
 use ps_events::events;
 use ps_notice_numbers::Tallies;
 use ps_notices::notices_of;
@@ -54,12 +54,17 @@ fn told_by_request<R: Threads + Sync>(
 }
 
 // The notice that a row of a compacted store is, if it is one.
-fn notice_in(alloc: Global, count: u64, tallies: &Tallies, row: Row) -> Result<Vec<Notice>, Memory>
+fn notice_in(
+    alloc: Global,
+    count: u64,
+    tallies: &Tallies,
+    row: StoredRow,
+) -> Result<Vec<Notice>, Memory>
     requires fit { FitMore tallies.now.rows }
     ensures { IfOk result (λ v. v.items ≡ row_notices count tallies.now.rows (Some (row_said row))) }
 {
     match row {
-        Row::Notice { to, line } => {
+        StoredRow::Notice { to, line } => {
             let number = tallies.made(&to) + 1;
             let line = Bytes::from_vec(line.as_str().as_bytes().to_vec(alloc)?);
             let mut notices = Vec::new(alloc);

@@ -20,7 +20,7 @@ pub record Recorded : Type 0 where
   pub calls : ℕ
   -- how many of them failed
   pub faults : ℕ
-  -- how often one of them gave up for want of memory
+  -- how often one of them gave up because memory ran out
   pub refused : ℕ
 
 -- a disk with these bytes, nothing pending and no faults
@@ -98,7 +98,7 @@ kept_with kept number call = kept ++ record { number = number; call = call } ∷
 abbrev pub with_failed_call : Recorded → Recorded
 with_failed_call d = record d { calls = next_count d.calls; faults = next_count d.faults }
 
--- that a call gave up for want of memory is counted
+-- that a call gave up because memory ran out is counted
 abbrev pub with_refusal : Recorded → Recorded
 with_refusal d = record d { faults = next_count d.faults; refused = next_count d.refused }
 

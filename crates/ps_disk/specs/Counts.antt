@@ -3,7 +3,7 @@ use Rattle.std.specs.Prelude.{◌≡◌, ◌⊎◌, ◌<◌, ◌↔◌, Contains
 use Rattle.ps_base.specs.Causes.{next_count, Rose}
 use Rattle.ps_disk.specs.Calls.{Recorded}
 
--- The call has the next number. It fails where that number is one of those that fail, and where it gave up for want of memory, and only there.
+-- The call has the next number. It fails where that number is one of those that fail, and where it gave up because memory ran out, and only there.
 pub record IsCall {T E : Type 0} (old new : Recorded) (result : Result T E) : Type 0 where
   pub calls : new.calls ≡ next_count old.calls
   pub start : new.start ≡ old.start

@@ -36,7 +36,7 @@ Rises low [] high = low ≤ high
 Rises low (one ∷ others) high = (low ≤ one.number) × Rises one.number others high
 
 -- what a disk in memory keeps: the bytes that its calls have made, and calls in their order that each begin within what is seen
-pub record IsKept (start bytes : List ℕ) (kept : List Kept) (calls : ℕ) : Type 0 where
+pub record CallsAreKept (start bytes : List ℕ) (kept : List Kept) (calls : ℕ) : Type 0 where
   pub seen : bytes ≡ (after_calls (start_of start) kept).seen
   pub each : EachBegins (start_of start) kept
   pub rises : Rises 0 kept calls

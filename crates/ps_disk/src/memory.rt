@@ -42,7 +42,7 @@ impl Drop for MemDisk {
 
 impl Model for MemDisk {
     ghost use Rattle.ps_disk.specs.Calls.{Recorded};
-    ghost use Rattle.ps_disk.specs.Filled.{IsKept};
+    ghost use Rattle.ps_disk.specs.Filled.{CallsAreKept};
 
     ghost Value = { Recorded };
 
@@ -55,7 +55,7 @@ impl Model for MemDisk {
       refused = d.refused;
     } };
 
-    ghost invariant = { λ d. IsKept d.start.items d.bytes.items d.kept.items d.calls };
+    ghost invariant = { λ d. CallsAreKept d.start.items d.bytes.items d.kept.items d.calls };
 }
 
 impl MemDisk {
@@ -92,7 +92,7 @@ impl MemDisk {
         self.calls
     }
 
-    /// How often a call gave up for want of memory. The number stands still at its type's end.
+    /// How often a call gave up because memory ran out. The number stands still at its type's end.
     pub fn refused(&self) -> u64
         ensures { result ≡ self.now.refused }
     {
@@ -141,7 +141,7 @@ impl MemDisk {
         Ok(())
     }
 
-    // Counts that a call gave up for want of memory.
+    // Counts that a call gave up because memory ran out.
     fn give_up(&mut self)
         ensures counts { self.new ≡ with_refusal self.old }
         ensures later { self.old.faults ≤ self.new.faults }

@@ -5,7 +5,7 @@ ghost use Rattle.ps_model.specs.NoticeTrees as trees;
 ghost use Rattle.ps_types.specs.Print.{print};
 ghost use Rattle.ps_drafts.specs.Parts as parts;
 
-use crate::form::Form;
+use crate::form::EventForm;
 use crate::words::{id_of, with_quoted};
 use ps_base::{Bytes, Memory};
 use ps_names::put;
@@ -36,7 +36,7 @@ pub(crate) enum Parts {
     /// A tree of its own.
     Tree(Elem),
     /// A message of a form to the address of that text, and the name of the collection that it names.
-    Message(Arc<Form>, Text, Option<Text>),
+    Message(Arc<EventForm>, Text, Option<Text>),
 }
 
 impl Model for Draft {
@@ -62,7 +62,7 @@ impl Draft {
     }
 
     /// The message of the form to the address of that text, which names that collection, where there is one.
-    pub fn of_form(form: &Arc<Form>, to: Text, through: Option<Text>) -> Result<Draft, Memory>
+    pub fn of_form(form: &Arc<EventForm>, to: Text, through: Option<Text>) -> Result<Draft, Memory>
         ensures { IfOk result (λ d. d ≡ parts.message_of (arc_value form.now) to through) }
     {
         let form = Arc::try_clone(form)?;
@@ -114,7 +114,7 @@ fn printed(alloc: Global, number: u128, tree: Elem) -> Result<Bytes, Memory>
 fn message(
     alloc: Global,
     number: u128,
-    form: &Form,
+    form: &EventForm,
     to: &Text,
     through: &Option<Text>,
 ) -> Result<Bytes, Memory>

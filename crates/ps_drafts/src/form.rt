@@ -15,7 +15,7 @@ use std::sync::Arc;
 
 /// The messages that carry an event, but for their address, their id and the collection that they name.
 #[derive(Drop)]
-pub struct Form {
+pub struct EventForm {
     from: Text,
     kind: NoticeKind,
     event: Arc<Elem>,
@@ -23,7 +23,7 @@ pub struct Form {
     back: Vec<u8>,
 }
 
-impl Model for Form {
+impl Model for EventForm {
     ghost use Rattle.std.specs.Prelude.{◌≡◌};
     ghost use Rattle.std.specs.Arc.{arc_value};
     ghost use Rattle.ps_drafts.specs.Parts.{Shape, front_of, back_of};
@@ -71,21 +71,21 @@ fn back_of(alloc: Global, kind: NoticeKind, event: &Elem) -> Result<Vec<u8>, Mem
     Ok(back)
 }
 
-impl Form {
+impl EventForm {
     /// The messages of this kind from the address that carry the event.
     pub fn new(
         alloc: Global,
         from: &Jid,
         kind: NoticeKind,
         event: &Arc<Elem>,
-    ) -> Result<Form, Memory>
+    ) -> Result<EventForm, Memory>
         ensures { IfOk result (λ f. f ≡ record { from = jid_text from.now; kind = kind; event = arc_value event.now }) }
     {
         let from = from.text(alloc)?;
         let front = front_of(alloc, from.as_str())?;
         let back = back_of(alloc, kind, event)?;
         let event = Arc::try_clone(event)?;
-        Ok(Form {
+        Ok(EventForm {
             from,
             kind,
             event,

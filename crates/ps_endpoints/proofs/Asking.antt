@@ -3,36 +3,36 @@ use Rattle.std.proofs.Common.{◌≡◌, ℕ, zero, suc, List, [], ◌∷◌, �
 use Rattle.std.specs.Prelude.{take}
 use Rattle.std.proofs.lemmas.List.{append-nil}
 use Rattle.ps_io.specs.World.{AskedAt}
-use Rattle.ps_io.specs.declared.world.Opening.{Opening}
+use Rattle.ps_io.specs.declared.world.OpenCall.{OpenCall}
 use Rattle.ps_io.specs.declared.world.WorldRefusal.{WorldRefusal}
 use Rattle.ps_io.specs.declared.world.WorldRefusal.TheVariants.{Failed, Memory}
 
-take-none : (n : ℕ) → take {A = Opening} n [] ≡ []
+take-none : (n : ℕ) → take {A = OpenCall} n [] ≡ []
 take-none zero = refl
 take-none (suc n) = refl
 
 -- the first of these openings
-abbrev pub Front : List Opening → List Opening → List Opening → Type 0
+abbrev pub Front : List OpenCall → List OpenCall → List OpenCall → Type 0
 Front openings old new = (n : ℕ) × (new ≡ old ++ take n openings)
 
-pub none-yet : (openings old : List Opening) → Front openings old old
+pub none-yet : (openings old : List OpenCall) → Front openings old old
 none-yet openings old = (0, sym (append-nil old))
 
 -- the next may have been asked for
-pub one-more : (old new : List Opening) (opening : Opening) (rest : List Opening) (why : WorldRefusal) → AskedAt why old opening new → Front (opening ∷ rest) old new
+pub one-more : (old new : List OpenCall) (opening : OpenCall) (rest : List OpenCall) (why : WorldRefusal) → AskedAt why old opening new → Front (opening ∷ rest) old new
 one-more old new opening rest Failed asked = (1, asked)
 one-more old new opening rest Memory asked = (0, asked ∙ sym (append-nil old))
 
 -- one was, and then the first of the rest
-pub after-one : (old one new : List Opening) (opening : Opening) (rest : List Opening) → one ≡ old ++ opening ∷ [] → Front rest one new → Front (opening ∷ rest) old new
+pub after-one : (old one new : List OpenCall) (opening : OpenCall) (rest : List OpenCall) → one ≡ old ++ opening ∷ [] → Front rest one new → Front (opening ∷ rest) old new
 after-one old one new opening rest asked more =
-    (suc more.0, more.1 ∙ (ap (λ (l : List Opening). l ++ take more.0 rest) asked ∙ append_assoc old (opening ∷ []) (take more.0 rest)))
+    (suc more.0, more.1 ∙ (ap (λ (l : List OpenCall). l ++ take more.0 rest) asked ∙ append_assoc old (opening ∷ []) (take more.0 rest)))
 
-module _ (old one new : List Opening) (first second third : Opening) (rest : List Opening) where
+module _ (old one new : List OpenCall) (first second third : OpenCall) (rest : List OpenCall) where
   -- three were, and then the first of the rest
   pub after-three : one ≡ old ++ first ∷ second ∷ third ∷ [] → Front rest one new → Front (first ∷ second ∷ third ∷ rest) old new
   after-three asked more =
-      (suc (suc (suc more.0)), more.1 ∙ (ap (λ (l : List Opening). l ++ take more.0 rest) asked ∙ append_assoc old (first ∷ second ∷ third ∷ []) (take more.0 rest)))
+      (suc (suc (suc more.0)), more.1 ∙ (ap (λ (l : List OpenCall). l ++ take more.0 rest) asked ∙ append_assoc old (first ∷ second ∷ third ∷ []) (take more.0 rest)))
 
   -- some of the three were
   pub in-three : Front (first ∷ second ∷ third ∷ []) old new → Front (first ∷ second ∷ third ∷ rest) old new
@@ -42,4 +42,4 @@ module _ (old one new : List Opening) (first second third : Opening) (rest : Lis
       by-count zero asked = (0, asked)
       by-count (suc zero) asked = (1, asked)
       by-count (suc (suc zero)) asked = (2, asked)
-      by-count (suc (suc (suc n))) asked = (3, asked ∙ ap (λ (l : List Opening). old ++ first ∷ second ∷ third ∷ l) (take-none n))
+      by-count (suc (suc (suc n))) asked = (3, asked ∙ ap (λ (l : List OpenCall). old ++ first ∷ second ∷ third ∷ l) (take-none n))

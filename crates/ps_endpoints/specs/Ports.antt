@@ -9,7 +9,7 @@ use Rattle.ps_io.specs.Held.{IsHeld, IsHeldClock, Same, SameLefts}
 use Rattle.ps_io.specs.declared.clock.Clock.{Ghosts as ClockGhosts}
 use Rattle.ps_io.specs.declared.world.Kind.{Kind}
 use Rattle.ps_io.specs.declared.world.Kind.TheVariants.{Source, Sink, Store, Clock}
-use Rattle.ps_io.specs.declared.world.Opening.{Opening}
+use Rattle.ps_io.specs.declared.world.OpenCall.{OpenCall}
 use Rattle.ps_io.specs.declared.world.World.{Ghosts}
 use Rattle.ps_args.specs.declared.command.Stream.{Stream}
 use Rattle.ps_endpoints.specs.declared.port.Port.{Port}
@@ -36,11 +36,11 @@ AreApart (stream ∷ streams) =
     × AreApart streams
 
 -- its source alone
-abbrev pub source_openings : Stream → List Opening
+abbrev pub source_openings : Stream → List OpenCall
 source_openings stream = record { kind = Source; name = stream.source } ∷ []
 
 -- each stream's source, its sink and the clock of its host, in this order
-abbrev pub port_openings : List Stream → List Opening
+abbrev pub port_openings : List Stream → List OpenCall
 port_openings [] = []
 port_openings (stream ∷ streams) =
     record { kind = Source; name = stream.source }
@@ -138,11 +138,11 @@ module _ {S R K D C : Type 0} (w : Ghosts S R K D C) where
     pub faults : w.faults new ≡ w.faults old
 
   -- all of these openings were asked for
-  abbrev pub AsksAll : List Opening → S → S → Type 0
+  abbrev pub AsksAll : List OpenCall → S → S → Type 0
   AsksAll openings old new = w.asked new ≡ w.asked old ++ openings
 
   -- or the first of them
-  abbrev pub AsksInOrder : List Opening → S → S → Type 0
+  abbrev pub AsksInOrder : List OpenCall → S → S → Type 0
   AsksInOrder openings old new = (n : ℕ) × (w.asked new ≡ w.asked old ++ take n openings)
 
   -- the last opening failed, and came after the start

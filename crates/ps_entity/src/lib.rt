@@ -4,7 +4,7 @@
 //! [`plan`] is the model's check for the kinds that are planned here (`specs/Plans.antt`), whatever the target: the first step that
 //! fails denies, by its condition, and else the plan has the child of the result and says whether an entry is made. It says so by the
 //! rows concerned: `specs/Kept.antt`, `specs/Contacts.antt`, `specs/Resources.antt` and `specs/Answers.antt` say when such a row is as it was.
-//! [`max_subs`] and [`max_contacts`] are the limits of a node and of a roster.
+//! [`max_contacts`] is the limit of a roster.
 #![tactic(auto)]
 
 mod affils;
@@ -24,4 +24,3 @@ mod unsubscribe;
 
 pub use plans::plan;
 pub use roster::max_contacts;
-pub use subscribe::max_subs;

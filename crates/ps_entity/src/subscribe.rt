@@ -17,7 +17,7 @@ use crate::build::pubsub;
 use crate::change::changes;
 use crate::subs::sub_tree;
 use ps_access::{
-    Tables, allow, base_options, given_options, key_of, must_stand, new_state, pass_if,
+    Tables, allow, base_options, given_options, key_of, max_subs, must_stand, new_state, pass_if,
     verdict_subscribe,
 };
 use ps_base::Memory;
@@ -25,13 +25,6 @@ use ps_types::{
     Condition, Elem, Jid, NodeKey, Plan, PlanRefusal, Request, SubOptions, SubState, Text,
 };
 use std::alloc::Global;
-
-/// The subscriptions of a node at most, pending ones among them.
-pub fn max_subs() -> u64
-    ensures { result ≡ limits.max_subs }
-{
-    65_536
-}
 
 fn is_waiting(tables: &Tables, node: &NodeKey, who: &Jid) -> bool
     ensures { result ≡ is_pending (sub_at node.now who.now (book_of tables.now).subs) }

@@ -19,14 +19,12 @@ use Rattle.ps_model.specs.EventSubs.{row_asked, rows_events}
 use Rattle.ps_model.specs.Words.{sub_of}
 use Rattle.ps_events.specs.Parts.{AreThose, is_asked, told_to}
 use Rattle.ps_events.proofs.Lists.{find-gone, find-gone-other, find-put, find-put-other}
+use Rattle.ps_model.proofs.TheLaws.{both}
+use Rattle.ps_model.proofs.Asked.{or-first, or-second}
 
 and-right : (a b : Bool) → (a && b) ≡ true → b ≡ true
 and-right true b h = h
 and-right false b h = absurd (cc)
-
-and-both : (a b : Bool) → a ≡ true → b ≡ true → (a && b) ≡ true
-and-both true b h k = k
-and-both false b h k = absurd (cc)
 
 row : NodeKey → Jid → SubState → SubOptions → SubRow
 row node who state options = record { node = node; who = who; state = state; options = options }
@@ -36,7 +34,7 @@ row node who state options = record { node = node; who = who; state = state; opt
 module _ (node : NodeKey) (x : Jid) (options : SubOptions) where
   itself : (s : SubState) → is_sub_of node x (row node x s options) ≡ true
   unfolding row
-  itself s = and-both (same_node node node) (same_jid x x) (same_node-itself node) ((same_jid-Decides x x).1 refl)
+  itself s = both (same_node node node) (same_jid x x) (same_node-itself node) ((same_jid-Decides x x).1 refl)
 
   own : (s : SubState) (subs : List SubRow) → sub_at node x (subs_with (row node x s options) subs) ≡ s
   unfolding row
@@ -103,23 +101,15 @@ told-push node (first ∷ rows) x subs after =
     ap (λ (l : List Event). here ++ l) (told-push node rows x next after)
     ∙ sym (append_assoc here (rows_events node rows next after) (told_to node x.jid (sub_at node x.jid (subs_asked node rows next)) (state_of x) after))
 
-or-left : (a b : Bool) → a ≡ true → (a || b) ≡ true
-or-left true b h = refl
-or-left false b h = absurd (cc)
-
-or-right : (a b : Bool) → b ≡ true → (a || b) ≡ true
-or-right true b h = refl
-or-right false b h = h
-
 -- subscriptions that are alike for those that are asked for are told alike
 pub told-alike : (node : NodeKey) (rows : List AskRow) (few subs : List SubRow) (after : Book) → ((who : Jid) → is_asked who rows ≡ true → sub_at node who few ≡ sub_at node who subs)
     → rows_events node rows few after ≡ rows_events node rows subs after
 told-alike node [] few subs after h = refl
 told-alike node (x ∷ rows) few subs after h =
     ap₂ (λ (here more : List Event). here ++ more)
-    (ap (λ (s : SubState). told_to node x.jid s (state_of x) after) (h x.jid (or-left (same_jid x.jid x.jid) (is_asked x.jid rows) ((same_jid-Decides x.jid x.jid).1 refl))))
+    (ap (λ (s : SubState). told_to node x.jid s (state_of x) after) (h x.jid (or-first (same_jid x.jid x.jid) (is_asked x.jid rows) ((same_jid-Decides x.jid x.jid).1 refl))))
     (told-alike node rows (subs_with (row_asked node x few) few) (subs_with (row_asked node x subs) subs) after
-    (λ who a. set-at node x.jid who (state_of x) few ∙ ap (λ (s : SubState). cond (same_jid x.jid who) (state_of x) s) (h who (or-right (same_jid x.jid who) (is_asked who rows) a))
+    (λ who a. set-at node x.jid who (state_of x) few ∙ ap (λ (s : SubState). cond (same_jid x.jid who) (state_of x) s) (h who (or-second (same_jid x.jid who) (is_asked who rows) a))
     ∙ sym (set-at node x.jid who (state_of x) subs)))
 
 -- those that are asked for suffice

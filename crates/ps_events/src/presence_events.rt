@@ -1,13 +1,12 @@
 // What a presence and an answer about capabilities give rise to (XEP-0115 §6.2; XEP-0163 §4.3.4).
 ghost use Rattle.std.specs.Prelude.{◌≡◌, IfOk, is_some};
-ghost use Rattle.ps_types.specs.Resources.{caps_in, resource_at};
 ghost use Rattle.ps_model.specs.ChangeRouter as change;
 ghost use Rattle.ps_model.specs.EventPresence.{question_events, wanted_events};
 ghost use Rattle.ps_access.specs.Tables.{book_of};
 ghost use Rattle.ps_events.specs.Parts.{present_events};
 
 use crate::wanted::add_wanted;
-use ps_access::Tables;
+use ps_access::{Tables, has_caps};
 use ps_base::Memory;
 use ps_types::{Caps, Event, Jid};
 use std::alloc::Global;
@@ -17,18 +16,6 @@ fn is_verified(tables: &Tables, caps: &Caps) -> bool
     ensures { result ≡ is_some (change.verified caps.now tables.now.cache.rows) }
 {
     caps.hash.is("sha-1") && tables.cache.get(&caps.ver).is_some()
-}
-
-fn has_caps(tables: &Tables, who: &Jid, caps: &Caps) -> bool
-    ensures { result ≡ change.has_caps caps.now (caps_in (resource_at who.now tables.now.presence.rows)) }
-{
-    match tables.presence.resource(who) {
-        Some(row) => match &row.caps {
-            Some(old) => *old == *caps,
-            None => false,
-        },
-        None => false,
-    }
 }
 
 // Capabilities that are neither verified nor those of the presence before are asked for.

@@ -6,7 +6,7 @@ use Rattle.std.proofs.lemmas.Bool.{and_parts, true≢false}
 use Rattle.ps_types.specs.Address.{IsAddress}
 use Rattle.ps_types.specs.Resources.{features_in, notify_feature, resource_at, wants}
 use Rattle.ps_types.specs.Same.{same_jid, same_node}
-use Rattle.ps_types.specs.Subs.{is_sub_at, is_subscribed, state_in, sub_at, sub_row, subs_of}
+use Rattle.ps_types.specs.Subs.{is_sub_at, is_subscribed, sub_at, sub_row, subs_of}
 use Rattle.ps_types.specs.declared.jid.Jid.{Jid}
 use Rattle.ps_types.specs.declared.node.NodeKey.{NodeKey}
 use Rattle.ps_types.specs.declared.rows.ResourceRow.{ResourceRow}
@@ -23,6 +23,7 @@ use Rattle.ps_fanout.specs.declared.news.News.{News}
 use Rattle.ps_filter.specs.Wants.{AreWants, is_want_for, is_wanted as has_want, who_want}
 use Rattle.ps_filter.specs.declared.want.Want.{Want}
 use Rattle.ps_model.proofs.Ordered.{In, each-in, each-sorted, in-sorted}
+use Rattle.ps_model.proofs.Asked.{or-second, row-there, reaching-row}
 
 -- ---- lists
 
@@ -49,14 +50,6 @@ row-in node who (r ∷ subs) h = at (same_node node r.node) (same_jid who r.who)
     at true false e h more = inr (more h)
     at false c e h more = more h
 
-subscribed-some : (o : Option SubRow) → is_subscribed (state_in o) ≡ true → is_some o ≡ true
-subscribed-some None h = absurd (true≢false (sym h))
-subscribed-some (Some r) h = refl
-
-reached-some : (items far : Bool) (o : Option SubRow) → reaches_down items far o ≡ true → is_some o ≡ true
-reached-some items far None h = absurd (true≢false (sym h))
-reached-some items far (Some r) h = refl
-
 above-in : (book : Book) (items far : Bool) (who : Jid) (cs : List NodeKey) → may_pass book who (way_above items far who cs book.subs) ≡ true → In who (flat_map (subscribers book) cs)
 above-in book items far who [] h = absurd (true≢false (sym h))
 above-in book items far who (c ∷ cs) h = at (reaches_down items far (sub_row c who book.subs)) refl h (above-in book items true who cs)
@@ -64,7 +57,7 @@ above-in book items far who (c ∷ cs) h = at (reaches_down items far (sub_row c
     at : (b : Bool) → reaches_down items far (sub_row c who book.subs) ≡ b → may_pass book who (cond b (ways.Through c) (way_above items true who cs book.subs)) ≡ true
         → (may_pass book who (way_above items true who cs book.subs) ≡ true → In who (flat_map (subscribers book) cs))
         → In who (subscribers book c ++ flat_map (subscribers book) cs)
-    at true e h more = in-left who (subscribers book c) (flat_map (subscribers book) cs) (row-in c who book.subs (reached-some items far (sub_row c who book.subs) e))
+    at true e h more = in-left who (subscribers book c) (flat_map (subscribers book) cs) (row-in c who book.subs (reaching-row items far (sub_row c who book.subs) e))
     at false e h more = in-right who (subscribers book c) (flat_map (subscribers book) cs) (more h)
 
 -- these, and those with rows
@@ -78,7 +71,7 @@ way-reaches book own items node above who ws h = at (own && is_subscribed (sub_a
     at : (b : Bool) → (own && is_subscribed (sub_at node who book.subs)) ≡ b → may_pass book who (cond b ways.OwnRow (way_above items false who above book.subs)) ≡ true → In who (reached book node above ws)
     at true e h =
         in-left who (ws ++ subscribers book node) (flat_map (subscribers book) above)
-        (in-right who ws (subscribers book node) (row-in node who book.subs (subscribed-some (sub_row node who book.subs) (and_parts own (is_subscribed (sub_at node who book.subs)) e).1)))
+        (in-right who ws (subscribers book node) (row-in node who book.subs (row-there (sub_row node who book.subs) (and_parts own (is_subscribed (sub_at node who book.subs)) e).1)))
     at false e h = in-right who (ws ++ subscribers book node) (flat_map (subscribers book) above) (above-in book items false who above h)
 
 -- ---- resources
@@ -105,10 +98,6 @@ want-in who name (w ∷ rows) h = at (same_jid who w.who) (bytes_eq name w.name)
     at false true e h more = inr (more h)
     at false false e h more = more h
 
-or-right : (a b : Bool) → b ≡ true → (a || b) ≡ true
-or-right true b h = refl
-or-right false b h = h
-
 -- and each of those is wanted
 in-want : (who : Jid) (name : List ℕ) (rows : List Want) → In who (who_want name rows) → has_want who name rows ≡ true
 in-want who name [] i = absurd i
@@ -117,8 +106,8 @@ in-want who name (w ∷ rows) i = at (bytes_eq name w.name) i (in-want who name 
     at : (c : Bool) → In who (map (λ (want : Want). want.who) (cond c (w ∷ filter (is_want_for name) rows) (filter (is_want_for name) rows)))
         → (In who (who_want name rows) → has_want who name rows ≡ true) → ((same_jid who w.who && c) || has_want who name rows) ≡ true
     at true (inl e) more = ap (λ (b : Bool). (b && true) || has_want who name rows) ((same_jid-Decides who w.who).1 e)
-    at true (inr k) more = or-right (same_jid who w.who && true) (has_want who name rows) (more k)
-    at false k more = or-right (same_jid who w.who && false) (has_want who name rows) (more k)
+    at true (inr k) more = or-second (same_jid who w.who && true) (has_want who name rows) (more k)
+    at false k more = or-second (same_jid who w.who && false) (has_want who name rows) (more k)
 
 each-of : (P : Jid → Type 0) (xs : List Jid) → ((j : Jid) → In j xs → P j) → Each P xs
 each-of P [] f = tt

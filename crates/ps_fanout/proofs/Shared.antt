@@ -4,7 +4,7 @@ use denote.Param.SendFields.{declared_sync}
 use Rattle.std.proofs.Crossing as std
 use Rattle.ps_types.proofs.text.Text.TheSendSync as text
 use Rattle.ps_types.proofs.tree.Elem.TheLaws.TheKnot as tree
-use Rattle.ps_drafts.specs.contracts.form.Form as Form
+use Rattle.ps_drafts.specs.contracts.form.EventForm as Form
 use Rattle.ps_types.specs.contracts.tree.Elem as Elem
 use Rattle.ps_types.specs.contracts.rows.ItemRow as ItemRow
 use Rattle.ps_items.specs.contracts.items.Items as Items

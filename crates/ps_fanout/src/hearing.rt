@@ -13,7 +13,7 @@ use crate::wanting::is_interested;
 use crate::ways::{Way, may_pass, way_by};
 use ps_access::Tables;
 use ps_base::Memory;
-use ps_drafts::{Draft, Form};
+use ps_drafts::{Draft, EventForm};
 use ps_filter::Wants;
 use ps_types::{Jid, Text};
 use std::alloc::Global;
@@ -73,11 +73,11 @@ fn heard<'a>(
 }
 
 /// What the stanzas of the news have in common.
-pub(crate) fn form_of(alloc: Global, news: &News<'_>) -> Result<Arc<Form>, Memory>
+pub(crate) fn form_of(alloc: Global, news: &News<'_>) -> Result<Arc<EventForm>, Memory>
     ensures { IfOk result (λ f. arc_value f ≡ model.form_of news.now) }
 {
     let kind = news.config.notification_type;
-    let form = Form::new(alloc, &news.node.service, kind, &news.event)?;
+    let form = EventForm::new(alloc, &news.node.service, kind, &news.event)?;
     Ok(Arc::new(alloc, form)?)
 }
 
@@ -97,7 +97,7 @@ fn named(news: &News<'_>, way: &Way<'_>) -> Result<Option<Text>, Memory>
 fn heard_draft(
     alloc: Global,
     news: &News<'_>,
-    form: &Arc<Form>,
+    form: &Arc<EventForm>,
     who: &Jid,
     way: &Way<'_>,
 ) -> Result<Draft, Memory>
@@ -114,7 +114,7 @@ fn hears(
     tables: &Tables,
     wants: &Wants,
     news: &News<'_>,
-    form: &Arc<Form>,
+    form: &Arc<EventForm>,
     who: &Jid,
 ) -> Result<Option<Draft>, Memory>
     requires follows { AreWants wants.now.rows tables.now.presence.rows }
@@ -133,7 +133,7 @@ pub(crate) fn told_among(
     tables: &Tables,
     wants: &Wants,
     news: &News<'_>,
-    form: &Arc<Form>,
+    form: &Arc<EventForm>,
     whos: &[Jid],
 ) -> Result<Vec<(Jid, Draft)>, Memory>
     requires follows { AreWants wants.now.rows tables.now.presence.rows }

@@ -11,7 +11,7 @@ use crate::hearing::{form_of, told_among};
 use crate::news::News;
 use ps_access::Tables;
 use ps_base::Memory;
-use ps_drafts::{Draft, Form};
+use ps_drafts::{Draft, EventForm};
 use ps_filter::Wants;
 use ps_types::Jid;
 use std::alloc::Global;
@@ -54,7 +54,7 @@ fn told_in_parts<R: Threads + Sync>(
     tables: &Tables,
     wants: &Wants,
     news: &News<'_>,
-    form: &Arc<Form>,
+    form: &Arc<EventForm>,
     whos: &[Jid],
 ) -> Result<Vec<(Jid, Draft)>, Memory>
     requires follows { AreWants wants.now.rows tables.now.presence.rows }

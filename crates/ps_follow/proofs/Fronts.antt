@@ -11,7 +11,7 @@ use Rattle.ps_model.specs.Entries.{IsEntry, IsEntryIn, StandsAt, in_version, spe
 use Rattle.ps_model.proofs.OneList.{entry_one}
 use Rattle.ps_follow_laws.specs.Feed.{IsNoEntry, IsPart, IsSent, is_long, is_whole, max_size, sent_bytes, size_at}
 use Rattle.ps_follow_laws.proofs.Having.{IsByte, left, next-is, none-of}
-use Rattle.ps_follow_laws.proofs.Heads.{length-sent}
+use Rattle.ps_follow_laws.proofs.Heads.{length-sent, le-true, lt-false}
 use Rattle.ps_follow.specs.Next.{IsRecord, sent}
 
 any-version : (e : Entry) → in_version true e ≡ true
@@ -37,12 +37,6 @@ le-false n m h = grind (arith, nat_tests)
 lt-true : (n m : ℕ) → n < m → nat_lt n m ≡ true
 lt-true n m h = grind (arith, nat_tests)
 
-lt-not : (n m : ℕ) → m ≤ n → nat_lt n m ≡ false
-lt-not n m h = grind (arith, nat_tests)
-
-le-yes : (n m : ℕ) → n ≤ m → nat_le n m ≡ true
-le-yes n m h = grind (arith, nat_tests)
-
 pub headless : (bytes : List ℕ) → length bytes < 12 → IsPart bytes
 headless bytes h = record {
   short = ap (λ b. b && nat_lt max_size (size_at bytes)) (le-false 12 (length bytes) h);
@@ -50,19 +44,19 @@ headless bytes h = record {
 }
 
 pub too-long : (bytes : List ℕ) → 12 ≤ length bytes → max_size < size_at bytes → is_long bytes ≡ true
-too-long bytes h l = ap (λ b. b && nat_lt max_size (size_at bytes)) (le-yes 12 (length bytes) h) ∙ lt-true max_size (size_at bytes) l
+too-long bytes h l = ap (λ b. b && nat_lt max_size (size_at bytes)) (le-true 12 (length bytes) h) ∙ lt-true max_size (size_at bytes) l
 
 pub not-long : (bytes : List ℕ) → 12 ≤ length bytes → size_at bytes ≤ max_size → is_long bytes ≡ false
-not-long bytes h l = ap (λ b. b && nat_lt max_size (size_at bytes)) (le-yes 12 (length bytes) h) ∙ lt-not max_size (size_at bytes) l
+not-long bytes h l = ap (λ b. b && nat_lt max_size (size_at bytes)) (le-true 12 (length bytes) h) ∙ lt-false max_size (size_at bytes) l
 
 pub not-whole : (bytes : List ℕ) → 12 ≤ length bytes → size_at bytes ≤ max_size → length bytes < 12 + size_at bytes → IsPart bytes
 not-whole bytes h l p = record {
   short = not-long bytes h l;
-  part = ap (λ b. b && nat_le (12 + size_at bytes) (length bytes)) (le-yes 12 (length bytes) h) ∙ le-false (12 + size_at bytes) (length bytes) p;
+  part = ap (λ b. b && nat_le (12 + size_at bytes) (length bytes)) (le-true 12 (length bytes) h) ∙ le-false (12 + size_at bytes) (length bytes) p;
 }
 
 pub whole-is : (bytes : List ℕ) → 12 ≤ length bytes → 12 + size_at bytes ≤ length bytes → is_whole bytes ≡ true
-whole-is bytes h l = ap (λ b. b && nat_le (12 + size_at bytes) (length bytes)) (le-yes 12 (length bytes) h) ∙ le-yes (12 + size_at bytes) (length bytes) l
+whole-is bytes h l = ap (λ b. b && nat_le (12 + size_at bytes) (length bytes)) (le-true 12 (length bytes) h) ∙ le-true (12 + size_at bytes) (length bytes) l
 
 -- ---- a whole record
 

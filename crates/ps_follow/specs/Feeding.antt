@@ -16,7 +16,7 @@ pub record TookOne (E : List Entry) (bytes : List ℕ) (state : State) (log : Li
   pub taken : stop_by (fate E sent) ≡ None
   pub stands : Stands state log (after_sent E sent)
 
--- why no more are; want of memory says nothing
+-- why no more are; running out of memory says nothing
 abbrev pub EndsAs : List Entry → List ℕ → End → Type 0
 EndsAs E bytes end.Part = Ends E bytes goes_on
 EndsAs E bytes end.Bad = Ends E bytes bad

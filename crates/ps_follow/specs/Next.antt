@@ -2,8 +2,8 @@
 use Rattle.std.specs.Prelude.{◌≡◌, ℕ, true, List, ◌++◌, length, drop}
 use Rattle.ps_types.specs.declared.entry.Entry.{Entry}
 use Rattle.ps_follow_laws.specs.Feed.{IsNoEntry, IsPart, IsSent, Sent, is_long, sent_bytes}
-use Rattle.ps_follow.specs.declared.records.Next.{Next}
-use Rattle.ps_follow.specs.declared.records.Next.TheVariants.{Part, Long, NoEntry, Record}
+use Rattle.ps_follow.specs.declared.records.FeedFront.{FeedFront}
+use Rattle.ps_follow.specs.declared.records.FeedFront.TheVariants.{Part, Long, NoEntry, Record}
 
 abbrev pub sent : ℕ → Entry → Sent
 sent place entry = record { place = place; entry = entry }
@@ -14,7 +14,7 @@ pub record IsRecord (bytes : List ℕ) (s : Sent) (size : ℕ) : Type 0 where
   pub split : bytes ≡ sent_bytes s ++ drop size bytes
   pub long : size ≡ length (sent_bytes s)
 
-abbrev pub IsNextOf : List ℕ → Next → Type 0
+abbrev pub IsNextOf : List ℕ → FeedFront → Type 0
 IsNextOf bytes Part = IsPart bytes
 IsNextOf bytes Long = is_long bytes ≡ true
 IsNextOf bytes NoEntry = IsNoEntry bytes

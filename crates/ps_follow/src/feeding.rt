@@ -5,7 +5,7 @@ ghost use Rattle.ps_follow.specs.Feeding.{Stopped, TookOne, Went};
 ghost use Rattle.ps_follow.specs.Following.{HasEntries, Stands};
 ghost use Rattle.ps_follow.specs.Next.{IsRecord, sent};
 
-use crate::records::{Next, next_record};
+use crate::records::{FeedFront, next_record};
 use crate::taking::{Took, take_record};
 use ps_base::{Bytes, Memory};
 use ps_core::Service;
@@ -70,10 +70,10 @@ fn take_next<R: Threads + Sync>(
 {
     match next_record(alloc, bytes) {
         Err(Memory) => Err(End::Memory),
-        Ok(Next::Part) => Err(End::Part),
-        Ok(Next::Long) => Err(End::Bad),
-        Ok(Next::NoEntry) => Err(End::Bad),
-        Ok(Next::Record { place, entry, size }) => {
+        Ok(FeedFront::Part) => Err(End::Part),
+        Ok(FeedFront::Long) => Err(End::Bad),
+        Ok(FeedFront::NoEntry) => Err(End::Bad),
+        Ok(FeedFront::Record { place, entry, size }) => {
             take_read(rt, alloc, service, log, bytes, place, &entry, size)
         }
     }

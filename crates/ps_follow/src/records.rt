@@ -12,7 +12,7 @@ use std::alloc::Global;
 
 /// What stands at the front of a feed.
 #[derive(Drop)]
-pub enum Next {
+pub enum FeedFront {
     /// No whole record yet.
     Part,
     /// A record that is too long.
@@ -44,7 +44,7 @@ fn size_in(head: &[u8]) -> u32
 }
 
 // The record whose body is these bytes.
-fn record_of(alloc: Global, bytes: &[u8], place: u64, body: &[u8]) -> Result<Next, Memory>
+fn record_of(alloc: Global, bytes: &[u8], place: u64, body: &[u8]) -> Result<FeedFront, Memory>
     requires short { is_long bytes.now ≡ false }
     requires whole { is_whole bytes.now ≡ true }
     requires place { place ≡ from_be_bytes w64 (take 8 bytes.now) }
@@ -54,32 +54,32 @@ fn record_of(alloc: Global, bytes: &[u8], place: u64, body: &[u8]) -> Result<Nex
     let _count = bytes.len();
     match read_entry(alloc, body, 0) {
         Err(EntryRefusal::Memory) => Err(Memory),
-        Err(EntryRefusal::Bad(_)) => Ok(Next::NoEntry),
+        Err(EntryRefusal::Bad(_)) => Ok(FeedFront::NoEntry),
         Ok((entry, end)) => {
             if end < body.len() as u64 {
-                return Ok(Next::NoEntry);
+                return Ok(FeedFront::NoEntry);
             }
             let size = body.len() + 12;
-            Ok(Next::Record { place, entry, size })
+            Ok(FeedFront::Record { place, entry, size })
         }
     }
 }
 
 /// What stands at the front of a feed.
-pub fn next_record(alloc: Global, bytes: &[u8]) -> Result<Next, Memory>
+pub fn next_record(alloc: Global, bytes: &[u8]) -> Result<FeedFront, Memory>
     ensures { IfOk result (IsNextOf bytes.now) }
 {
     if bytes.len() < 12 {
-        return Ok(Next::Part);
+        return Ok(FeedFront::Part);
     }
     let (first, rest) = bytes.split_at(8);
     let (second, behind) = rest.split_at(4);
     let size = size_in(second);
     if u64::from(size) > MAX_BYTES {
-        return Ok(Next::Long);
+        return Ok(FeedFront::Long);
     }
     if behind.len() < size as usize {
-        return Ok(Next::Part);
+        return Ok(FeedFront::Part);
     }
     record_of(alloc, bytes, place_in(first), &behind[..size as usize])
 }

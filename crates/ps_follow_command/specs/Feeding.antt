@@ -7,7 +7,7 @@ use Rattle.ps_journal.specs.Left.{LeavesList}
 use Rattle.ps_journal.specs.Opened.{HasHeader, IsShortIfUnbegun, LeftOrHas, Upgrades}
 use Rattle.ps_io.specs.Held.{Held, HeldStore}
 use Rattle.ps_io.specs.declared.world.Kind.TheVariants.{Sink, Store}
-use Rattle.ps_io.specs.declared.world.Opening.{Opening}
+use Rattle.ps_io.specs.declared.world.OpenCall.{OpenCall}
 use Rattle.ps_commands.specs.declared.command.FeedWords.{FeedWords}
 use Rattle.ps_hall_open.specs.OpenRead.{IfFoundDamaged, StaysOrUpgrades}
 use Rattle.ps_hall_open.specs.Reads.{ReadNot}
@@ -23,7 +23,7 @@ use Rattle.ps_status.specs.declared.status.Status.{Status}
 use Rattle.ps_status.specs.declared.status.Status.TheVariants.{Done, StoreDamaged, StoreFault, StreamFault, Memory}
 
 -- the store is opened, and then the sink; both are touched alone
-abbrev pub feed_openings : FeedWords → List Opening
+abbrev pub feed_openings : FeedWords → List OpenCall
 feed_openings w = record { kind = Store; name = w.store } ∷ record { kind = Sink; name = w.sink } ∷ []
 
 abbrev pub feed_touches : FeedWords → Touched

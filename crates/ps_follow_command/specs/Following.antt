@@ -2,7 +2,7 @@
 use Rattle.std.specs.Prelude.{◌≡◌, ◌⊎◌, ℕ, List, [], ◌∷◌}
 use Rattle.ps_io.specs.Held.{Held}
 use Rattle.ps_io.specs.declared.world.Kind.TheVariants.{Sink, Source}
-use Rattle.ps_io.specs.declared.world.Opening.{Opening}
+use Rattle.ps_io.specs.declared.world.OpenCall.{OpenCall}
 use Rattle.ps_commands.specs.declared.command.FollowWords.{FollowWords}
 use Rattle.ps_follow_run.specs.Following.{Follows, Worked}
 use Rattle.ps_follow_run.specs.declared.ends.FollowEnd.{FollowEnd}
@@ -13,14 +13,14 @@ use Rattle.ps_status.specs.declared.status.Status.{Status}
 use Rattle.ps_status.specs.declared.status.Status.TheVariants.{Done, FeedBad, StreamFault, StreamLong, Memory}
 
 -- the source of lines and the sink
-abbrev pub line_openings : FollowWords → List Opening
+abbrev pub line_openings : FollowWords → List OpenCall
 line_openings w = record { kind = Source; name = w.source } ∷ record { kind = Sink; name = w.sink } ∷ []
 
 abbrev pub line_touches : FollowWords → Touched
 line_touches w = record { sources = w.source ∷ []; sinks = w.sink ∷ []; stores = [] }
 
 -- behind the feed; these three are touched alone
-abbrev pub follow_openings : FollowWords → List Opening
+abbrev pub follow_openings : FollowWords → List OpenCall
 follow_openings w = record { kind = Source; name = w.feed } ∷ line_openings w
 
 abbrev pub follow_touches : FollowWords → Touched

@@ -1,7 +1,7 @@
 // A feed of a world, followed.
 ghost use Rattle.std.specs.Prelude.{◌≡◌, ◌≢◌, ◌≤◌, ◌∷◌, [], List, ℕ};
 ghost use Rattle.ps_io.specs.declared.world.Kind.{Kind};
-ghost use Rattle.ps_io.specs.declared.world.Opening.{Opening};
+ghost use Rattle.ps_io.specs.declared.world.OpenCall.{OpenCall};
 ghost use Rattle.ps_endpoints.specs.Ports.{FailedToOpen};
 ghost use Rattle.ps_commands.specs.Well.{IsWellFollowed};
 ghost use Rattle.ps_status.specs.Asking.{AsksInOrder};

@@ -2,9 +2,6 @@
 use Rattle.std.proofs.Common.{◌≡◌, ℕ, zero, suc, List, [], ◌∷◌, ◌++◌, length, Some, None, refl, sym, ap, ◌∙◌, append_assoc, append-nil}
 use Rattle.std.specs.Prelude.{slice_get}
 use Rattle.ps_types.specs.declared.entry.Entry.{Entry}
-use Rattle.ps_model.specs.After.{after}
-use Rattle.ps_model.specs.Book.{State}
-use Rattle.ps_model.specs.Replay.{IsLawfulFrom, replay_from}
 use Rattle.ps_follow_laws.specs.Follow.{IsFront}
 
 module _ {X : Type 0} where
@@ -28,7 +25,3 @@ front-more E F = (F, refl)
 
 pub front-trans : (E F G : List Entry) → IsFront E F → IsFront F G → IsFront E G
 front-trans E F G f g = (f.0 ++ g.0, sym (append_assoc E f.0 g.0) ∙ ap (λ (t : List Entry). t ++ g.0) f.1 ∙ g.1)
-
-pub lawful-rest : (E F : List Entry) (s : State) → IsLawfulFrom s (E ++ F) → IsLawfulFrom (replay_from s E) F
-lawful-rest [] F s is = is
-lawful-rest (e ∷ E) F s is = lawful-rest E F (after s e) is.1

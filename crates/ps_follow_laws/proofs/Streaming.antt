@@ -13,9 +13,10 @@ use Rattle.ps_model.proofs.Going.{lawful-more}
 use Rattle.ps_follow_laws.specs.Feed.{AreTaken, Ends, Fed, IsNoEntry, IsSent, Sent, Stop, Stops, adds, after_all, after_sent, bad, differs, entries_with, fate, fate_at, feed_of, gap, goes_on, is_long, is_whole, other, refused, repeats, sent_bytes, stop_by}
 use Rattle.ps_follow_laws.specs.Follow.{Follows, IsFeedOf, IsFront, IsOf}
 use Rattle.ps_follow_laws.proofs.Ending.{behind, grows}
-use Rattle.ps_follow_laws.proofs.Gets.{front-itself, front-trans, get-behind, get-front, lawful-rest}
+use Rattle.ps_follow_laws.proofs.Gets.{front-itself, front-trans, get-behind, get-front}
 use Rattle.ps_follow_laws.proofs.Heads.{clash, long-sent, sent_one, some-sent}
 use Rattle.ps_follow_laws.proofs.Piecewise.{held, long-more, whole-more}
+use Rattle.ps_model.proofs.OneAt.{lawful-rest}
 
 -- ---- what is lawful stays so
 

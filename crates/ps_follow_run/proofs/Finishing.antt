@@ -81,7 +81,7 @@ module _ (host : List ℕ) (w : Worked) (now : Told) (feed-is : now.feed ≡ w.f
         so.1.0 so.1.1
     finish (Err why) t a b c fault ended read early so = finish-err why (record { feed = a; input = b; sink = c; fault = λ e. fault (ap Err e) }) so
 
--- nothing was done, for want of memory
+-- nothing was done, since memory ran out
 pub nothing-done : (host : List ℕ) (w : Worked) → w.feed_now ≡ w.feed → w.input_now ≡ w.input → w.sink_now ≡ w.sink → Follows host w end.Memory
 nothing-done host w f i s = record {
   feed = [];

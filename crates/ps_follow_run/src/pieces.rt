@@ -5,7 +5,7 @@ ghost use Rattle.ps_base.specs.Causes.{Rose};
 ghost use Rattle.ps_follow_run.specs.Pieces.{HasBegun, HasTaken, Piece};
 
 use crate::ends::{FollowEnd, end_of};
-use crate::room::Room;
+use crate::room::ReadBuffer;
 use ps_base::Memory;
 use ps_follow::Follower;
 use ps_wire::Source;
@@ -19,7 +19,7 @@ const LIMIT: u64 = 1 << 40;
 #[derive(Drop)]
 pub(crate) struct Taking {
     pub(crate) follower: Follower,
-    room: Room,
+    room: ReadBuffer,
     given: u64,
     pub(crate) ended: bool,
 }
@@ -32,7 +32,7 @@ impl Taking {
     {
         Ok(Taking {
             follower: Follower::new(alloc)?,
-            room: Room::new(alloc)?,
+            room: ReadBuffer::new(alloc)?,
             given: 0,
             ended: false,
         })

@@ -13,11 +13,11 @@ const ROOM: usize = 65_536;
 
 /// A room of 65,536 bytes. A contract sees what stands in it.
 #[derive(Drop)]
-pub(crate) struct Room {
+pub(crate) struct ReadBuffer {
     bytes: Vec<u8>,
 }
 
-impl Model for Room {
+impl Model for ReadBuffer {
     ghost use Rattle.std.specs.Prelude.{List, ℕ, ◌<◌, length};
 
     ghost Value = { List ℕ };
@@ -41,10 +41,10 @@ fn read_front<F: Source>(feed: &mut F, room: &mut [u8], most: usize) -> Result<u
     feed.read(&mut room[..most])
 }
 
-impl Room {
+impl ReadBuffer {
     /// A room.
-    pub(crate) fn new(alloc: Global) -> Result<Room, Memory> {
-        Ok(Room {
+    pub(crate) fn new(alloc: Global) -> Result<ReadBuffer, Memory> {
+        Ok(ReadBuffer {
             bytes: vec![in alloc; 0u8; ROOM]?,
         })
     }

@@ -13,7 +13,7 @@ use Rattle.ps_trace.specs.declared.deed.Deed.{Deed}
 use Rattle.ps_hall_state.specs.Stand.{entries_of}
 use Rattle.ps_hall_state.specs.declared.state.State.{State}
 use Rattle.ps_hall_store.specs.Stand as store
-use Rattle.ps_hall_store.specs.Stand.{IsKept, OpenedAt, disk_in}
+use Rattle.ps_hall_store.specs.Stand.{EntriesAreKept, OpenedAt, disk_in}
 use Rattle.ps_hall_store.specs.declared.store.Store.{Store}
 use Rattle.ps_hall_store.proofs.Keeping.{kept_on}
 use Rattle.ps_hall.specs.Closed.{HasClosed}
@@ -26,7 +26,7 @@ use Rattle.ps_hall_flush.proofs.Measuring.{each_lacks}
 use Rattle.ps_hall_flush.proofs.Ending.{all_within}
 
 -- fewer steps are counted on
-kept_less : {D : Type 0} (g : Ghosts D) (at : OpenedAt) (disk : D) (few firm : ℕ) (w : World) → few ≤ firm → IsKept g at disk firm w → IsKept g at disk few w
+pub kept_less : {D : Type 0} (g : Ghosts D) (at : OpenedAt) (disk : D) (few firm : ℕ) (w : World) → few ≤ firm → EntriesAreKept g at disk firm w → EntriesAreKept g at disk few w
 kept_less g at disk few firm w le is = record {
   later = is.later;
   now = λ c may. (let f = is.now c may in let m = ends-mono few firm w.made le in let e = f.enough in record { count = f.count; enough = omega (arith, m, e); fits = f.fits; spells = f.spells });

@@ -18,8 +18,8 @@ use Rattle.ps_trace.proofs.Flying.{emit-hand, take-hand}
 use Rattle.ps_hall_state.specs.Next.{HasOneInFlight, HasOneRecorded, IsAwaited as IsAwaitedIn, IsNext, NoNotice, NoneInFlight, some_reads}
 use Rattle.ps_hall_state.specs.Rows.{names}
 use Rattle.ps_hall_state.specs.Stand.{Stands}
-use Rattle.ps_hall_state.specs.declared.answers.Next.{Next as Told}
-use Rattle.ps_hall_state.specs.declared.answers.Next.TheVariants as told
+use Rattle.ps_hall_state.specs.declared.answers.NextLine.{NextLine as Told}
+use Rattle.ps_hall_state.specs.declared.answers.NextLine.TheVariants as told
 use Rattle.ps_hall_state.specs.declared.state.State.{State}
 use Rattle.ps_hall_state.specs.Steps.{Goes}
 use Rattle.ps_hall.specs.Calls.{IsAwaited, NextDoes}
@@ -36,7 +36,7 @@ said_if : (b : Bool) (a : Jid) (n : Note) → b ≡ true → (if b then words.No
 said_if true a n e = refl
 said_if false a n e = absurd (cc e)
 
-is_said : (low : ℕ) (a : Jid) (f : Flight) (x : Option Note) (n : Note) → f ≡ Nothing → x ≡ Some n → n.place < low → words.noted_word low a f x ≡ words.Note a n ∷ []
+pub is_said : (low : ℕ) (a : Jid) (f : Flight) (x : Option Note) (n : Note) → f ≡ Nothing → x ≡ Some n → n.place < low → words.noted_word low a f x ≡ words.Note a n ∷ []
 is_said low a f x n free at small = subst (λ (k : Flight). words.noted_word low a k x ≡ words.Note a n ∷ []) (sym free) (subst (λ (y : Option Note). words.noted_word low a Nothing y ≡ words.Note a n ∷ []) (sym at) (said_if (nat_lt n.place low) a n (lt-ltb n.place low small)))
 
 recorded-not : (t : ℕ) → Recorded t ≡ Unrecorded → ⊥

@@ -8,7 +8,7 @@ use Rattle.ps_turn.specs.History.{Later}
 use Rattle.ps_trace.specs.declared.deed.Deed.{Deed}
 use Rattle.ps_hall_state.specs.Stand.{entries_of}
 use Rattle.ps_hall_state.specs.declared.state.State.{State}
-use Rattle.ps_hall_store.specs.Stand.{IsKept, broken_in, disk_in, firm_of, mark_of}
+use Rattle.ps_hall_store.specs.Stand.{EntriesAreKept, broken_in, disk_in, firm_of, mark_of}
 use Rattle.ps_hall_store.specs.declared.store.Store.{Store}
 use Rattle.ps_hall_flush.specs.Homes.{ArchiveStands, EachLacksRoom, HomeStands, maker_of, numbers_of, world_at}
 use Rattle.ps_hall_flush.specs.Origin.{Origin}
@@ -23,7 +23,7 @@ pub record HasClosed {V J D : Type 0} {g : Ghosts D} (o : Origin) (v : State) (y
   pub front : Prefix list log
   -- no crash takes a durable entry away; what one leaves now, or might have left at any moment since the opening, is a front of the deeds' entries, and what one
   -- left since before that is such a front, or what it might have left then
-  pub kept : g.tells → IsKept g o.at (disk_in y) v.flushed (world_at o log)
+  pub kept : g.tells → EntriesAreKept g o.at (disk_in y) v.flushed (world_at o log)
   -- while nothing has failed the store has all entries but those that wait
   pub whole : (world_at o log).broken ≡ false → (world_at o log).entries ≡ (world_at o list).entries ++ entries_of v.batch
   -- what the state counts as flushed the store has made durable

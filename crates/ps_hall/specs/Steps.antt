@@ -12,8 +12,8 @@ use Rattle.ps_hall_state.specs.declared.answers.Receipt.{Receipt}
 use Rattle.ps_hall_state.specs.declared.answers.ArriveRefusal.{ArriveRefusal}
 use Rattle.ps_hall_state.specs.declared.answers.HandedRefusal.{HandedRefusal}
 use Rattle.ps_hall_state.specs.declared.answers.HandedRefusal.TheVariants as refusal
-use Rattle.ps_hall_state.specs.declared.answers.Next.{Next}
-use Rattle.ps_hall_state.specs.declared.answers.Next.TheVariants.{Reply, Notice, NotYet, Over}
+use Rattle.ps_hall_state.specs.declared.answers.NextLine.{NextLine}
+use Rattle.ps_hall_state.specs.declared.answers.NextLine.TheVariants.{Reply, Notice, NotYet, Over}
 
 abbrev pub is_full : Outcome → Bool
 is_full Full = true
@@ -25,13 +25,13 @@ abbrev pub lay_steps : List ℕ → Arrival → Result Receipt ArriveRefusal →
 lay_steps host arrival (Ok r) = Arrive host arrival (is_full r.outcome) ∷ []
 lay_steps host arrival (Err e) = []
 
-abbrev pub step_of : List ℕ → Next → List Step
+abbrev pub step_of : List ℕ → NextLine → List Step
 step_of host (Reply text) = Take host ∷ []
 step_of host (Notice to text) = Emit to ∷ []
 step_of host NotYet = []
 step_of host Over = []
 
-abbrev pub next_steps : {E : Type 0} → List ℕ → Result Next E → List Step
+abbrev pub next_steps : {E : Type 0} → List ℕ → Result NextLine E → List Step
 next_steps host (Ok n) = step_of host n
 next_steps host (Err e) = []
 

@@ -1,8 +1,8 @@
 -- What a writer is told, and what it then has in hand.
 use Rattle.std.specs.Prelude.{◌≡◌, ◌++◌, ◌∷◌, [], List, Result, Ok, Err}
 use Rattle.ps_types.specs.declared.jid.Jid.{Jid}
-use Rattle.ps_hall_state.specs.declared.answers.Next.{Next as Told}
-use Rattle.ps_hall_state.specs.declared.answers.Next.TheVariants as told
+use Rattle.ps_hall_state.specs.declared.answers.NextLine.{NextLine as Told}
+use Rattle.ps_hall_state.specs.declared.answers.NextLine.TheVariants as told
 use Rattle.ps_hall.specs.declared.answers.Next.{Next}
 use Rattle.ps_hall.specs.declared.answers.Next.TheVariants.{Reply, Notice, NotYet, Over}
 

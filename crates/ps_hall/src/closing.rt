@@ -4,7 +4,7 @@ ghost use Rattle.ps_twin.specs.Seats.{AreAll};
 ghost use Rattle.ps_hall.specs.Closed.{HasClosed};
 ghost use Rattle.ps_hall.specs.Passes.{ArePasses, seats_in};
 
-use crate::hall::{Hall, HostPasses, Room};
+use crate::hall::{Hall, HostPasses, SeatRoom};
 use ps_disk::Disk;
 use ps_hall_flush::{Archive, Home, Opening};
 use ps_hall_state::State;
@@ -23,13 +23,13 @@ fn take_apart<B: Opening, D: Disk>(
     (home.into_state(), archive.into_store())
 }
 
-impl<B: Opening, D: Disk> Room<B, D> {
+impl<B: Opening, D: Disk> SeatRoom<B, D> {
     // The seats of the passes of as many hosts as it has room for.
     fn gather(self, passes: Vec<HostPasses<B, D>>) -> Vec<TwinSeat<Home<B>, Archive<B, D>>>
         requires { length passes.items ≡ length B.origin.hosts }
         ensures { result.items ≡ seats_in passes.items }
     {
-        let Room { seats } = self;
+        let SeatRoom { seats } = self;
         let mut seats = seats;
         for both in passes {
             let (reader, writer) = both.into_passes();

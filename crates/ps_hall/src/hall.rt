@@ -13,14 +13,14 @@ use std::sync::Mutex;
 pub struct Hall<B: Opening, D: Disk> {
     pub(crate) twin: Twin<Home<B>, Archive<B, D>>,
     // Nobody takes this lock: it lets threads share what they could only send.
-    pub(crate) room: Mutex<Room<B, D>>,
+    pub(crate) room: Mutex<SeatRoom<B, D>>,
     pub(crate) bells: Bells,
     ghost two: { seats_of twin ≡ length B.origin.hosts + length B.origin.hosts },
 }
 
-// Room for all seats, which come back at the end.
+// SeatRoom for all seats, which come back at the end.
 #[derive(Drop)]
-pub(crate) struct Room<B: Opening, D: Disk> {
+pub(crate) struct SeatRoom<B: Opening, D: Disk> {
     pub(crate) seats: Vec<TwinSeat<Home<B>, Archive<B, D>>>,
     ghost empty: { seats.items ≡ [] },
     ghost enough: { length B.origin.hosts + length B.origin.hosts ≤ vec_capacity seats },

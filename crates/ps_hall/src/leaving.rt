@@ -12,7 +12,7 @@ ghost use Rattle.ps_hall.specs.Steps.{gone_steps, lay_steps, next_steps, record_
 use ps_base::Memory;
 use ps_disk::Disk;
 use ps_hall_flush::{Archive, Home, Opening};
-use ps_hall_state::{ArriveRefusal, HandedRefusal, Next, Receipt};
+use ps_hall_state::{ArriveRefusal, HandedRefusal, NextLine, Receipt};
 use ps_model::Role;
 use ps_twin::{Twin, TwinSeat};
 use ps_types::{Arrival, Jid, Text};
@@ -41,7 +41,7 @@ pub(crate) fn leave_told<B: Opening, D: Disk>(
     seat: &mut TwinSeat<Home<B>, Archive<B, D>>,
     home: Home<B>,
     host: &Text,
-    next: &Result<Next, Memory>,
+    next: &Result<NextLine, Memory>,
 )
     ghost added: { List Deed }
     requires twin { IsSeatOf twin.now seat.old }

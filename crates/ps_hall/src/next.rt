@@ -22,7 +22,7 @@ fn next_with_room(
     state: &mut State,
     hand: &mut Vec<Jid>,
     at: usize,
-) -> Result<ps_hall_state::Next, Memory>
+) -> Result<ps_hall_state::NextLine, Memory>
     requires here { at < length state.old.rows.items }
     requires few { state.old.steps < 2 ^ 63 }
     ensures ok { AtRow state.old at (λ row. IfOk result (IsNext state.old state.new row.host)) }
@@ -38,18 +38,18 @@ fn next_with_room(
 }
 
 // The address of a notice goes into the writer's hand.
-fn told(hand: &mut Vec<Jid>, next: Result<ps_hall_state::Next, Memory>) -> Result<Next, Memory>
+fn told(hand: &mut Vec<Jid>, next: Result<ps_hall_state::NextLine, Memory>) -> Result<Next, Memory>
     requires { OnOk next (vec_len hand.old < vec_capacity hand.old) }
     ensures { IsToldAs next result hand.old.items hand.new.items }
 {
     match next {
-        Ok(ps_hall_state::Next::Reply(line)) => Ok(Next::Reply(line)),
-        Ok(ps_hall_state::Next::Notice(to, line)) => {
+        Ok(ps_hall_state::NextLine::Reply(line)) => Ok(Next::Reply(line)),
+        Ok(ps_hall_state::NextLine::Notice(to, line)) => {
             hand.push_reserved(to);
             Ok(Next::Notice(line))
         }
-        Ok(ps_hall_state::Next::NotYet) => Ok(Next::NotYet),
-        Ok(ps_hall_state::Next::Over) => Ok(Next::Over),
+        Ok(ps_hall_state::NextLine::NotYet) => Ok(Next::NotYet),
+        Ok(ps_hall_state::NextLine::Over) => Ok(Next::Over),
         Err(Memory) => Err(Memory),
     }
 }

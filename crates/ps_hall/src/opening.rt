@@ -5,7 +5,7 @@ ghost use Rattle.ps_hall.specs.Passes.{AreFresh, IsPassOf, named};
 ghost use Rattle.ps_hall.specs.Start.{MayStart};
 
 use crate::bell::Bells;
-use crate::hall::{Hall, HostPasses, Pass, Room};
+use crate::hall::{Hall, HostPasses, Pass, SeatRoom};
 use ps_base::Memory;
 use ps_disk::Disk;
 use ps_hall_flush::{Archive, Home, Opening};
@@ -71,7 +71,7 @@ fn pass_of<B: Opening, D: Disk>(
 struct Ready<B: Opening, D: Disk> {
     names: Vec<Names>,
     passes: Vec<HostPasses<B, D>>,
-    room: Room<B, D>,
+    room: SeatRoom<B, D>,
     bells: Bells,
 }
 
@@ -89,7 +89,7 @@ fn make_ready<B: Opening, D: Disk>(alloc: Global, hosts: &[Text]) -> Result<Read
     Ok(Ready {
         names,
         passes,
-        room: Room { seats },
+        room: SeatRoom { seats },
         bells,
     })
 }

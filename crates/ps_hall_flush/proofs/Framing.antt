@@ -36,10 +36,11 @@ use Rattle.ps_hall_flush.specs.Seat.{HasLeft, HoldsStore}
 use Rattle.ps_hall_store.proofs.Sizing.{firm_made}
 use Rattle.ps_hall_flush.proofs.Closing.{few_entries, few_kept}
 use Rattle.ps_hall_flush.proofs.Homing.{begun_all}
-use Rattle.ps_hall_flush.proofs.Logs.{owned_behind, owned_calm, prefix_follows, prefix_then, same_cut, steps_of}
+use Rattle.ps_hall_flush.proofs.Logs.{owned_behind, prefix_follows, prefix_then, same_cut, steps_of}
 use Rattle.ps_hall_flush.proofs.Marking.{broken_mark, counts_same, quiet_mark, whole_mark}
 use Rattle.ps_hall_flush.proofs.Measuring.{measured_as, none_begun, within_behind, within_both, within_late, within_more}
 use Rattle.ps_hall_flush.proofs.Seating.{firm_kept, journal_kept, list_kept}
+use Rattle.ps_trace.proofs.Owning.{calm}
 
 unbroken_before : (b c : Bool) → (b ≡ true → c ≡ true) → c ≡ false → b ≡ false
 unbroken_before false c h e = refl
@@ -214,7 +215,7 @@ module _ {D : Type 0} {g : Ghosts D} where
         let parts = ap length is.loaded.entries ∙ length-append w.entries (frames.entries_of f.batch) in
         let longer = is.loaded.length_is in
         within_both old.count (least + 5) o.boot first (seen_of s) rest (within_more old.count (old.length + 5) (least + 5) o.boot first (seen_of s) (omega (arith, long)) is.before)
-        (within_late f.count (f.length + 5) old.count (least + 5) o.boot u rest (owned_calm o.hosts rest (owned_behind o.hosts (seen_of s) rest owned)) (omega (arith, count, had, parts))
+        (within_late f.count (f.length + 5) old.count (least + 5) o.boot u rest (calm o.hosts rest (owned_behind o.hosts (seen_of s) rest owned)) (omega (arith, count, had, parts))
         (λ same. let none = none_begun f.batch is.some (omega (arith, count, had, parts, same)) in omega (arith, none, longer, long))
         (omega (arith, count)) (within_behind f.count (f.length + 5) o.boot first (seen_of s) rest all))
 

@@ -5,19 +5,19 @@ use Rattle.ps_model.specs.Machine.{happens, run, start, world}
 use Rattle.ps_model.specs.TheCore.{the_core}
 use Rattle.ps_model.specs.World.{World}
 use Rattle.ps_model.specs.declared.steps.Step.{Step}
-use Rattle.ps_model.specs.declared.steps.Step.TheVariants.{Arrive, Flush, Take, Emit, Record, Gone, Ended, Broken, Crash}
 use Rattle.ps_model.proofs.TheLaws.{the-laws}
 use Rattle.ps_types.specs.declared.entry.Entry.{Entry}
 use Rattle.ps_turn.specs.History.{AllBy, NoneBy}
 use Rattle.ps_twin.specs.Twins.{Prefix}
-use Rattle.ps_world.specs.Calm.{IsCalm, AreCalm, Follows}
+use Rattle.ps_world.specs.Calm.{AreCalm, Follows}
 use Rattle.ps_world.proofs.Following.{run_follows}
 use Rattle.ps_world.proofs.Lists.{assoc}
 use Rattle.ps_world.proofs.Read.{run-append, steps_one}
-use Rattle.ps_trace.specs.Own.{AreOwned, MayMake, NoneOf, deeds, steps_in}
+use Rattle.ps_trace.specs.Own.{AreOwned, NoneOf, deeds, steps_in}
 use Rattle.ps_trace.specs.declared.deed.Deed.{Deed}
 use Rattle.ps_hall_flush.specs.Homes.{HadNoRoom, maker_of, world_at}
 use Rattle.ps_hall_flush.specs.Origin.{Origin}
+use Rattle.ps_trace.proofs.Owning.{calm-one, calm}
 
 -- ---- steps
 
@@ -68,30 +68,14 @@ pub owned_behind : (hosts : List (List ℕ)) (one two : List Deed) → AreOwned 
 owned_behind hosts [] two a = a
 owned_behind hosts (d ∷ one) two a = owned_behind hosts one two a.1
 
-owned_step : (hosts : List (List ℕ)) (k : ℕ) (s : Step) → MayMake hosts k s → IsCalm s
-owned_step hosts k (Arrive g arrival full) may = tt
-owned_step hosts k (Flush m) may = tt
-owned_step hosts k (Take g) may = tt
-owned_step hosts k (Emit a) may = tt
-owned_step hosts k (Record a) may = tt
-owned_step hosts k (Gone g) may = tt
-owned_step hosts k (Ended g role) may = tt
-owned_step hosts k Broken may = tt
-owned_step hosts k (Crash m) may = absurd may
-
--- no pass makes a crash
-pub owned_calm : (hosts : List (List ℕ)) (log : List Deed) → AreOwned hosts log → AreCalm (steps_in log)
-owned_calm hosts [] owned = tt
-owned_calm hosts (d ∷ log) owned = (owned_step hosts d.by d.step owned.0, owned_calm hosts log owned.1)
-
 pub calm_of : (hosts : List (List ℕ)) (by bytes : ℕ) (steps : List Step) → AreOwned hosts (deeds by bytes steps) → AreCalm steps
-calm_of hosts by bytes steps owned = subst AreCalm (steps_deeds by bytes steps) (owned_calm hosts (deeds by bytes steps) owned)
+calm_of hosts by bytes steps owned = subst AreCalm (steps_deeds by bytes steps) (calm hosts (deeds by bytes steps) owned)
 
 -- the world of a longer list
 pub prefix_follows : (o : Origin) (l log : List Deed) → Prefix l log → AreOwned o.hosts log → Follows (world_at o l) (world_at o log)
 prefix_follows o l log more owned =
     let rest : AreOwned o.hosts more.0 = owned_behind o.hosts l more.0 (subst (AreOwned o.hosts) more.1 owned) in
-    subst (λ (v : World). Follows (world_at o l) v) (sym (ap (λ g. world_at o g) more.1 ∙ world_both o l more.0)) (run_follows the_core o.boot (world_at o l) (steps_in more.0) (owned_calm o.hosts more.0 rest))
+    subst (λ (v : World). Follows (world_at o l) v) (sym (ap (λ g. world_at o g) more.1 ∙ world_both o l more.0)) (run_follows the_core o.boot (world_at o l) (steps_in more.0) (calm o.hosts more.0 rest))
 
 pub prefix_then : (one two three : List Deed) → Prefix one two → Prefix two three → Prefix one three
 prefix_then one two three a b = (a.0 ++ b.0, b.1 ∙ (ap (λ l. l ++ b.0) a.1 ∙ assoc one a.0 b.0))

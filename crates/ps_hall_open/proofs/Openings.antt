@@ -20,7 +20,7 @@ use Rattle.ps_model.specs.Replay.{lawful}
 use Rattle.ps_model.specs.Store.{spelled}
 use Rattle.ps_model.specs.TheCore.{the_core}
 use Rattle.ps_model.specs.World.{World, durable, fresh_address, fresh_host}
-use Rattle.ps_model.proofs.TheLaws.{the-laws}
+use Rattle.ps_model.proofs.TheLaws.{the-laws, of-places}
 use Rattle.ps_world.specs.Sound.{Sound}
 use Rattle.ps_world.proofs.Kept.{start_kept}
 use Rattle.ps_world.proofs.Lists.{ends-le}
@@ -38,7 +38,6 @@ use Rattle.ps_hall_open.specs.Fresh.{AreFreshRows, AreHosts}
 use Rattle.ps_hall_open.specs.Left.{Fronts, OpenLeaves}
 use Rattle.ps_hall_open.specs.Opens.{IsMadeOf, IsOpen, IsRestored, at_from}
 use Rattle.ps_hall_open.specs.declared.opened.Rebuilt.{Rebuilt}
-use Rattle.ps_hall_open.proofs.Replays.{lawful-core}
 
 name_at : (hosts : List (List ℕ)) (rows : List HostRow) → names rows ≡ hosts → (k : ℕ) (row : HostRow) → slice_get rows k ≡ Some row → slice_get hosts k ≡ Some row.host
 name_at hosts rows are k row here = ap (λ (l : List (List ℕ)). slice_get l k) (sym are) ∙ (slice_get-map (λ (r : HostRow). r.host) rows k ∙ ap (λ o. option_map (λ (r : HostRow). r.host) o) here)
@@ -70,7 +69,7 @@ hands_stand hosts rows fresh k row here = record {
 }
 
 start_sound : (service : List ℕ) → service ≢ [] → (E : List Entry) → lawful E → Sound the_core (start the_core service E)
-start_sound service some E each = start_kept the_core the-laws service some E (lawful-core E each)
+start_sound service some E each = start_kept the_core the-laws service some E (of-places E each)
 
 all_durable : (service : List ℕ) → service ≢ [] → (E : List Entry) → lawful E → durable (start the_core service E) ≡ length (E ++ Boot service ∷ [])
 all_durable service some E each =
@@ -175,7 +174,7 @@ module _ {D : Type 0} {g : Ghosts D} (journal : Journal D g) (r : Rebuilt) (rows
       let same = long_same (at_with disk (length_of journal)) (start the_core service E) stands refl in
       record {
         store = store;
-        lawful = lawful-core E restored.each;
+        lawful = of-places E restored.each;
         state = state_stands service some E restored hosts are fresh changes whole room;
         archive = store_stands service some E restored (at_from disk y) (began (length_in y) same) unbroken seen lasts;
         long = λ tells. (len, long tells, same ∙ size);

@@ -1,12 +1,7 @@
 -- The queues while entries are taken.
-use Rattle.std.proofs.Common.{◌≡◌, ℕ, zero, suc, ◌≤◌, Bool, true, false, cond, List, [], ◌∷◌, ◌++◌, length, drop, refl, ap, sym, ◌∙◌, subst, arith, append-nil}
-use Rattle.std.specs.Prelude.{bytes_eq}
-use Rattle.std.proofs.lemmas.Bool.{and_parts, true≢false}
+use Rattle.std.proofs.Common.{◌≡◌, ℕ, ◌≤◌, Bool, true, false, cond, List, [], ◌∷◌, ◌++◌, length, drop, refl, ap, sym, ◌∙◌, subst, arith, append-nil}
 use Rattle.std.proofs.lemmas.List.Elements.{filter-append}
-use Rattle.std.proofs.lemmas.Slice.Eq.{bytes_eq-Decides}
 use Rattle.ps_base.specs.Rows.{without_first}
-use Rattle.ps_rows.proofs.Sought.{bare_of_jid}
-use Rattle.ps_types.proofs.Same.{same_parts}
 use Rattle.ps_types.specs.Same.{same_bare, same_jid}
 use Rattle.ps_types.specs.declared.entry.Entry.{Entry}
 use Rattle.ps_types.specs.declared.entry.Entry.TheVariants.{Boot, Change, Handed, Gone, Base}
@@ -24,10 +19,11 @@ use Rattle.ps_outbox.proofs.Fifo.{front_goes, others_stay}
 use Rattle.ps_world.proofs.Grows.{handed-append, handed-few}
 use Rattle.ps_world.proofs.Lists.{take-whole}
 use Rattle.ps_hall_state.specs.Stand.{QueuesStand}
-use Rattle.ps_hall_state.proofs.Hands.{same_itself}
+use Rattle.ps_hall_state.proofs.Hands.{same_itself, bare_same}
 use Rattle.ps_hall_state.proofs.OneRow.{drop-front}
 use Rattle.ps_hall_state.proofs.Queued.{notices-more}
 use Rattle.ps_hall_open.specs.Replayed.{unhanded}
+use Rattle.ps_hall_state.proofs.Recording.{none-made, drop_more, bare_apart}
 
 -- before the first entry
 pub queues_none : (waiting : List Notice) → waiting ≡ [] → QueuesStand waiting []
@@ -46,28 +42,6 @@ queues_plain E old new e is stand more nothing a bare =
     ap (queue a) more ∙ filter-append (is_to a) old ns ∙ ap (λ q. q ++ queue a ns) (stand a bare)
     ∙ sym (drop-front (handed E a) (the_core.notices E a) (queue a ns) (few-handed E a is))
     ∙ ap (drop (handed E a)) (sym (notices-more E e a bare)) ∙ ap (λ k. drop k (the_core.notices (E ++ e ∷ []) a)) (sym same)
-
--- a Handed makes no notices
-none-made : (E : List Entry) (a b : Jid) → b.resource ≡ [] → the_core.notices (E ++ Handed a ∷ []) b ≡ the_core.notices E b
-none-made E a b bare = notices-more E (Handed a) b bare ∙ append-nil (the_core.notices E b)
-
-drop_more : (n : ℕ) (m : ℕ) (xs : List Notice) → m ≡ suc n → drop 1 (drop n xs) ≡ drop m xs
-drop_more n zero xs e = absurd (omega arith)
-drop_more zero (suc m) [] e = refl
-drop_more zero (suc m) (x ∷ xs) e = let z : m ≡ 0 = omega arith in rw z refl
-drop_more (suc n) (suc m) [] e = refl
-drop_more (suc n) (suc m) (x ∷ xs) e = drop_more n m xs (omega arith)
-
--- bare addresses are one where their parts are
-bare_same : (a b : Jid) → same_bare a b ≡ true → a.resource ≡ [] → b.resource ≡ [] → a ≡ b
-unfolding same_bare
-bare_same a b e p q =
-    let both = and_parts (bytes_eq a.local b.local) (bytes_eq a.host b.host) e in
-    same_parts a b ((bytes_eq-Decides a.local b.local).0 both.0) ((bytes_eq-Decides a.host b.host).0 both.1) (p ∙ sym q)
-
-bare_apart : (a b : Jid) (t : Bool) → same_jid a b ≡ t → same_bare a b ≡ false → t ≡ false
-bare_apart a b true e apart = absurd (true≢false (sym (bare_of_jid a b e) ∙ apart))
-bare_apart a b false e apart = refl
 
 -- the queue after a Handed of the address
 queue_handed : (E : List Entry) (old new : List Notice) (a b : Jid) (t : Bool) → a.resource ≡ [] → b.resource ≡ [] → same_bare a b ≡ t → QueuesStand old E → new ≡ without_first (is_to a) old → queue b new ≡ drop (handed (E ++ Handed a ∷ []) b) (the_core.notices (E ++ Handed a ∷ []) b)

@@ -6,7 +6,6 @@ use Rattle.ps_types.specs.declared.entry.Entry.{Entry}
 use Rattle.ps_types.specs.declared.entry.Entry.TheVariants.{Boot}
 use Rattle.ps_model.specs.At.{IsBadNext, IsDamagedAt, IsStore}
 use Rattle.ps_model.specs.Book.{State, empty_state}
-use Rattle.ps_model.specs.CoreLaws.{IsLawful}
 use Rattle.ps_model.specs.Entries.{IsEntry, IsHostName}
 use Rattle.ps_model.specs.After.{after, notices_at}
 use Rattle.ps_model.specs.Replay.{accepted, lawful, replay}
@@ -29,9 +28,6 @@ use Rattle.ps_hall_open.specs.declared.opened.Rebuilt.{Rebuilt}
 use Rattle.ps_hall_open.proofs.Queues.{queues_boot, queues_none, queues_taken}
 
 -- ---- lawful lists
-
-pub lawful-core : (E : List Entry) → lawful E → IsLawful the_core E
-lawful-core E l = of-places E l
 
 pub replay-snoc : (E : List Entry) (e : Entry) → replay (E ++ e ∷ []) ≡ after (replay E) e
 replay-snoc E e = replay-append E (e ∷ []) empty_state
@@ -74,7 +70,7 @@ module _ (placed : List Placed) (one : Placed) (old new : Rebuilt) (so_far : Has
         replayed = record {
           each = subst lawful (sym more) (lawful-more E one.entry empty_state is.each (subst (λ (t : State). accepted t one.entry ≡ true) is.state taken.0));
           state = taken.1 ∙ (ap (λ (t : State). after t one.entry) is.state ∙ (sym (replay-snoc E one.entry) ∙ ap replay (sym more)));
-          queues = subst (λ (l : List Entry). QueuesStand new.queues.waiting l) (sym more) (queues_taken E old.queues.waiting new.queues.waiting one.entry (lawful-core E is.each) entry is.queues waits);
+          queues = subst (λ (l : List Entry). QueuesStand new.queues.waiting l) (sym more) (queues_taken E old.queues.waiting new.queues.waiting one.entry (of-places E is.each) entry is.queues waits);
           held = taken.3 ∙ is.held;
         };
       }
@@ -130,6 +126,6 @@ restored_is placed r now boot is few named same next = record {
   few = (let size : length (entries_in placed) ≡ length placed = length-map placed (λ (p : Placed). p.entry) in omega (arith, size));
   state = next ∙ (ap (λ (t : State). after t boot) is.state ∙ sym (replay-snoc (entries_in placed) boot));
   queues = subst (λ (q : List Notice). QueuesStand q (entries_in placed ++ boot ∷ [])) (sym (ap (λ q. q.waiting) same))
-      (subst (λ (b : Entry). QueuesStand r.queues.waiting (entries_in placed ++ b ∷ [])) (sym named.1) (queues_boot (entries_in placed) r.queues.waiting named.0 (lawful-core (entries_in placed) is.each) is.queues));
+      (subst (λ (b : Entry). QueuesStand r.queues.waiting (entries_in placed ++ b ∷ [])) (sym named.1) (queues_boot (entries_in placed) r.queues.waiting named.0 (of-places (entries_in placed) is.each) is.queues));
   held = ap (λ q. q.held) same ∙ is.held;
 }

@@ -1,27 +1,14 @@
--- Entries that a store may hold come at moments that a stamp can tell.
-use Rattle.std.proofs.Common.{◌≡◌, ℕ, ◌+◌, ◌<◌, ◌≤◌, ◌^◌, ◌∷◌, [], zero, suc, true, List, Option, Some, None, length, get_or, refl, sym, subst, ap, arith}
+-- Of the entries of a store, and of the Boot that begins it.
+use Rattle.std.proofs.Common.{◌≡◌, ℕ, ◌+◌, ◌<◌, ◌≤◌, ◌^◌, ◌∷◌, [], zero, suc, List, length, get_or, sym, subst, ap, arith}
 use Rattle.std.specs.Prelude.{nat_le, ◌&&◌}
-use Rattle.std.proofs.lemmas.Bool.{and_parts, leb-true, lt-ltb}
+use Rattle.std.proofs.lemmas.Bool.{and_parts, leb-true}
 use Rattle.ps_types.specs.declared.entry.Entry.{Entry}
-use Rattle.ps_types.specs.declared.entry.Entry.TheVariants.{Boot, Change, Handed, Gone, Base}
-use Rattle.ps_model.specs.BaseAfter.{is_early}
-use Rattle.ps_model.specs.Entries.{AreEntries, IsEntry, IsHostName, IsMoment, end_of_time, spelling}
-use Rattle.ps_book_laws.specs.Addressed.{IsTimely}
+use Rattle.ps_types.specs.declared.entry.Entry.TheVariants.{Boot}
+use Rattle.ps_model.specs.Entries.{AreEntries, IsEntry, IsHostName, spelling}
 use Rattle.ps_journal.specs.Opened.{ArePlaced}
 use Rattle.ps_journal.specs.Places.{entries_in}
 use Rattle.ps_journal.specs.declared.judging.Placed.{Placed}
 use Rattle.ps_hall_open.specs.Begun.{IsBoot}
-
-early : (moment : Option ℕ) → IsMoment moment → is_early moment ≡ true
-early None is = refl
-early (Some moment) is = lt-ltb moment end_of_time is
-
-pub entry-timely : (e : Entry) → IsEntry e → IsTimely e
-entry-timely (Boot service) is = tt
-entry-timely (Change host line moment t) is = early moment is.2
-entry-timely (Handed to) is = tt
-entry-timely (Gone host) is = tt
-entry-timely (Base row) is = tt
 
 -- a Boot has a spelling, which is short
 pub boot-entry : (e : Entry) → IsBoot e → IsEntry e

@@ -14,7 +14,7 @@ abbrev pub entries_of : Kept → List Entry
 entries_of kept = entries_in kept.entries.items
 
 -- each of the entries has a spelling and is accepted at its place, and this is what they leave
-pub record IsKept (kept : Kept) : Type 0 where
+pub record ListIsKept (kept : Kept) : Type 0 where
   pub each : AreEntries (entries_of kept)
   pub few : length (entries_of kept) < 2 ^ 61
   pub replayed : IsReplayed (entries_of kept) kept.rebuilt

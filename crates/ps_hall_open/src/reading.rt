@@ -3,7 +3,7 @@ ghost use Rattle.std.specs.Prelude.{◌≡◌, ◌≤◌, IfErr, IfOk, OnOk};
 ghost use Rattle.ps_disk.specs.Disk.{LeavesOnly, MayLeave};
 ghost use Rattle.ps_model.specs.At.{IsStore};
 ghost use Rattle.ps_journal.specs.Settled.{IsQuiet};
-ghost use Rattle.ps_hall_open.specs.Reads.{IsKept, ReadNot, entries_of};
+ghost use Rattle.ps_hall_open.specs.Reads.{ListIsKept, ReadNot, entries_of};
 ghost use Rattle.ps_hall_open.specs.Refused.{read_why};
 
 use crate::opened::{Kept, ReadWhy, StoreRead};
@@ -32,7 +32,7 @@ fn kept_on<R: RandomSource + Threads + Sync, D: Disk>(
     alloc: Global,
     disk: &mut D,
 ) -> Result<Kept, ReadWhy>
-    ensures kept { IfOk result IsKept }
+    ensures kept { IfOk result ListIsKept }
     ensures store { D.tells → IfOk result (λ kept. IsStore (D.seen disk.old) (entries_of kept)) }
     ensures refused { IfErr result
         (ReadNot D.tells (D.seen disk.old) (D.faults disk.old) (D.faults disk.new)) }
@@ -65,7 +65,7 @@ pub fn read_store<R: RandomSource + Threads + Sync, D: Disk>(
     disk: D,
 ) -> StoreRead<D>
     // The list of the bytes, each entry accepted at its place, and what it leaves.
-    ensures kept { IfOk result.outcome IsKept }
+    ensures kept { IfOk result.outcome ListIsKept }
     ensures store { D.tells → IfOk result.outcome (λ kept. IsStore (D.seen disk) (entries_of kept)) }
     ensures refused { IfErr result.outcome
         (ReadNot D.tells (D.seen disk) (D.faults disk) (D.faults result.disk)) }

@@ -2,17 +2,16 @@
 use Rattle.std.proofs.Common.{◌≡◌, ℕ, zero, suc, ◌+◌, ◌<◌, ◌≤◌, ◌^◌, Bool, true, false, List, [], ◌∷◌, Option, Some, None, length, drop, map, refl, ap, sym, ◌∙◌, subst, arith, vec_len, vec_capacity}
 use Rattle.std.specs.Prelude.{not, option_map, slice_get, ◌||◌}
 use Rattle.std.specs.List.{list_any}
-use Rattle.std.proofs.lemmas.Bool.{lt-ltb}
 use Rattle.std.proofs.lemmas.Bool.Decides.{nat_tests}
 use Rattle.ps_types.specs.Print.{print}
 use Rattle.ps_types.specs.declared.entry.Arrival.{Arrival}
 use Rattle.ps_types.specs.declared.entry.Entry.{Entry}
 use Rattle.ps_types.specs.declared.entry.Entry.TheVariants.{Base, Boot, Change, Gone as GoneEntry, Handed}
 use Rattle.ps_types.specs.declared.jid.Jid.{Jid}
-use Rattle.ps_model.specs.Entries.{IsHostName, IsMoment, end_of_time}
+use Rattle.ps_model.specs.Entries.{IsHostName}
 use Rattle.ps_book_laws.specs.Addressed.{IsTimely}
+use Rattle.ps_book_laws.proofs.Timely.{early}
 use Rattle.ps_core.specs.Requests.{IsRequestOf}
-use Rattle.ps_model.specs.BaseAfter.{is_early}
 use Rattle.ps_model.specs.Replay.{accepted, replay}
 use Rattle.ps_model.specs.Replies.{entry_of, reply_to}
 use Rattle.ps_model.specs.TheCore.{the_core}
@@ -211,10 +210,6 @@ pub handed_plain : (e : Entry) (to : Jid) → e ≡ Handed to → IsNoLine e
 handed_plain e to is = subst IsNoLine (sym is) tt
 
 -- an entry that can be written comes at a moment that a stamp can tell
-early : (moment : Option ℕ) → IsMoment moment → is_early moment ≡ true
-early None is = refl
-early (Some moment) is = lt-ltb moment end_of_time is
-
 pub sketch-timely : (e : Entry) → IsSketch e → IsTimely e
 sketch-timely (Boot service) is = tt
 sketch-timely (Change host line moment t) is = early moment is.1

@@ -19,9 +19,7 @@ use Rattle.ps_hall_state.specs.Steps.{StaysSame}
 use Rattle.ps_hall_state.proofs.Hands.{hands_flushed}
 use Rattle.ps_hall_state.proofs.Sizes.{within_same}
 use Rattle.ps_hall_state.proofs.Stepping.{count-is}
-
-both_true : (a m b : ℕ) → a ≤ m → m ≤ b → (nat_le a m && nat_le m b) ≡ true
-both_true a m b h k = grind (arith, nat_tests)
+use Rattle.ps_world.proofs.Read.{within_both}
 
 both_false : (a m b : ℕ) → m < a → (nat_le a m && nat_le m b) ≡ false
 both_false a m b h = grind (arith, nat_tests)
@@ -52,7 +50,7 @@ same_within v now same is = within_same v now same.length_same same.batch same.l
 flushed_to : (service : List ℕ) → service ≢ [] → (v now : State) (w : World) (m count : ℕ) → Stands v w → w.flushed ≤ m → m ≤ w.steps → ends m w.made ≡ count → SameValues v now → now.steps ≡ v.steps + 1 → now.flushed ≡ m → now.durable ≡ count → now.broken ≡ v.broken
     → Stands now (happens the_core service w (Flush m))
 flushed_to service some v now w m count is low high few same steps flushed dur broken =
-    let step : happens the_core service w (Flush m) ≡ counted (flushes w m) = ap (λ b. counted (if b then flushes w m else w)) (both_true w.flushed m w.steps low high) in
+    let step : happens the_core service w (Flush m) ≡ counted (flushes w m) = ap (λ b. counted (if b then flushes w m else w)) (within_both w.flushed m w.steps low high) in
     subst (Stands now) (sym step) (record {
       sound = subst (Sound the_core) step (happens_kept the_core the-laws service some w (Flush m) is.sound);
       state = same.state ∙ is.state;

@@ -23,6 +23,7 @@ use Rattle.ps_hall_state.specs.declared.state.Landing.{Landing}
 use Rattle.ps_hall_state.specs.Rows.{RowLandsBy}
 use Rattle.ps_hall_state.specs.Stand.{HandStands, HandsStand, IsFlying, IsLanding, landing_step}
 use Rattle.ps_hall_state.proofs.OneRow.{get-set, get-set_other, same_some}
+use Rattle.ps_model.proofs.TallyLaws.{same_bare-itself}
 
 yes_le : (a b : ℕ) → a ≤ b → nat_le a b ≡ true
 yes_le a b h = grind (arith, nat_tests)
@@ -32,9 +33,6 @@ no_le a b h = grind (arith, nat_tests)
 
 pub same_itself : (a : Jid) → same_jid a a ≡ true
 same_itself a = (same_jid-Decides a a).1 refl
-
-bare_itself : (a : Jid) → same_bare a a ≡ true
-bare_itself a = bare_of_jid a a (same_itself a)
 
 -- bare addresses are one where their parts are
 pub bare_same : (a b : Jid) → same_bare a b ≡ true → a.resource ≡ [] → b.resource ≡ [] → a ≡ b

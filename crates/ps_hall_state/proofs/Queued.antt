@@ -24,6 +24,7 @@ use Rattle.ps_world.proofs.Lists.{take-whole}
 use Rattle.ps_hall_state.specs.Stand.{QueuesStand}
 use Rattle.ps_hall_state.specs.Steps.{AreSpare, notices_with}
 use Rattle.ps_hall_state.proofs.OneRow.{drop-front}
+use Rattle.ps_model.proofs.TallyLaws.{same_bare-turned}
 
 -- what stays spare after one push
 pub spare-tail : (all : List Notice) (n : Notice) (rest : List Notice) (old new : Boxes) → all ≡ n ∷ rest → AreSpare all (length all) old → ((who : Jid) → spare_for who old ≤ spare_for who new + 1) → AreSpare rest (length rest) new
@@ -47,13 +48,10 @@ bare_turned a b false false p q = refl
 bare_turned a b true false p q = absurd (true≢false (sym (bare-back a b p) ∙ q))
 bare_turned a b false true p q = absurd (true≢false (sym (bare-back b a q) ∙ p))
 
-pub bare-turned : (a b : Jid) → same_bare a b ≡ same_bare b a
-bare-turned a b = bare_turned a b (same_bare a b) (same_bare b a) refl refl
-
 -- the queue of a bare address
 queue-is : (a : Jid) (ns : List Notice) → filter (λ n. same_bare n.to a) ns ≡ queue a ns
 queue-is a [] = refl
-queue-is a (n ∷ ns) = ap (λ b. cond b (n ∷ filter (λ m. same_bare m.to a) ns) (filter (λ m. same_bare m.to a) ns)) (bare-turned n.to a) ∙ ap (λ q. cond (is_to a n) (n ∷ q) q) (queue-is a ns)
+queue-is a (n ∷ ns) = ap (λ b. cond b (n ∷ filter (λ m. same_bare m.to a) ns) (filter (λ m. same_bare m.to a) ns)) (same_bare-turned n.to a) ∙ ap (λ q. cond (is_to a n) (n ∷ q) q) (queue-is a ns)
 
 pub to-bare : (a : Jid) (ns : List Notice) → a.resource ≡ [] → to_address a ns ≡ queue a ns
 to-bare a ns bare = ap (λ r. of_bare r (filter (λ n. same_bare n.to a) ns)) bare ∙ queue-is a ns

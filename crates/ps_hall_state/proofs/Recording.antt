@@ -38,17 +38,17 @@ use Rattle.ps_hall_state.proofs.Queued.{notices-more}
 use Rattle.ps_hall_state.proofs.Stepping.{BatchOn, goes_on, step_ok}
 
 -- a Handed makes no notices
-none-made : (E : List Entry) (a b : Jid) → b.resource ≡ [] → the_core.notices (E ++ Handed a ∷ []) b ≡ the_core.notices E b
+pub none-made : (E : List Entry) (a b : Jid) → b.resource ≡ [] → the_core.notices (E ++ Handed a ∷ []) b ≡ the_core.notices E b
 none-made E a b bare = notices-more E (Handed a) b bare ∙ append-nil (the_core.notices E b)
 
-drop_more : (n : ℕ) (m : ℕ) (xs : List Notice) → m ≡ suc n → drop 1 (drop n xs) ≡ drop m xs
+pub drop_more : (n : ℕ) (m : ℕ) (xs : List Notice) → m ≡ suc n → drop 1 (drop n xs) ≡ drop m xs
 drop_more n zero xs e = absurd (omega arith)
 drop_more zero (suc m) [] e = refl
 drop_more zero (suc m) (x ∷ xs) e = let z : m ≡ 0 = omega arith in rw z refl
 drop_more (suc n) (suc m) [] e = refl
 drop_more (suc n) (suc m) (x ∷ xs) e = drop_more n m xs (omega arith)
 
-bare_apart : (a b : Jid) (t : Bool) → same_jid a b ≡ t → same_bare a b ≡ false → t ≡ false
+pub bare_apart : (a b : Jid) (t : Bool) → same_jid a b ≡ t → same_bare a b ≡ false → t ≡ false
 bare_apart a b true e apart = absurd (true≢false (sym (bare_of_jid a b e) ∙ apart))
 bare_apart a b false e apart = refl
 

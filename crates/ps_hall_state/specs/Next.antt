@@ -7,8 +7,8 @@ use Rattle.ps_model.specs.Core.{handed}
 use Rattle.ps_model.specs.TheCore.{the_core}
 use Rattle.ps_model.specs.World.{Said, Nothing, Recorded, World, durable}
 use Rattle.ps_model.specs.declared.steps.Step.TheVariants.{Take, Emit}
-use Rattle.ps_hall_state.specs.declared.answers.Next.{Next}
-use Rattle.ps_hall_state.specs.declared.answers.Next.TheVariants.{Reply, Notice as Tells, NotYet, Over}
+use Rattle.ps_hall_state.specs.declared.answers.NextLine.{NextLine}
+use Rattle.ps_hall_state.specs.declared.answers.NextLine.TheVariants.{Reply, Notice as Tells, NotYet, Over}
 use Rattle.ps_outbox.specs.Boxes.{NoneReady, is_known, is_to}
 use Rattle.ps_hall_state.specs.declared.state.Landing.{Landing}
 use Rattle.ps_hall_state.specs.declared.state.Waiting.{Waiting}
@@ -68,7 +68,7 @@ NoneInFlight w host = (a : Jid) → a.host ≡ host → (w.addresses a).flight �
 abbrev pub IsAwaited : State → World → List ℕ → Type 0
 IsAwaited v w host = (has_reader v w ≡ true) ⊎ HasOneInFlight w host
 
-abbrev pub NextIn : State → State → List ℕ → Next → List ℕ → World → Type 0
+abbrev pub NextIn : State → State → List ℕ → NextLine → List ℕ → World → Type 0
 NextIn old new host (Reply text) service w = IsFirstReply w host text × StandsAfter new service w (Take host)
 NextIn old new host (Tells a text) service w =
     (a.host ≡ host) × NoReply w host × IsFirstNotice w a text × ((w.addresses a).flight ≡ Nothing) × StandsAfter new service w (Emit a)
@@ -77,7 +77,7 @@ NextIn old new host NotYet service w =
 NextIn old new host Over service w =
     NoReply w host × NoNotice w host × NoneInFlight w host × (has_reader old w ≡ false) × Stands new w
 
-abbrev pub IsNext : State → State → List ℕ → Next → Type 0
+abbrev pub IsNext : State → State → List ℕ → NextLine → Type 0
 IsNext old new host next = InEach old (NextIn old new host next)
 
 -- ---- by the row

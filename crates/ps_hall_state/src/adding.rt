@@ -13,12 +13,10 @@ use crate::state::State;
 use ps_base::Memory;
 use ps_core::Service;
 use ps_outbox::Outboxes;
-use ps_record::Batch;
+use ps_record::{Batch, MAX_BYTES};
 use ps_types::{Entry, Notice, Request, Text};
 use std::alloc::Global;
 use std::thread::Threads;
-
-const MOST: u64 = 1 << 30;
 
 // The length of a text and of so many bytes beside it, where it is at most 2^30.
 fn short(text: &Text, beside: u64) -> Option<u64>
@@ -26,7 +24,7 @@ fn short(text: &Text, beside: u64) -> Option<u64>
     ensures none { result ≡ None → 2 ^ 30 < length text.now + beside }
 {
     let len = text.len() as u64;
-    if len > MOST || beside > MOST || len + beside > MOST {
+    if len > MAX_BYTES || beside > MAX_BYTES || len + beside > MAX_BYTES {
         return None;
     }
     Some(len + beside)
@@ -49,7 +47,7 @@ fn size_of(alloc: Global, entry: &Entry, print: &[u8]) -> Result<Option<u64>, Me
                 None => 15,
             };
             let len = print.len() as u64;
-            if len > MOST {
+            if len > MAX_BYTES {
                 return Ok(None);
             }
             Ok(short(host, beside + len))

@@ -54,7 +54,7 @@ impl From<Memory> for ArriveRefusal {
 
 /// What a writer is to do next.
 #[derive(Drop)]
-pub enum Next {
+pub enum NextLine {
     Reply(Bytes),
     /// The line of a notice, which is then in hand, and its bare address.
     Notice(Jid, Bytes),

@@ -9,7 +9,7 @@
 //!
 //! It stands for a world of the machine: it keeps what the world holds, the entries that wait are those after the ones of all frames that were
 //! begun, and the queue of a bare address has exactly its notices that are not handed, in order (`specs/Stand.antt`, `Stands`). What a call does is
-//! said of every world that the state stands for: `Goes` gives the world after the call's steps, and `specs/Arrive.antt`, `specs/Next.antt` and
+//! said of every world that the state stands for: `Goes` gives the world after the call's steps, and `specs/Arrive.antt`, `specs/NextLine.antt` and
 //! `specs/Gone.antt` say the answers with their causes, told of that world.
 //!
 //! Where memory runs out a call makes no step, and the state stands for the same world. A call that makes an entry prepares it, makes room for its notices and
@@ -27,6 +27,6 @@ mod replies;
 mod rows;
 mod state;
 
-pub use answers::{ArriveRefusal, HandedRefusal, Limits, Next, Outcome, Receipt};
+pub use answers::{ArriveRefusal, HandedRefusal, Limits, NextLine, Outcome, Receipt};
 pub use ps_core::Service;
 pub use state::{HostRow, Landing, State, Waiting};

@@ -7,7 +7,7 @@ ghost use Rattle.ps_hall_state.specs.Next.{HasLanded, HasNone, HasReply, IsNext,
 ghost use Rattle.ps_hall_state.specs.Steps.{Goes, GoesBy, KeepsNumbers};
 ghost use Rattle.ps_hall_state.specs.Rows.{AtRow, HasFirst};
 
-use crate::answers::Next;
+use crate::answers::NextLine;
 use crate::rows::{has_landed_at, may_take_at, some_reads, take_at};
 use crate::state::State;
 use ps_base::{Bytes, Memory};
@@ -93,7 +93,7 @@ impl State {
     }
 
     // What is told where there is neither a reply nor a notice.
-    fn none_now(&self, at: usize) -> Next
+    fn none_now(&self, at: usize) -> NextLine
         requires here { at < length self.now.rows.items }
         requires landed { AtRow self.now at (λ row. HasLanded row self.now.flushed) }
         requires waits { AtRow self.now at (λ row. HasNone row.waiting.items self.now.flushed) }
@@ -101,16 +101,16 @@ impl State {
         ensures is { AtRow self.now at (λ row. IsNext self.now self.now row.host result) }
     {
         if some_reads(&self.rows) {
-            return Next::NotYet;
+            return NextLine::NotYet;
         }
         if self.holds_at(at) {
-            return Next::NotYet;
+            return NextLine::NotYet;
         }
-        Next::Over
+        NextLine::Over
     }
 
     // What is told where no reply is released.
-    fn next_of(&mut self, at: usize, told: Option<Telling>) -> Result<Next, Memory>
+    fn next_of(&mut self, at: usize, told: Option<Telling>) -> Result<NextLine, Memory>
         requires here { at < length self.old.rows.items }
         requires few { self.old.steps < 2 ^ 63 }
         requires landed { AtRow self.old at (λ row. HasLanded row self.old.flushed) }
@@ -126,14 +126,14 @@ impl State {
             Some(telling) => {
                 let Telling { to, held, line } = telling;
                 self.tell(at, held, &line)?;
-                Ok(Next::Notice(to, line))
+                Ok(NextLine::Notice(to, line))
             }
             None => Ok(self.none_now(at)),
         }
     }
 
     // What there is where no reply is released.
-    fn next_notice(&mut self, at: usize) -> Result<Next, Memory>
+    fn next_notice(&mut self, at: usize) -> Result<NextLine, Memory>
         requires here { at < length self.old.rows.items }
         requires few { self.old.steps < 2 ^ 63 }
         requires landed { AtRow self.old at (λ row. HasLanded row self.old.flushed) }
@@ -150,7 +150,7 @@ impl State {
 
     /// The next line for the writer of the host at a place: its first reply that is released and not taken, or else the first notice of an address of which
     /// none is in flight, which is then in hand. Where there is none, or memory runs out, the state stands for the same world.
-    pub fn next(&mut self, at: usize) -> Result<Next, Memory>
+    pub fn next(&mut self, at: usize) -> Result<NextLine, Memory>
         requires here { at < length self.old.rows.items }
         requires few { self.old.steps < 2 ^ 63 }
         ensures ok { AtRow self.old at (λ row. IfOk result (IsNext self.old self.new row.host)) }
@@ -158,12 +158,12 @@ impl State {
         ensures kept { KeepsNumbers self.old self.new }
     {
         if may_take_at(&self.rows, at, self.flushed) {
-            return Ok(Next::Reply(self.take_reply(at)));
+            return Ok(NextLine::Reply(self.take_reply(at)));
         }
         if has_landed_at(&self.rows, at, self.flushed) {
             self.next_notice(at)
         } else {
-            Ok(Next::NotYet)
+            Ok(NextLine::NotYet)
         }
     }
 }

@@ -11,8 +11,8 @@ use Rattle.ps_hall_state.specs.declared.answers.ArriveRefusal.{ArriveRefusal}
 use Rattle.ps_hall_state.specs.declared.answers.ArriveRefusal.TheVariants as away
 use Rattle.ps_hall_state.specs.declared.answers.HandedRefusal.{HandedRefusal}
 use Rattle.ps_hall_state.specs.declared.answers.HandedRefusal.TheVariants as refused
-use Rattle.ps_hall_state.specs.declared.answers.Next.{Next}
-use Rattle.ps_hall_state.specs.declared.answers.Next.TheVariants as nexts
+use Rattle.ps_hall_state.specs.declared.answers.NextLine.{NextLine}
+use Rattle.ps_hall_state.specs.declared.answers.NextLine.TheVariants as nexts
 use Rattle.ps_hall_state.specs.declared.answers.Receipt.{Receipt}
 use Rattle.ps_hall_state.specs.declared.state.State.{State}
 use Rattle.ps_hall_state.specs.Arrive.{Laid, NotLaid}
@@ -39,7 +39,7 @@ module _ (old new : State) (is : IsStanding old) where
   laid host arrival (Err away.Again) ok err = (_, (err is.0 is.1).3)
   laid host arrival (Err away.Memory) ok err = (_, (err is.0 is.1).1)
 
-  pub told : (host : List ℕ) (r : Result Next Memory) → IfOk r (IsNext old new host) → OnErr r (Goes old new []) → IsStanding new
+  pub told : (host : List ℕ) (r : Result NextLine Memory) → IfOk r (IsNext old new host) → OnErr r (Goes old new []) → IsStanding new
   told host (Ok (nexts.Reply text)) ok err = (_, (ok name some is.0 is.1).1)
   told host (Ok (nexts.Notice a text)) ok err = (_, (ok name some is.0 is.1).4)
   told host (Ok nexts.NotYet) ok err = (_, (ok name some is.0 is.1).2)

@@ -6,7 +6,7 @@ ghost use Rattle.ps_hall_state.specs.Shape.{IsArrival};
 ghost use Rattle.ps_hall_state.specs.Stand.{IsStanding};
 
 use ps_base::Memory;
-use ps_hall_state::{ArriveRefusal, HandedRefusal, Next, Receipt, State};
+use ps_hall_state::{ArriveRefusal, HandedRefusal, NextLine, Receipt, State};
 use ps_types::{Arrival, Bytes, Jid};
 use std::alloc::Global;
 use std::process::Abort;
@@ -38,7 +38,7 @@ fn lay_first<R: Threads + Sync>(
     state.lay(rt, 0, arrival)
 }
 
-fn next_first(state: &mut State) -> Result<Next, Memory>
+fn next_first(state: &mut State) -> Result<NextLine, Memory>
     requires here { 0 < length state.old.rows.items }
     requires few { state.old.steps < 2 ^ 63 }
     requires standing { IsStanding state.old }
@@ -131,7 +131,7 @@ pub fn lays(
 }
 
 /// What the writer is to do next.
-pub fn next(rt: &impl Abort, state: &mut State) -> Result<Next, Fail>
+pub fn next(rt: &impl Abort, state: &mut State) -> Result<NextLine, Fail>
     requires standing { IsStanding state.old }
     ensures standing { IsStanding state.new }
 {

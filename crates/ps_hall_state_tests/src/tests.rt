@@ -5,7 +5,7 @@ use crate::calls::{ends_reader, ends_writer, fails, flushes, goes, lays, next, r
 use crate::lines::line_of;
 use crate::opened::opened;
 use crate::rows::{BROKEN, FILLED, GONE, HANDED, RUNS, SHOWN, UNFIT, UNWRITTEN};
-use ps_hall_state::{ArriveRefusal, HandedRefusal, Limits, Next, Outcome, Receipt, State};
+use ps_hall_state::{ArriveRefusal, HandedRefusal, Limits, NextLine, Outcome, Receipt, State};
 use ps_types::Jid;
 use std::alloc::Global;
 use std::process::Abort;
@@ -51,20 +51,20 @@ fn is_recorded(came: Result<(), HandedRefusal>, want: &str) -> bool {
 }
 
 // Whether the writer is to do this next.
-fn is_next(alloc: Global, next: Next, want: &str) -> Result<bool, Fail> {
+fn is_next(alloc: Global, next: NextLine, want: &str) -> Result<bool, Fail> {
     let (kind, word) = want.split_once(' ').unwrap_or((want, ""));
     match next {
-        Next::Reply(reply) => {
+        NextLine::Reply(reply) => {
             Ok(kind == "reply" && reply.as_slice() == line_of(word).as_bytes())
         }
-        Next::Notice(to, line) => {
+        NextLine::Notice(to, line) => {
             let (who, text) = line_of(word).split_once(' ').unwrap_or(("", ""));
             let to = to.text(alloc)?;
             let same = to.as_str() == who && line.as_slice() == text.as_bytes();
             Ok(kind == "notice" && same)
         }
-        Next::NotYet => Ok(want == "waits"),
-        Next::Over => Ok(want == "over"),
+        NextLine::NotYet => Ok(want == "waits"),
+        NextLine::Over => Ok(want == "over"),
     }
 }
 

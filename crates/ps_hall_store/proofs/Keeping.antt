@@ -10,7 +10,7 @@ use Rattle.ps_model.specs.World.{World, ends}
 use Rattle.ps_world.proofs.Lists.{ends-le}
 use Rattle.ps_world.specs.Calm.{Follows}
 use Rattle.ps_hall_store.specs.Left.{IsFront}
-use Rattle.ps_hall_store.specs.Stand.{IsKept, OpenedAt, SinceStart}
+use Rattle.ps_hall_store.specs.Stand.{EntriesAreKept, OpenedAt, SinceStart}
 use Rattle.ps_hall_store.proofs.Fronts.{front_either, front_of_two, front_on, front_whole}
 
 -- the laws of a disk that are used
@@ -28,7 +28,7 @@ ends-within m w sizes = let e = ends-le m w.made in omega (arith, e, sizes)
 
 module _ {D : Type 0} (g : Ghosts D) (at : OpenedAt) where
   -- the journal was opened at that moment, and a crash leaves all entries
-  pub kept_opened : OnlyNow g → (disk : D) (firm : ℕ) (w : World) → length w.made ≡ length w.entries → w.opened ≤ length w.entries → at.moment ≡ g.moment disk → LeavesList (g.synced disk) (g.written disk) w.entries → (IsShortIfUnbegun at.seen → SinceStart g at disk w) → IsKept g at disk firm w
+  pub kept_opened : OnlyNow g → (disk : D) (firm : ℕ) (w : World) → length w.made ≡ length w.entries → w.opened ≤ length w.entries → at.moment ≡ g.moment disk → LeavesList (g.synced disk) (g.written disk) w.entries → (IsShortIfUnbegun at.seen → SinceStart g at disk w) → EntriesAreKept g at disk firm w
   kept_opened only disk firm w sizes opened moment lasts since_start =
       let here : (c : List ℕ) → g.left_since disk at.moment c → MayLeave (g.synced disk) (g.written disk) c = λ c left. only disk c (subst (λ (t : ℕ). g.left_since disk t c) moment left) in
       record {
@@ -40,7 +40,7 @@ module _ {D : Type 0} (g : Ghosts D) (at : OpenedAt) where
       }
 
   -- nothing was done, and the list went on
-  pub kept_on : (disk : D) (firm : ℕ) (w v : World) → Follows w v → firm ≤ w.steps → IsKept g at disk firm w → IsKept g at disk firm v
+  pub kept_on : (disk : D) (firm : ℕ) (w v : World) → Follows w v → firm ≤ w.steps → EntriesAreKept g at disk firm w → EntriesAreKept g at disk firm v
   kept_on disk firm w v on low is = record {
     later = is.later;
     now = λ c may. front_on w.entries on.more v.entries (ends firm w.made) (ends firm v.made) c on.entries (on.ends_same firm low) (is.now c may);
@@ -59,11 +59,11 @@ module _ {D : Type 0} (g : Ghosts D) (at : OpenedAt) where
   }
 
   -- a crash leaves all entries, so more steps are firm
-  pub kept_all : (disk : D) (firm more : ℕ) (w : World) → length w.made ≡ length w.entries → LeavesList (g.synced disk) (g.written disk) w.entries → IsKept g at disk firm w → IsKept g at disk more w
+  pub kept_all : (disk : D) (firm more : ℕ) (w : World) → length w.made ≡ length w.entries → LeavesList (g.synced disk) (g.written disk) w.entries → EntriesAreKept g at disk firm w → EntriesAreKept g at disk more w
   kept_all disk firm more w sizes lasts is = record { later = is.later; now = λ c may. front_whole w.entries (ends more w.made) c (ends-within more w sizes) (lasts c may); since = is.since; fronts = is.fronts; since_start = is.since_start }
 
   -- the store was read
-  pub kept_read : CountsNow g → (old new : D) (firm : ℕ) (w : World) → g.synced new ≡ g.synced old → g.written new ≡ g.written old → LeavesOnly g.moment g.left_since old new (MayLeave (g.synced old) (g.written old)) → IsKept g at old firm w → IsKept g at new firm w
+  pub kept_read : CountsNow g → (old new : D) (firm : ℕ) (w : World) → g.synced new ≡ g.synced old → g.written new ≡ g.written old → LeavesOnly g.moment g.left_since old new (MayLeave (g.synced old) (g.written old)) → EntriesAreKept g at old firm w → EntriesAreKept g at new firm w
   kept_read counts old new firm w synced written moments is =
       let back : (c : List ℕ) → MayLeave (g.synced new) (g.written new) c → MayLeave (g.synced old) (g.written old) c = λ c may.
       subst (λ (s : List ℕ). MayLeave s (g.written old) c) synced (subst (λ (x : List (ℕ × ℕ)). MayLeave (g.synced new) x c) written may) in
@@ -97,7 +97,7 @@ module _ {D : Type 0} (g : Ghosts D) (at : OpenedAt) where
 
     -- a frame was written, or failed
     pub kept_then : (firm more : ℕ) (w v : World) → w.entries ≡ E → w.opened ≤ length w.entries → v.entries ≡ w.entries ++ es → v.opened ≡ w.opened
-        → ((c : List ℕ) → MayLeave (g.synced new) (g.written new) c → IsFront v.entries (ends more v.made) c) → IsKept g at old firm w → IsKept g at new more v
+        → ((c : List ℕ) → MayLeave (g.synced new) (g.written new) c → IsFront v.entries (ends more v.made) c) → EntriesAreKept g at old firm w → EntriesAreKept g at new more v
     kept_then firm more w v is_list opened entries same now is =
         let one : (c : List ℕ) → IsWithOrWithout E es c → IsWithOrWithout w.entries es c = λ c left. subst (λ (l : List Entry). IsWithOrWithout l es c) (sym is_list) left in
         record {
@@ -127,7 +127,7 @@ module _ {D : Type 0} (g : Ghosts D) (at : OpenedAt) where
         }
 
     -- it failed
-    pub kept_torn : (firm : ℕ) (w v : World) → w.entries ≡ E → length w.made ≡ length w.entries → w.opened ≤ length w.entries → v.entries ≡ w.entries ++ es → Follows w v → firm ≤ w.steps → IsKept g at old firm w → IsKept g at new firm v
+    pub kept_torn : (firm : ℕ) (w v : World) → w.entries ≡ E → length w.made ≡ length w.entries → w.opened ≤ length w.entries → v.entries ≡ w.entries ++ es → Follows w v → firm ≤ w.steps → EntriesAreKept g at old firm w → EntriesAreKept g at new firm v
     kept_torn firm w v is_list sizes opened entries on low is =
         kept_then firm firm w v is_list opened entries on.opened
         (λ c may. front_either w.entries es v.entries (ends firm w.made) (ends firm v.made) c entries (on.ends_same firm low) (ends-within firm w sizes)
@@ -135,5 +135,5 @@ module _ {D : Type 0} (g : Ghosts D) (at : OpenedAt) where
         is
 
     -- it was written
-    pub kept_written : (firm more : ℕ) (w v : World) → w.entries ≡ E → w.opened ≤ length w.entries → length v.made ≡ length v.entries → v.entries ≡ w.entries ++ es → v.opened ≡ w.opened → LeavesList (g.synced new) (g.written new) v.entries → IsKept g at old firm w → IsKept g at new more v
+    pub kept_written : (firm more : ℕ) (w v : World) → w.entries ≡ E → w.opened ≤ length w.entries → length v.made ≡ length v.entries → v.entries ≡ w.entries ++ es → v.opened ≡ w.opened → LeavesList (g.synced new) (g.written new) v.entries → EntriesAreKept g at old firm w → EntriesAreKept g at new more v
     kept_written firm more w v is_list opened sizes entries same all is = kept_then firm more w v is_list opened entries same (λ c may. front_whole v.entries (ends more v.made) c (ends-within more v sizes) (all c may)) is

@@ -18,7 +18,7 @@ use Rattle.ps_world.proofs.Lists.{ends-le}
 use Rattle.ps_world.specs.Calm.{Follows}
 use Rattle.ps_hall_store.specs.Frames.{IsTorn, Loaded, bytes_of, entries_of}
 use Rattle.ps_hall_store.specs.Left.{IsSized}
-use Rattle.ps_hall_store.specs.Stand.{BeganFrom, IsKept, IsOpened, IsWhole, LeavesSized, OpenedAt, StoreStands, broken_in, disk_in, length_in}
+use Rattle.ps_hall_store.specs.Stand.{BeganFrom, EntriesAreKept, IsOpened, IsWhole, LeavesSized, OpenedAt, StoreStands, broken_in, disk_in, length_in}
 use Rattle.ps_hall_store.specs.declared.store.Frame.{Frame}
 use Rattle.ps_hall_store.specs.declared.store.Store.{Store}
 use Rattle.ps_hall_store.proofs.Keeping.{CountsNow, OnlyNow, SeenLeft, kept_all, kept_on, kept_opened, kept_read, kept_torn, kept_written}
@@ -107,7 +107,7 @@ module _ {D : Type 0} {g : Ghosts D} where
         fault = λ b. absurd (false≢true (sym is.unbroken ∙ b));
         faults = subst (λ (j : Journal D g). at.faults ≤ g.faults (disk_of j)) (sym journal) is.stands.faults;
         grows = subst (λ (j : Journal D g). at.bytes ≤ length_of j) (sym journal) is.stands.grows;
-        kept = λ tells. subst (λ (j : Journal D g). IsKept g at (disk_of j) new.firm v) (sym journal) (kept_all g at (disk_in old) old.firm new.firm v is.sound.sizes (lasts tells) (kept_on g at (disk_in old) old.firm w v is.follows low (is.stands.kept tells)));
+        kept = λ tells. subst (λ (j : Journal D g). EntriesAreKept g at (disk_of j) new.firm v) (sym journal) (kept_all g at (disk_in old) old.firm new.firm v is.sound.sizes (lasts tells) (kept_on g at (disk_in old) old.firm w v is.follows low (is.stands.kept tells)));
         sizes = λ tells c may. sized tells c (subst (λ (j : Journal D g). MayLeave (g.synced (disk_of j)) (g.written (disk_of j)) c) journal may);
       }
 
@@ -163,7 +163,7 @@ module _ {D : Type 0} {g : Ghosts D} where
           fault = rose-since at.faults (g.faults (disk_in old)) (g.faults (disk_in new)) is.stands.faults rose;
           faults = (let a = is.stands.faults in omega (arith, a, later));
           grows = (let a = is.stands.grows in omega (arith, a, longer));
-          kept = λ tells. subst (λ (n : ℕ). IsKept g at (disk_in new) n v) (sym firm)
+          kept = λ tells. subst (λ (n : ℕ). EntriesAreKept g at (disk_in new) n v) (sym firm)
               (kept_torn g at seen_left counts (disk_in old) (disk_in new) w.entries es (whole.lasts tells) (moments tells whole.unbroken w.entries (whole.seen tells)) (fronts tells whole.unbroken w.entries (whole.seen tells))
               old.firm w v refl is.stands.sound.sizes (opened-within w is.stands.sound) entries_are is.follows low (is.stands.kept tells));
           sizes = λ tells c may. either_sized w.entries es (length_in old) (ends new.firm v.made) (length_in new) new.count new.length c (torn tells whole.unbroken w.entries (whole.seen tells) c may)
@@ -181,7 +181,7 @@ module _ {D : Type 0} {g : Ghosts D} where
     fault = λ b. subst (λ (j : Journal D g). Rose at.faults (g.faults (disk_of j))) (sym journal) is.fault;
     faults = subst (λ (j : Journal D g). at.faults ≤ g.faults (disk_of j)) (sym journal) is.faults;
     grows = subst (λ (j : Journal D g). at.bytes ≤ length_of j) (sym journal) is.grows;
-    kept = λ tells. subst (λ (j : Journal D g). IsKept g at (disk_of j) new.firm u) (sym journal) (subst (λ (n : ℕ). IsKept g at (disk_in old) n u) (sym firm) (kept_on g at (disk_in old) old.firm v u on is.firm (is.kept tells)));
+    kept = λ tells. subst (λ (j : Journal D g). EntriesAreKept g at (disk_of j) new.firm u) (sym journal) (subst (λ (n : ℕ). EntriesAreKept g at (disk_in old) n u) (sym firm) (kept_on g at (disk_in old) old.firm v u on is.firm (is.kept tells)));
     sizes = λ tells. sizes_on old new v u (λ c may. subst (λ (j : Journal D g). MayLeave (g.synced (disk_of j)) (g.written (disk_of j)) c) journal may) (ap (λ n. ends n u.made) firm ∙ on.ends_same old.firm is.firm)
         (ap (λ j. length_of j) journal) count long (is.sizes tells);
   }
@@ -190,8 +190,8 @@ module _ {D : Type 0} {g : Ghosts D} where
       (seen : g.seen (disk_in new) ≡ g.seen (disk_in old)) (synced : g.synced (disk_in new) ≡ g.synced (disk_in old)) (written : g.written (disk_in new) ≡ g.written (disk_in old))
       (moments : g.tells → LeavesOnly g.moment g.left_since (disk_in old) (disk_in new) (MayLeave (g.synced (disk_in old)) (g.written (disk_in old))))
       (long : length_in new ≡ length_in old) (later : g.faults (disk_in old) ≤ g.faults (disk_in new)) (firm : new.firm ≡ old.firm) where
-    kept_still : (tells : g.tells) → IsKept g at (disk_in new) new.firm w
-    kept_still tells = subst (λ (n : ℕ). IsKept g at (disk_in new) n w) (sym firm) (kept_read g at counts (disk_in old) (disk_in new) old.firm w synced written (moments tells) (is.kept tells))
+    kept_still : (tells : g.tells) → EntriesAreKept g at (disk_in new) new.firm w
+    kept_still tells = subst (λ (n : ℕ). EntriesAreKept g at (disk_in new) n w) (sym firm) (kept_read g at counts (disk_in old) (disk_in new) old.firm w synced written (moments tells) (is.kept tells))
 
     back : (c : List ℕ) → MayLeave (g.synced (disk_in new)) (g.written (disk_in new)) c → MayLeave (g.synced (disk_in old)) (g.written (disk_in old)) c
     back c may = subst (λ (s : List ℕ). MayLeave s (g.written (disk_in old)) c) synced (subst (λ (x : List (ℕ × ℕ)). MayLeave (g.synced (disk_in new)) x c) written may)

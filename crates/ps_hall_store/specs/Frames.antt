@@ -10,7 +10,7 @@ use Rattle.ps_model.specs.World.{World}
 use Rattle.ps_types.specs.declared.entry.Entry.{Entry}
 use Rattle.ps_world.specs.Sound.{Sound}
 use Rattle.ps_world.specs.Calm.{Follows}
-use Rattle.ps_hall_store.specs.Stand.{IsKept, LeavesSized, OpenedAt, StoreStands, broken_in, disk_in, firm_of, length_in}
+use Rattle.ps_hall_store.specs.Stand.{EntriesAreKept, LeavesSized, OpenedAt, StoreStands, broken_in, disk_in, firm_of, length_in}
 use Rattle.ps_hall_store.specs.declared.store.Frame.{Frame}
 use Rattle.ps_hall_store.specs.declared.store.Store.{Store}
 
@@ -42,7 +42,7 @@ pub record IsTorn {D : Type 0} {g : Ghosts D} (at : OpenedAt) (y : Store D g) (w
   pub fault : Rose at.faults (g.faults (disk_in y))
   pub faults : at.faults ≤ g.faults (disk_in y)
   pub grows : at.bytes ≤ length_in y
-  pub kept : g.tells → IsKept g at (disk_in y) (firm_of y) w
+  pub kept : g.tells → EntriesAreKept g at (disk_in y) (firm_of y) w
   pub sizes : g.tells → LeavesSized y w
 
 -- the frame was written

@@ -63,7 +63,7 @@ pub record SinceStart {D : Type 0} (g : Ghosts D) (at : OpenedAt) (disk : D) (w 
       → IsFrontOfLeft (g.synced disk) (g.written disk) c
 
 -- what every crash keeps
-pub record IsKept {D : Type 0} (g : Ghosts D) (at : OpenedAt) (disk : D) (firm : ℕ) (w : World) : Type 0 where
+pub record EntriesAreKept {D : Type 0} (g : Ghosts D) (at : OpenedAt) (disk : D) (firm : ℕ) (w : World) : Type 0 where
   pub later : at.moment ≤ g.moment disk
   -- now it leaves a front of the list that has all entries of the firm steps
   pub now : (c : List ℕ) → MayLeave (g.synced disk) (g.written disk) c → IsFront w.entries (ends firm w.made) c
@@ -101,7 +101,7 @@ pub record StoreStands {D : Type 0} {g : Ghosts D} (at : OpenedAt) (y : Store D 
   pub fault : w.broken ≡ true → Rose at.faults (g.faults (disk_in y))
   pub faults : at.faults ≤ g.faults (disk_in y)
   pub grows : at.bytes ≤ length_in y
-  pub kept : g.tells → IsKept g at (disk_in y) y.firm w
+  pub kept : g.tells → EntriesAreKept g at (disk_in y) y.firm w
   pub sizes : g.tells → LeavesSized y w
 
 -- the journal was opened, and has the entries of a world of no step

@@ -10,12 +10,9 @@ ghost use Rattle.ps_hall_store.specs.Stand.{BeganFrom, IsOpened, OpenedAt, Store
 use ps_base::Failed;
 use ps_disk::Disk;
 use ps_journal::{EntriesRefusal, Journal};
-use ps_record::Batch;
+use ps_record::{Batch, MAX_BYTES};
 use ps_types::Entry;
 use std::alloc::Global;
-
-// No store grows longer than this.
-const MOST: u64 = 1 << 30;
 
 /// What is written at once: the entries that wait, if any do, how many entries and bytes the store then has, and the
 /// number of steps so far.
@@ -105,7 +102,7 @@ impl<D: Disk> Store<D> {
                 self.firm = frame.steps;
                 Ok(())
             }
-            Some(batch) => match self.journal.append(batch, MOST) {
+            Some(batch) => match self.journal.append(batch, MAX_BYTES) {
                 Ok(()) => {
                     self.steps = frame.steps;
                     self.firm = frame.steps;

@@ -10,7 +10,7 @@ use Rattle.ps_io.specs.Held.{Held, HeldClock, HeldStore}
 use Rattle.ps_io.specs.World.{Asks, LastOpening, OpeningHasCause}
 use Rattle.ps_io.specs.declared.world.Kind.{Kind}
 use Rattle.ps_io.specs.declared.world.Kind.TheVariants.{Source, Sink, Store, Clock}
-use Rattle.ps_io.specs.declared.world.Opening.{Opening}
+use Rattle.ps_io.specs.declared.world.OpenCall.{OpenCall}
 use Rattle.ps_io.specs.declared.world.WorldRefusal.{WorldRefusal}
 use Rattle.ps_io.specs.declared.world.WorldRefusal.TheVariants.{Failed, Memory}
 use Rattle.ps_io.specs.declared.mem_world.MemWorld.{MemWorld}
@@ -75,7 +75,7 @@ IsLent w Sink name = sink_at w name ≡ Some None
 IsLent w Store name = disk_at w name ≡ Some None
 IsLent w Clock name = clock_at w name ≡ Some None
 
-abbrev pub asked_of : MemWorld → List Opening
+abbrev pub asked_of : MemWorld → List OpenCall
 asked_of w = w.asked.items
 
 abbrev pub reported_of : MemWorld → List ℕ

@@ -4,16 +4,16 @@ use Rattle.std.specs.declared.option.Option.{Option}
 use Rattle.std.specs.Io.KnownBytes.{Appends}
 use Rattle.ps_base.specs.Causes.{Rose}
 use Rattle.ps_io.specs.declared.world.Kind.{Kind}
-use Rattle.ps_io.specs.declared.world.Opening.{Opening}
+use Rattle.ps_io.specs.declared.world.OpenCall.{OpenCall}
 use Rattle.ps_io.specs.declared.world.WorldRefusal.{WorldRefusal}
 use Rattle.ps_io.specs.declared.world.WorldRefusal.TheVariants.{Failed, Memory}
 
-abbrev pub AskedAt : WorldRefusal → List Opening → Opening → List Opening → Type 0
+abbrev pub AskedAt : WorldRefusal → List OpenCall → OpenCall → List OpenCall → Type 0
 AskedAt Failed old opening new = new ≡ old ++ opening ∷ []
 AskedAt Memory old opening new = new ≡ old
 
 -- an opening is asked for, unless memory ran out
-abbrev pub Asks : {T : Type 0} → Result T WorldRefusal → List Opening → Opening → List Opening → Type 0
+abbrev pub Asks : {T : Type 0} → Result T WorldRefusal → List OpenCall → OpenCall → List OpenCall → Type 0
 Asks result old opening new = MatchResult result (λ _. new ≡ old ++ opening ∷ []) (λ e. AskedAt e old opening new)
 
 abbrev pub FailedRose : WorldRefusal → ℕ → ℕ → Type 0

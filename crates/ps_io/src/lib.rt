@@ -23,4 +23,4 @@ pub use mem_clock::MemClock;
 pub use mem_world::MemWorld;
 pub use named::{HoldAlone, Named};
 pub use real::RealWorld;
-pub use world::{Kind, Missing, Opening, World, WorldRefusal};
+pub use world::{Kind, Missing, OpenCall, World, WorldRefusal};

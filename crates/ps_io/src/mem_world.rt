@@ -3,7 +3,7 @@ ghost use Rattle.std.specs.Prelude.{◌≡◌, ◌≢◌, ◌⊎◌, ◌≤◌, 
 ghost use Rattle.ps_base.specs.Causes.{HasCause, next_count};
 
 use crate::shelf::Shelf;
-use crate::{Kind, MemClock, Missing, Opening, World, WorldRefusal};
+use crate::{Kind, MemClock, Missing, OpenCall, World, WorldRefusal};
 use ps_base::{Failed, Memory};
 use ps_disk::MemDisk;
 use ps_types::Text;
@@ -17,7 +17,7 @@ pub struct MemWorld {
     sinks: Shelf<MemSink>,
     disks: Shelf<MemDisk>,
     clocks: Shelf<MemClock>,
-    asked: Vec<Opening>,
+    asked: Vec<OpenCall>,
     reported: Vec<u8>,
     failing: Vec<u64>,
     calls: u64,
@@ -148,7 +148,7 @@ impl MemWorld {
         &self.reported
     }
 
-    /// How often an opening or a report gave up for want of memory. The number stands still at its type's end.
+    /// How often an opening or a report gave up because memory ran out. The number stands still at its type's end.
     pub fn refused(&self) -> u64
         ensures { result ≡ refused_of self.now }
     {
@@ -163,7 +163,7 @@ impl MemWorld {
         ensures not_asked { OnErr result (self.new.asked.items ≡ self.old.asked.items) }
     {
         let name = name.clone()?;
-        self.asked.push(Opening { kind, name })?;
+        self.asked.push(OpenCall { kind, name })?;
         Ok(())
     }
 

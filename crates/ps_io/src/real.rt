@@ -6,7 +6,7 @@ ghost use Rattle.ps_io.specs.Real.{count_at, held_count, held_clock, held_store,
 
 use crate::named::{HoldAlone, Named, tell};
 use crate::shelf::Shelf;
-use crate::{Kind, Missing, Opening, RealClock, World, WorldRefusal};
+use crate::{Kind, Missing, OpenCall, RealClock, World, WorldRefusal};
 use ps_base::{Failed, Memory};
 use ps_disk::{Disk, FileDisk};
 use ps_types::Text;
@@ -26,7 +26,7 @@ pub struct RealWorld<R: Files + Print + Eprint + Clock + Copy + Drop> {
     sinks: Shelf<u64>,
     disks: Shelf<u64>,
     clocks: Shelf<u64>,
-    asked: Vec<Opening>,
+    asked: Vec<OpenCall>,
     faults: u64,
     opening: (u64, u64),
 }
@@ -76,12 +76,12 @@ fn make_place(alloc: Global, counts: &mut Shelf<u64>, name: &Text) -> Result<(),
     Ok(())
 }
 
-fn note(alloc: Global, asked: &mut Vec<Opening>, kind: Kind, name: &Text) -> Result<(), Memory>
+fn note(alloc: Global, asked: &mut Vec<OpenCall>, kind: Kind, name: &Text) -> Result<(), Memory>
     ensures ok { OnOk result (asked.new.items ≡ asked.old.items ++ record { kind = kind; name = name.now } ∷ []) }
     ensures err { OnErr result (asked.new.items ≡ asked.old.items) }
 {
     let name = name.clone()?;
-    asked.push(Opening { kind, name })?;
+    asked.push(OpenCall { kind, name })?;
     Ok(())
 }
 

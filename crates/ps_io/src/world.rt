@@ -3,7 +3,7 @@ ghost use Rattle.std.specs.Prelude.{◌≡◌, ◌++◌, ◌∷◌, [], List, �
 ghost use Rattle.std.specs.declared.option.Option.{Option};
 ghost use Rattle.ps_base.specs.Causes.{HasCause};
 ghost use Rattle.ps_io.specs.declared.world.Kind.{Kind};
-ghost use Rattle.ps_io.specs.declared.world.Opening.{Opening};
+ghost use Rattle.ps_io.specs.declared.world.OpenCall.{OpenCall};
 ghost use Rattle.ps_io.specs.Held.{Held, HeldClock, HeldStore, IsHeld, IsHeldClock, IsHeldStore, Same, SameBut, SameLeft, SameLefts, SameLeftsBut};
 ghost use Rattle.ps_io.specs.World.{Asks, LastOpening, OpeningHasCause, Reports, Stay, StayBut};
 
@@ -24,7 +24,7 @@ pub enum Kind {
 
 /// An opening that was asked for.
 #[derive(Drop)]
-pub struct Opening {
+pub struct OpenCall {
     pub kind: Kind,
     pub name: Text,
 }
@@ -75,7 +75,7 @@ pub trait World {
     ghost is_open: { Self → Kind → List ℕ → Type 0 };
 
     /// The openings so far, in order.
-    ghost asked: { Self → List Opening };
+    ghost asked: { Self → List OpenCall };
 
     /// What was reported, where the world tells it.
     ghost reported: { Self → Option (List ℕ) };

@@ -3,7 +3,7 @@ use Rattle.std.specs.Prelude.{◌≡◌, ◌⊎◌, ℕ, List, [], ◌∷◌, Re
 use Rattle.ps_wire.specs.declared.lines.NextLineRefusal.{NextLineRefusal}
 use Rattle.ps_wire.specs.declared.lines.NextLineRefusal.TheVariants as lines
 use Rattle.ps_io.specs.declared.world.Kind.TheVariants.{Source}
-use Rattle.ps_io.specs.declared.world.Opening.{Opening}
+use Rattle.ps_io.specs.declared.world.OpenCall.{OpenCall}
 use Rattle.ps_commands.specs.declared.command.MirrorWords.{MirrorWords}
 use Rattle.ps_mirror.specs.Report.{RanMirror}
 use Rattle.ps_status.specs.Leaving.{Touched}
@@ -12,7 +12,7 @@ use Rattle.ps_status.specs.declared.status.Status.{Status}
 use Rattle.ps_status.specs.declared.status.Status.TheVariants.{StreamFault, StreamLong, Memory}
 
 -- the source alone is opened and touched
-abbrev pub mirror_openings : MirrorWords → List Opening
+abbrev pub mirror_openings : MirrorWords → List OpenCall
 mirror_openings w = record { kind = Source; name = w.source } ∷ []
 
 abbrev pub mirror_touches : MirrorWords → Touched

@@ -25,8 +25,6 @@ use Rattle.ps_model.specs.Book.{Book}
 use Rattle.ps_model.specs.Due.{About, about_node, always, delivers, is_granted, items_inside, may_pass, may_read, node_message, node_notice, one_way, told_about}
 use Rattle.ps_model.specs.NoticeTrees.{event_nodes, kind_attr, message, named_tree, payload_nodes, retract_tree, with_id}
 use Rattle.ps_model.specs.Ways.{way_to}
-use Rattle.ps_compact_laws.proofs.Drafts.{found-key}
-use Rattle.ps_compact_laws.proofs.Printable.{IsKeyText, IsPrintable, NodeIs}
 use Rattle.std.specs.List.{AllByRecursion as Each}
 use Rattle.ps_mirror.specs.Copy.{event_said, first_said, payload_in, published_in, said_of}
 use Rattle.ps_mirror.specs.declared.said.Said.{Said}
@@ -71,13 +69,6 @@ module _ (node m : NodeKey) (who to : Jid) (own : IsAddress node.service) (other
 
   pub far-sent : (said : Option Said) → sent node who m.service to (cond (bytes_eq m.name node.name) said None) ≡ None
   far-sent said = far-by said (bytes_eq (jid_text m.service) (jid_text node.service)) (bytes_eq (jid_text to) (jid_text who)) (bytes_eq m.name node.name) refl refl
-
-read-key : (node : NodeKey) (who : Jid) (b : Book) (o : Option NodeRow) → Each NodeIs b.nodes → node_at node b.nodes ≡ o → is_granted (read_at o b node who) ≡ true → IsKeyText node
-read-key node who b None are e h = absurd (cc h)
-read-key node who b (Some row) are e h = found-key node b.nodes row are e
-
-pub may-key : (node : NodeKey) (who : Jid) (b : Book) → IsPrintable b → may_read b node who ≡ true → IsKeyText node
-may-key node who b is h = read-key node who b (node_at node b.nodes) is.nodes refl h
 
 -- ---- what is told of a node
 

@@ -53,6 +53,7 @@ use Rattle.ps_mirror_laws.proofs.Heard.{IsSilent, IsToldOf, about-says, has-conf
 use Rattle.ps_mirror_laws.proofs.OtherKinds.{made-far, made-other}
 use Rattle.ps_mirror_laws.proofs.Shown.{IsLastOf, again-shown, gone-shown, put-shown, shown, without-shown}
 use Rattle.ps_mirror_laws.proofs.Silent.{IsFar, IsOther, IsQuiet, Place, effect, few, quiet, silent-quiet}
+use Rattle.ps_model.proofs.Asked.{or-second}
 
 -- what each address is given of an event
 abbrev pub given_of : Book → Book → Jid → Event → Option Tree
@@ -115,10 +116,6 @@ twice-step test x xs false e h = rw e (ap (λ (r : List Copied). x ∷ r) h)
 twice : (test : Copied → Bool) (xs : List Copied) → without test (without test xs) ≡ without test xs
 twice test [] = refl
 twice test (x ∷ xs) = twice-step test x xs (test x) refl (twice test xs)
-
-or-true : (a b : Bool) → b ≡ true → (a || b) ≡ true
-or-true true b e = refl
-or-true false b e = e
 
 -- ---- a node that is made last
 
@@ -330,7 +327,7 @@ module _ (node : NodeKey) (who : Jid) (config : NodeConfig) (tells : TellsAll co
     retract-by id more notify (x ∷ xs) e =
         let some = some-row x xs e in
         let told = has-config node who config tells b (at.hears.row some) (at.hears.reads some) at.hears.configured in
-        let notified : (notify || tells_retract (config_at node b.nodes)) ≡ true = ap (λ o. notify || tells_retract o) told ∙ or-true notify config.notify_retract tells.retracts in
+        let notified : (notify || tells_retract (config_at node b.nodes)) ≡ true = ap (λ o. notify || tells_retract o) told ∙ or-second notify config.notify_retract tells.retracts in
         subst (λ (evs : List Event). Outcome node who config.max_items b (retract_change node (id ∷ more) b) evs) (ap (λ c. cond c (event.Retract node id ∷ []) []) (sym notified))
         (inr (retract-tells id more some))
 

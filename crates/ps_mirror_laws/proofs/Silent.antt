@@ -14,10 +14,10 @@ use Rattle.ps_types.specs.Address.{IsAddress}
 use Rattle.ps_types.specs.Forms.{form_tree}
 use Rattle.ps_types.specs.Items.{is_item_at, last_item}
 use Rattle.ps_types.specs.Nodes.{config_at, node_at}
-use Rattle.ps_types.specs.Same.{same_jid, same_node}
+use Rattle.ps_types.specs.Same.{same_node}
 use Rattle.ps_types.specs.Shape.{trees_of}
 use Rattle.ps_types.specs.Tree.{Tree}
-use Rattle.ps_types.proofs.Same.{same_jid-Decides, same_node-Decides}
+use Rattle.ps_types.proofs.Same.{same_node-Decides}
 use Rattle.ps_book_laws.specs.Keys.{AreApart, item_key}
 use Rattle.ps_model.specs.After as step
 use Rattle.ps_model.specs.Book.{Book}
@@ -34,8 +34,10 @@ use Rattle.ps_mirror.specs.Copy.{first_said, item_said as one_said, items_after,
 use Rattle.ps_mirror.specs.declared.said.Said.{Said}
 use Rattle.ps_mirror.specs.declared.said.Said.TheVariants.{Purged, Published}
 use Rattle.ps_mirror_laws.specs.Laws.{Hears, TellsAll, copied}
-use Rattle.ps_mirror_laws.proofs.Heard.{IsSilent, far-sent, item-said, may-key, none-sent, own-sent, said-message, sent, silent-about}
+use Rattle.ps_mirror_laws.proofs.Heard.{IsSilent, far-sent, item-said, none-sent, own-sent, said-message, sent, silent-about}
 use Rattle.ps_mirror_laws.proofs.Shown.{IsLastOf, LastOr, again-shown, last-is, shown}
+use Rattle.ps_compact_laws.proofs.Drafts.{may-key}
+use Rattle.ps_model.proofs.ReaderLaws.{one-is}
 
 -- what is said does this to the items
 abbrev pub effect : ℕ → Option Said → List Copied → List Copied
@@ -47,9 +49,6 @@ effect max (Some said) items = items_after max said items
 cond-some : (b : Bool) (o : Option Tree) (t : Tree) → cond b o None ≡ Some t → (b ≡ true) × (o ≡ Some t)
 cond-some true o t e = (refl, e)
 cond-some false o t e = absurd (cc e)
-
-one-is : (to who : Jid) (o : Option Tree) (t : Tree) → to_one to who o ≡ Some t → (to ≡ who) × (o ≡ Some t)
-one-is to who o t e = let p = cond-some (same_jid to who) o t e in ((same_jid-Decides to who).0 p.0, p.1)
 
 -- ---- the last item
 

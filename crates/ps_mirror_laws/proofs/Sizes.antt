@@ -1,5 +1,5 @@
 -- How long the print of a tree is at most.
-use Rattle.std.proofs.Common.{◌≡◌, ℕ, ◌+◌, ◌*◌, ◌<◌, ◌≤◌, ◌^◌, Bool, true, false, cond, ◌&&◌, List, [], ◌∷◌, ◌++◌, length, refl, sym, ap, ◌∙◌, arith, length-append}
+use Rattle.std.proofs.Common.{◌≡◌, ℕ, ◌+◌, ◌*◌, ◌<◌, ◌≤◌, ◌^◌, Bool, true, false, cond, List, [], ◌∷◌, ◌++◌, length, refl, sym, ap, ◌∙◌, arith, length-append}
 use Rattle.std.proofs.lemmas.Bool.{leb-true}
 use Rattle.std.proofs.lemmas.Slice.Eq.{bytes_eq-Decides}
 use Rattle.std.specs.Prelude.{codes, decimal, nat_le, nat_lt, ◌/◌, ◌%◌}
@@ -15,6 +15,8 @@ use Rattle.ps_types.specs.Address.{IsAddress, after_slash, before_at, jid_text}
 use Rattle.ps_types.specs.Print.{attr_members, client, data_of, items_of, ns_member, print, with_attrs, with_kids}
 use Rattle.ps_types.specs.Tree.{Tree, tree, Nodes, none, branch, words}
 use Rattle.ps_model.specs.NoticeTrees.{notice_id}
+use Rattle.ps_book_laws.proofs.Reached.{three}
+use Rattle.ps_model.proofs.OneList.{before_size}
 
 -- ---- texts
 
@@ -211,27 +213,17 @@ weigh-printed n (tree name ns attrs kids) short = record {
 
 -- ---- addresses and ids
 
-three-true : (a b c : Bool) → (a && b && c) ≡ true → (a ≡ true) × (b ≡ true) × (c ≡ true)
-three-true true true true e = (refl, refl, refl)
-three-true true true false e = absurd (cc e)
-three-true true false c e = absurd (cc e)
-three-true false b c e = absurd (cc e)
-
-before-long : (local host : List ℕ) → length (before_at local host) ≤ length local + length host + 1
-before-long [] host = omega arith
-before-long (x ∷ local) host = let both = length-append local (64 ∷ host) in omega (arith, both)
-
 after-long : (resource : List ℕ) → length (after_slash resource) ≤ 1 + length resource
 after-long [] = omega arith
 after-long (x ∷ resource) = omega arith
 
 pub jid-size : (j : Jid) → IsAddress j → length (jid_text j) ≤ 3071
 jid-size j is =
-    let p = three-true (nat_le (length j.local) 1023) (nat_le (length j.host) 1023) (nat_le (length j.resource) 1023) is.parts.short in
+    let p = three (nat_le (length j.local) 1023) (nat_le (length j.host) 1023) (nat_le (length j.resource) 1023) is.parts.short in
     let local = leb-true (length j.local) 1023 p.0 in
     let host = leb-true (length j.host) 1023 p.1 in
     let resource = leb-true (length j.resource) 1023 p.2 in
-    let front = before-long j.local j.host in
+    let front = before_size j.local j.host in
     let back = after-long j.resource in
     let both = length-append (before_at j.local j.host) (after_slash j.resource) in
     omega (arith, local, host, resource, front, back, both)

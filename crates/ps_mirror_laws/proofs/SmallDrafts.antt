@@ -32,10 +32,10 @@ use Rattle.ps_model.specs.NoticeTrees.{approval_form, associate_tree, delay_node
 use Rattle.ps_model.specs.Stamp.{stamp}
 use Rattle.ps_model.specs.Ways.{Way, NoWay, OwnRow, Through, is_interested}
 use Rattle.ps_book_laws.proofs.Keys.{each-push}
-use Rattle.ps_compact_laws.proofs.Drafts.{found-key}
+use Rattle.ps_compact_laws.proofs.Drafts.{found-key, may-key}
 use Rattle.ps_compact_laws.proofs.Printable.{IsKeyText, IsPrintable, NodeIs}
 use Rattle.ps_mirror.specs.Copy.{said_of}
-use Rattle.ps_mirror_laws.proofs.Heard.{may-key, none-sent, said-message}
+use Rattle.ps_mirror_laws.proofs.Heard.{none-sent, said-message}
 use Rattle.ps_mirror_laws.proofs.Sizes.{WeighAttrs, WeighIn, Weighs, id-size, jid-size, more-attrs, no-attrs, weigh-branch, weigh-in-more, weigh-more, weigh-none, weigh-printed, weigh-tree, weigh-words}
 use Rattle.ps_mirror_laws.proofs.SmallKinds.{IsSmall, IsSmallPayload, SmallOr}
 

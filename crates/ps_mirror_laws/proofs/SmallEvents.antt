@@ -39,12 +39,13 @@ use Rattle.ps_model.specs.EventPresence.{is_newly_wanted, question_events, wante
 use Rattle.ps_model.specs.EventSubs.{is_same, last_event, owners, row_asked, rows_events, subscribe_events, told_events}
 use Rattle.ps_model.specs.Events.{events_by}
 use Rattle.ps_model.specs.Steps.{first_denial, unless}
-use Rattle.ps_book_laws.proofs.KeyedKinds.{step-parts, unless-holds}
+use Rattle.ps_book_laws.proofs.KeyedKinds.{step-parts}
 use Rattle.ps_book_laws.proofs.Keys.{each-both, each-cond}
 use Rattle.ps_compact_laws.proofs.Printable.{NodeIs}
 use Rattle.ps_compact_laws.proofs.PrintableKinds.{node-found}
 use Rattle.ps_mirror_laws.proofs.SmallDrafts.{IsSmallEvent}
 use Rattle.ps_mirror_laws.proofs.SmallKinds.{FirstSmall, IsSmall, IsSmallBook, MadeFew, SmallOr, publish-small, row-small}
+use Rattle.ps_model.proofs.Splits.{unless-none}
 
 made-small : (there : Bool) (node : NodeKey) (o : Option NodeKey) → Each IsSmallEvent (cond there [] (associated node o))
 made-small true node o = tt
@@ -135,7 +136,7 @@ retract-there b r node (x ∷ ids) ok id more e =
     sixth (stands_step b r node) (leaf_step b r node) (unless (may_retract (affiliation b (node_of r node) r.from)) C11) (unless (nat_le 1 (length (x ∷ ids)) && list_all has_length (x ∷ ids)) C4)
     (unless (nat_le (length (x ∷ ids)) 1) C1) (retracted_step b r node (x ∷ ids)) ok in
     let same : x ≡ id = first-of x id ids more e in
-    subst (λ (i : List ℕ). is_some (item_at (node_of r node) i b.items) ≡ true) same (unless-holds (is_some (item_at (node_of r node) x b.items)) C12 last)
+    subst (λ (i : List ℕ). is_some (item_at (node_of r node) i b.items) ≡ true) same (unless-none (is_some (item_at (node_of r node) x b.items)) C12 last)
 
 module _ (k : ℕ) (few : k + 1 < 2 ^ 127) (r : Request) (moment : Option ℕ) (from : IsAddress r.from) where
   pub events-small : (a : Ask) (before after : Book) → first_denial (steps_of a before r) ≡ None → Each NodeIs before.nodes → IsSmallBook k before

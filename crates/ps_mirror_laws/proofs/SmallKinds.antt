@@ -55,11 +55,12 @@ use Rattle.ps_model.specs.ItemIds.{auto_id, item_id, next_made}
 use Rattle.ps_model.specs.Steps.{denied_by, first_denial, is_short, unless}
 use Rattle.ps_model.specs.Words.{RosterAsk, set, remove, roster_of}
 use Rattle.ps_book_laws.proofs.AddressedKinds.{bare-is}
-use Rattle.ps_book_laws.proofs.KeyedKinds.{step-parts, unless-holds}
+use Rattle.ps_book_laws.proofs.KeyedKinds.{step-parts}
 use Rattle.ps_book_laws.proofs.Keys.{each-by, each-filter, each-keep, each-push, each-put}
 use Rattle.ps_compact_laws.proofs.Printable.{NodeIs}
 use Rattle.ps_compact_laws.proofs.PrintableKinds.{FoundNode, node-found}
 use Rattle.ps_mirror_laws.proofs.Sizes.{decimal-size, jid-size}
+use Rattle.ps_model.proofs.Splits.{unless-none}
 
 -- ---- rows
 
@@ -137,7 +138,7 @@ FirstSmall (item ∷ items) = TakesSmall item
 small-payload : (config : NodeConfig) (payloads : List Tree) → IsConfig config → payload_step config payloads ≡ None → IsSmallPayload (payload_of payloads)
 small-payload config [] is ok = tt
 small-payload config (p ∷ payloads) is ok =
-    let few = leb-true (length (print p)) config.max_payload_size (unless-holds (nat_le (length (print p)) config.max_payload_size) C16 ok) in
+    let few = leb-true (length (print p)) config.max_payload_size (unless-none (nat_le (length (print p)) config.max_payload_size) C16 ok) in
     let most = is.most_bytes in
     let l : length (print p) ≤ 131072 = omega (arith, few, most) in l
 
@@ -159,7 +160,7 @@ items-small config (item ∷ items) more is ok =
     fourth-and-last (unless (nat_le (length (item ∷ items)) 1) C1) (unless (takes_item config || (length (item ∷ items) == 0)) C7)
     (unless (not (takes_item config) || nat_le 1 (length (item ∷ items))) C4) (unless (is_short item.id) C14) (unless (nat_le (length item.payloads) 1) C6)
     (unless (not config.deliver_payloads || nat_le 1 (length item.payloads)) C5) (payload_step config item.payloads) more ok in
-    record { id = leb-true (length item.id) 512 (unless-holds (is_short item.id) C14 p.0); payload = small-payload config item.payloads is p.1 }
+    record { id = leb-true (length item.id) 512 (unless-none (is_short item.id) C14 p.0); payload = small-payload config item.payloads is p.1 }
 
 new-small : (given : Result NodeConfig Condition) (b : Book) (r : Request) (items : List AskItem) → Gives IsConfig given → first_denial (publish_new_steps b r items given) ≡ None → FirstSmall items
 new-small (Err why) b r items is ok = absurd (let no = (step-parts (Some why) (node_limit_step b r ∷ []) ok).0 in cc no)

@@ -48,15 +48,15 @@ use Rattle.ps_mirror_laws.proofs.Silent.{Place, effect}
 
 -- ---- what is so of every Book on the way
 
-record IsKept (b : Book) : Type 0 where
+record BookIsKept (b : Book) : Type 0 where
   apart : AreApart item_key b.items
   bounded : IsBounded b
 
 AllKept : State → List Entry → Type 0
-AllKept s [] = IsKept s.book
-AllKept s (e ∷ E) = IsKept s.book × AllKept (step.after s e) E
+AllKept s [] = BookIsKept s.book
+AllKept s (e ∷ E) = BookIsKept s.book × AllKept (step.after s e) E
 
-kept : (E : List Entry) → lawful E → IsKept (replay E).book
+kept : (E : List Entry) → lawful E → BookIsKept (replay E).book
 kept E is = record { apart = (lawful-sound E is).keys.items; bounded = (lawful-kept E is).bounded }
 
 kept-on : (E P : List Entry) → lawful P → IsLawfulFrom (replay P) E → AllKept (replay P) E
@@ -68,7 +68,7 @@ kept-on (e ∷ E) P is more =
     let later = kept-on E next (lawful-more P e empty_state is more.0) (subst (λ (s : State). IsLawfulFrom s E) (sym same) more.1) in
     (kept P is, subst (λ (s : State). AllKept s E) same later)
 
-now-kept : (s : State) (E : List Entry) → AllKept s E → IsKept s.book
+now-kept : (s : State) (E : List Entry) → AllKept s E → BookIsKept s.book
 unfolding AllKept
 now-kept s [] all = all
 now-kept s (e ∷ E) all = all.0
@@ -111,7 +111,7 @@ module _ (node : NodeKey) (who : Jid) (max : ℕ) (address : IsAddress who) wher
   bare-told [] items are = refl
   bare-told (n ∷ ns) items are = if-bare n ns items (same_bare n.to (bare who)) refl are.0 (λ items. bare-told ns items are.1)
 
-place-at : (node : NodeKey) (who : Jid) (config : NodeConfig) (s : State) → StateIs s → IsKept s.book → Hears node who config s.book → Place node who config s.book
+place-at : (node : NodeKey) (who : Jid) (config : NodeConfig) (s : State) → StateIs s → BookIsKept s.book → Hears node who config s.book → Place node who config s.book
 place-at node who config s is kept hears = record { printable = is.rows; apart = kept.apart; bounded = kept.bounded; hears = hears }
 
 module _ (node : NodeKey) (who : Jid) (config : NodeConfig) (tells : TellsAll config) (service : IsAddress node.service) (address : IsAddress who) where

@@ -28,11 +28,11 @@ use Rattle.ps_model.specs.Ways.{Way, NoWay, OwnRow, Through, is_entitled, is_int
 is-asked : Jid → List Jid → Bool
 is-asked who addresses = list_any (same_jid who) addresses
 
-or-first : (a b : Bool) → a ≡ true → (a || b) ≡ true
+pub or-first : (a b : Bool) → a ≡ true → (a || b) ≡ true
 or-first true b e = refl
 or-first false b e = absurd (true≢false (sym e))
 
-or-second : (a b : Bool) → b ≡ true → (a || b) ≡ true
+pub or-second : (a b : Bool) → b ≡ true → (a || b) ≡ true
 or-second true b e = refl
 or-second false b e = e
 
@@ -63,7 +63,7 @@ module _ {R : Type 0} (test : R → Bool) (address : R → Jid) (who : Jid) (sou
 
 -- ---- the ways
 
-row-there : (o : Option SubRow) → is_subscribed (state_in o) ≡ true → is_some o ≡ true
+pub row-there : (o : Option SubRow) → is_subscribed (state_in o) ≡ true → is_some o ≡ true
 row-there None e = absurd (true≢false (sym e))
 row-there (Some row) e = refl
 
@@ -72,7 +72,7 @@ subscriber-asked book node who e =
     among-more who (map (λ (row : SubRow). row.who) book.subs) (map (λ (row : ResourceRow). row.who) book.resources)
     (found (is_sub_of node who) (λ row. row.who) who (λ row t. (and_parts (same_node node row.node) (same_jid who row.who) t).1) book.subs e)
 
-reaching-row : (items far : Bool) (o : Option SubRow) → reaches_down items far o ≡ true → is_some o ≡ true
+pub reaching-row : (items far : Bool) (o : Option SubRow) → reaches_down items far o ≡ true → is_some o ≡ true
 reaching-row items far None e = absurd (true≢false (sym e))
 reaching-row items far (Some row) e = refl
 

@@ -14,7 +14,7 @@ use Rattle.ps_model.proofs.OneList.{behind_header, body_one, entry_one, frames_o
 
 -- ---- lawful lists
 
-lawful-rest : (E F : List Entry) (s : State) → IsLawfulFrom s (E ++ F) → IsLawfulFrom (replay_from s E) F
+pub lawful-rest : (E F : List Entry) (s : State) → IsLawfulFrom s (E ++ F) → IsLawfulFrom (replay_from s E) F
 lawful-rest [] F s is = is
 lawful-rest (e ∷ E) F s is = lawful-rest E F (after s e) is.1
 
@@ -143,7 +143,7 @@ one-damage second (p ∷ ps) (q ∷ qs) es ds behind tail others more s are are'
 -- ---- stores
 
 -- what stands behind a frame that isn't whole
-bad-frame-none : (bytes : List ℕ) (at : ℕ) (bs : List (List ℕ)) → BadFrame bytes at → Begun bytes bs → ⊥
+pub bad-frame-none : (bytes : List ℕ) (at : ℕ) (bs : List (List ℕ)) → BadFrame bytes at → Begun bytes bs → ⊥
 bad-frame-none bytes at bs d b =
     let rest = drop (gate_at bs) bytes in
     let same = frames_one d.bodies bs d.rest rest d.each b.each d.followed (λ e. shut_some rest b.shut) d.not_whole (shut_no_frame rest b.shut) (sym (behind_header bytes d.bodies d.rest d.header d.split) ∙ behind_header bytes bs rest b.header b.split) in

@@ -66,10 +66,10 @@ short_parts j is =
     let p = part_short (nat_le (length j.local) 1023) (nat_le (length j.host) 1023) (nat_le (length j.resource) 1023) is.parts.short in
     (leb-true (length j.local) 1023 p.0, leb-true (length j.host) 1023 p.1)
 
-host_fits : (host : List ℕ) → IsHostName host → length host < 2 ^ 16
+pub host_fits : (host : List ℕ) → IsHostName host → length host < 2 ^ 16
 host_fits host is = omega (arith, (short_parts (of_host host) is).1)
 
-before_size : (local host : List ℕ) → length (before_at local host) ≤ length local + length host + 1
+pub before_size : (local host : List ℕ) → length (before_at local host) ≤ length local + length host + 1
 before_size [] host = omega arith
 before_size (x ∷ local) host = omega (arith, length-append local (64 ∷ host))
 

@@ -43,7 +43,7 @@ last-reads book node to by moment (Some config) (Some item) t e =
     if-third (is_leaf config.node_type) config.deliver_notifications (may_read book node to) (sends_last by config.send_last_published_item (is_interested book node to)) _ t e
 
 -- what is for one address is given to it alone
-one-is : (to who : Jid) (o : Option Tree) (t : Tree) → to_one to who o ≡ Some t → (to ≡ who) × (o ≡ Some t)
+pub one-is : (to who : Jid) (o : Option Tree) (t : Tree) → to_one to who o ≡ Some t → (to ≡ who) × (o ≡ Some t)
 one-is to who o t e = by (same_jid to who) refl e
   where
     by : (b : Bool) → same_jid to who ≡ b → cond b o None ≡ Some t → (to ≡ who) × (o ≡ Some t)

@@ -54,7 +54,7 @@ pub unless-given : (denial : Option Condition) (found : Result Ask Condition) (a
 unless-given None found a h = (refl, h)
 unless-given (Some why) found a h = absurd (cc)
 
-unless-none : (b : Bool) (why : Condition) → unless b why ≡ None → b ≡ true
+pub unless-none : (b : Bool) (why : Condition) → unless b why ≡ None → b ≡ true
 unless-none true why h = refl
 unless-none false why h = absurd (cc)
 

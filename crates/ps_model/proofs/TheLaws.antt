@@ -56,7 +56,7 @@ book-stays : (o : Option Request) (moment : Option ℕ) (book : Book) → (book_
 book-stays None moment book = refl
 book-stays (Some r) moment book = service-stays r moment book
 
-both : (a b : Bool) → a ≡ true → b ≡ true → (a && b) ≡ true
+pub both : (a b : Bool) → a ≡ true → b ≡ true → (a && b) ≡ true
 both true b p q = q
 both false b p q = absurd (true≢false (sym p))
 
@@ -119,11 +119,11 @@ bare-at place (x ∷ resource) ns each = tt
 -- ---- the entry that a line makes
 
 -- a tree that is taken as a request is the tree of the request
-asked-tree : (o : Result Ask Condition) (u t : Tree) (from target : Jid) (r : Request) → ask_taken u from target o ≡ taken.asked t r → u ≡ t
+pub asked-tree : (o : Result Ask Condition) (u t : Tree) (from target : Jid) (r : Request) → ask_taken u from target o ≡ taken.asked t r → u ≡ t
 asked-tree (Err why) u t from target r e = absurd (cc e)
 asked-tree (Ok ask) u t from target r e = cc e
 
-target-tree : (service : List ℕ) (o : Option Jid) (u t : Tree) (from : Jid) (r : Request) → target_taken service u from o ≡ taken.asked t r → u ≡ t
+pub target-tree : (service : List ℕ) (o : Option Jid) (u t : Tree) (from : Jid) (r : Request) → target_taken service u from o ≡ taken.asked t r → u ≡ t
 target-tree service None u t from r e = absurd (cc e)
 target-tree service (Some target) u t from r e = by (is_served service target) e
   where
@@ -131,7 +131,7 @@ target-tree service (Some target) u t from r e = by (is_served service target) e
     by true e = asked-tree (ask_of service u from target) u t from target r e
     by false e = absurd (cc e)
 
-sender-tree : (host service : List ℕ) (o : Option Jid) (u t : Tree) (r : Request) → sender_taken host service u o ≡ taken.asked t r → u ≡ t
+pub sender-tree : (host service : List ℕ) (o : Option Jid) (u t : Tree) (r : Request) → sender_taken host service u o ≡ taken.asked t r → u ≡ t
 sender-tree host service None u t r e = absurd (cc e)
 sender-tree host service (Some from) u t r e = by (bytes_eq from.host host) (is_stanza u) e
   where
@@ -140,16 +140,16 @@ sender-tree host service (Some from) u t r e = by (bytes_eq from.host host) (is_
     by true false e = absurd (cc e)
     by false c e = absurd (cc e)
 
-tree-tree : (host service : List ℕ) (u t : Tree) (r : Request) → tree_taken host service u ≡ taken.asked t r → u ≡ t
+pub tree-tree : (host service : List ℕ) (u t : Tree) (r : Request) → tree_taken host service u ≡ taken.asked t r → u ≡ t
 tree-tree host service u t r e =
     let o = jid_of (attr_text (codes "from") u) in
     sender-tree host service o u t r e
 
-line-tree : (host service : List ℕ) (o : Result Tree LineRefusal) (t : Tree) (r : Request) → result_taken host service o ≡ taken.asked t r → tree_taken host service t ≡ taken.asked t r
+pub line-tree : (host service : List ℕ) (o : Result Tree LineRefusal) (t : Tree) (r : Request) → result_taken host service o ≡ taken.asked t r → tree_taken host service t ≡ taken.asked t r
 line-tree host service (Err why) t r e = absurd (cc e)
 line-tree host service (Ok u) t r e = subst (λ (v : Tree). tree_taken host service v ≡ taken.asked t r) (tree-tree host service u t r e) e
 
-arrival-tree : (host service : List ℕ) (a : Arrival) (t : Tree) (r : Request) → taking.taken host service a ≡ taken.asked t r → tree_taken host service t ≡ taken.asked t r
+pub arrival-tree : (host service : List ℕ) (a : Arrival) (t : Tree) (r : Request) → taking.taken host service a ≡ taken.asked t r → tree_taken host service t ≡ taken.asked t r
 arrival-tree host service arrival.TooLong t r e = absurd (cc e)
 arrival-tree host service (arrival.Line bytes moment) t r e = by (list_all is_white bytes) e
   where
@@ -250,7 +250,7 @@ entry-at s (Handed to) = numbered-at s.count (step.handed_out s (Handed to)) s.t
 entry-at s (Gone host) = numbered-at s.count (step.handed_out s (Gone host)) s.tallies
 entry-at s (Base row) = row-at s.count s.tallies (row_of row)
 
-count-is : (E : List Entry) (s : State) → (replay_from s E).count ≡ s.count + length E
+pub count-is : (E : List Entry) (s : State) → (replay_from s E).count ≡ s.count + length E
 count-is [] s = (let e : s.count ≡ s.count + 0 = omega arith in e)
 count-is (e ∷ E) s = count-is E (step.after s e) ∙ (let z : s.count + 1 + length E ≡ s.count + suc (length E) = omega arith in z)
 

@@ -7,10 +7,10 @@ use Rattle.ps_rows.specs.Placed.{Places}
 use Rattle.ps_rows.specs.Standing.{marked_by, standing}
 use Rattle.ps_types.specs.declared.rows.NodeRow.{NodeRow}
 use Rattle.ps_nodes.specs.Gaps.{empties}
-use Rattle.ps_nodes.specs.Kept.{AreOnce, IsKept, name_digest}
+use Rattle.ps_nodes.specs.Kept.{AreOnce, PlacesAreKept, name_digest}
 
 pub kept-grown : (places places' : Places NodeRow) (named named' : Table (Option ℕ)) (gaps gaps' : Vec ℕ) → places'.rows ≡ places.rows → places'.seed ≡ places.seed → named'.rows ≡ named.rows
-    → gaps'.items ≡ gaps.items → vec_capacity gaps ≤ vec_capacity gaps' → IsKept places named gaps → IsKept places' named' gaps'
+    → gaps'.items ≡ gaps.items → vec_capacity gaps ≤ vec_capacity gaps' → PlacesAreKept places named gaps → PlacesAreKept places' named' gaps'
 kept-grown places places' named named' gaps gaps' r s n g c is = record {
   names = n ∙ (is.names ∙ (ap (marked_by (name_digest places.seed)) (sym r) ∙ ap (λ d. marked_by (name_digest d) places'.rows) (sym s)));
   empty = g ∙ (is.empty ∙ ap (empties 0) (sym r));

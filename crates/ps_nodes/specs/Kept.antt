@@ -23,7 +23,7 @@ abbrev pub AreFull : List (Option NodeRow) → Type 0
 AreFull slots = length (standing slots) ≡ length slots
 
 -- the names are marked, the gaps are the empty places, a node has one row, and each place could be a gap
-pub record IsKept (places : Places NodeRow) (named : Table (Option ℕ)) (gaps : Vec ℕ) : Type 0 where
+pub record PlacesAreKept (places : Places NodeRow) (named : Table (Option ℕ)) (gaps : Vec ℕ) : Type 0 where
   pub names : named.rows ≡ marked_by (name_digest places.seed) places.rows
   pub empty : gaps.items ≡ empties 0 places.rows
   pub once : AreOnce (standing places.rows)

@@ -2,7 +2,7 @@
 ghost use Rattle.std.specs.Prelude.{◌≡◌, ◌+◌, ◌<◌, ◌≤◌, [], ◌∷◌, ◌++◌, true, None, IfOk, is_some, length, slice_set};
 ghost use Rattle.ps_chains.specs.Marks.{mark_at};
 ghost use Rattle.ps_rows.specs.Standing.{marked_by, marks_of, standing};
-ghost use Rattle.ps_nodes.specs.Kept.{AreFull, IsKept, name_digest, room_of};
+ghost use Rattle.ps_nodes.specs.Kept.{AreFull, PlacesAreKept, name_digest, room_of};
 
 use crate::gaps::put;
 use ps_base::Memory;
@@ -47,8 +47,8 @@ pub fn names_of(alloc: Global, slots: &Slots<NodeRow>) -> Result<Chains, Memory>
 
 /// Takes the empty places away. It takes no memory.
 pub fn pack(slots: &mut Slots<NodeRow>, named: &mut Chains, gaps: &mut Vec<usize>)
-    requires kept { IsKept slots.old named.old gaps.old }
-    ensures kept { IsKept slots.new named.new gaps.new }
+    requires kept { PlacesAreKept slots.old named.old gaps.old }
+    ensures kept { PlacesAreKept slots.new named.new gaps.new }
     ensures rows { standing slots.new.rows ≡ standing slots.old.rows }
     ensures room { room_of slots.old named.old gaps.old ≤ room_of slots.new named.new gaps.new }
 {
@@ -59,9 +59,9 @@ pub fn pack(slots: &mut Slots<NodeRow>, named: &mut Chains, gaps: &mut Vec<usize
 
 /// Empties the place of a row. It takes no memory.
 pub fn empty(slots: &mut Slots<NodeRow>, named: &mut Chains, gaps: &mut Vec<usize>, place: usize)
-    requires kept { IsKept slots.old named.old gaps.old }
+    requires kept { PlacesAreKept slots.old named.old gaps.old }
     requires here { is_some (mark_at slots.old.rows place) ≡ true }
-    ensures kept { IsKept slots.new named.new gaps.new }
+    ensures kept { PlacesAreKept slots.new named.new gaps.new }
     ensures rows { slots.new.rows ≡ slice_set slots.old.rows place None }
     ensures room { room_of slots.old named.old gaps.old ≤ room_of slots.new named.new gaps.new }
 {

@@ -51,13 +51,13 @@ impl Model for Nodes {
     ghost use Rattle.ps_base.specs.Rows.{Table};
     ghost use Rattle.ps_rows.specs.Standing.{standing};
     ghost use Rattle.ps_types.specs.declared.rows.NodeRow.{NodeRow};
-    ghost use Rattle.ps_nodes.specs.Kept.{IsKept, room_of};
+    ghost use Rattle.ps_nodes.specs.Kept.{PlacesAreKept, room_of};
 
     ghost Value = { Table NodeRow };
 
     ghost view = { λ t. record { rows = standing t.slots.rows; spare = room_of t.slots t.named t.gaps } };
 
-    ghost invariant = { λ t. IsKept t.slots t.named t.gaps };
+    ghost invariant = { λ t. PlacesAreKept t.slots t.named t.gaps };
 }
 
 impl Nodes {

@@ -11,7 +11,7 @@ use Rattle.ps_types.specs.declared.jid.Jid.{Jid}
 use Rattle.ps_types.specs.Same.{same_bare}
 use Rattle.ps_rows.proofs.Sought.{bare-back, bare-on}
 use Rattle.ps_outbox.specs.Boxes.{Boxes, has_box, is_known, is_to, spare_for}
-use Rattle.ps_outbox.specs.Kept.{rises, is_apart, is_bare, stamped, stamped_by, IsKept}
+use Rattle.ps_outbox.specs.Kept.{rises, is_apart, is_bare, stamped, stamped_by, QueuesAreKept}
 
 pub both : (a b : Bool) → a && b ≡ true → (a ≡ true) × (b ≡ true)
 both true b h = (refl, h)
@@ -190,7 +190,7 @@ forgotten_as free new held one who less far h = ap (λ l. has_box l held who) le
 -- ---- an address more, and one that is held or released
 
 pub address_more : (waiting : List Notice) (free new : Table Jid) (held : List Jid) (last : ℕ) (in_order : Bool) (one : Jid) → new.rows ≡ free.rows ++ one ∷ [] → length held ≤ new.spare → is_bare one ≡ true → is_known one held ≡ false
-    → IsKept waiting free held last in_order → IsKept waiting new held last in_order
+    → QueuesAreKept waiting free held last in_order → QueuesAreKept waiting new held last in_order
 address_more waiting free new held last in_order one more room e far k = record {
   known = subst (λ (l : List Jid). list_all (λ n. has_box l held n.to) waiting ≡ true) (sym more) (all_same_test (λ n. has_box free.rows held n.to) (λ n. has_box (free.rows ++ one ∷ []) held n.to) (λ n h. box_more free.rows held one n.to h) waiting k.known);
   bare = ap (list_all is_bare) more ∙ all_more is_bare free.rows one k.bare e;
@@ -212,8 +212,8 @@ apart_held held one (x ∷ xs) h = by (same_bare one x) refl (apart_held held on
     by false e more b = pair (is_apart (held ++ one ∷ []) x) (list_all (is_apart (held ++ one ∷ [])) (without (same_bare one) xs)) (not_true (is_known x (held ++ one ∷ [])) (still e (not_false (is_known x held) b.0))) (more b.1)
 
 pub one_held : (waiting : List Notice) (free new : Table Jid) (held now : List Jid) (last : ℕ) (in_order : Bool) (one : Jid) → new.rows ≡ without (same_bare one) free.rows → length held + 1 ≤ new.spare → now ≡ held ++ one ∷ []
-    → IsKept waiting free held last in_order → IsKept waiting new now last in_order
-one_held waiting free new held now last in_order one less room more k = subst (λ (l : List Jid). IsKept waiting new l last in_order) (sym more) (record {
+    → QueuesAreKept waiting free held last in_order → QueuesAreKept waiting new now last in_order
+one_held waiting free new held now last in_order one less room more k = subst (λ (l : List Jid). QueuesAreKept waiting new l last in_order) (sym more) (record {
   known = subst (λ (l : List Jid). list_all (λ n. has_box l (held ++ one ∷ []) n.to) waiting ≡ true) (sym less)
       (all_same_test (λ n. has_box free.rows held n.to) (λ n. has_box (without (same_bare one) free.rows) (held ++ one ∷ []) n.to) (λ n h. box_held free.rows held one n.to h) waiting k.known);
   bare = ap (list_all is_bare) less ∙ all_left is_bare one free.rows k.bare;
@@ -230,8 +230,8 @@ apart_released held one (x ∷ xs) h =
 
 -- while notices wait for it
 pub one_back : (waiting : List Notice) (free new : Table Jid) (held now : List Jid) (last : ℕ) (in_order : Bool) (one : Jid) → new.rows ≡ free.rows ++ one ∷ [] → free.spare ≤ new.spare + 1 → now ≡ without (same_bare one) held → is_bare one ≡ true → is_known one held ≡ true
-    → IsKept waiting free held last in_order → IsKept waiting new now last in_order
-one_back waiting free new held now last in_order one more room less e here k = subst (λ (l : List Jid). IsKept waiting new l last in_order) (sym less) (record {
+    → QueuesAreKept waiting free held last in_order → QueuesAreKept waiting new now last in_order
+one_back waiting free new held now last in_order one more room less e here k = subst (λ (l : List Jid). QueuesAreKept waiting new l last in_order) (sym less) (record {
   known = subst (λ (l : List Jid). list_all (λ n. has_box l (without (same_bare one) held) n.to) waiting ≡ true) (sym more)
       (all_same_test (λ n. has_box free.rows held n.to) (λ n. has_box (free.rows ++ one ∷ []) (without (same_bare one) held) n.to) (λ n h. box_back free.rows held one n.to h) waiting k.known);
   bare = ap (list_all is_bare) more ∙ all_more is_bare free.rows one k.bare e;
@@ -253,8 +253,8 @@ boxes_left free held one (n ∷ ns) none h =
     let far = none_to one n ns (find (is_to one) ns) (same_bare one n.to) refl none in
     pair (has_box free (without (same_bare one) held) n.to) (list_all (λ m. has_box free (without (same_bare one) held) m.to) ns) (box_released free held one n.to far.0 b.0) (boxes_left free held one ns far.1 b.1)
 
-pub one_gone : (waiting : List Notice) (free : Table Jid) (held now : List Jid) (last : ℕ) (in_order : Bool) (one : Jid) → now ≡ without (same_bare one) held → find (is_to one) waiting ≡ None → IsKept waiting free held last in_order → IsKept waiting free now last in_order
-one_gone waiting free held now last in_order one less none k = subst (λ (l : List Jid). IsKept waiting free l last in_order) (sym less) (record {
+pub one_gone : (waiting : List Notice) (free : Table Jid) (held now : List Jid) (last : ℕ) (in_order : Bool) (one : Jid) → now ≡ without (same_bare one) held → find (is_to one) waiting ≡ None → QueuesAreKept waiting free held last in_order → QueuesAreKept waiting free now last in_order
+one_gone waiting free held now last in_order one less none k = subst (λ (l : List Jid). QueuesAreKept waiting free l last in_order) (sym less) (record {
   known = boxes_left free.rows held one waiting none k.known;
   bare = k.bare;
   apart = apart_released held one free.rows k.apart;
@@ -271,7 +271,7 @@ boxes_kept free held one (n ∷ ns) none h =
     pair (has_box (without (same_bare one) free) held n.to) (list_all (λ m. has_box (without (same_bare one) free) held m.to) ns) (ap (λ t. t || is_known n.to held) (others_known one n.to far.0 free) ∙ b.0) (boxes_kept free held one ns far.1 b.1)
 
 pub one_forgotten : (waiting : List Notice) (free new : Table Jid) (held : List Jid) (last : ℕ) (in_order : Bool) (one : Jid) → new.rows ≡ without (same_bare one) free.rows → free.spare ≤ new.spare → find (is_to one) waiting ≡ None
-    → IsKept waiting free held last in_order → IsKept waiting new held last in_order
+    → QueuesAreKept waiting free held last in_order → QueuesAreKept waiting new held last in_order
 one_forgotten waiting free new held last in_order one less room none k = record {
   known = subst (λ (l : List Jid). list_all (λ n. has_box l held n.to) waiting ≡ true) (sym less) (boxes_kept free.rows held one waiting none k.known);
   bare = ap (list_all is_bare) less ∙ all_left is_bare one free.rows k.bare;
@@ -314,7 +314,7 @@ order_by true in_order waiting last n e r = refl
 order_by false in_order waiting last n e r = order_more in_order waiting last n (grind (arith, nat_tests)) r
 
 pub notice_more : (waiting : List Notice) (free : Table Jid) (held : List Jid) (last : ℕ) (in_order : Bool) (n : Notice) (p : ℕ × Bool) → p ≡ stamped last in_order n.place
-    → has_box free.rows held n.to ≡ true → IsKept waiting free held last in_order → IsKept (waiting ++ n ∷ []) free held p.0 p.1
+    → has_box free.rows held n.to ≡ true → QueuesAreKept waiting free held last in_order → QueuesAreKept (waiting ++ n ∷ []) free held p.0 p.1
 notice_more waiting free held last in_order n p e h k = record {
   known = all_more (λ m. has_box free.rows held m.to) waiting n k.known h;
   bare = k.bare;
@@ -346,7 +346,7 @@ order_without : (test : Notice → Bool) (in_order : Bool) (waiting : List Notic
 order_without test true waiting last r = rises_without test 0 waiting last r
 order_without test false waiting last r = refl
 
-pub notice_less : (test : Notice → Bool) (waiting : List Notice) (free : Table Jid) (held : List Jid) (last : ℕ) (in_order : Bool) → IsKept waiting free held last in_order → IsKept (without_first test waiting) free held last in_order
+pub notice_less : (test : Notice → Bool) (waiting : List Notice) (free : Table Jid) (held : List Jid) (last : ℕ) (in_order : Bool) → QueuesAreKept waiting free held last in_order → QueuesAreKept (without_first test waiting) free held last in_order
 notice_less test waiting free held last in_order k = record {
   known = all_without (λ n. has_box free.rows held n.to) test waiting k.known;
   bare = k.bare;

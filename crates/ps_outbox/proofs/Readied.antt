@@ -13,7 +13,7 @@ use Rattle.ps_rows.proofs.Sought.{bare-back, bare-on}
 use Rattle.ps_base.specs.Rows.{Table}
 use Rattle.ps_outbox.specs.Boxes.{has_box, is_of, is_to, shown, peeked, is_known, is_ready, IsReady, NoneReady}
 use Rattle.ps_outbox.specs.Keys.{is_at}
-use Rattle.ps_outbox.specs.Kept.{rises, is_apart, is_bare, IsKept}
+use Rattle.ps_outbox.specs.Kept.{rises, is_apart, is_bare, QueuesAreKept}
 use Rattle.ps_outbox.proofs.Keeping.{both, not_known}
 
 -- ---- the first that passes
@@ -122,7 +122,7 @@ not_low durable f h = by (nat_lt f.place durable) refl h
     by false e h = grind (arith, nat_tests)
 
 -- the host's first notice isn't durable, or there is none
-pub none_durable : (host : List ℕ) (durable : ℕ) (waiting : List Notice) (free : Table Jid) (held : List Jid) (last : ℕ) (in_order : Bool) → in_order ≡ true → IsKept waiting free held last in_order
+pub none_durable : (host : List ℕ) (durable : ℕ) (waiting : List Notice) (free : Table Jid) (held : List Jid) (last : ℕ) (in_order : Bool) → in_order ≡ true → QueuesAreKept waiting free held last in_order
     → is_some (shown durable (find (is_at host) waiting)) ≡ false → NoneReady host durable waiting held
 none_durable host durable waiting free held last in_order e k h = record { all = λ who here apart. by (find (is_at host) waiting) refl h who here }
   where
@@ -141,7 +141,7 @@ not_true_is : (b : Bool) → not b ≡ true → b ≡ false
 not_true_is true h = absurd (true≢false (sym h))
 not_true_is false h = refl
 
-pub ready_found : (host : List ℕ) (durable : ℕ) (waiting : List Notice) (free : Table Jid) (held : List Jid) (last : ℕ) (in_order : Bool) (j : Jid) → IsKept waiting free held last in_order
+pub ready_found : (host : List ℕ) (durable : ℕ) (waiting : List Notice) (free : Table Jid) (held : List Jid) (last : ℕ) (in_order : Bool) (j : Jid) → QueuesAreKept waiting free held last in_order
     → find (is_ready host durable waiting) free.rows ≡ Some j → IsReady host durable j waiting held
 ready_found host durable waiting free held last in_order j k f =
     let parts = both (is_of host j) (is_some (peeked j durable waiting)) (found_passes (is_ready host durable waiting) free.rows j f) in
@@ -175,7 +175,7 @@ of_false : (a b : Bool) → a && b ≡ false → a ≡ true → b ≡ false
 of_false true b h e = h
 of_false false b h e = absurd (true≢false (sym e))
 
-pub none_found : (host : List ℕ) (durable : ℕ) (waiting : List Notice) (free : Table Jid) (held : List Jid) (last : ℕ) (in_order : Bool) → IsKept waiting free held last in_order
+pub none_found : (host : List ℕ) (durable : ℕ) (waiting : List Notice) (free : Table Jid) (held : List Jid) (last : ℕ) (in_order : Bool) → QueuesAreKept waiting free held last in_order
     → find (is_ready host durable waiting) free.rows ≡ None → NoneReady host durable waiting held
 none_found host durable waiting free held last in_order k none = record { all = λ who here apart. by who here apart (find (is_to who) waiting) refl }
   where

@@ -18,7 +18,7 @@ abbrev pub is_apart : List Jid → Jid → Bool
 is_apart held who = not (is_known who held)
 
 -- each notice that waits has its address in one of the two lists, and no address is in both; the free ones have room for those that are held
-pub record IsKept (waiting : List Notice) (free : Table Jid) (held : List Jid) (last : ℕ) (in_order : Bool) : Type 0 where
+pub record QueuesAreKept (waiting : List Notice) (free : Table Jid) (held : List Jid) (last : ℕ) (in_order : Bool) : Type 0 where
   pub known : list_all (λ n. has_box free.rows held n.to) waiting ≡ true
   pub bare : list_all is_bare free.rows ≡ true
   pub apart : list_all (is_apart held) free.rows ≡ true

@@ -56,9 +56,9 @@ impl Model for Outboxes {
       room = b.waiting.spare;
     } };
 
-    ghost use Rattle.ps_outbox.specs.Kept.{IsKept};
+    ghost use Rattle.ps_outbox.specs.Kept.{QueuesAreKept};
 
-    ghost invariant = { λ b. IsKept b.waiting.rows b.free b.held.rows b.last b.in_order };
+    ghost invariant = { λ b. QueuesAreKept b.waiting.rows b.free b.held.rows b.last b.in_order };
 }
 
 impl Outboxes {

@@ -25,19 +25,18 @@ use Rattle.ps_affil.specs.Among.{is_among, is_other_owner, owns_at}
 use Rattle.ps_rows.specs.Around.{own_and_last}
 use Rattle.ps_owner.specs.Edits.{IsAffilEdit}
 use Rattle.ps_owner.specs.declared.affil_edits.AffilEdit.{AffilEdit}
-use Rattle.ps_owner.proofs.Asked.{Covers, covers-among, and-left, and-right, and-both}
+use Rattle.ps_owner.proofs.Asked.{Covers, covers-among}
 use Rattle.ps_owner.proofs.Settings.{Sets, sets-none, sets-more, sets-put, sets-gone, edited, same-edited, any-edited}
-
-bare-itself : (a : Jid) → same_bare a a ≡ true
-unfolding same_bare
-bare-itself a = and-both (bytes_eq a.local a.local) (bytes_eq a.host a.host) ((bytes_eq-Decides a.local a.local).1 refl) ((bytes_eq-Decides a.host a.host).1 refl)
+use Rattle.ps_config.proofs.Numbers.{and-left, and-right}
+use Rattle.ps_model.proofs.TallyLaws.{same_bare-itself}
+use Rattle.ps_model.proofs.TheLaws.{both}
 
 bare-back : (a b : Jid) → same_bare a b ≡ true → same_bare b a ≡ true
 unfolding same_bare
 bare-back a b h =
     let l = (bytes_eq-Decides a.local b.local).0 (and-left (bytes_eq a.local b.local) (bytes_eq a.host b.host) h) in
     let k = (bytes_eq-Decides a.host b.host).0 (and-right (bytes_eq a.local b.local) (bytes_eq a.host b.host) h) in
-    and-both (bytes_eq b.local a.local) (bytes_eq b.host a.host) ((bytes_eq-Decides b.local a.local).1 (sym l)) ((bytes_eq-Decides b.host a.host).1 (sym k))
+    both (bytes_eq b.local a.local) (bytes_eq b.host a.host) ((bytes_eq-Decides b.local a.local).1 (sym l)) ((bytes_eq-Decides b.host a.host).1 (sym k))
 
 -- ---- the rows that are asked for
 
@@ -47,7 +46,7 @@ asks node row x = is_affil_of node (bare row.jid) x
 marks : (node : NodeKey) (row : AskRow) (x : AffilRow) → asks node row x ≡ true → (is_affil_at node x ≡ true) × (is_affil_of node x.who (asked_affil node row) ≡ true)
 marks node row x h = (
   and-left (same_node node x.node) (same_bare (bare row.jid) x.who) h,
-  and-both (same_node node node) (same_bare x.who (bare row.jid)) (same_node-itself node) (bare-back (bare row.jid) x.who (and-right (same_node node x.node) (same_bare (bare row.jid) x.who) h)),
+  both (same_node node node) (same_bare x.who (bare row.jid)) (same_node-itself node) (bare-back (bare row.jid) x.who (and-right (same_node node x.node) (same_bare (bare row.jid) x.who) h)),
 )
 
 covered : (node : NodeKey) (rows : List AskRow) (asked : List AffilRow) → asked ≡ map (asked_affil node) rows → Covers (asks node) (is_among node asked) rows
@@ -59,7 +58,7 @@ sets-by own row inside kind =
     by kind
   where
     mine : own row ≡ true
-    mine = inside row (and-both (same_node row.node row.node) (same_bare row.who row.who) (same_node-itself row.node) (bare-itself row.who))
+    mine = inside row (both (same_node row.node row.node) (same_bare row.who row.who) (same_node-itself row.node) (same_bare-itself row.who))
 
     put : Sets own (λ xs. affils_by Owner row xs)
     put = sets-put own (is_affil_of row.node row.who) inside row mine

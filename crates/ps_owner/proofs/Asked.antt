@@ -33,15 +33,3 @@ module _ {R : Type 0} (of : AskRow → R → Bool) where
       λ x k. head (at x) (same x (mark row)) (mark row) (find (same x) (map mark rows)) (marks row x k).0 (marks row x k).1,
       covers-more (among (map mark rows)) (among (mark row ∷ map mark rows)) (λ x h. some-more (at x) (same x (mark row)) (mark row) (find (same x) (map mark rows)) h) rows (covers-among rows),
     )
-
-pub and-left : (a b : Bool) → (a && b) ≡ true → a ≡ true
-and-left true b h = refl
-and-left false b h = absurd (cc)
-
-pub and-right : (a b : Bool) → (a && b) ≡ true → b ≡ true
-and-right true b h = h
-and-right false b h = absurd (cc)
-
-pub and-both : (a b : Bool) → a ≡ true → b ≡ true → (a && b) ≡ true
-and-both true b h k = k
-and-both false b h k = absurd (cc)

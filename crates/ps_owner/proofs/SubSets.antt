@@ -24,10 +24,12 @@ use Rattle.ps_subs.specs.Among.{is_among}
 use Rattle.ps_owner.specs.Edits.{IsSubEdit, asked_sub}
 use Rattle.ps_owner.specs.declared.sub_edits.SubEdit.{SubEdit}
 use Rattle.ps_owner.proofs.Around.{around-put}
-use Rattle.ps_owner.proofs.Asked.{Covers, covers-among, and-left, and-right, and-both}
+use Rattle.ps_owner.proofs.Asked.{Covers, covers-among}
 use Rattle.ps_owner.proofs.Counting.{any-put, count-put}
 use Rattle.ps_owner.proofs.Growing.{grown-put}
 use Rattle.ps_owner.proofs.Settings.{Sets, sets-none, sets-more, sets-gone, find-around, edited, same-edited, count-edited}
+use Rattle.ps_config.proofs.Numbers.{and-left, and-right}
+use Rattle.ps_model.proofs.TheLaws.{both}
 
 -- ---- the rows that are asked for
 
@@ -38,7 +40,7 @@ marks : (node : NodeKey) (row : AskRow) (x : SubRow) → asks node row x ≡ tru
 marks node row x h =
     let w = (same_jid-Decides row.jid x.who).0 (and-right (same_node node x.node) (same_jid row.jid x.who) h) in (
       and-left (same_node node x.node) (same_jid row.jid x.who) h,
-      and-both (same_node node node) (same_jid x.who row.jid) (same_node-itself node) ((same_jid-Decides x.who row.jid).1 (sym w)),
+      both (same_node node node) (same_jid x.who row.jid) (same_node-itself node) ((same_jid-Decides x.who row.jid).1 (sym w)),
     )
 
 covered : (node : NodeKey) (rows : List AskRow) (asked : List SubRow) → asked ≡ map (asked_sub node) rows → Covers (asks node) (is_among node asked) rows
@@ -50,7 +52,7 @@ module _ (own : SubRow → Bool) (node : NodeKey) (who : Jid) (inside : (x : Sub
   test x = is_sub_of node who x
 
   mine : (s : SubState) (xs : List SubRow) → own (sub_with node who s xs) ≡ true
-  mine s xs = inside (sub_with node who s xs) (and-both (same_node node node) (same_jid who who) (same_node-itself node) ((same_jid-Decides who who).1 refl))
+  mine s xs = inside (sub_with node who s xs) (both (same_node node node) (same_jid who who) (same_node-itself node) ((same_jid-Decides who who).1 refl))
 
   -- a row keeps its options, and those are among the few rows too
   sets-kept : (s : SubState) → Sets own (λ xs. put_row test (sub_with node who s xs) xs)

@@ -21,4 +21,3 @@ mod sub_edits;
 mod subs_set;
 
 pub use plans::plan;
-pub use subs_set::max_subs;

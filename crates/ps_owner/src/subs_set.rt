@@ -18,17 +18,10 @@ ghost use Rattle.ps_owner.specs.Plans.{Settles};
 
 use crate::plans::{decided, entry_plan};
 use crate::sub_edits::{SubEdit, edit_subs};
-use ps_access::{Tables, allow, key_of, must_stand, pass_if, sub_of, verdict_own};
+use ps_access::{Tables, allow, key_of, max_subs, must_stand, pass_if, sub_of, verdict_own};
 use ps_subs::Subs;
 use ps_types::{AskRow, Condition, NodeKey, Plan, PlanRefusal, Request, SubRow, Text};
 use std::alloc::Global;
-
-/// The subscriptions that a node has at most.
-pub fn max_subs() -> u64
-    ensures subs { result ≡ model.max_subs }
-{
-    65_536
-}
 
 fn any_unconfigured(rows: &[AskRow]) -> bool
     ensures { result ≡ list_any model.is_unconfigured rows.now }

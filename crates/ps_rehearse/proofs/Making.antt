@@ -1,5 +1,5 @@
 -- Entries that are counted, one after the other.
-use Rattle.std.proofs.Common.{◌≡◌, inl, inr, ℕ, suc, ◌+◌, ◌<◌, ◌≤◌, Bool, true, false, List, [], ◌∷◌, ◌++◌, length, get_or, map, take, drop, refl, sym, ap, subst, ◌∙◌, arith}
+use Rattle.std.proofs.Common.{◌≡◌, ℕ, suc, ◌+◌, ◌<◌, ◌≤◌, Bool, true, false, List, [], ◌∷◌, ◌++◌, length, get_or, map, take, drop, refl, sym, ap, subst, ◌∙◌, arith}
 use Rattle.std.specs.Prelude.{Err, IfOk, Ok, Result}
 use Rattle.std.specs.List.{AllByRecursion}
 use Rattle.std.proofs.Math.Seq.{take-suc}
@@ -10,10 +10,10 @@ use Rattle.ps_model.proofs.OneList.{one_list}
 use Rattle.ps_journal.specs.Opened.{IsOpened}
 use Rattle.ps_journal.specs.Places.{entries_in}
 use Rattle.ps_journal.specs.declared.judging.Placed.{Placed}
-use Rattle.ps_journal.proofs.Opens.{found_spells}
 use Rattle.ps_rehearse_lines.specs.Counted.{one_if}
 use Rattle.ps_rehearse.specs.Entries.{AreMade, HasMade, changes_in, handed_in, is_change, is_handed, is_made}
 use Rattle.ps_rehearse.specs.declared.entries.Made.{Made}
+use Rattle.ps_hall_open.proofs.Replays.{opened_spells}
 
 -- ---- one more
 
@@ -85,13 +85,9 @@ all-made placed i commits handed all so =
 
 -- ---- the entries that are read again
 
-opened-spells : (bytes : List ℕ) (placed : List Placed) → IsOpened bytes placed → spelled bytes (entries_in placed)
-opened-spells bytes placed (inl found) = found_spells bytes placed found.0 found.1
-opened-spells bytes placed (inr none) = inr (none.0, none.1, ap entries_in none.2)
-
 -- what they come to is what the list of the bytes comes to
 pub of-list : {E : Type 0} (bytes : List ℕ) (placed read : List Placed) (es : List Entry) (r : Result Made E) → IsOpened bytes placed → read ≡ placed → spelled bytes es
     → IfOk r (HasMade (entries_in read)) → IfOk r (HasMade es)
 of-list bytes placed read es (Ok m) opened same is has =
-    subst (λ (l : List Entry). HasMade l m) (ap entries_in same ∙ one_list bytes (entries_in placed) es (opened-spells bytes placed opened) is) has
+    subst (λ (l : List Entry). HasMade l m) (ap entries_in same ∙ one_list bytes (entries_in placed) es (opened_spells bytes placed opened) is) has
 of-list bytes placed read es (Err e) opened same is has = tt

@@ -9,7 +9,7 @@
 //! However the two streams interleaved, the numbers are those of the seed's stanzas one after the other at an empty service (`AreNumbers`, and `rehearsal` of
 //! `ps_rehearse_laws`), so each rehearsal of a seed and a count that answers has the same numbers.
 //!
-//! The one refusal is want of memory. Streams and disks in memory fail in no other way, so what a fault of theirs leaves is refused as that.
+//! The one refusal is out of memory. Streams and disks in memory fail in no other way, so what a fault of theirs leaves is refused as that.
 #![tactic(auto)]
 
 mod clock;

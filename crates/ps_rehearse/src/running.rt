@@ -19,7 +19,7 @@ use ps_io::Clock;
 use ps_journal::Trail;
 use ps_types::Text;
 use ps_wire::{Lines, Sink, Source};
-use ps_workers::{Ended, Hall, Limits, NoHall, Opening, Room, State, serve};
+use ps_workers::{Ended, Hall, Limits, NoHall, Opening, State, WorkRoom, serve};
 use std::alloc::Global;
 use std::marker::Brand;
 use std::random::RandomSource;
@@ -67,7 +67,7 @@ fn live<
         (sinks (λ k. K.faults k) (λ k. K.written k))) B.origin ports.items) }
 {
     let_go(entries);
-    let Ok(room) = Room::new(alloc, hosts.len()) else {
+    let Ok(room) = WorkRoom::new(alloc, hosts.len()) else {
         let _ = store.close();
         return Err(Memory);
     };

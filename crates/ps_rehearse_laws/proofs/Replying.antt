@@ -40,6 +40,7 @@ use Rattle.ps_rehearse_laws.proofs.Forming.{head, lit}
 use Rattle.ps_rehearse_laws.proofs.Lists.{each-filter}
 use Rattle.ps_rehearse_laws.proofs.Texts.{bare-form, one-form}
 use Rattle.ps_rehearse_laws.proofs.Whys.{error-form, error-low}
+use Rattle.ps_model.proofs.Asked.{or-first, or-second}
 
 -- ---- a reply is a tree
 
@@ -83,14 +84,6 @@ result-typed (i ∷ id) to kids = refl
 error-typed : (id to : List ℕ) (kids : List Tree) → (is_iq (stanza (codes "iq") (codes "pubsub.example") id to (codes "error") kids) && has_type (codes "error") (stanza (codes "iq") (codes "pubsub.example") id to (codes "error") kids)) ≡ true
 error-typed [] to kids = refl
 error-typed (i ∷ id) to kids = refl
-
-or-first : (a b : Bool) → a ≡ true → (a || b) ≡ true
-or-first true b e = refl
-or-first false b e = absurd (cc e)
-
-or-second : (a b : Bool) → b ≡ true → (a || b) ≡ true
-or-second true b e = refl
-or-second false b e = e
 
 module _ (id to : List ℕ) (ui : IsUtf8 id) (ut : IsUtf8 to) (kids : List Tree) (have : HaveForm (holding kids)) (low : nodes_levels (holding kids) ≤ 31) where
   result-told : IsReplyText (print (stanza (codes "iq") (codes "pubsub.example") id to (codes "result") kids))

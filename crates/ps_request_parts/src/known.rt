@@ -1,10 +1,10 @@
 // What is known of a resource by the capabilities that it shows (XEP-0115 §5.4).
 ghost use Rattle.std.specs.Prelude.{◌≡◌, None, option_copied};
-ghost use Rattle.ps_types.specs.Resources.{caps_in, resource_at};
+ghost use Rattle.ps_types.specs.Resources.{resource_at};
 ghost use Rattle.ps_model.specs.ChangeRouter as model;
 ghost use Rattle.ps_access.specs.Tables.{book_of};
 
-use ps_access::Tables;
+use ps_access::{Tables, has_caps};
 use ps_types::{Caps, Jid, Text, Texts};
 
 /// Whether the hash of the capabilities is the one by which strings are verified.
@@ -22,18 +22,6 @@ fn verified<'a>(tables: &'a Tables, caps: &Caps) -> Option<&'a Texts>
         tables.cache.get(&caps.ver)
     } else {
         None
-    }
-}
-
-fn has_caps(tables: &Tables, who: &Jid, caps: &Caps) -> bool
-    ensures { result ≡ model.has_caps caps.now (caps_in (resource_at who.now (book_of tables.now).resources)) }
-{
-    match tables.presence.resource(who) {
-        Some(row) => match &row.caps {
-            Some(old) => *old == *caps,
-            None => false,
-        },
-        None => false,
     }
 }
 

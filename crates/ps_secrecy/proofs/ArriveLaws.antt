@@ -1,33 +1,22 @@
 -- A line, or a pair of lines, in both worlds.
 use Rattle.std.proofs.Common.{◌≡◌, ℕ, Bool, true, false, cond, List, [], Option, Some, None, refl, sym, ap, ◌∙◌, subst}
-use Rattle.std.specs.Prelude.{Result, Ok, Err, codes, bytes_eq}
-use Rattle.std.specs.List.{list_all}
-use Rattle.ps_types.specs.declared.denial.Condition.{Condition}
-use Rattle.ps_types.specs.declared.denial.Condition.TheVariants.{C25}
-use Rattle.ps_types.specs.declared.denial.LineRefusal.{LineRefusal}
-use Rattle.ps_types.specs.declared.denial.LineRefusal.TheVariants.{L6, L7}
 use Rattle.ps_types.specs.declared.entry.Arrival.{Arrival}
 use Rattle.ps_types.specs.declared.entry.Arrival.TheVariants as arrival
 use Rattle.ps_types.specs.declared.entry.Entry.{Entry}
 use Rattle.ps_types.specs.declared.entry.Entry.TheVariants.{Change}
 use Rattle.ps_types.specs.declared.jid.Jid.{Jid}
 use Rattle.ps_types.specs.declared.node.NodeKey.{NodeKey}
-use Rattle.ps_types.specs.declared.request.Ask.{Ask}
 use Rattle.ps_types.specs.declared.request.Request.{Request}
-use Rattle.ps_types.specs.Shape.{attr_text}
-use Rattle.ps_types.specs.LineTree.{line_tree}
 use Rattle.ps_types.specs.Nodes.{stands}
 use Rattle.ps_types.specs.Same.{same_bare}
 use Rattle.ps_types.specs.Tree.{Tree}
 use Rattle.ps_model.specs.After.{after, notices_at, request_on}
-use Rattle.ps_model.specs.Asking.{ask_of}
 use Rattle.ps_model.specs.Book.{Book, State}
 use Rattle.ps_model.specs.CheckForms.{node_of}
 use Rattle.ps_model.specs.Replies.{moment_of, outcome_reply}
-use Rattle.ps_model.specs.Stanza.{is_served, is_stanza, jid_of, target_of}
 use Rattle.ps_model.specs.Taken.{Taken}
 use Rattle.ps_model.specs.Taken as taken
-use Rattle.ps_model.specs.Taking.{ask_taken, head_of, is_white, request_in, result_taken, sender_taken, target_taken, tree_taken}
+use Rattle.ps_model.specs.Taking.{request_in}
 use Rattle.ps_model.specs.Taking as taking
 use Rattle.ps_model.specs.TwoWorlds.{IsShutOut, SameBut, Touches, is_in}
 use Rattle.ps_model.specs.Check.{check}
@@ -43,46 +32,9 @@ use Rattle.ps_secrecy.proofs.CheckLaws.{judged-same}
 use Rattle.ps_secrecy.proofs.SameLaws.{nodes-are}
 use Rattle.ps_secrecy.specs.Alike.{LookAlike}
 use Rattle.ps_secrecy.proofs.StepLaws.{Touch, beside-of, change-on, pair-on}
+use Rattle.ps_model.proofs.TheLaws.{arrival-tree}
 
 -- ---- the tree of a request is read as the request again
-
-asked-tree : (o : Result Ask Condition) (u t : Tree) (from target : Jid) (r : Request) → ask_taken u from target o ≡ taken.asked t r → u ≡ t
-asked-tree (Err why) u t from target r e = absurd (cc e)
-asked-tree (Ok ask) u t from target r e = cc e
-
-target-tree : (service : List ℕ) (o : Option Jid) (u t : Tree) (from : Jid) (r : Request) → target_taken service u from o ≡ taken.asked t r → u ≡ t
-target-tree service None u t from r e = absurd (cc e)
-target-tree service (Some target) u t from r e = by (is_served service target) e
-  where
-    by : (b : Bool) → cond b (ask_taken u from target (ask_of service u from target)) (taken.denied (head_of u from target) C25) ≡ taken.asked t r → u ≡ t
-    by true e = asked-tree (ask_of service u from target) u t from target r e
-    by false e = absurd (cc e)
-
-sender-tree : (host service : List ℕ) (o : Option Jid) (u t : Tree) (r : Request) → sender_taken host service u o ≡ taken.asked t r → u ≡ t
-sender-tree host service None u t r e = absurd (cc e)
-sender-tree host service (Some from) u t r e = by (bytes_eq from.host host) (is_stanza u) e
-  where
-    by : (b c : Bool) → cond b (cond c (target_taken service u from (target_of u from)) (taken.refused L7)) (taken.refused L6) ≡ taken.asked t r → u ≡ t
-    by true true e = target-tree service (target_of u from) u t from r e
-    by true false e = absurd (cc e)
-    by false c e = absurd (cc e)
-
-tree-tree : (host service : List ℕ) (u t : Tree) (r : Request) → tree_taken host service u ≡ taken.asked t r → u ≡ t
-tree-tree host service u t r e =
-    let o = jid_of (attr_text (codes "from") u) in
-    sender-tree host service o u t r e
-
-line-tree : (host service : List ℕ) (o : Result Tree LineRefusal) (t : Tree) (r : Request) → result_taken host service o ≡ taken.asked t r → tree_taken host service t ≡ taken.asked t r
-line-tree host service (Err why) t r e = absurd (cc e)
-line-tree host service (Ok u) t r e = subst (λ (v : Tree). tree_taken host service v ≡ taken.asked t r) (tree-tree host service u t r e) e
-
-pub arrival-tree : (host service : List ℕ) (a : Arrival) (t : Tree) (r : Request) → taking.taken host service a ≡ taken.asked t r → tree_taken host service t ≡ taken.asked t r
-arrival-tree host service arrival.TooLong t r e = absurd (cc e)
-arrival-tree host service (arrival.Line bytes moment) t r e = by (list_all is_white bytes) e
-  where
-    by : (b : Bool) → cond b taken.silent (result_taken host service (line_tree bytes)) ≡ taken.asked t r → tree_taken host service t ≡ taken.asked t r
-    by true e = absurd (cc e)
-    by false e = line-tree host service (line_tree bytes) t r e
 
 on-tree : (host : List ℕ) (book : Book) (line : Arrival) (t : Tree) (r : Request) → taking.taken host book.service line ≡ taken.asked t r → request_on host book t ≡ Some r
 on-tree host book line t r e = ap request_in (arrival-tree host book.service line t r e)

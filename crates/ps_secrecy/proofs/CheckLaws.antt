@@ -49,6 +49,7 @@ use Rattle.ps_secrecy.proofs.Twin.{twin, hides}
 use Rattle.ps_secrecy.proofs.ReadLaws.{read-twin, subscribe-twin, publish-twin, denied-to}
 use Rattle.ps_secrecy.proofs.RowLaws.{item_at-seen, items_of-seen}
 use Rattle.ps_secrecy.proofs.ChangeLaws.{id-same}
+use Rattle.ps_model.proofs.Splits.{unless-none}
 
 -- ---- lists of steps
 
@@ -70,10 +71,6 @@ late (Some why ∷ xs) y z h = refl
 pub by-denial : (d : Option Condition) (x y : Option Tree) → (d ≡ None → x ≡ y) → outcome d x ≡ outcome d y
 by-denial None x y h = ap (outcome None) (h refl)
 by-denial (Some why) x y h = refl
-
-pub unless-none : (b : Bool) (why : Condition) → unless b why ≡ None → b ≡ true
-unless-none true why e = refl
-unless-none false why e = absurd (true≢false (ap (λ (o : Option Condition). is_some o) e))
 
 -- ---- the steps of every kind but one don't ask for items
 

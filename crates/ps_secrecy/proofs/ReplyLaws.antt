@@ -27,12 +27,12 @@ use Rattle.ps_model.specs.Taking.{is_answered, tree_taken}
 use Rattle.ps_model.specs.Taking as taking
 use Rattle.ps_model.specs.TwoWorlds.{SameBut, Touches, item_node}
 use Rattle.ps_model.proofs.AskedStanza.{taken-spelled}
-use Rattle.ps_secrecy.proofs.ArriveLaws.{arrival-tree}
 use Rattle.ps_secrecy.proofs.ChangeLaws.{by-twin}
 use Rattle.ps_secrecy.proofs.CheckLaws.{steps-twin}
 use Rattle.ps_secrecy.proofs.Lined.{line_reply, reply_in}
 use Rattle.ps_secrecy.proofs.StepLaws.{beside-of}
 use Rattle.ps_secrecy.proofs.Twin.{Beside, twin}
+use Rattle.ps_model.proofs.TheLaws.{arrival-tree}
 
 some-answered : (b : Bool) (t : Tree) → is_some (if_answered b t) ≡ b
 some-answered true t = refl

@@ -1,12 +1,10 @@
 -- Lists of entries that go on alike.
-use Rattle.std.proofs.Common.{◌≡◌, ℕ, suc, ◌+◌, Bool, true, false, cond, List, [], ◌∷◌, ◌++◌, Option, Some, None, refl, sym, ap, ◌∙◌, subst, arith}
+use Rattle.std.proofs.Common.{◌≡◌, ℕ, ◌+◌, List, [], ◌∷◌, ◌++◌, Option, Some, None, refl, sym, ap, ◌∙◌, subst, arith}
 use Rattle.std.proofs.lemmas.List.{append_assoc}
 use Rattle.ps_types.specs.declared.entry.Entry.{Entry}
-use Rattle.ps_types.specs.declared.entry.Entry.TheVariants.{Boot, Change, Handed, Gone, Base}
 use Rattle.ps_types.specs.declared.entry.Notice.{Notice}
 use Rattle.ps_types.specs.declared.jid.Jid.{Jid}
 use Rattle.ps_types.specs.declared.node.NodeKey.{NodeKey}
-use Rattle.ps_types.specs.Same.{same_jid}
 use Rattle.ps_model.specs.After.{after, notices_at}
 use Rattle.ps_model.specs.Book.{State, empty_state}
 use Rattle.ps_model.specs.Core.{handed}
@@ -18,6 +16,7 @@ use Rattle.ps_secrecy.specs.Alike.{added, notes}
 use Rattle.ps_secrecy.proofs.AlikeRuns.{AlikeRuns, hearing}
 use Rattle.ps_secrecy.proofs.ArriveLaws.{Ends}
 use Rattle.ps_secrecy.proofs.ListLaws.{append-nothing}
+use Rattle.ps_world.proofs.Grows.{plus_step, handed-append}
 
 state-more : (E : List Entry) (s : State) (e : Entry) → replay_from s (E ++ e ∷ []) ≡ after (replay_from s E) e
 state-more [] s e = refl
@@ -37,18 +36,6 @@ state-on E (Some e) = state-more E empty_state e
 hearing-on : (a : Jid) (E : List Entry) (o : Option Entry) → hearing a empty_state (more_entries E o) ≡ hearing a empty_state E ++ heard a (notes (replay_from empty_state E) o)
 hearing-on a E None = sym (append-nothing (hearing a empty_state E))
 hearing-on a E (Some e) = hearing-more a E empty_state e
-
-plus-step : (b : Bool) (x y z : ℕ) → x ≡ y + z → cond b (suc x) x ≡ cond b (suc y) y + z
-plus-step true x y z e = omega (arith, e)
-plus-step false x y z e = e
-
-handed-append : (E F : List Entry) (a : Jid) → handed (E ++ F) a ≡ handed E a + handed F a
-handed-append [] F a = omega arith
-handed-append (Handed b ∷ es) F a = plus-step (same_jid b a) (handed (es ++ F) a) (handed es a) (handed F a) (handed-append es F a)
-handed-append (Boot service ∷ es) F a = handed-append es F a
-handed-append (Change host line moment t ∷ es) F a = handed-append es F a
-handed-append (Base row ∷ es) F a = handed-append es F a
-handed-append (Gone host ∷ es) F a = handed-append es F a
 
 -- how many an entry records as handed
 abbrev pub hands : Option Entry → Jid → ℕ

@@ -1,5 +1,5 @@
 -- Whole runs from one list and one boot.
-use Rattle.std.proofs.Common.{◌≡◌, ℕ, suc, List, [], ◌∷◌, ◌++◌, Some, refl, sym, ap, subst, length, arith}
+use Rattle.std.proofs.Common.{ℕ, List, [], ◌∷◌, ◌++◌, Some, refl, sym, ap, subst, length, arith}
 use Rattle.ps_types.specs.declared.entry.Entry.{Entry}
 use Rattle.ps_types.specs.declared.entry.Entry.TheVariants.{Boot}
 use Rattle.ps_types.specs.declared.jid.Jid.{Jid}
@@ -13,7 +13,6 @@ use Rattle.ps_model.specs.TwoWorlds.{IsShutOut}
 use Rattle.ps_model.specs.World.{zeros}
 use Rattle.ps_secrecy.proofs.AlikeHosts.{IsCore}
 use Rattle.ps_secrecy.proofs.AlikeWorlds.{AlikeWorlds, IsHeard}
-use Rattle.ps_world.specs.Sound.{AllBy}
 use Rattle.ps_secrecy.proofs.Fronts.{Fits}
 use Rattle.ps_secrecy.specs.Runs.{ArePairs, AreDenied}
 use Rattle.ps_secrecy.proofs.AlikeRuns.{AlikeRuns}
@@ -22,14 +21,7 @@ use Rattle.ps_secrecy.proofs.FrontLaws.{first-all}
 use Rattle.ps_secrecy.proofs.RunLaws.{state-on}
 use Rattle.ps_secrecy.proofs.StepLaws.{same-of}
 use Rattle.ps_secrecy.proofs.WholeLaws.{runs-alike}
-
-by-zeros : (E : List Entry) → AllBy 0 (zeros E)
-by-zeros [] = tt
-by-zeros (e ∷ E) = (omega arith, by-zeros E)
-
-length-zeros : (E : List Entry) → length (zeros E) ≡ length E
-length-zeros [] = refl
-length-zeros (e ∷ E) = ap suc (length-zeros E)
+use Rattle.ps_world.proofs.Kept.{length-zeros, by-zeros}
 
 module _ (S : List NodeKey) (a : Jid) (core : Core) (service : List ℕ) (is : IsCore core) (hears : IsHeard a core) where
   st : List Entry → State

@@ -17,8 +17,8 @@ use Rattle.ps_model.specs.Taking.{request_in}
 use Rattle.ps_model.specs.Tallies.{is_next_line}
 use Rattle.ps_book_laws.specs.Addressed.{IsTimely}
 use Rattle.ps_secrecy.proofs.Answered.{entries-are}
-use Rattle.ps_secrecy.proofs.ArriveLaws.{arrival-tree}
 use Rattle.ps_secrecy.proofs.Lined.{entry_in}
+use Rattle.ps_model.proofs.TheLaws.{arrival-tree}
 
 -- a fact of the entry that is kept, if one is
 kept : (P : Entry → Type 0) (b : Bool) (made e : Entry) → (b ≡ true → P made) → cond b (Some made) None ≡ Some e → P e

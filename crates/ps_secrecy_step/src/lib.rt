@@ -9,7 +9,7 @@
 //! `specs/Deeds.antt` says what a [`Deed`] makes, `specs/Outsider.antt` which deeds are a pair and what an outsider gets of them. The crate's clauses stand on the laws of
 //! `ps_secrecy` and on the contracts of `ps_core`.
 //!
-//! Not covered: that a node stands, its configuration and its rows; time; what other addresses hear; want of memory; a journal that is full.
+//! Not covered: that a node stands, its configuration and its rows; time; what other addresses hear; a call that ran out of memory; a journal that is full.
 #![tactic(auto)]
 
 mod deed;

@@ -111,7 +111,7 @@ fn settle(service: &mut Service, is_prepared: bool)
 }
 
 /// Does a deed at each of two services. Each answers and goes on as the definitions say. An outsider, an address that may not read some nodes of either, learns nothing where
-/// the services differ in nothing but the items of these nodes and the deeds are a pair. After want of memory the States are as before.
+/// the services differ in nothing but the items of these nodes and the deeds are a pair. Out of memory, the States are as before.
 pub fn step<R: Threads + Sync>(
     rt: &R,
     alloc: Global,

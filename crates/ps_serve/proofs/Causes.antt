@@ -1,5 +1,5 @@
 -- How a run ended, by what is served of its streams and by the store at the end.
-use Rattle.std.proofs.Common.{◌≡◌, ◌≢◌, inl, inr, ⊎_elim, ℕ, zero, suc, ◌<◌, Bool, true, false, List, [], ◌∷◌, Option, Some, None, length, refl, sym, ◌∙◌, ap, subst, arith}
+use Rattle.std.proofs.Common.{◌≡◌, ◌≢◌, inl, inr, ⊎_elim, ℕ, Bool, true, false, List, Option, Some, None, length, refl, sym, ◌∙◌, ap, subst, arith}
 use Rattle.std.specs.Prelude.{is_some, slice_get}
 use Rattle.std.proofs.lemmas.Bool.{false≢true}
 use Rattle.std.proofs.lemmas.Option.{slice_get_within}
@@ -18,11 +18,7 @@ use Rattle.ps_serve.specs.Room.{LacksRoom}
 use Rattle.ps_status.specs.declared.status.Status.{Status}
 use Rattle.ps_status.specs.declared.status.Status.TheVariants.{Done, StoreFault, StoreFull}
 use Rattle.ps_serve.proofs.Ranks.{IsOf, each-done, met-full, met-store, some-stream}
-
-get-there : {X : Type 0} (xs : List X) (k : ℕ) → k < length xs → (x : X) × (slice_get xs k ≡ Some x)
-get-there [] k low = absurd (omega (arith, low))
-get-there (x ∷ xs) zero low = (x, refl)
-get-there (x ∷ xs) (suc k) low = get-there xs k (omega (arith, low))
+use Rattle.ps_trace.proofs.Completing.{get-there}
 
 -- by either form of an option
 cases : {X : Type 0} (P : Type 0) (o : Option X) → (o ≡ None → P) → (is_some o ≡ true → P) → P

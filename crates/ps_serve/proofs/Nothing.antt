@@ -1,4 +1,4 @@
--- For want of memory a command did nothing.
+-- Memory ran out, and a command did nothing.
 use Rattle.std.proofs.Common.{◌≡◌, inl, ℕ, List, Option, Some, None, refl}
 use Rattle.std.specs.Prelude.{IfSome, Err}
 use Rattle.ps_commands.specs.declared.command.Command.{Command}

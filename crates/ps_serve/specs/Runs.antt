@@ -3,7 +3,7 @@ use Rattle.std.specs.Prelude.{◌≡◌, ◌⊎◌, ℕ, List, [], ◌∷◌, le
 use Rattle.ps_disk.specs.declared.device.Disk.{Ghosts as DiskGhosts}
 use Rattle.ps_io.specs.Held.{HeldStore, Same, SameBut, SameLefts, SameLeftsBut}
 use Rattle.ps_io.specs.declared.world.Kind.TheVariants.{Source, Sink, Clock, Store}
-use Rattle.ps_io.specs.declared.world.Opening.{Opening}
+use Rattle.ps_io.specs.declared.world.OpenCall.{OpenCall}
 use Rattle.ps_endpoints.specs.Ports.{SameOthers, port_openings}
 use Rattle.ps_commands.specs.declared.command.Command.{Command}
 use Rattle.ps_commands.specs.declared.command.Command.TheVariants.{Serve, Rehearse, Compact, Explain, Readers, Feed, Follow, Mirror}
@@ -36,7 +36,7 @@ served_by command = None
 -- ---- openings
 
 -- the store is opened first, then each stream's source, sink and clock, or the new store, in the order of the words
-abbrev pub openings_of : Option Command → List Opening
+abbrev pub openings_of : Option Command → List OpenCall
 openings_of None = []
 openings_of (Some (Serve service store streams)) = record { kind = Store; name = store } ∷ port_openings streams
 openings_of (Some (Rehearse seed count)) = []

@@ -22,7 +22,7 @@ use ps_journal::Trail;
 use ps_status::Status;
 use ps_types::Text;
 use ps_wire::{Lines, Sink, Source};
-use ps_workers::{Ended, Hall, Limits, NoHall, Opening, Room, State, serve};
+use ps_workers::{Ended, Hall, Limits, NoHall, Opening, State, WorkRoom, serve};
 use std::alloc::Global;
 use std::marker::Brand;
 use std::random::RandomSource;
@@ -104,7 +104,7 @@ fn live<
         (sinks (λ k. K.faults k) (λ k. K.written k))) B.origin store ports.items result }
 {
     let_go(entries);
-    let Ok(room) = Room::new(alloc, hosts.len()) else {
+    let Ok(room) = WorkRoom::new(alloc, hosts.len()) else {
         return Run {
             status: Status::Memory,
             disk: store.close(),

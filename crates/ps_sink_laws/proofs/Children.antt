@@ -47,8 +47,9 @@ use Rattle.ps_compact_laws.proofs.PrintableKinds.{id-is}
 use Rattle.ps_compact_laws.proofs.Texts.{is_word, jid-utf8}
 use Rattle.ps_sink_laws.proofs.Books.{AffilIs, BookIs, NodeText, SubIs}
 use Rattle.ps_sink_laws.proofs.Configs.{config-fields, options-fields}
-use Rattle.ps_sink_laws.proofs.Elements.{PairIs, fit-element, fit-leaf, form-in, leaf-two, two-pairs, word}
+use Rattle.ps_sink_laws.proofs.Elements.{PairIs, fit-element, fit-leaf, form-in, leaf-two, two-pairs}
 use Rattle.ps_sink_laws.proofs.Lists.{each-drop, map-each}
+use Rattle.ps_compact_laws.proofs.Drafts.{word}
 
 about-fits : (ns name node : List ℕ) (kids : List Tree) → are_ascii ns ≡ true → is_word name ≡ true → IsUtf8 node → Each (Fits 29) kids → Fits 31 (about ns name node kids)
 about-fits ns name node kids ascii named text fit =

@@ -19,7 +19,8 @@ use Rattle.ps_types.specs.Options.{depth_text, options_form, options_type, type_
 use Rattle.ps_types.specs.Values.{boolean_text}
 use Rattle.ps_compact_laws.proofs.Texts.{decimal-utf8, is_word}
 use Rattle.ps_sink_laws.proofs.Books.{IsConfigText}
-use Rattle.ps_sink_laws.proofs.Elements.{FieldIs, word}
+use Rattle.ps_sink_laws.proofs.Elements.{FieldIs}
+use Rattle.ps_compact_laws.proofs.Drafts.{word}
 
 -- a field of a var and a type that are words
 texts-field : (var kind : List ℕ) (values : List (List ℕ)) → is_word var ≡ true → is_word kind ≡ true → Each IsUtf8 values → FieldIs (record { var = var; kind = kind; values = values })

@@ -18,10 +18,8 @@ use Rattle.ps_types.proofs.Forms.{texts-with}
 use Rattle.ps_types.proofs.Sorted.{sorted-with}
 use Rattle.ps_book_laws.proofs.Keys.{each-by, each-map}
 use Rattle.ps_compact_laws.proofs.Fitting.{FitIn, Fits, fit-branch, fit-more, fit-none, fit-tree, fit-words}
-use Rattle.ps_compact_laws.proofs.Texts.{is_word, word-utf8}
-
-pub word : (s : List ℕ) → is_word s ≡ true → IsUtf8 s
-word s e = word-utf8 s e
+use Rattle.ps_compact_laws.proofs.Texts.{is_word}
+use Rattle.ps_compact_laws.proofs.Drafts.{word}
 
 -- ---- attributes
 

@@ -12,7 +12,8 @@ use Rattle.ps_types.specs.declared.denial.Condition.TheVariants.{C1, C2, C3, C4,
 use Rattle.ps_model.specs.Conditions.{error_tree, extra_trees, feature_in, wording_of}
 use Rattle.ps_compact_laws.proofs.Fitting.{Fits, fit-more}
 use Rattle.ps_compact_laws.proofs.Texts.{is_word}
-use Rattle.ps_sink_laws.proofs.Elements.{fit-element, fit-leaf, one-pair, word}
+use Rattle.ps_sink_laws.proofs.Elements.{fit-element, fit-leaf, one-pair}
+use Rattle.ps_compact_laws.proofs.Drafts.{word}
 
 record IsWorded (why : Condition) : Type 0 where
   name : is_word (wording_of why).name ≡ true

@@ -43,9 +43,10 @@ use Rattle.ps_compact_laws.proofs.Fitting.{Fits, attr-utf8, fit-more, fit-tree, 
 use Rattle.ps_compact_laws.proofs.Texts.{decimal-utf8, is_word, jid-utf8}
 use Rattle.ps_sink_laws.proofs.Asked.{child-fits}
 use Rattle.ps_sink_laws.proofs.Books.{BookIs}
-use Rattle.ps_sink_laws.proofs.Elements.{fine-none, fine-pair, fine-with, fit-holding, fit-leaf, two-pairs, word}
+use Rattle.ps_sink_laws.proofs.Elements.{fine-none, fine-pair, fine-with, fit-holding, fit-leaf, two-pairs}
 use Rattle.ps_sink_laws.proofs.Errors.{error-fits}
 use Rattle.ps_sink_laws.proofs.Taking.{HeadIs, TakenFrom, taken-from}
+use Rattle.ps_compact_laws.proofs.Drafts.{word}
 
 pub record IsReply (t : Tree) : Type 0 where
   pub tree : IsTree t

@@ -1,5 +1,5 @@
 -- The notice that a row of a compacted store is: the print of the tree that its line reads as, which is to its address and no reply.
-use Rattle.std.proofs.Common.{◌≡◌, ℕ, ◌+◌, Bool, true, false, ◌&&◌, not, List, Option, Some, None, refl, sym, subst}
+use Rattle.std.proofs.Common.{◌≡◌, ℕ, ◌+◌, true, false, ◌&&◌, not, List, Option, Some, None, refl, sym, subst}
 use Rattle.std.specs.Prelude.{codes, Result, Ok, Err}
 use Rattle.std.specs.List.{AllByRecursion as Each}
 use Rattle.std.specs.Str.{bytes_eq}
@@ -25,6 +25,7 @@ use Rattle.ps_model.specs.Numbered.{row_notices}
 use Rattle.ps_model.specs.Replay.{accepted, is_booted, row_accepted}
 use Rattle.ps_model.specs.Streams.{is_reply}
 use Rattle.ps_model.specs.Tallies.{made_for}
+use Rattle.ps_book_laws.proofs.Reached.{not-true}
 
 -- what the line reads as
 pub record IsRowNote (to : Jid) (line : List ℕ) : Type 0 where
@@ -33,10 +34,6 @@ pub record IsRowNote (to : Jid) (line : List ℕ) : Type 0 where
   pub line_is : print tree ≡ line
   pub to_is : attr_text (codes "to") tree ≡ jid_text to
   pub no_reply : is_reply tree ≡ false
-
-is-false : (b : Bool) → not b ≡ true → b ≡ false
-is-false false e = refl
-is-false true e = absurd (cc e)
 
 line-note : (to : Jid) (n : ℕ) (line : List ℕ) (o : Result Tree LineRefusal) → line_tree line ≡ o → is_notice_line to n line o ≡ true → IsRowNote to line
 line-note to n line (Err why) e ok = absurd (cc ok)
@@ -50,7 +47,7 @@ line-note to n line (Ok t) e ok =
       reads = e;
       line_is = sym ((bytes_eq-Decides line (print t)).0 p.0);
       to_is = (bytes_eq-Decides (attr_text (codes "to") t) (jid_text to)).0 (and_parts is_to is_id q.0).0;
-      no_reply = is-false (is_reply t) q.1;
+      no_reply = not-true (is_reply t) q.1;
     }
 
 placed-note : (to : Jid) (line : List ℕ) (s : State) (o : Option BaseRow) → o ≡ Some (base.notice to line) → row_accepted o s ≡ true → IsRowNote to line

@@ -1,5 +1,5 @@
 -- What a tree is taken as, where it is denied or asks.
-use Rattle.std.proofs.Common.{◌≡◌, ℕ, Bool, true, false, cond, List, [], ◌∷◌, Option, Some, None, IsUtf8, refl, subst}
+use Rattle.std.proofs.Common.{◌≡◌, ℕ, Bool, true, false, cond, List, Option, Some, None, IsUtf8, refl}
 use Rattle.std.specs.Prelude.{Ok, Err, Result, codes}
 use Rattle.std.specs.Str.{bytes_eq}
 use Rattle.ps_types.specs.declared.denial.Condition.{Condition}
@@ -7,15 +7,14 @@ use Rattle.ps_types.specs.declared.denial.Condition.TheVariants.{C25}
 use Rattle.ps_types.specs.declared.denial.LineRefusal.TheVariants.{L6, L7}
 use Rattle.ps_types.specs.declared.jid.Jid.{Jid}
 use Rattle.ps_types.specs.declared.request.Ask.{Ask}
-use Rattle.ps_types.specs.Address.{IsAddress, bare, jid_text}
+use Rattle.ps_types.specs.Address.{IsAddress, jid_text}
 use Rattle.ps_types.specs.Shape.{attr_text}
 use Rattle.ps_types.specs.Tree.{Tree, name_of}
 use Rattle.ps_model.specs.Asking.{ask_of}
-use Rattle.ps_model.specs.Stanza.{host_jid, is_served, is_stanza, jid_of, target_by, target_of}
+use Rattle.ps_model.specs.Stanza.{host_jid, is_served, is_stanza, jid_of, target_of}
 use Rattle.ps_model.specs.Taken.{Head, Taken, silent, refused, denied, asked}
 use Rattle.ps_model.specs.Taking.{ask_taken, head_of, is_answered, sender_taken, shape_taken, target_taken, tree_taken}
-use Rattle.ps_book_laws.proofs.AddressedKinds.{bare-is}
-use Rattle.ps_book_laws.proofs.AddressedTaken.{jid-is}
+use Rattle.ps_book_laws.proofs.AddressedTaken.{jid-is, target-is}
 use Rattle.ps_compact_laws.proofs.Fitting.{Fits, attr-utf8}
 use Rattle.ps_compact_laws.proofs.Texts.{jid-utf8}
 
@@ -27,10 +26,6 @@ pub record HeadIs (head : Head) : Type 0 where
   pub tree : Tree
   pub named : head.name ≡ name_of tree
   pub answers : is_answered tree ≡ head.is_answered
-
-target-is : (to : List ℕ) (from target : Jid) → target_by to from ≡ Some target → IsAddress from → IsAddress target
-target-is [] from target e is = let same : bare from ≡ target = cc e in subst IsAddress same (bare-is from is)
-target-is (x ∷ to) from target e is = jid-is (x ∷ to) target e
 
 abbrev pub TakenFrom : Tree → Taken → Type 0
 TakenFrom t silent = Unit {0}

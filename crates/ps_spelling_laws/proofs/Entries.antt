@@ -15,12 +15,13 @@ use Rattle.ps_types.specs.declared.entry.Entry.TheVariants.{Boot, Change, Handed
 use Rattle.ps_types.specs.declared.jid.Jid.{Jid}
 use Rattle.ps_types.proofs.AddressLaws.{parts-again, parts-are, text-spells}
 use Rattle.ps_types.proofs.PrintLaws.{print_reads}
-use Rattle.ps_model.specs.Entries.{IsBare, IsEntry, IsEntryIn, IsHostName, IsMoment, IsWritten, end_of_time, in_version, long, of_host, short, spelling}
+use Rattle.ps_model.specs.Entries.{IsBare, IsEntry, IsEntryIn, IsMoment, IsWritten, end_of_time, in_version, long, of_host, short, spelling}
 use Rattle.ps_model.specs.Stanza.{jid_of}
 use Rattle.ps_model.proofs.LineLaws.{reads-line, spells-jid}
 use Rattle.ps_spelling_laws.proofs.Decided.{Decided, both, either-way, found, is-below, is-true, same-bytes}
 use Rattle.ps_spelling_laws.proofs.Fields.{number_at, text_at, number-again, text-again, wide16, wide32, wide64}
 use Rattle.ps_spelling_laws.proofs.Formed.{tree-decided}
+use Rattle.ps_model.proofs.OneList.{host_fits}
 
 -- ---- addresses
 
@@ -74,9 +75,6 @@ short-parts j is =
 length-before : (local host : List ℕ) → length (before_at local host) ≤ length local + 1 + length host
 length-before [] host = omega arith
 length-before (x ∷ local) host = omega (arith, length-append (x ∷ local) (64 ∷ host))
-
-host-fits : (host : List ℕ) → IsHostName host → length host < 2 ^ 16
-host-fits host is = let short = short-parts (of_host host) is in omega (arith, short.host)
 
 bare-fits : (to : Jid) → IsBare to → length (jid_text to) < 2 ^ 16
 bare-fits to is =
@@ -179,19 +177,19 @@ tree-then make t rest is = ap (tree_then make) (text-again w32 (2 ^ 32) wide32 (
 
 front-read : (e : Entry) (rest : List ℕ) → IsEntry e → front_at (spelling e ++ rest) ≡ Some (e, rest)
 unfolding front_at front_by
-front-read (Boot service) rest is = ap (text_front Boot) (text-again w16 (2 ^ 16) wide16 service rest (host-fits service is))
-front-read (Gone host) rest is = ap (text_front Gone) (text-again w16 (2 ^ 16) wide16 host rest (host-fits host is))
+front-read (Boot service) rest is = ap (text_front Boot) (text-again w16 (2 ^ 16) wide16 service rest (host_fits service is))
+front-read (Gone host) rest is = ap (text_front Gone) (text-again w16 (2 ^ 16) wide16 host rest (host_fits host is))
 front-read (Handed to) rest is = ap handed_from (text-again w16 (2 ^ 16) wide16 (jid_text to) rest (bare-fits to is)) ∙ ap (option_map (λ j. (Handed j, rest))) (address-again to is.address)
 front-read (Base row) rest is = tree-then Base row rest is
 front-read (Change host line None t) rest is =
     let back : List ℕ = to_be_bytes w64 line ++ long (print t) in
-    ap (λ (l : List ℕ). change_at (text_at w16 l)) (append_assoc (short host) back rest) ∙ ap change_at (text-again w16 (2 ^ 16) wide16 host (back ++ rest) (host-fits host is.0))
+    ap (λ (l : List ℕ). change_at (text_at w16 l)) (append_assoc (short host) back rest) ∙ ap change_at (text-again w16 (2 ^ 16) wide16 host (back ++ rest) (host_fits host is.0))
     ∙ ap (λ (l : List ℕ). change_from host (number_at w64 l)) (append_assoc (to_be_bytes w64 line) (long (print t)) rest) ∙ ap (change_from host) (number-again w64 (2 ^ 64) wide64 line (long (print t) ++ rest) is.1)
     ∙ tree-then (Change host line None) t rest is.3
 front-read (Change host line (Some moment) t) rest is =
     let last : List ℕ = to_be_bytes w64 moment ++ long (print t) in
     let back : List ℕ = to_be_bytes w64 line ++ last in
-    ap (λ (l : List ℕ). later_at (text_at w16 l)) (append_assoc (short host) back rest) ∙ ap later_at (text-again w16 (2 ^ 16) wide16 host (back ++ rest) (host-fits host is.0))
+    ap (λ (l : List ℕ). later_at (text_at w16 l)) (append_assoc (short host) back rest) ∙ ap later_at (text-again w16 (2 ^ 16) wide16 host (back ++ rest) (host_fits host is.0))
     ∙ ap (λ (l : List ℕ). later_from host (number_at w64 l)) (append_assoc (to_be_bytes w64 line) last rest) ∙ ap (later_from host) (number-again w64 (2 ^ 64) wide64 line (last ++ rest) is.1)
     ∙ ap (λ (l : List ℕ). moment_from host line (number_at w64 l)) (append_assoc (to_be_bytes w64 moment) (long (print t)) rest)
     ∙ ap (moment_from host line) (number-again w64 (2 ^ 64) wide64 moment (long (print t) ++ rest) (omega (arith, is.2))) ∙ tree-then (Change host line (Some moment)) t rest is.3

@@ -42,8 +42,9 @@ use Rattle.ps_model_cases.specs.HomeCases.{t}
 use Rattle.ps_model_cases.specs.PresenceCases.{ver}
 use Rattle.ps_model_cases.specs.Running.{entry_in, reply_in, taken_in}
 use Rattle.ps_model_cases.specs.Words.{payload, to_ann, to_bob}
-use Rattle.ps_store_cases.proofs.GoingOn.{behind, from-on, joined, lawful-on, tails-alike, uncounted}
+use Rattle.ps_store_cases.proofs.GoingOn.{from-on, joined, lawful-on, tails-alike, uncounted}
 use Rattle.ps_store_cases.specs.Bases as it
+use Rattle.ps_model.proofs.OneAt.{lawful-rest}
 
 -- ---- computed
 
@@ -63,7 +64,7 @@ rows-accepted : all_accepted empty_state it.rows ≡ true
 unfolding same.same_jid same.same_bare same.same_node text.escape_byte fmt.digits str.is_utf8 str.chars utf8.encode json.value lex.punctuate lex.lex content.content b64.encode_symbols sha.sha1 sha.digest_bytes sha.hash_after sha.compress sha.rounds sha.schedule sha.first_words
 rows-accepted = refl
 
--- what both leave behind the next boot
+-- what both leave lawful-rest the next boot
 abbrev at_home : NodeKey
 at_home = record { service = to_ann; name = t }
 
@@ -130,7 +131,7 @@ module _ (E B : List Entry) (service : List ℕ) (F : List Entry) (alike : uncou
 
   goes-on : lawful B → lawful (E ++ Boot service ∷ F) → lawful (B ++ Boot service ∷ F)
   goes-on first is =
-      let p = behind E (Boot service ∷ F) empty_state is in
+      let p = lawful-rest E (Boot service ∷ F) empty_state is in
       joined B (Boot service ∷ F) empty_state first (p.0, lawful-on F (after (replay E) (Boot service)) (after (replay B) (Boot service)) alike p.1)
 
   books : uncounted (replay (E ++ Boot service ∷ F)) ≡ uncounted (replay (B ++ Boot service ∷ F))

@@ -1,24 +1,17 @@
 -- A frame has one body, and what it takes to say that a store spells a list.
-use Rattle.std.proofs.Common.{◌≡◌, ◌≢◌, ℕ, ◌<◌, ◌^◌, List, [], ◌∷◌, ◌++◌, length, take, drop, refl, sym, ap, ◌∙◌, append_assoc, arith, true}
+use Rattle.std.proofs.Common.{◌≡◌, ◌≢◌, ℕ, ◌<◌, ◌^◌, List, [], ◌∷◌, ◌++◌, length, drop, refl, sym, ap, ◌∙◌, append_assoc, arith, true}
 use Rattle.std.specs.Int.{w32, from_be_bytes, to_be_bytes}
-use Rattle.std.proofs.lemmas.List.{take_at, drop_at}
 use Rattle.std.proofs.lemmas.Nat.{from_be_bytes-to_be_bytes_4}
 use Rattle.std.proofs.lemmas.Str.{IsUtf8-from_is_utf8}
 use Rattle.std.specs.Prelude.{IsUtf8, codes}
 use Rattle.std.specs.Str.{is_utf8}
 use Rattle.ps_model.specs.Entries.{IsHostName}
 use Rattle.ps_model.specs.Store.{IsBody, frame}
-
--- two fronts of one length
-front : (t u x y : List ℕ) → length t ≡ length u → t ++ x ≡ u ++ y → (t ≡ u) × (x ≡ y)
-front t u x y len same = (
-  sym (take_at t x (length t) refl) ∙ ap (take (length t)) same ∙ take_at u y (length t) (sym len),
-  sym (drop_at t x (length t) refl) ∙ ap (drop (length t)) same ∙ drop_at u y (length t) (sym len),
-)
+use Rattle.ps_model.proofs.OneList.{front_one}
 
 size : (n m : ℕ) (x y : List ℕ) → n < 2 ^ 32 → m < 2 ^ 32 → to_be_bytes w32 n ++ x ≡ to_be_bytes w32 m ++ y → (n ≡ m) × (x ≡ y)
 size n m x y fits fits' same =
-    let p = front (to_be_bytes w32 n) (to_be_bytes w32 m) x y refl same in
+    let p = front_one (to_be_bytes w32 n) (to_be_bytes w32 m) x y refl same in
     (sym (from_be_bytes-to_be_bytes_4 n fits) ∙ ap (from_be_bytes w32) p.0 ∙ from_be_bytes-to_be_bytes_4 m fits', p.1)
 
 -- frames with something behind them have one body and the same behind it
@@ -26,7 +19,7 @@ pub one-body : (b c x y : List ℕ) → length b < 2 ^ 32 → length c < 2 ^ 32 
 one-body b c x y fits fits' same =
     let inner : (to_be_bytes w32 (length b) ++ b) ++ x ≡ (to_be_bytes w32 (length c) ++ c) ++ y = ap (drop 1) same in
     let p = size (length b) (length c) (b ++ x) (c ++ y) fits fits' (sym (append_assoc (to_be_bytes w32 (length b)) b x) ∙ inner ∙ append_assoc (to_be_bytes w32 (length c)) c y) in
-    front b c x y p.0 p.1
+    front_one b c x y p.0 p.1
 
 -- no frame stands where another one would have to end with the bytes, or has no body
 pub not-whole : (c y : List ℕ) → length c < 2 ^ 32 → (b after : List ℕ) → IsBody b → after ≢ [] → frame c ++ [] ≡ frame b ++ after → ⊥

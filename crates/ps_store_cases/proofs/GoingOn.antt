@@ -17,6 +17,7 @@ use Rattle.ps_model.specs.Heard.{placeless}
 use Rattle.ps_model.specs.Numbered.{numbered, row_notices}
 use Rattle.ps_model.specs.Replay.{IsLawfulFrom, accepted, is_booted, notices_from, of_bare, replay_from, row_accepted, to_address}
 use Rattle.ps_model.specs.Tallies.{more_made}
+use Rattle.ps_model.proofs.OneAt.{lawful-rest}
 
 abbrev pub uncounted : State → State
 uncounted s = record s { count = 0 }
@@ -67,10 +68,6 @@ lawful-on [] s u same is = tt
 lawful-on (e ∷ F) s u same is = (sym (accepts s u e same) ∙ is.0, lawful-on F (after s e) (after u e) (step s u e same) is.1)
 
 -- ---- lists in two parts
-
-pub behind : (E F : List Entry) (s : State) → IsLawfulFrom s (E ++ F) → IsLawfulFrom (replay_from s E) F
-behind [] F s is = is
-behind (e ∷ E) F s is = behind E F (after s e) is.1
 
 pub joined : (E F : List Entry) (s : State) → IsLawfulFrom s E → IsLawfulFrom (replay_from s E) F → IsLawfulFrom s (E ++ F)
 joined [] F s is more = more

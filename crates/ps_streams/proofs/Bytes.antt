@@ -6,6 +6,7 @@ use Rattle.ps_world.proofs.Lists.{assoc, nil-right}
 use Rattle.ps_trace.specs.Words.{Word, bytes_of, text_of}
 use Rattle.ps_trace.proofs.Wording.{bytes-append}
 use Rattle.ps_streams.specs.Speaking.{Written}
+use Rattle.ps_wire.proofs.Written.{appends_more}
 
 pub written-none : (b : Option (List ℕ)) → Written b b [] []
 written-none None = record { front = []; behind = []; split = refl; appends = tt }
@@ -27,12 +28,6 @@ written-part before now w text e h = record {
   appends = h.appends;
 }
 
-appends-more : (first second third : Option (List ℕ)) (one two : List ℕ) → Appends first second one → Appends second third two → Appends first third (one ++ two)
-appends-more None second third one two a b = tt
-appends-more (Some x) None third one two a b = absurd a
-appends-more (Some x) (Some y) None one two a b = absurd b
-appends-more (Some x) (Some y) (Some z) one two a b = b ∙ (ap (λ l. l ++ two) a ∙ assoc x one two)
-
 front-none : (xs ys : List ℕ) → xs ++ ys ≡ [] → xs ≡ []
 front-none [] ys e = refl
 front-none (x ∷ xs) ys e = absurd (cc e)
@@ -46,5 +41,5 @@ written-more first second third one two last a b =
       behind = b.behind;
       split = b.split;
       appends = subst (Appends first third) (sym (assoc (bytes_of one) (bytes_of two) b.front) ∙ ap (λ l. l ++ b.front) (sym (bytes-append one two)))
-          (appends-more first second third (bytes_of one) (bytes_of two ++ b.front) (subst (Appends first second) (ap (λ l. bytes_of one ++ l) nothing ∙ nil-right (bytes_of one)) a.appends) b.appends);
+          (appends_more first second third (bytes_of one) (bytes_of two ++ b.front) (subst (Appends first second) (ap (λ l. bytes_of one ++ l) nothing ∙ nil-right (bytes_of one)) a.appends) b.appends);
     }

@@ -1,9 +1,9 @@
 -- What a call of `next`, and then of `handed`, leaves of what a writer said.
-use Rattle.std.proofs.Common.{◌≡◌, ℕ, zero, suc, ◌+◌, ◌<◌, ◌≤◌, inl, inr, Bool, true, false, cond, List, [], ◌∷◌, ◌++◌, Option, Some, None, Result, Ok, length, refl, ap, sym, ◌∙◌, subst, arith}
+use Rattle.std.proofs.Common.{◌≡◌, ℕ, zero, suc, ◌+◌, ◌≤◌, inl, inr, Bool, true, false, cond, List, [], ◌∷◌, ◌++◌, Option, Some, None, Result, Ok, length, refl, ap, sym, ◌∙◌, subst, arith}
 use Rattle.std.specs.Io.KnownBytes.{Appends}
 use Rattle.std.specs.List.{list_any}
-use Rattle.std.specs.Prelude.{◌||◌, if◌then◌else◌, nat_le, nat_lt, not, slice_get}
-use Rattle.std.proofs.lemmas.Bool.{le-leb, lt-ltb}
+use Rattle.std.specs.Prelude.{◌||◌, if◌then◌else◌, nat_le, not, slice_get}
+use Rattle.std.proofs.lemmas.Bool.{le-leb}
 use Rattle.ps_types.specs.declared.entry.Notice.{Notice as Note}
 use Rattle.ps_types.specs.declared.jid.Jid.{Jid}
 use Rattle.ps_types.specs.Same.{same_jid}
@@ -12,7 +12,7 @@ use Rattle.ps_twin.specs.Seats.{number_of, seen_of}
 use Rattle.ps_wire.specs.Writing.{AppendsFront}
 use Rattle.ps_model.specs.Machine.{run}
 use Rattle.ps_model.specs.TheCore.{the_core}
-use Rattle.ps_model.specs.World.{Flight, Nothing, Said, World, durable}
+use Rattle.ps_model.specs.World.{Nothing, Said, World, durable}
 use Rattle.ps_model.specs.declared.steps.Step.{Step}
 use Rattle.ps_model.specs.declared.steps.Step.TheVariants.{Emit, Take}
 use Rattle.ps_model.proofs.TheLaws.{the-laws}
@@ -38,6 +38,7 @@ use Rattle.ps_hall.specs.declared.hall.Pass.{Pass}
 use Rattle.ps_streams.specs.Speaking.{IsFew, MayTell, Recorded, SpeaksOn, SpokeOn, SpokeWhole, Written, times}
 use Rattle.ps_streams.proofs.Bytes.{written-none, written-part, written-whole}
 use Rattle.ps_streams.proofs.Moving.{Moved, moved-did, moved-quiet, none, times-append}
+use Rattle.ps_hall.proofs.Telling.{is_said}
 
 -- ---- words
 
@@ -49,17 +50,11 @@ if_so false x y e = absurd (cc e)
 reply_said : (flushed : ℕ) (s : Said) → s.step ≤ flushed → words.taken_word flushed (Some s) ≡ words.Reply s.reply ∷ []
 reply_said flushed s low = if_so (nat_le s.step flushed) (words.Reply s.reply ∷ []) [] (le-leb s.step flushed low)
 
--- where nothing is in flight, the first notice is said that is durable
-notice_said : (low : ℕ) (a : Jid) (f : Flight) (x : Option Note) (n : Note) → f ≡ Nothing → x ≡ Some n → n.place < low → words.noted_word low a f x ≡ words.Note a n ∷ []
-notice_said low a f x n free at small =
-    subst (λ (k : Flight). words.noted_word low a k x ≡ words.Note a n ∷ []) (sym free)
-    (subst (λ (y : Option Note). words.noted_word low a Nothing y ≡ words.Note a n ∷ []) (sym at) (if_so (nat_lt n.place low) (words.Note a n ∷ []) [] (lt-ltb n.place low small)))
-
 take_says : (w : World) (h text : List ℕ) → IsFirstReply w h text → said_by the_core w (Take h) ≡ words.Reply text ∷ []
 take_says w h text r = ap (words.taken_word w.flushed) r.at ∙ (reply_said w.flushed r.said r.released ∙ ap (λ (t : List ℕ). words.Reply t ∷ []) r.text_is)
 
 emit_says : (w : World) (a : Jid) (text : List ℕ) (n : IsFirstNotice w a text) → (w.addresses a).flight ≡ Nothing → said_by the_core w (Emit a) ≡ words.Note a n.notice ∷ []
-emit_says w a text n free = notice_said (durable w) a (w.addresses a).flight _ n.notice free n.at n.low
+emit_says w a text n free = is_said (durable w) a (w.addresses a).flight _ n.notice free n.at n.low
 
 -- ---- no reader runs
 

@@ -33,12 +33,12 @@ use Rattle.ps_trace.proofs.Owning.{steps-append, own-append, none-behind, owned-
 use Rattle.ps_trace.proofs.Settling.{HasSettled, begun-settled, ends-past, source, source-of}
 use Rattle.ps_trace.proofs.Ending.{ended-same, no-end-split, cut, laid-mono, laid-none, laid-append, all-laid, none-lays, flushed-later, run-settled, quiet-run, Quietly}
 
-get-there : {X : Type 0} (xs : List X) (k : ℕ) → k < length xs → (x : X) × (slice_get xs k ≡ Some x)
+pub get-there : {X : Type 0} (xs : List X) (k : ℕ) → k < length xs → (x : X) × (slice_get xs k ≡ Some x)
 get-there [] k low = absurd (omega arith)
 get-there (x ∷ xs) zero low = (x, refl)
 get-there (x ∷ xs) (suc k) low = get-there xs k (omega arith)
 
-none-left : {X : Type 0} (xs : List X) → length xs ≡ 0 → xs ≡ []
+pub none-left : {X : Type 0} (xs : List X) → length xs ≡ 0 → xs ≡ []
 none-left [] e = refl
 none-left (x ∷ xs) e = absurd (omega (arith, e))
 

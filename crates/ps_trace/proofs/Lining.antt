@@ -22,10 +22,7 @@ use Rattle.ps_world.proofs.Kept.{chosen}
 use Rattle.ps_world.proofs.Lists.{take-front, take-whole, get-append, get-last, assoc, nil-right}
 use Rattle.ps_world.specs.Calm.{IsCalm, AreCalm}
 use Rattle.ps_trace.specs.Lines.{Came, onto, replies_of, entries_of, StandsAt, size, IsLine, AreLines, changes_of, came_if, came, HasLines}
-
-pub more-list : (E : List Entry) (o : Option Entry) → more_entries E o ≡ E ++ as_list o
-more-list E None = sym (nil-right E)
-more-list E (Some e) = refl
+use Rattle.ps_world.proofs.Goes.{entries-more}
 
 length-list : (o : Option Entry) → length (as_list o) ≡ size o
 length-list None = refl
@@ -158,7 +155,7 @@ module _ (core : Core) (h : List ℕ) where
     own-line w cs arrival full is =
         let c = this w h arrival full in
         let line = (w.hosts h).line + 1 in
-        let grown = more-list w.entries c.entry in
+        let grown = entries-more w.entries c.entry in
         record {
           since = is.since ++ as_list c.entry;
           list = grown ∙ (ap (λ r. r ++ as_list c.entry) is.list ∙ assoc base is.since (as_list c.entry));
@@ -173,7 +170,7 @@ module _ (core : Core) (h : List ℕ) where
         subst (λ (f : List ℕ). HasLines core base h (after w f arrival full true) (cs ++ this w f arrival full ∷ [])) ((bytes_eq-Decides h g).0 t) (own-line w cs arrival full is)
     line-by w cs g arrival full false t is =
         let o = core.entry w.entries g ((w.hosts g).line + 1) arrival full in
-        on w (after w g arrival full false) cs (as_list o) (more-list w.entries o) (changes-other h g ((w.hosts g).line + 1) o t (λ e made. laws.change w.entries g ((w.hosts g).line + 1) arrival full e made)) refl refl is
+        on w (after w g arrival full false) cs (as_list o) (entries-more w.entries o) (changes-other h g ((w.hosts g).line + 1) o t (λ e made. laws.change w.entries g ((w.hosts g).line + 1) arrival full e made)) refl refl is
 
     -- a part of one host's row that is neither its line nor its replies
     role-line : (role : Role) (part : HostPart) → (ends_role role part).line ≡ part.line

@@ -67,7 +67,7 @@ pub owned-behind : (hosts : List (List ℕ)) (xs ys : List Deed) → AreOwned ho
 owned-behind hosts [] ys a = a
 owned-behind hosts (x ∷ xs) ys a = owned-behind hosts xs ys a.1
 
-calm-one : (hosts : List (List ℕ)) (k : ℕ) (s : Step) → MayMake hosts k s → IsCalm s
+pub calm-one : (hosts : List (List ℕ)) (k : ℕ) (s : Step) → MayMake hosts k s → IsCalm s
 calm-one hosts k (Arrive g arrival full) h = tt
 calm-one hosts k (Flush m) h = tt
 calm-one hosts k (Take g) h = tt

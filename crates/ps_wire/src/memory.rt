@@ -56,7 +56,7 @@ impl MemSource {
         })
     }
 
-    /// How often it gave up for want of memory: never, since a read takes none.
+    /// How often it gave up because memory ran out: never, since a read takes none.
     pub fn refused(&self) -> u64
         ensures { result ≡ self.now.refused }
     {
@@ -137,7 +137,7 @@ impl MemSink {
         &self.bytes
     }
 
-    /// How often it gave up for want of memory.
+    /// How often it gave up because memory ran out.
     pub fn refused(&self) -> u64
         ensures { result ≡ self.now.refused }
     {

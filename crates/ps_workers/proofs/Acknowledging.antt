@@ -26,6 +26,7 @@ use Rattle.ps_trace.specs.Words.{replies_in, words}
 use Rattle.ps_trace.proofs.Settling.{source, source-of}
 use Rattle.ps_trace.proofs.Wording.{begun-words, run-words}
 use Rattle.ps_workers.specs.Told.{IsAcknowledged, if_replied, made_by, replied, rests_on}
+use Rattle.ps_world.proofs.Lasts.{get-in-take}
 
 -- ---- lists
 
@@ -36,12 +37,6 @@ if-append (Some r) c xs ys = refl
 replied-append : (cs ds : List Came) → replied (cs ++ ds) ≡ replied cs ++ replied ds
 replied-append [] ds = refl
 replied-append (c ∷ cs) ds = ap (λ l. if_replied c.reply c l) (replied-append cs ds) ∙ if-append c.reply c (replied cs) (replied ds)
-
-pub take-get : {X : Type 0} (n : ℕ) (xs : List X) (k : ℕ) (x : X) → slice_get (take n xs) k ≡ Some x → (k < n) × (slice_get xs k ≡ Some x)
-take-get zero xs k x e = absurd (cc e)
-take-get (suc n) [] k x e = absurd (cc e)
-take-get (suc n) (y ∷ xs) zero x e = (omega arith, e)
-take-get (suc n) (y ∷ xs) (suc k) x e = let r = take-get n xs k x e in (let l = r.0 in omega (arith, l), r.1)
 
 -- two lists that tell the same, place by place
 other-there : {X Y : Type 0} (f : X → ℕ) (g : Y → ℕ) (xs : List X) (ys : List Y) (k : ℕ) (y : Y) → map f xs ≡ map g ys → slice_get ys k ≡ Some y → (x : X) × (slice_get xs k ≡ Some x) × (f x ≡ g y)
@@ -175,7 +170,7 @@ module _ (core : Core) (laws : Laws core) (hands : HandsNone core) where
         let uptos_are = run-uptos core h boot (start core boot list) [] ss calm refl in
         record {
           replies = λ k c got. (
-              let there = take-get (length (replies_in ws)) (replied cs) k c got in
+              let there = get-in-take (length (replies_in ws)) (replied cs) k c got in
               let s = other-there upto_of rests_on (w.hosts h).said (replied cs) k c uptos_are there.1 in
               let part = sound.hosts h in
               let low = there.0 in
@@ -189,7 +184,7 @@ module _ (core : Core) (laws : Laws core) (hands : HandsNone core) where
               let part = sound.addresses a in
               let sent = (w.addresses a).sent in
               let before = handed (take w.opened w.entries) a in
-              let here = take-get (length sent) (drop before (core.notices w.entries a)) k n (ap (λ l. slice_get l k) (sym part.sent ∙ said.notes a there) ∙ got) in
+              let here = get-in-take (length sent) (drop before (core.notices w.entries a)) k n (ap (λ l. slice_get l k) (sym part.sent ∙ said.notes a there) ∙ got) in
               let low = here.0 in
               let most = part.durable in
               let fits = ends-le w.flushed w.made in

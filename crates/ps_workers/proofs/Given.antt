@@ -19,7 +19,7 @@ use Rattle.ps_trace.specs.Over.{IsFront}
 use Rattle.ps_trace.specs.Words.{Note, Reply, Word, notes_in, replies_in}
 use Rattle.ps_sink_laws.specs.Laws.{IsGiven, IsReplyIn}
 use Rattle.ps_workers.specs.Told.{AreOurs, IsAcknowledged, if_replied, replied, rests_on}
-use Rattle.ps_workers.proofs.Acknowledging.{take-get}
+use Rattle.ps_world.proofs.Lasts.{get-in-take}
 
 -- each of these lines rests on so many entries at most
 abbrev RestOn : ℕ → List Came → Type 0
@@ -89,7 +89,7 @@ module _ (base : List Entry) (h : List ℕ) (w : World) (cs : List Came) (ws : L
   noted a k n there got =
       let before = handed base a in
       let owed = the_core.notices w.entries a in
-      let here = take-get (length (notes_in a ws)) (drop before owed) k n (ap (λ (l : List Notice). slice_get l k) (sym (front.notes a there)) ∙ got) in
+      let here = get-in-take (length (notes_in a ws)) (drop before owed) k n (ap (λ (l : List Notice). slice_get l k) (sym (front.notes a there)) ∙ got) in
       given-notice firm w.entries a (before + k) n fits (sym (get-drop before k (before + k) owed refl) ∙ here.1) (acked.notices a k n there got)
 
   pub written-given : Each (IsGiven (take firm w.entries)) ws

@@ -1,5 +1,5 @@
 -- The last frame, of what still waits.
-use Rattle.std.proofs.Common.{◌≡◌, ◌≢◌, ℕ, ◌+◌, ◌≤◌, true, false, List, [], Option, None, Result, Ok, Err, is_some, length, refl, ap, sym, ◌∙◌, subst, arith}
+use Rattle.std.proofs.Common.{◌≡◌, ◌≢◌, ◌+◌, ◌≤◌, true, false, List, [], Option, None, Result, Ok, Err, is_some, length, refl, ap, sym, ◌∙◌, subst, arith}
 use Rattle.std.specs.Prelude.{OnOk, OnErr, IfSome}
 use Rattle.std.proofs.lemmas.Bool.{false≢true}
 use Rattle.ps_base.specs.Causes.{Rose}
@@ -9,13 +9,12 @@ use Rattle.ps_model.specs.Entries.{body}
 use Rattle.ps_model.specs.Machine.{start}
 use Rattle.ps_model.specs.TheCore.{the_core}
 use Rattle.ps_model.specs.World.{World, ends}
-use Rattle.ps_world.proofs.Lists.{ends-mono}
 use Rattle.ps_twin.specs.declared.twin.TwinSeat.{TwinSeat}
 use Rattle.ps_trace.specs.declared.deed.Deed.{Deed}
 use Rattle.ps_hall_state.specs.Stand.{Stands, entries_of}
 use Rattle.ps_hall_state.specs.declared.state.State.{State}
 use Rattle.ps_hall_store.specs.Frames.{IsTorn, Loaded, Tears, Writes}
-use Rattle.ps_hall_store.specs.Stand.{IsKept, IsWhole, OpenedAt, StoreStands, broken_in, disk_in, firm_of, length_in, mark_of}
+use Rattle.ps_hall_store.specs.Stand.{EntriesAreKept, IsWhole, StoreStands, broken_in, disk_in, firm_of, length_in, mark_of}
 use Rattle.ps_hall_store.specs.declared.store.Frame.{Frame}
 use Rattle.ps_hall_store.specs.declared.store.Store.{Store}
 use Rattle.ps_hall_store.proofs.Sizing.{firm_made}
@@ -29,16 +28,7 @@ use Rattle.ps_hall_flush.proofs.Logs.{prefix_follows, room_more}
 use Rattle.ps_hall_flush.proofs.Marking.{quiet_mark, whole_mark}
 use Rattle.ps_hall_flush.proofs.Measuring.{each_lacks, measured_as, within_more}
 use Rattle.ps_workers.specs.Closing.{HasEnded}
-
--- fewer steps are counted on
-kept_less : {D : Type 0} (g : Ghosts D) (at : OpenedAt) (disk : D) (few firm : ℕ) (w : World) → few ≤ firm → IsKept g at disk firm w → IsKept g at disk few w
-kept_less g at disk few firm w le is = record {
-  later = is.later;
-  now = λ c may. (let f = is.now c may in let m = ends-mono few firm w.made le in let e = f.enough in record { count = f.count; enough = omega (arith, m, e); fits = f.fits; spells = f.spells });
-  since = is.since;
-  fronts = is.fronts;
-  since_start = is.since_start;
-}
+use Rattle.ps_hall.proofs.Closes.{kept_less}
 
 module _ {V J D : Type 0} {g : Ghosts D} (o : Origin) (v now : State) (y : Store D g) (f : Frame) (seats : List (TwinSeat V J Deed)) (closed : HasClosed o v y seats) (did : IsFrameOf v now f) where
   abbrev before : World
@@ -64,7 +54,7 @@ module _ {V J D : Type 0} {g : Ghosts D} (o : Origin) (v now : State) (y : Store
   begun = begun_all o v f.count f.length closed.log closed.home did.longer
 
   -- what each store that is left at the end has to tell
-  ended : (z : Store D g) → (g.tells → EachLacksRoom o (g.synced (disk_in z)) (g.written (disk_in z)) closed.log) → (g.tells → IsKept g o.at (disk_in z) now.flushed after) → (now.broken ≡ false → broken_in z ≡ None → IsWhole z after) → (now.broken ≡ false → broken_in z ≡ None → now.length ≡ length_in z)
+  ended : (z : Store D g) → (g.tells → EachLacksRoom o (g.synced (disk_in z)) (g.written (disk_in z)) closed.log) → (g.tells → EntriesAreKept g o.at (disk_in z) now.flushed after) → (now.broken ≡ false → broken_in z ≡ None → IsWhole z after) → (now.broken ≡ false → broken_in z ≡ None → now.length ≡ length_in z)
       → (now.broken ≡ true → is_some (broken_in z) ≡ true) → (is_some (broken_in z) ≡ true → Rose o.at.faults (g.faults (disk_in z))) → o.at.faults ≤ g.faults (disk_in z) → o.at.bytes ≤ length_in z → HasEnded o now z seats
   ended z room kept whole length_is broken fault faults grows = record {
     log = closed.log;
@@ -92,7 +82,7 @@ module _ {V J D : Type 0} {g : Ghosts D} (o : Origin) (v now : State) (y : Store
       let a = closed.archive in
       ended y
       closed.room
-      (λ tells. subst (λ n. IsKept g o.at (disk_in y) n after) (sym did.kept.flushed) (closed.kept tells))
+      (λ tells. subst (λ n. EntriesAreKept g o.at (disk_in y) n after) (sym did.kept.flushed) (closed.kept tells))
       (λ quiet. absurd (false≢true (sym quiet ∙ broken)))
       (λ quiet. absurd (false≢true (sym quiet ∙ broken)))
       (λ told. sym closed.broken ∙ (sym did.kept.broken ∙ told))

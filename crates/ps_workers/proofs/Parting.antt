@@ -8,6 +8,7 @@ use Rattle.ps_hall.specs.declared.hall.Pass.{Pass}
 use Rattle.ps_workers.specs.declared.work.Work.{Work}
 use Rattle.ps_workers.specs.declared.work.Work.TheVariants.{Reader, Writer}
 use Rattle.ps_workers.specs.declared.work.Worker.{Worker}
+use Rattle.ps_trace.proofs.Completing.{none-left}
 
 ended_more : {L C K : Type 0} (a b : Work L C K) (e : Ended L C K) (rest : List (Ended L C K)) → ended_by a b [] ≡ e ∷ [] → ended_by a b rest ≡ e ∷ rest
 ended_more (Reader lines clock end) (Writer sink why) e rest is = cc is
@@ -21,10 +22,6 @@ assoc (x ∷ xs) ys zs = ap (λ l. x ∷ l) (assoc xs ys zs)
 nil_right : {X : Type 0} (xs : List X) → xs ++ [] ≡ xs
 nil_right [] = refl
 nil_right (x ∷ xs) = ap (λ l. x ∷ l) (nil_right xs)
-
-none_left : {X : Type 0} (xs : List X) → length xs ≡ 0 → xs ≡ []
-none_left [] e = refl
-none_left (x ∷ xs) e = absurd (omega (arith, e))
 
 module _ {B D L C K : Type 0} {g : Ghosts D} where
   -- behind a reader stands its writer
@@ -49,7 +46,7 @@ module _ {B D L C K : Type 0} {g : Ghosts D} where
       ∙ (ap (λ l. old ++ l) (sym (ended_more r.work w.work e (ended_in ws) made)) ∙ (ap (λ (l : List (Worker (Pass B D g) L C K)). old ++ ended_in l) (sym is) ∙ so_far)))
 
   pub passes_all : (rest whole : List (Worker (Pass B D g) L C K)) (passes : List (HostPasses B D g)) → length rest ≡ 0 → passes ++ passes_in rest ≡ passes_in whole → passes ≡ passes_in whole
-  passes_all rest whole passes none so_far = sym (nil_right passes) ∙ (ap (λ (l : List (Worker (Pass B D g) L C K)). passes ++ passes_in l) (sym (none_left rest none)) ∙ so_far)
+  passes_all rest whole passes none so_far = sym (nil_right passes) ∙ (ap (λ (l : List (Worker (Pass B D g) L C K)). passes ++ passes_in l) (sym (none-left rest none)) ∙ so_far)
 
   pub ended_all : (rest whole : List (Worker (Pass B D g) L C K)) (ended : List (Ended L C K)) → length rest ≡ 0 → ended ++ ended_in rest ≡ ended_in whole → ended ≡ ended_in whole
-  ended_all rest whole ended none so_far = sym (nil_right ended) ∙ (ap (λ (l : List (Worker (Pass B D g) L C K)). ended ++ ended_in l) (sym (none_left rest none)) ∙ so_far)
+  ended_all rest whole ended none so_far = sym (nil_right ended) ∙ (ap (λ (l : List (Worker (Pass B D g) L C K)). ended ++ ended_in l) (sym (none-left rest none)) ∙ so_far)

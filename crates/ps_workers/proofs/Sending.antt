@@ -29,7 +29,7 @@ use Rattle.ps_items.specs.contracts.items.Items as Items
 use Rattle.ps_access.specs.contracts.tables.Tables as Tables
 use Rattle.ps_fanout.proofs.Shared.{elem_send}
 use Rattle.ps_core.proofs.lines.LastLines.TheSendSync as lines
-use Rattle.ps_core.proofs.numbers.Numbers.TheSendSync as numbers
+use Rattle.ps_core.proofs.numbers.NumberChange.TheSendSync as numbers
 use Rattle.ps_core.specs.contracts.half.Half as Half
 use Rattle.ps_core.specs.contracts.service.Kept as Kept
 use Rattle.ps_core.specs.contracts.service.Service as Service
@@ -45,7 +45,7 @@ use Rattle.ps_hall.proofs.bell.Bells.TheSendSync as bells
 use Rattle.ps_hall_flush.proofs.home.Archive.TheSendSync as archive
 use Rattle.ps_hall.specs.contracts.hall.Hall as Hall
 use Rattle.ps_hall.specs.contracts.hall.Pass as Pass
-use Rattle.ps_hall.specs.contracts.hall.Room as Room
+use Rattle.ps_hall.specs.contracts.hall.SeatRoom as Room
 use Rattle.ps_twin.specs.contracts.twin.TwinSeat as TwinSeat
 use Rattle.ps_hall_flush.specs.contracts.home.Archive as Archive
 use Rattle.ps_trace.specs.contracts.deed.Deed as Deed

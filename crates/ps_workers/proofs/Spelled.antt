@@ -8,7 +8,7 @@ use Rattle.ps_model.specs.Store.{AreParts, is_second, joined, spelled}
 use Rattle.ps_model.specs.World.{World, durable, ends}
 use Rattle.ps_book_laws.proofs.Keys.{each-both}
 use Rattle.ps_world.proofs.Lists.{take-both}
-use Rattle.ps_hall_store.specs.Stand.{IsKept, OpenedAt}
+use Rattle.ps_hall_store.specs.Stand.{EntriesAreKept, OpenedAt}
 
 in-frame : (second : Bool) (es : List Entry) → AreEntriesIn second es → AreEntries es
 in-frame second [] are = tt
@@ -31,7 +31,7 @@ front-entries (suc p) (e ∷ E) are = (are.0, front-entries p E are.1)
 may-stay : (synced : List ℕ) (written : List (ℕ × ℕ)) → MayLeave synced written synced
 may-stay synced written = record { no_shorter = omega arith; no_longer = omega arith; elsewhere = λ k low untouched. refl }
 
-pub durable-spelled : {D : Type 0} (g : Ghosts D) (at : OpenedAt) (disk : D) (firm : ℕ) (w : World) → IsKept g at disk firm w → firm ≡ w.flushed → AreEntries (take (durable w) w.entries)
+pub durable-spelled : {D : Type 0} (g : Ghosts D) (at : OpenedAt) (disk : D) (firm : ℕ) (w : World) → EntriesAreKept g at disk firm w → firm ≡ w.flushed → AreEntries (take (durable w) w.entries)
 durable-spelled g at disk firm w kept same =
     let front = kept.now (g.synced disk) (may-stay (g.synced disk) (g.written disk)) in
     let enough : durable w ≤ front.count = subst (λ (n : ℕ). ends n w.made ≤ front.count) same front.enough in

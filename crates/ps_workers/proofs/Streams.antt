@@ -1,5 +1,5 @@
 -- What is served of all streams.
-use Rattle.std.proofs.Common.{◌≡◌, ℕ, ◌+◌, ◌<◌, zero, suc, List, [], ◌∷◌, ◌++◌, Some, length, take, drop, get_or, ap, sym, ◌∙◌, subst, arith, refl}
+use Rattle.std.proofs.Common.{◌≡◌, ℕ, ◌+◌, ◌<◌, List, ◌++◌, Some, length, take, drop, get_or, ap, sym, ◌∙◌, subst, arith, refl}
 use Rattle.std.specs.Prelude.{slice_get}
 use Rattle.std.specs.List.{All}
 use Rattle.std.proofs.Math.Seq.{take-append_seam}
@@ -41,11 +41,7 @@ use Rattle.ps_workers.proofs.Made.{run-grows}
 use Rattle.ps_workers.proofs.Reasons.{reasons}
 use Rattle.ps_workers.proofs.Spelled.{durable-spelled}
 use Rattle.ps_workers.proofs.Teaming.{AllDid, all_did, are_paired, ended_size, made_at, passes_back, seats_at, team_length, team_ready, worked_size}
-
-get_there : {X : Type 0} (xs : List X) (k : ℕ) → k < length xs → (x : X) × (slice_get xs k ≡ Some x)
-get_there [] k low = absurd (omega (arith, low))
-get_there (x ∷ xs) zero low = (x, refl)
-get_there (x ∷ xs) (suc k) low = get_there xs k (omega (arith, low))
+use Rattle.ps_trace.proofs.Completing.{get-there}
 
 some_same : {X : Type 0} (x y : X) → Some x ≡ Some y → x ≡ y
 some_same x y e = cc e
@@ -81,7 +77,7 @@ module _ {B D S C K : Type 0} {g : Ghosts D} {s : SourceGhosts S} (o : Origin) (
   all_read none = record {
     each = λ i h here.
         let low = slice_get_within o.hosts i h here in
-        let x = get_there worked i (let z = size in omega (arith, low, z)) in
+        let x = get-there worked i (let z = size in omega (arith, low, z)) in
         let m = made_at o t clock_of sink_of ps ports ws same all passes i x.0 x.1 in
         let host : m.0 ≡ h = some_same m.0 h (sym m.3.here ∙ here) in
         let kept = seen_reader i m.1 m.2 in

@@ -25,6 +25,7 @@ use Rattle.ps_workers.specs.declared.serving.Ended.{Ended}
 use Rattle.ps_workers.specs.declared.work.Work.{Work}
 use Rattle.ps_workers.specs.declared.work.Work.TheVariants.{Reader, Writer}
 use Rattle.ps_workers.specs.declared.work.Worker.{Worker}
+use Rattle.ps_trace.proofs.Completing.{none-left}
 
 -- ---- kinds of work
 
@@ -58,10 +59,6 @@ module _ {L C K : Type 0} where
 
 some_same : {X : Type 0} (x y : X) → Some x ≡ Some y → x ≡ y
 some_same x y e = cc e
-
-none_there : {X : Type 0} (xs : List X) → length xs ≡ 0 → xs ≡ []
-none_there [] e = refl
-none_there (x ∷ xs) e = absurd (omega (arith, e))
 
 module _ {B D : Type 0} {g : Ghosts D} where
   -- the seats of a host
@@ -138,7 +135,7 @@ module _ {B D S C K : Type 0} {g : Ghosts D} {s : SourceGhosts S} where
 
       pub all_did : (ps : List (HostPasses B D g)) (ports : List (Port (Lines S s) C K)) (ws : List (Worker (Pass B D g) (Lines S s) C K)) → length ports ≡ length ps → length ws ≡ length (team ps ports)
           → ((i : ℕ) (d : Worker (Pass B D g) (Lines S s) C K) → i < length (team ps ports) → DidWork o t clock_of sink_of (get_or (team ps ports) i d) (get_or ws i d)) → AllDid ps ports ws
-      all_did [] ports ws same size did = none_there ws size
+      all_did [] ports ws same size did = none-left ws size
       all_did (p ∷ ps) [] ws same size did = absurd (omega (arith, same))
       all_did (p ∷ ps) (port ∷ ports) [] same size did = absurd (omega (arith, size))
       all_did (p ∷ ps) (port ∷ ports) (r ∷ []) same size did = absurd (omega (arith, size))

@@ -13,7 +13,7 @@ use Rattle.ps_trace.specs.declared.deed.Deed.{Deed}
 use Rattle.ps_hall_state.specs.Rows.{names}
 use Rattle.ps_hall_state.specs.Stand.{Stands}
 use Rattle.ps_hall_state.specs.declared.state.State.{State}
-use Rattle.ps_hall_store.specs.Stand.{IsKept, IsWhole, broken_in, disk_in, length_in}
+use Rattle.ps_hall_store.specs.Stand.{EntriesAreKept, IsWhole, broken_in, disk_in, length_in}
 use Rattle.ps_hall_store.specs.declared.store.Store.{Store}
 use Rattle.ps_hall_flush.specs.Homes.{EachLacksRoom, HadNoRoom, maker_of, world_at}
 use Rattle.ps_hall_flush.specs.Origin.{Origin}
@@ -30,7 +30,7 @@ pub record HasEnded {V J D : Type 0} {g : Ghosts D} (o : Origin) (v : State) (y 
   pub stands : Stands v (world_at o log)
   pub rows : names v.rows.items ≡ o.hosts
   pub limits : v.limits ≡ o.limits
-  pub kept : g.tells → IsKept g o.at (disk_in y) v.flushed (world_at o log)
+  pub kept : g.tells → EntriesAreKept g o.at (disk_in y) v.flushed (world_at o log)
   pub whole : v.broken ≡ false → broken_in y ≡ None → IsWhole y (world_at o log)
   pub length_is : v.broken ≡ false → broken_in y ≡ None → v.length ≡ length_in y
   pub broken : v.broken ≡ true → is_some (broken_in y) ≡ true

@@ -25,7 +25,7 @@ use Rattle.ps_hall.specs.declared.answers.EndCause.TheVariants.{WriteFault, Fini
 use Rattle.ps_hall_state.specs.Rows.{names}
 use Rattle.ps_hall_state.specs.Stand.{Stands}
 use Rattle.ps_hall_state.specs.declared.state.State.{State}
-use Rattle.ps_hall_store.specs.Stand.{IsKept, IsWhole, broken_in, disk_in, length_in}
+use Rattle.ps_hall_store.specs.Stand.{EntriesAreKept, IsWhole, broken_in, disk_in, length_in}
 use Rattle.ps_hall_store.specs.declared.store.Store.{Store}
 use Rattle.ps_streams.specs.Reading.{Lined, says_gone}
 use Rattle.ps_streams.specs.Speaking.{IsFew, Written}
@@ -140,7 +140,7 @@ pub record Serves {D : Type 0} {g : Ghosts D} (o : Origin) (v : State) (y : Stor
   pub since : List Entry
   pub begins : world.entries ≡ base_of o ++ since
   pub made : AreMadeFor o.hosts since
-  pub kept : g.tells → IsKept g o.at (disk_in y) v.flushed world
+  pub kept : g.tells → EntriesAreKept g o.at (disk_in y) v.flushed world
   pub are_entries : g.tells → AreEntries (take (durable world) world.entries)
   pub whole : v.broken ≡ false → broken_in y ≡ None → IsWhole y world
   pub length_is : v.broken ≡ false → broken_in y ≡ None → v.length ≡ length_in y

@@ -12,7 +12,7 @@ use Rattle.ps_streams.specs.declared.read.ReadEnd.TheVariants.{Ended as ReadAll}
 use Rattle.ps_workers.specs.Headline.{Worked}
 use Rattle.ps_workers.specs.Working.{sources}
 use Rattle.ps_workers.specs.declared.serving.Ended.{Ended}
-use Rattle.ps_workers.specs.declared.serving.Room.{Room}
+use Rattle.ps_workers.specs.declared.serving.WorkRoom.{WorkRoom}
 use Rattle.ps_workers.specs.declared.work.Work.{Work}
 use Rattle.ps_workers.specs.declared.work.Work.TheVariants.{Reader, Writer}
 use Rattle.ps_workers.specs.declared.work.Worker.{Worker}
@@ -35,7 +35,7 @@ module _ {L C K : Type 0} where
 
 module _ {B D L C K : Type 0} {g : Ghosts D} where
   -- there is room for the workers of so many hosts
-  pub record IsRoomFor (hosts : ℕ) (room : Room B D L C K g) : Type 0 where
+  pub record IsRoomFor (hosts : ℕ) (room : WorkRoom B D L C K g) : Type 0 where
     pub workers : room.workers.items ≡ []
     pub workers_fit : hosts + hosts ≤ vec_capacity room.workers
     pub passes : room.passes.items ≡ []

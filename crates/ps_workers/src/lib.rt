@@ -3,7 +3,7 @@
 //! [`serve`] has a reader and a writer for each host of a hall (`ps_hall`), each in a thread of its own: the reader takes the lines of the host's source and
 //! has the hall answer them, the writer writes what the host is told to its sink (`ps_streams`). Once all have ended it closes the hall, writes the entries
 //! that still wait unless the disk has failed, and gives back the state, the store and each stream with the causes of its two ends. Its lists are those of a
-//! [`Room`], so only a worker can be refused memory.
+//! [`WorkRoom`], so only a worker can be refused memory.
 //!
 //! What it promises (`specs/Headline.antt`, `Serves`) is told of the world at the end and of what each source, clock and sink told before and after, and of
 //! nothing between:
@@ -35,4 +35,4 @@ mod work;
 pub use ps_hall::{EndCause, Hall, NoHall, Opening};
 pub use ps_hall_state::{Limits, State};
 pub use ps_streams::ReadEnd;
-pub use serving::{Ended, Room, serve};
+pub use serving::{Ended, WorkRoom, serve};

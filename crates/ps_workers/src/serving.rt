@@ -33,19 +33,19 @@ pub struct Ended<L, C, K> {
 
 /// The memory that [`serve`] needs, reserved before a hall is made.
 #[derive(Drop)]
-pub struct Room<B: Opening, D: Disk, L, C, K> {
+pub struct WorkRoom<B: Opening, D: Disk, L, C, K> {
     workers: Vec<Worker<Pass<B, D>, L, C, K>>,
     passes: Vec<HostPasses<B, D>>,
     ended: Vec<Ended<L, C, K>>,
 }
 
-impl<B: Opening, D: Disk, L: Drop, C: Drop, K: Drop> Room<B, D, L, C, K> {
-    /// Room for the workers of so many hosts.
-    pub fn new(alloc: Global, hosts: usize) -> Result<Room<B, D, L, C, K>, Memory>
+impl<B: Opening, D: Disk, L: Drop, C: Drop, K: Drop> WorkRoom<B, D, L, C, K> {
+    /// WorkRoom for the workers of so many hosts.
+    pub fn new(alloc: Global, hosts: usize) -> Result<WorkRoom<B, D, L, C, K>, Memory>
         requires few { hosts ≤ 2 ^ 30 }
         ensures { IfOk result (λ room. IsRoomFor hosts room) }
     {
-        Ok(Room {
+        Ok(WorkRoom {
             workers: Vec::with_capacity(alloc, hosts * 2)?,
             passes: Vec::with_capacity(alloc, hosts)?,
             ended: Vec::with_capacity(alloc, hosts)?,
@@ -139,7 +139,7 @@ pub fn serve<
     hall: Hall<B, D>,
     passes: Vec<HostPasses<B, D>>,
     ports: Vec<Port<Lines<S>, C, K>>,
-    room: Room<B, D, Lines<S>, C, K>,
+    room: WorkRoom<B, D, Lines<S>, C, K>,
 ) -> (State, Store<D>, Vec<Ended<Lines<S>, C, K>>)
     requires passes { AreFresh B.origin hall.twin passes.items }
     requires ports { length ports.items ≡ length B.origin.hosts }
@@ -151,7 +151,7 @@ pub fn serve<
     ensures serves { Serves B.origin result.0 result.1 (worked_of (clocks (λ c. C.faults c) (λ c. C.told c))
         (sinks (λ k. K.faults k) (λ k. K.written k)) ports.items result.2.items) }
 {
-    let Room {
+    let WorkRoom {
         workers,
         passes: back,
         ended,

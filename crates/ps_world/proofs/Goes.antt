@@ -76,7 +76,7 @@ addresses-at a f parts each k = chosen (AddressGoes (parts k)) (same_jid k a) (f
 
 -- ---- the steps
 
-entries-more : (E : List Entry) (o : Option Entry) → more_entries E o ≡ E ++ as_list o
+pub entries-more : (E : List Entry) (o : Option Entry) → more_entries E o ≡ E ++ as_list o
 entries-more E None = sym (nil-right E)
 entries-more E (Some e) = refl
 

@@ -22,7 +22,7 @@ within-take (suc p) [] q h = absurd (omega arith)
 within-take (suc p) (e ∷ E) zero h = omega arith
 within-take (suc p) (e ∷ E) (suc q) h = let r : q < p = within-take p E q (omega arith) in omega arith
 
-plus_step : (b : Bool) (x y z : ℕ) → x ≡ y + z → cond b (suc x) x ≡ cond b (suc y) y + z
+pub plus_step : (b : Bool) (x y z : ℕ) → x ≡ y + z → cond b (suc x) x ≡ cond b (suc y) y + z
 plus_step true x y z e = omega arith
 plus_step false x y z e = e
 

@@ -71,11 +71,11 @@ le_from a b h = grind (arith, nat_tests)
 lt_from : (a b : ℕ) → nat_lt a b ≡ true → a < b
 lt_from a b h = grind (arith, nat_tests)
 
-length-zeros : (E : List Entry) → length (zeros E) ≡ length E
+pub length-zeros : (E : List Entry) → length (zeros E) ≡ length E
 length-zeros [] = refl
 length-zeros (e ∷ es) = ap suc (length-zeros es)
 
-by-zeros : (E : List Entry) → AllBy 0 (zeros E)
+pub by-zeros : (E : List Entry) → AllBy 0 (zeros E)
 by-zeros [] = tt
 by-zeros (e ∷ es) = (omega arith, by-zeros es)
 

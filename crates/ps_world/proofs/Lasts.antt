@@ -29,7 +29,7 @@ get-either (y ∷ xs) ys (suc k) x got = elim (get-either xs ys k x got) [
 ]
 
 -- an element of a front is of the list
-get-in-take : {X : Type 0} (n : ℕ) (xs : List X) (k : ℕ) (x : X) → slice_get (take n xs) k ≡ Some x → (k < n) × (slice_get xs k ≡ Some x)
+pub get-in-take : {X : Type 0} (n : ℕ) (xs : List X) (k : ℕ) (x : X) → slice_get (take n xs) k ≡ Some x → (k < n) × (slice_get xs k ≡ Some x)
 get-in-take zero xs k x got = absurd (let no : None ≡ Some x = got in cc no)
 get-in-take (suc n) [] k x got = absurd (let no : None ≡ Some x = got in cc no)
 get-in-take (suc n) (y ∷ xs) zero x got = ((let l : 0 < suc n = omega arith in l), got)

@@ -22,7 +22,7 @@ use Rattle.ps_world.proofs.Lasts.{behind-one, get-either, world-lasts}
 use Rattle.ps_world.proofs.Rounds.{rounds-grow}
 use Rattle.ps_world.proofs.Stays.{Stays, stays-run}
 
-within_both : (a m b : ℕ) → a ≤ m → m ≤ b → (nat_le a m && nat_le m b) ≡ true
+pub within_both : (a m b : ℕ) → a ≤ m → m ≤ b → (nat_le a m && nat_le m b) ≡ true
 within_both a m b h l = grind (arith, nat_tests)
 
 module _ (core : Core) (laws : Laws core) where

@@ -2,7 +2,7 @@ use Rattle.std.proofs.Common.{◌≡◌, inl, inr, ℕ, refl, sym, subst, ◌∙
 use Rattle.std.specs.Prelude.{IfErr, IfOk}
 use Rattle.ps_disk.proofs.Moments.{started}
 use Rattle.ps_model.specs.At.{IsDamagedAt, IsStore}
-use Rattle.ps_hall_open.specs.Reads.{IsKept, ReadNot, entries_of}
+use Rattle.ps_hall_open.specs.Reads.{ListIsKept, ReadNot, entries_of}
 use Rattle.ps_compact.specs.Compacted.{IfDamaged, LeftEmptyOrBase, NewStays}
 use Rattle.ps_compact.proofs.Endings.{ended-done, ended-full, ended-occupied, ended-sound, ended-stays, ended-store, is-compacted, leaves-base, left-base, unread-damaged, unread-done, unread-full, unread-occupied, unread-same, unread-stays, unread-store}
 use Rattle.ps_compact.proofs.compacting.compact.Goals as goal
@@ -43,7 +43,7 @@ returns-in-Ok-clause-done g c tells is =
     let D = g.D.Disk in
     let r = c.write_kept-new.result.outcome in
     let end = sym c.why_ended.ensures ∙ is in
-    is-compacted (D.seen c.args.store) (entries_of c.in-Ok.kept) (subst (λ o. IfOk o (λ k. IsStore (D.seen c.args.store) (entries_of k))) c.in-Ok.is (c.read_store-store.ensures.store tells)) (D.seen c.args.new) (D.seen c.write_kept-new.result.new) (subst (λ o. IfOk o IsKept) c.in-Ok.is c.read_store-store.ensures.kept).each
+    is-compacted (D.seen c.args.store) (entries_of c.in-Ok.kept) (subst (λ o. IfOk o (λ k. IsStore (D.seen c.args.store) (entries_of k))) c.in-Ok.is (c.read_store-store.ensures.store tells)) (D.seen c.args.new) (D.seen c.write_kept-new.result.new) (subst (λ o. IfOk o ListIsKept) c.in-Ok.is c.read_store-store.ensures.kept).each
     (ended-done r end (c.write_kept-new.ensures.done tells)) (ended-done r end c.write_kept-new.ensures.serves)
 
 pub returns-in-Ok-clause-durable : goal.returns-in-Ok-clause-durable

@@ -5,7 +5,7 @@ use Rattle.ps_compact_laws.specs.Laws.{ServesOn}
 use Rattle.ps_model.specs.Base.{base}
 use Rattle.ps_model.specs.Book.{Book}
 use Rattle.ps_model.specs.Entries.{body}
-use Rattle.ps_hall_open.specs.Reads.{IsKept, entries_of}
+use Rattle.ps_hall_open.specs.Reads.{ListIsKept, entries_of}
 use Rattle.ps_hall_open.specs.declared.opened.Kept.{Kept}
 use Rattle.ps_record.specs.Formed.{AreFormed}
 use Rattle.ps_compact_export.specs.Written.{written}
@@ -16,7 +16,7 @@ use Rattle.ps_compact.proofs.Endings.{on-any}
 use Rattle.ps_compact.proofs.listing.base_batch.Goals as goal
 
 -- what is kept, seen as the list that it is compacted to
-module _ (kept : Kept) (is : IsKept kept) where
+module _ (kept : Kept) (is : ListIsKept kept) where
   all-is-base : (es : List Entry) → es ≡ map written (rows_left kept.rebuilt.service.state kept.rebuilt.queues.waiting) → es ≡ base (entries_of kept)
   all-is-base es rows =
       rows ∙ left-is-base (entries_of kept) is.replayed.each is.each kept.rebuilt.service.state kept.rebuilt.queues.waiting is.replayed.state is.replayed.queues

@@ -4,7 +4,7 @@ use Rattle.ps_types.specs.declared.config.PublishModel.{PublishModel}
 use Rattle.ps_types.specs.declared.config.SendLast.{SendLast}
 use Rattle.ps_types.specs.declared.config.NoticeKind.{NoticeKind}
 use Rattle.ps_types.specs.declared.config.NodeKind.{NodeKind}
-use Rattle.ps_config.specs.declared.row.Row.TheVariants as row
+use Rattle.ps_config.specs.declared.row.Setting.TheVariants as row
 use Rattle.ps_config.specs.Rows.{row_of}
 use Rattle.ps_config.proofs.Changing.{put-row, refused-row}
 use Rattle.ps_config.proofs.change.change.Goals as goal

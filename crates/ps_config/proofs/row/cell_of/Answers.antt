@@ -1,13 +1,13 @@
 use Rattle.std.proofs.Common.{◌≡◌, ℕ, List, [], ◌∷◌, refl, sym, ap, subst}
 use Rattle.std.specs.Fmt.{decimal}
 use Rattle.ps_types.specs.declared.config.NodeConfig.{NodeConfig}
-use Rattle.ps_config.specs.declared.row.Row.{Row}
-use Rattle.ps_config.specs.declared.row.Row.TheVariants as row
+use Rattle.ps_config.specs.declared.row.Setting.{Setting}
+use Rattle.ps_config.specs.declared.row.Setting.TheVariants as row
 use Rattle.ps_config.specs.Rows.{row_of}
 use Rattle.ps_config.proofs.row.cell_of.Goals as goal
 
-shown : (values : List (List ℕ)) (config : NodeConfig) (r s : Row) → r ≡ s → values ≡ (row_of s).values config → values ≡ (row_of r).values config
-shown values config r s e h = subst (λ (t : Row). values ≡ (row_of t).values config) (sym e) h
+shown : (values : List (List ℕ)) (config : NodeConfig) (r s : Setting) → r ≡ s → values ≡ (row_of s).values config → values ≡ (row_of r).values config
+shown values config r s e h = subst (λ (t : Setting). values ≡ (row_of t).values config) (sym e) h
 
 pub returns-in-DeliverPayloads-clause-values : goal.returns-in-DeliverPayloads-clause-values
 unfolding row_of

@@ -4,7 +4,7 @@ use Rattle.ps_model.specs.BaseRows.{BaseRow}
 use Rattle.ps_model.specs.Numbered.{row_notices}
 use Rattle.ps_compact_codec.specs.Held.{held_row_of}
 use Rattle.ps_compact_codec.specs.Said.{row_said}
-use Rattle.ps_compact_codec.specs.declared.row.Row.{Row}
+use Rattle.ps_compact_codec.specs.declared.row.StoredRow.{StoredRow}
 use Rattle.ps_core.proofs.TakenRows.{read-is}
 use Rattle.ps_core.proofs.telling.told_by_row.Goals as goal
 
@@ -12,6 +12,6 @@ pub returns : goal.returns
 returns c =
     let t = c.args.tree.now in
     let r = row_said c.in-Some.row in
-    let is : Some r ≡ held_row_of t = subst (λ (o : Option Row). option_map row_said o ≡ held_row_of t) c.in-Some.is c.in_ok-row.ensures.row in
+    let is : Some r ≡ held_row_of t = subst (λ (o : Option StoredRow). option_map row_said o ≡ held_row_of t) c.in-Some.is c.in_ok-row.ensures.row in
     subst (λ (o : Option BaseRow). IfOk c.notice_in.result (λ v. v.items ≡ row_notices c.args.count c.args.tallies.now.rows o)) (read-is t (Some r) is c.requires.held)
     c.notice_in.ensures

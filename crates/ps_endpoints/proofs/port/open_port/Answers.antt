@@ -1,6 +1,6 @@
 use Rattle.std.proofs.Common.{◌∙◌, [], ◌∷◌, subst}
 use Rattle.ps_io.specs.Held.{IsHeld}
-use Rattle.ps_io.specs.declared.world.Opening.{Opening}
+use Rattle.ps_io.specs.declared.world.OpenCall.{OpenCall}
 use Rattle.ps_io.specs.declared.world.Kind.TheVariants.{Source, Sink, Clock}
 use Rattle.ps_endpoints.proofs.Back.{returned, held-same}
 use Rattle.ps_endpoints.proofs.Asking.{Front, after-one, one-more}
@@ -25,9 +25,9 @@ returns-in-Err-clause-asked g c =
     let w = g.W.World in
     let stream = c.args.stream.now in
     let old = c.args.world.now in
-    let first : Opening = record { kind = Source; name = stream.source } in
-    let second : Opening = record { kind = Sink; name = stream.sink } in
-    let third : Opening = record { kind = Clock; name = stream.host } in
+    let first : OpenCall = record { kind = Source; name = stream.source } in
+    let second : OpenCall = record { kind = Sink; name = stream.sink } in
+    let third : OpenCall = record { kind = Clock; name = stream.host } in
     let sink = one-more (w.asked c.open_lines.new.world) (w.asked c.open_sink.new.self) second (third ∷ []) c.in-Err.why c.in-Err.ensures.asked in
     let both : Front (first ∷ second ∷ third ∷ []) (w.asked old) (w.asked c.open_sink.new.self) = after-one (w.asked old) (w.asked c.open_lines.new.world) (w.asked c.open_sink.new.self) first (second ∷ third ∷ []) c.in_ok-lines.ensures.all sink in
     (both.0, c.give_back.ensures.asked ∙ both.1)
@@ -37,9 +37,9 @@ returns-in-Ok-open_clock-clause-asked g c =
     let w = g.W.World in
     let stream = c.args.stream.now in
     let old = c.args.world.now in
-    let first : Opening = record { kind = Source; name = stream.source } in
-    let second : Opening = record { kind = Sink; name = stream.sink } in
-    let third : Opening = record { kind = Clock; name = stream.host } in
+    let first : OpenCall = record { kind = Source; name = stream.source } in
+    let second : OpenCall = record { kind = Sink; name = stream.sink } in
+    let third : OpenCall = record { kind = Clock; name = stream.host } in
     after-one (w.asked old) (w.asked c.open_lines.new.world) (w.asked c.open_clock.new.self) first (second ∷ third ∷ []) c.in_ok-lines.ensures.all
     (after-one (w.asked c.open_lines.new.world) (w.asked c.open_sink.new.self) (w.asked c.open_clock.new.self) second (third ∷ []) c.in-Ok.ensures.asked
     (1, c.in-Ok-open_clock.ensures.asked))
@@ -67,9 +67,9 @@ returns-in-Err-open_clock-clause-asked g c =
     let w = g.W.World in
     let stream = c.args.stream.now in
     let old = c.args.world.now in
-    let first : Opening = record { kind = Source; name = stream.source } in
-    let second : Opening = record { kind = Sink; name = stream.sink } in
-    let third : Opening = record { kind = Clock; name = stream.host } in
+    let first : OpenCall = record { kind = Source; name = stream.source } in
+    let second : OpenCall = record { kind = Sink; name = stream.sink } in
+    let third : OpenCall = record { kind = Clock; name = stream.host } in
     let clock = one-more (w.asked c.open_sink.new.self) (w.asked c.open_clock.new.self) third [] c.in-Err-open_clock.why c.in-Err-open_clock.ensures.asked in
     let two = after-one (w.asked c.open_lines.new.world) (w.asked c.open_sink.new.self) (w.asked c.open_clock.new.self) second (third ∷ []) c.in-Ok.ensures.asked clock in
     let all : Front (first ∷ second ∷ third ∷ []) (w.asked old) (w.asked c.open_clock.new.self) = after-one (w.asked old) (w.asked c.open_lines.new.world) (w.asked c.open_clock.new.self) first (second ∷ third ∷ []) c.in_ok-lines.ensures.all two in

@@ -2,7 +2,7 @@ use Rattle.std.proofs.Common.{◌≡◌, ◌∙◌, List, [], ◌∷◌, ◌++�
 use Rattle.std.proofs.lemmas.List.{append-nil}
 use Rattle.std.specs.Option.{option_to_list}
 use Rattle.ps_io.specs.declared.world.Kind.TheVariants.{Source, Sink, Clock}
-use Rattle.ps_io.specs.declared.world.Opening.{Opening}
+use Rattle.ps_io.specs.declared.world.OpenCall.{OpenCall}
 use Rattle.ps_wire.specs.declared.lines.Lines.{Lines}
 use Rattle.ps_args.specs.declared.command.Stream.{Stream}
 use Rattle.ps_endpoints.specs.declared.port.Port.{Port}
@@ -23,9 +23,9 @@ returns-in_err-port-clause-asked g t c =
     let w = g.W.World in
     let stream = c.in-Some.stream.now in
     let others = c.in-Some.others.now in
-    let first : Opening = record { kind = Source; name = stream.source } in
-    let second : Opening = record { kind = Sink; name = stream.sink } in
-    let third : Opening = record { kind = Clock; name = stream.host } in
+    let first : OpenCall = record { kind = Source; name = stream.source } in
+    let second : OpenCall = record { kind = Sink; name = stream.sink } in
+    let third : OpenCall = record { kind = Clock; name = stream.host } in
     subst (λ (l : List Stream). Front (port_openings l) (w.asked c.args.world.now) (w.asked c.open_port.new.world)) (sym c.in-Some.ensures.cases.0)
     (in-three (w.asked c.args.world.now) (w.asked c.args.world.now) (w.asked c.open_port.new.world) first second third (port_openings others) c.open_port.ensures.asked)
 
@@ -50,9 +50,9 @@ returns-in-Ok-clause-asked g t c =
     let w = g.W.World in
     let stream = c.in-Some.stream.now in
     let others = c.in-Some.others.now in
-    let first : Opening = record { kind = Source; name = stream.source } in
-    let second : Opening = record { kind = Sink; name = stream.sink } in
-    let third : Opening = record { kind = Clock; name = stream.host } in
+    let first : OpenCall = record { kind = Source; name = stream.source } in
+    let second : OpenCall = record { kind = Sink; name = stream.sink } in
+    let third : OpenCall = record { kind = Clock; name = stream.host } in
     subst (λ (l : List Stream). Front (port_openings l) (w.asked c.args.world.now) (w.asked c.open_each.new.world)) (sym c.in-Some.ensures.cases.0)
     (after-three (w.asked c.args.world.now) (w.asked c.open_port.new.world) (w.asked c.open_each.new.world) first second third (port_openings others) c.in_ok-port.ensures.all c.open_each.ensures.asked)
 
@@ -74,9 +74,9 @@ returns-in-Err-clause-asked g t c =
     let w = g.W.World in
     let stream = c.in-Some.stream.now in
     let others = c.in-Some.others.now in
-    let first : Opening = record { kind = Source; name = stream.source } in
-    let second : Opening = record { kind = Sink; name = stream.sink } in
-    let third : Opening = record { kind = Clock; name = stream.host } in
+    let first : OpenCall = record { kind = Source; name = stream.source } in
+    let second : OpenCall = record { kind = Sink; name = stream.sink } in
+    let third : OpenCall = record { kind = Clock; name = stream.host } in
     let more = after-three (w.asked c.args.world.now) (w.asked c.open_port.new.world) (w.asked c.open_each.new.world) first second third (port_openings others) c.in_ok-port.ensures.all c.open_each.ensures.asked in
     subst (λ (l : List Stream). Front (port_openings l) (w.asked c.args.world.now) (w.asked c.give_back_port.new.world)) (sym c.in-Some.ensures.cases.0)
     (more.0, c.give_back_port.ensures.nothing.asked ∙ more.1)

@@ -2,7 +2,8 @@ use Rattle.std.proofs.Common.{inl, [], ◌∷◌}
 use Rattle.ps_disk.proofs.Moments.{started}
 use Rattle.ps_journal.specs.Journal.{disk_of}
 use Rattle.ps_journal.specs.Left.{IsWithOrWithout}
-use Rattle.ps_hall_open.proofs.Timely.{boot-entry, entry-timely}
+use Rattle.ps_book_laws.proofs.Timely.{entry-timely}
+use Rattle.ps_hall_open.proofs.Timely.{boot-entry}
 use Rattle.ps_hall_open.proofs.Fronts.{fronts_same}
 use Rattle.ps_hall_open.proofs.beginning.begin.Goals as goal
 

@@ -1,6 +1,6 @@
 use Rattle.std.proofs.Common.{Option, Some, ap, sym, subst, ◌∙◌}
 use Rattle.ps_outbox.specs.Boxes.{Boxes, IsReady, NoneReady}
-use Rattle.ps_outbox.specs.Kept.{IsKept}
+use Rattle.ps_outbox.specs.Kept.{QueuesAreKept}
 use Rattle.ps_outbox.proofs.Asked.{ready_at}
 use Rattle.ps_outbox.proofs.Readied.{none_durable, none_found, ready_found}
 use Rattle.ps_outbox.proofs.boxes.Outboxes.ready.Goals as goal
@@ -8,7 +8,7 @@ use Rattle.ps_outbox.proofs.boxes.Outboxes.ready.Goals as goal
 pub returns-then-not-shows-clause-none : goal.returns-then-not-shows-clause-none
 returns-then-not-shows-clause-none c =
     let s = c.self.inside in
-    let kept : IsKept c.args.self.now.waiting s.free c.args.self.now.held s.last s.in_order = subst (λ (b : Boxes). IsKept b.waiting s.free b.held s.last s.in_order) c.self.view_is c.self.invariant in
+    let kept : QueuesAreKept c.args.self.now.waiting s.free c.args.self.now.held s.last s.in_order = subst (λ (b : Boxes). QueuesAreKept b.waiting s.free b.held s.last s.in_order) c.self.view_is c.self.invariant in
     none_durable c.args.host.now c.args.durable c.args.self.now.waiting s.free c.args.self.now.held s.last s.in_order c.if-self.true kept (sym c.shows.ensures ∙ c.if-not-shows.true)
 
 pub returns-in-Some-clause-some : goal.returns-in-Some-clause-some

@@ -1,6 +1,6 @@
 use Rattle.std.proofs.Common.{◌≡◌, ◌+◌, ◌≤◌, ◌++◌, length, vec_capacity}
 use Rattle.ps_hall.specs.Passes.{seats_in}
-use Rattle.ps_hall.proofs.hall.Room.gather.Given as goal
+use Rattle.ps_hall.proofs.hall.SeatRoom.gather.Given as goal
 
 abbrev pub invariant-loop-both : goal.invariant-loop-both
 invariant-loop-both g l =

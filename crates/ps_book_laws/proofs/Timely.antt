@@ -7,7 +7,7 @@ use Rattle.ps_model.specs.BaseAfter.{is_early}
 use Rattle.ps_model.specs.Entries.{IsEntry, IsMoment, end_of_time}
 use Rattle.ps_book_laws.specs.Addressed.{IsTimely}
 
-early : (moment : Option ℕ) → IsMoment moment → is_early moment ≡ true
+pub early : (moment : Option ℕ) → IsMoment moment → is_early moment ≡ true
 early None is = refl
 early (Some moment) is = lt-ltb moment end_of_time is
 
