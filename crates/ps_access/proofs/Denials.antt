@@ -27,7 +27,8 @@ pub Passes-denied : (why : PlanRefusal) (steps more : List (Option Condition)) �
 Passes-denied (Denied why) steps more denies = first_denial-denied steps more why denies
 Passes-denied Memory steps more denies = tt
 
-pub Passes-last : (result : Result (Unit {0}) PlanRefusal) (steps : List (Option Condition)) (last : Option Condition) → first_denial steps ≡ None → Passes result last → Passes result (first_denial (steps ++ last ∷ []))
+pub Passes-last : (result : Result (Unit {0}) PlanRefusal) (steps : List (Option Condition)) (last : Option Condition) → first_denial steps ≡ None → Passes result last
+    → Passes result (first_denial (steps ++ last ∷ []))
 Passes-last result steps last passes decides =
     let same : first_denial (steps ++ last ∷ []) ≡ last = first_denial-passed steps (last ∷ []) passes ∙ alone last in
     rw same decides

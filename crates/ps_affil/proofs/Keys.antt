@@ -37,4 +37,7 @@ pub among : (node : NodeKey) (others : List AffilRow) → AsksBy (is_among node 
 among node others seed = record { alike = λ row h. one_node seed node row.node (both (same_node node row.node) (is_some (find (is_affil_of node row.who) others)) h).0 }
 
 pub other_owner : (node : NodeKey) (others : List AffilRow) → AsksBy (is_other_owner node others) (λ seed. affil_by seed Node) (λ seed. node_digest seed node)
-other_owner node others seed = record { alike = λ row h. one_node seed node row.node (both (same_node node row.node) (is_owner row.affil) (both (not (is_among node others row)) (owns_at node row) h).1).0 }
+other_owner node others seed = record {
+  alike = λ row h. one_node seed node row.node
+      (both (same_node node row.node) (is_owner row.affil) (both (not (is_among node others row)) (owns_at node row) h).1).0;
+}

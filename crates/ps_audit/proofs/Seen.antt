@@ -57,7 +57,8 @@ module _ (E F : List Entry) (who : Jid) (node : NodeKey) where
 
 -- ---- one entry more
 
-module _ (E : List Entry) (who : Jid) (node : NodeKey) (newest : Option Four) (told : List ExplainLine) (so : IsTold E who node newest told) (e : Entry) (state : State) (is : state ≡ replay (E ++ e ∷ [])) where
+module _ (E : List Entry) (who : Jid) (node : NodeKey) (newest : Option Four) (told : List ExplainLine) (so : IsTold E who node newest told) (e : Entry) (state : State)
+    (is : state ≡ replay (E ++ e ∷ [])) where
   longer : length (E ++ e ∷ []) ≡ suc (length E)
   longer = omega (arith, length-append E (e ∷ []))
 

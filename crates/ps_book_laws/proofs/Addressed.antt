@@ -49,7 +49,8 @@ base-named row (Some r) b e is = names-of (book_with r b) (row-named r b (row-ad
 
 item-early : (o : Option NodeConfig) (r : ItemRow) (b : Book) → takes_item o r b ≡ true → ItemIs r
 item-early None r b e = absurd (cc e)
-item-early (Some config) r b e = by (not (is_collection config.node_type)) config.persist_items (nat_lt (item_count r.node b.items) config.max_items) (is_none (item_at r.node r.id b.items)) (is_early r.moment) (is_shallow r.payload) e
+item-early (Some config) r b e = by (not (is_collection config.node_type)) config.persist_items (nat_lt (item_count r.node b.items) config.max_items) (is_none (item_at r.node r.id b.items))
+    (is_early r.moment) (is_shallow r.payload) e
   where
     by : (x y z w early shallow : Bool) → (x && y && z && w && early && shallow) ≡ true → early ≡ true
     by true true true true true shallow e = refl

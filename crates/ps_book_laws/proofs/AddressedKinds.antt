@@ -153,7 +153,8 @@ published-named : (node : NodeKey) (config : NodeConfig) (who : Jid) (moment : O
 published-named node config who moment [] b is = is
 published-named node config who moment (item ∷ items) b is = record { subs = is.subs; resources = is.resources; affils = is.affils }
 
-new-named : (given : Result NodeConfig Condition) (node : NodeKey) (who : Jid) (moment : Option ℕ) (items : List AskItem) (b : Book) → IsAddress who → IsNamed b → IsNamed (published_new given node who moment items b)
+new-named : (given : Result NodeConfig Condition) (node : NodeKey) (who : Jid) (moment : Option ℕ) (items : List AskItem) (b : Book) → IsAddress who → IsNamed b
+    → IsNamed (published_new given node who moment items b)
 new-named (Err why) node who moment items b own is = is
 new-named (Ok config) node who moment items b own is = published-named node config who moment items (created node who config b) (created-named node who config b own is)
 
@@ -220,10 +221,13 @@ changed-named (ask.SubsGet node) r moment b own from is = is
 changed-named (ask.SubsSet node rows) r moment b own from is = record { subs = subs-named (node_of r node) rows b.subs own is.subs; resources = is.resources; affils = is.affils }
 changed-named (ask.MyAffils node) r moment b own from is = is
 changed-named (ask.MySubs node) r moment b own from is = is
-changed-named (ask.Subscribe node who form) r moment b own from is = subscribed-named (sub_options form (base_options b (node_of r node) who)) (node_of r node) who (new_state b r (node_of r node) who) b own is
-changed-named (ask.Unsubscribe node who subid) r moment b own from is = with-sub (record { node = node_of r node; who = who; state = sub.Nothing; options = base_options b (node_of r node) who }) b own is
+changed-named (ask.Subscribe node who form) r moment b own from is = subscribed-named (sub_options form (base_options b (node_of r node) who)) (node_of r node) who
+    (new_state b r (node_of r node) who) b own is
+changed-named (ask.Unsubscribe node who subid) r moment b own from is = with-sub (record { node = node_of r node; who = who; state = sub.Nothing; options = base_options b (node_of r node) who }) b
+    own is
 changed-named (ask.OptionsGet node who) r moment b own from is = is
-changed-named (ask.OptionsSet node who form) r moment b own from is = subscribed-named (sub_options form (base_options b (node_of r node) who)) (node_of r node) who (sub_at (node_of r node) who b.subs) b own is
+changed-named (ask.OptionsSet node who form) r moment b own from is = subscribed-named (sub_options form (base_options b (node_of r node) who)) (node_of r node) who
+    (sub_at (node_of r node) who b.subs) b own is
 changed-named (ask.ItemsGet node max ids) r moment b own from is = is
 changed-named (ask.InfoGet node) r moment b own from is = is
 changed-named (ask.NodesGet node) r moment b own from is = is
@@ -281,7 +285,8 @@ asked-owners : (node : NodeKey) (who : Jid) (whos : List Jid) → Each IsAddress
 asked-owners node who [] is = tt
 asked-owners node who (owner ∷ whos) is = ((is.0, tt), asked-owners node who whos is.1)
 
-subscribe-named : (node : NodeKey) (who : Jid) (old new : SubState) (after : Book) → IsAddress node.service → IsAddress who → Each AffilIs after.affils → AreNamed (subscribe_events node who old new after)
+subscribe-named : (node : NodeKey) (who : Jid) (old new : SubState) (after : Book) → IsAddress node.service → IsAddress who → Each AffilIs after.affils
+    → AreNamed (subscribe_events node who old new after)
 unfolding EventIs
 subscribe-named node who old new after service own is =
     let asks = map (λ owner. event.Approval node owner who) (owners after node) in
@@ -301,7 +306,8 @@ unfolding EventIs
 question-named who None before own = tt
 question-named who (Some caps) before own = each-cond EventIs _ [] (event.Question who caps ∷ []) tt ((own, tt), tt)
 
-events-are : (a : Ask) (r : Request) (moment : Option ℕ) (before after : Book) → IsAskOfAddresses a → IsAddress r.from → IsAddress r.target → Each AffilIs after.affils → AreNamed (events_by a r moment before after)
+events-are : (a : Ask) (r : Request) (moment : Option ℕ) (before after : Book) → IsAskOfAddresses a → IsAddress r.from → IsAddress r.target → Each AffilIs after.affils
+    → AreNamed (events_by a r moment before after)
 unfolding EventIs
 events-are (ask.Create node form) r moment before after own from target is = made-named (stands (node_of r node) before.nodes) (node_of r node) (collection_of (node_of r node) after.links)
 events-are (ask.Publish node items options) r moment before after own from target is =

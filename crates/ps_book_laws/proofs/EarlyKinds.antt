@@ -69,11 +69,13 @@ put-early true row most rows own is =
     (each-push ItemIs (without (is_item_of row.node row.id) rows) row (each-filter ItemIs (λ x. not (is_item_of row.node row.id x)) rows is) own)
 put-early false row most rows own is = is
 
-published-early : (node : NodeKey) (config : NodeConfig) (who : Jid) (moment : Option ℕ) (items : List AskItem) (b : Book) → is_early moment ≡ true → HasEarlyItems b → HasEarlyItems (published node config who moment items b)
+published-early : (node : NodeKey) (config : NodeConfig) (who : Jid) (moment : Option ℕ) (items : List AskItem) (b : Book) → is_early moment ≡ true → HasEarlyItems b
+    → HasEarlyItems (published node config who moment items b)
 published-early node config who moment [] b own is = is
 published-early node config who moment (item ∷ items) b own is = put-early config.persist_items (item_row node (item_id item.id b node who) who item.payloads moment) config.max_items b.items own is
 
-new-early : (given : Result NodeConfig Condition) (node : NodeKey) (who : Jid) (moment : Option ℕ) (items : List AskItem) (b : Book) → is_early moment ≡ true → HasEarlyItems b → HasEarlyItems (published_new given node who moment items b)
+new-early : (given : Result NodeConfig Condition) (node : NodeKey) (who : Jid) (moment : Option ℕ) (items : List AskItem) (b : Book) → is_early moment ≡ true → HasEarlyItems b
+    → HasEarlyItems (published_new given node who moment items b)
 new-early (Err why) node who moment items b own is = is
 new-early (Ok config) node who moment items b own is = published-early node config who moment items (created node who config b) own is
 
@@ -89,7 +91,8 @@ retract-early node (id ∷ ids) b is = each-filter ItemIs (λ x. not (is_item_of
 without-early : (node : NodeKey) (rows : List ItemRow) → Each ItemIs rows → Each ItemIs (without (is_item_at node) rows)
 without-early node rows is = each-filter ItemIs (λ x. not (is_item_at node x)) rows is
 
-under-early : (persist : Bool) (node : NodeKey) (most : ℕ) (rows : List ItemRow) → Each ItemIs rows → Each ItemIs (cond persist (keep_newest (is_item_at node) most rows) (without (is_item_at node) rows))
+under-early : (persist : Bool) (node : NodeKey) (most : ℕ) (rows : List ItemRow) → Each ItemIs rows
+    → Each ItemIs (cond persist (keep_newest (is_item_at node) most rows) (without (is_item_at node) rows))
 under-early true node most rows is = each-keep ItemIs (is_item_at node) most rows is
 under-early false node most rows is = without-early node rows is
 
@@ -136,7 +139,8 @@ changed-early (ask.MySubs node) r moment b own is = is
 changed-early (ask.Subscribe node who form) r moment b own is = subscribed-early (sub_options form (base_options b (node_of r node) who)) (node_of r node) who (new_state b r (node_of r node) who) b is
 changed-early (ask.Unsubscribe node who subid) r moment b own is = is
 changed-early (ask.OptionsGet node who) r moment b own is = is
-changed-early (ask.OptionsSet node who form) r moment b own is = subscribed-early (sub_options form (base_options b (node_of r node) who)) (node_of r node) who (sub_at (node_of r node) who b.subs) b is
+changed-early (ask.OptionsSet node who form) r moment b own is = subscribed-early (sub_options form (base_options b (node_of r node) who)) (node_of r node) who (sub_at (node_of r node) who b.subs) b
+    is
 changed-early (ask.ItemsGet node max ids) r moment b own is = is
 changed-early (ask.InfoGet node) r moment b own is = is
 changed-early (ask.NodesGet node) r moment b own is = is
@@ -248,7 +252,8 @@ events-are (ask.InfoGet node) r moment before after is = tt
 events-are (ask.NodesGet node) r moment before after is = tt
 events-are (ask.RosterSet item) r moment before after is = tt
 events-are (ask.Approve node who allow) r moment before after is = told-early (sub_at (node_of r node) who before.subs) (sub_with (node_of r node) who (approved (is_true allow)) before.subs) after is
-events-are (ask.Present caps) r moment before after is = each-both EventIs (question_events r.from caps before) (wanted_events r.from before after) (question-early r.from caps before) (wanted-early r.from before after is)
+events-are (ask.Present caps) r moment before after is = each-both EventIs (question_events r.from caps before) (wanted_events r.from before after) (question-early r.from caps before)
+    (wanted-early r.from before after is)
 events-are ask.Absent r moment before after is = tt
 events-are (ask.CapsAnswer node info) r moment before after is = wanted-early r.from before after is
 events-are ask.Silent r moment before after is = tt

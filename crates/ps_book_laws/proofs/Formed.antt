@@ -76,7 +76,8 @@ served-bare service target h = by (same_jid target (host_jid service)) refl h
 spells-formed : (host service : List ℕ) (t : Tree) (r : Request) (moment : Option ℕ) (book : Book) → SpellsRequest host service t r → IsFormed book → IsFormed (step.book_changed (Some r) moment book)
 spells-formed host service t r moment book spells is = changed-formed r.ask r moment book (named-ask service t r.from r.target r.ask spells.ask) (served-bare service r.target spells.served) is
 
-request-formed : (host service : List ℕ) (t : Tree) (x : Taken) (moment : Option ℕ) (book : Book) → tree_taken host service t ≡ x → IsFormed book → IsFormed (step.book_changed (request_in x) moment book)
+request-formed : (host service : List ℕ) (t : Tree) (x : Taken) (moment : Option ℕ) (book : Book) → tree_taken host service t ≡ x → IsFormed book
+    → IsFormed (step.book_changed (request_in x) moment book)
 request-formed host service t silent moment book e is = is
 request-formed host service t (refused why) moment book e is = is
 request-formed host service t (denied head why) moment book e is = is
@@ -89,14 +90,47 @@ linked-nodes None l nodes is = is
 linked-nodes (Some config) l nodes is = nodes-formed l.child (record config { collection = l.collection.name }) nodes is
 
 row-formed : (r : BaseRow) (book : Book) → is_well_formed r ≡ true → IsFormed book → IsFormed (book_with r book)
-row-formed (base.node r) book good is = record { nodes = each-push (λ x. is_well_formed (base.node x) ≡ true) book.nodes r is.nodes good; items = is.items; links = is.links; rosters = is.rosters; counts = is.counts }
+row-formed (base.node r) book good is = record {
+  nodes = each-push (λ x. is_well_formed (base.node x) ≡ true) book.nodes r is.nodes good;
+  items = is.items;
+  links = is.links;
+  rosters = is.rosters;
+  counts = is.counts;
+}
 row-formed (base.affiliation r) book good is = record { nodes = is.nodes; items = is.items; links = is.links; rosters = is.rosters; counts = is.counts }
 row-formed (base.subscription r) book good is = record { nodes = is.nodes; items = is.items; links = is.links; rosters = is.rosters; counts = is.counts }
-row-formed (base.item r) book good is = record { nodes = is.nodes; items = each-push (λ x. is_well_formed (base.item x) ≡ true) book.items r is.items good; links = is.links; rosters = is.rosters; counts = is.counts }
-row-formed (base.link r) book good is = record { nodes = linked-nodes (config_at r.child book.nodes) r book.nodes is.nodes; items = is.items; links = each-push (λ x. is_well_formed (base.link x) ≡ true) book.links r is.links good; rosters = is.rosters; counts = is.counts }
-row-formed (base.contact r) book good is = record { nodes = is.nodes; items = is.items; links = is.links; rosters = each-push (λ x. is_well_formed (base.contact x) ≡ true) book.rosters r is.rosters good; counts = is.counts }
+row-formed (base.item r) book good is = record {
+  nodes = is.nodes;
+  items = each-push (λ x. is_well_formed (base.item x) ≡ true) book.items r is.items good;
+  links = is.links;
+  rosters = is.rosters;
+  counts = is.counts;
+}
+row-formed (base.link r) book good is = record {
+  nodes = linked-nodes (config_at r.child book.nodes) r book.nodes is.nodes;
+  items = is.items;
+  links = each-push
+      (λ x. is_well_formed (base.link x) ≡ true) book.links r is.links good;
+  rosters = is.rosters;
+  counts = is.counts;
+}
+row-formed (base.contact r) book good is = record {
+  nodes = is.nodes;
+  items = is.items;
+  links = is.links;
+  rosters = each-push (λ x. is_well_formed (base.contact x) ≡ true) book.rosters r is.rosters
+      good;
+  counts = is.counts;
+}
 row-formed (base.ver r) book good is = record { nodes = is.nodes; items = is.items; links = is.links; rosters = is.rosters; counts = is.counts }
-row-formed (base.made r) book good is = record { nodes = is.nodes; items = is.items; links = is.links; rosters = is.rosters; counts = each-push (λ x. is_well_formed (base.made x) ≡ true) book.counts r is.counts good }
+row-formed (base.made r) book good is = record {
+  nodes = is.nodes;
+  items = is.items;
+  links = is.links;
+  rosters = is.rosters;
+  counts = each-push (λ x. is_well_formed (base.made x) ≡ true) book.counts
+      r is.counts good;
+}
 row-formed (base.counter who handed) book good is = is
 row-formed (base.notice to line) book good is = is
 

@@ -80,14 +80,17 @@ named-short name short = grind (arith, nat_tests)
 
 -- ---- nodes come
 
-node-formed : (service who : Jid) (name : List ℕ) (config : NodeConfig) → is_bare service ≡ true → IsNode name → is_well_formed (base.node (new_node (record { service = service; name = name }) who config)) ≡ true
+node-formed : (service who : Jid) (name : List ℕ) (config : NodeConfig) → is_bare service ≡ true → IsNode name
+    → is_well_formed (base.node (new_node (record { service = service; name = name }) who config)) ≡ true
 node-formed service who name config bare is = rw (bare, named-some name is.given, named-short name is.short) refl
 
 linked-formed : (node : NodeKey) (name : List ℕ) (links : List LinkRow) → AreFormed base.link links → AreFormed base.link (linked node name links)
 linked-formed node [] links is = is
-linked-formed node (x ∷ name) links is = each-push (λ r. is_well_formed (base.link r) ≡ true) links (record { child = node; collection = record { service = node.service; name = x ∷ name } }) is (some-length x name)
+linked-formed node (x ∷ name) links is = each-push (λ r. is_well_formed (base.link r) ≡ true) links (record { child = node; collection = record { service = node.service; name = x ∷ name } }) is
+    (some-length x name)
 
-created-formed : (service who : Jid) (name : List ℕ) (config : NodeConfig) (book : Book) → is_bare service ≡ true → IsNode name → IsFormed book → IsFormed (created (record { service = service; name = name }) who config book)
+created-formed : (service who : Jid) (name : List ℕ) (config : NodeConfig) (book : Book) → is_bare service ≡ true → IsNode name → IsFormed book
+    → IsFormed (created (record { service = service; name = name }) who config book)
 created-formed service who name config book bare named is =
     let key : NodeKey = record { service = service; name = name } in
     record {
@@ -98,7 +101,8 @@ created-formed service who name config book bare named is =
       counts = is.counts;
     }
 
-created_by-formed : (given : Result NodeConfig Condition) (service who : Jid) (name : List ℕ) (book : Book) → is_bare service ≡ true → IsNode name → IsFormed book → IsFormed (created_by given (record { service = service; name = name }) who book)
+created_by-formed : (given : Result NodeConfig Condition) (service who : Jid) (name : List ℕ) (book : Book) → is_bare service ≡ true → IsNode name → IsFormed book
+    → IsFormed (created_by given (record { service = service; name = name }) who book)
 created_by-formed (Err why) service who name book bare named is = is
 created_by-formed (Ok config) service who name book bare named is = created-formed service who name config book bare named is
 
@@ -108,7 +112,8 @@ id-some : (id : List ℕ) (book : Book) (node : NodeKey) (who : Jid) → nat_lt 
 id-some [] book node who = some-length 97 (codes "uto-" ++ decimal (next_made book node who) ++ codes "-" ++ jid_text (bare who))
 id-some (x ∷ id) book node who = some-length x id
 
-put-formed : (persist : Bool) (row : ItemRow) (most : ℕ) (rows : List ItemRow) → is_well_formed (base.item row) ≡ true → AreFormed base.item rows → AreFormed base.item (cond persist (items_with row most rows) rows)
+put-formed : (persist : Bool) (row : ItemRow) (most : ℕ) (rows : List ItemRow) → is_well_formed (base.item row) ≡ true → AreFormed base.item rows
+    → AreFormed base.item (cond persist (items_with row most rows) rows)
 put-formed true row most rows good is =
     let P = λ (r : ItemRow). is_well_formed (base.item r) ≡ true in
     each-keep P (is_item_at row.node) most (without (is_item_of row.node row.id) rows ++ row ∷ [])
@@ -138,7 +143,8 @@ new-formed (Ok config) service who name moment items book bare named is =
     let key : NodeKey = record { service = service; name = name } in
     published-formed key config who moment items (created key who config book) (created-formed service who name config book bare named is)
 
-publish-formed : (o : Option NodeRow) (service who : Jid) (name : List ℕ) (moment : Option ℕ) (items : List AskItem) (options : Option Tree) (book : Book) → is_bare service ≡ true → IsNode name → IsFormed book
+publish-formed : (o : Option NodeRow) (service who : Jid) (name : List ℕ) (moment : Option ℕ) (items : List AskItem) (options : Option Tree) (book : Book) → is_bare service ≡ true → IsNode name
+    → IsFormed book
     → IsFormed (published_by o (record { service = service; name = name }) who moment items options book)
 publish-formed None service who name moment items options book bare named is = new-formed (options_config options (default_config true)) service who name moment items book bare named is
 publish-formed (Some row) service who name moment items options book bare named is = published-formed (record { service = service; name = name }) row.config who moment items book is
@@ -173,7 +179,13 @@ under-formed false node most book is = items-less (is_item_at node) book is
 
 configured-formed : (given : Result NodeConfig Condition) (node : NodeKey) (book : Book) → IsFormed book → IsFormed (configured node given book)
 configured-formed (Err why) node book is = is
-configured-formed (Ok config) node book is = record { nodes = nodes-formed node config book.nodes is.nodes; items = under-formed config.persist_items node config.max_items book is; links = is.links; rosters = is.rosters; counts = is.counts }
+configured-formed (Ok config) node book is = record {
+  nodes = nodes-formed node config book.nodes is.nodes;
+  items = under-formed config.persist_items node config.max_items book is;
+  links = is.links;
+  rosters = is.rosters;
+  counts = is.counts;
+}
 
 configured_by-formed : (o : Option NodeRow) (node : NodeKey) (form : Option Tree) (book : Book) → IsFormed book → IsFormed (configured_by o node form book)
 configured_by-formed None node form book is = is
@@ -188,12 +200,20 @@ subscribed-formed (Ok options) node who state book is = record { nodes = is.node
 
 roster-formed : (asked : Option RosterAsk) (who : Jid) (item : AskContact) (book : Book) → IsFormed book → IsFormed (roster_by asked who item book)
 roster-formed None who item book is = is
-roster-formed (Some remove) who item book is = record { nodes = is.nodes; items = is.items; links = is.links; rosters = each-filter (λ r. is_well_formed (base.contact r) ≡ true) (λ x. not (is_contact_of who item.jid x)) book.rosters is.rosters; counts = is.counts }
+roster-formed (Some remove) who item book is = record {
+  nodes = is.nodes;
+  items = is.items;
+  links = is.links;
+  rosters = each-filter (λ r. is_well_formed (base.contact r) ≡ true)
+      (λ x. not (is_contact_of who item.jid x)) book.rosters is.rosters;
+  counts = is.counts;
+}
 roster-formed (Some (set state)) who item book is = record {
   nodes = is.nodes;
   items = is.items;
   links = is.links;
-  rosters = each-put (λ r. is_well_formed (base.contact r) ≡ true) (is_contact_of (bare who) (bare item.jid)) (record { account = bare who; contact = bare item.jid; state = state; groups = item.groups }) book.rosters refl is.rosters;
+  rosters = each-put (λ r. is_well_formed (base.contact r) ≡ true) (is_contact_of (bare who) (bare item.jid))
+      (record { account = bare who; contact = bare item.jid; state = state; groups = item.groups }) book.rosters refl is.rosters;
   counts = is.counts;
 }
 
@@ -219,10 +239,12 @@ changed-formed (ask.SubsGet node) r moment book named bare is = is
 changed-formed (ask.SubsSet node rows) r moment book named bare is = record { nodes = is.nodes; items = is.items; links = is.links; rosters = is.rosters; counts = is.counts }
 changed-formed (ask.MyAffils node) r moment book named bare is = is
 changed-formed (ask.MySubs node) r moment book named bare is = is
-changed-formed (ask.Subscribe node who form) r moment book named bare is = subscribed-formed (sub_options form (base_options book (node_of r node) who)) (node_of r node) who (new_state book r (node_of r node) who) book is
+changed-formed (ask.Subscribe node who form) r moment book named bare is = subscribed-formed (sub_options form (base_options book (node_of r node) who)) (node_of r node) who
+    (new_state book r (node_of r node) who) book is
 changed-formed (ask.Unsubscribe node who subid) r moment book named bare is = record { nodes = is.nodes; items = is.items; links = is.links; rosters = is.rosters; counts = is.counts }
 changed-formed (ask.OptionsGet node who) r moment book named bare is = is
-changed-formed (ask.OptionsSet node who form) r moment book named bare is = subscribed-formed (sub_options form (base_options book (node_of r node) who)) (node_of r node) who (sub_at (node_of r node) who book.subs) book is
+changed-formed (ask.OptionsSet node who form) r moment book named bare is = subscribed-formed (sub_options form (base_options book (node_of r node) who)) (node_of r node) who
+    (sub_at (node_of r node) who book.subs) book is
 changed-formed (ask.ItemsGet node max ids) r moment book named bare is = is
 changed-formed (ask.InfoGet node) r moment book named bare is = is
 changed-formed (ask.NodesGet node) r moment book named bare is = is

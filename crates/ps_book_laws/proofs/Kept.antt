@@ -70,7 +70,8 @@ parts true true false u v w e = absurd (cc e)
 parts true false z u v w e = absurd (cc e)
 parts false y z u v w e = absurd (cc e)
 
-room-at : (config : NodeConfig) (n : ℕ) (found : Option NodeRow) → option_map (λ (row : NodeRow). row.config) found ≡ Some config → config.persist_items ≡ true → n < config.max_items → n < item_bound found
+room-at : (config : NodeConfig) (n : ℕ) (found : Option NodeRow) → option_map (λ (row : NodeRow). row.config) found ≡ Some config → config.persist_items ≡ true → n < config.max_items
+    → n < item_bound found
 room-at config n None e persist few = absurd (cc e)
 room-at config n (Some row) e persist few =
     let same : row.config ≡ config = cc e in
@@ -79,13 +80,16 @@ room-at config n (Some row) e persist few =
 takes-it : (o : Option NodeConfig) (r : ItemRow) (b : Book) → takes_item o r b ≡ true → TakesIt o r b
 takes-it None r b e = absurd (cc e)
 takes-it (Some config) r b e =
-    let p = parts (not (is_collection config.node_type)) config.persist_items (nat_lt (item_count r.node b.items) config.max_items) (is_none (item_at r.node r.id b.items)) (is_early r.moment) (is_shallow r.payload) e in
+    let p = parts (not (is_collection config.node_type)) config.persist_items (nat_lt (item_count r.node b.items) config.max_items) (is_none (item_at r.node r.id b.items)) (is_early r.moment)
+    (is_shallow r.payload) e in
     record { leaf = p.0; room = λ found at. room-at config (item_count r.node b.items) found at p.1 (ltb-true (item_count r.node b.items) config.max_items p.2) }
 
-push-bounded : (n : NodeKey) (r : ItemRow) (b : Book) (t : Bool) → same_node n r.node ≡ t → item_count r.node b.items < item_bound (node_at r.node b.nodes) → IsBounded b → item_count n (b.items ++ r ∷ []) ≤ item_bound (node_at n b.nodes)
+push-bounded : (n : NodeKey) (r : ItemRow) (b : Book) (t : Bool) → same_node n r.node ≡ t → item_count r.node b.items < item_bound (node_at r.node b.nodes) → IsBounded b
+    → item_count n (b.items ++ r ∷ []) ≤ item_bound (node_at n b.nodes)
 push-bounded n r b true e room is =
     let same : n ≡ r.node = (same_node-Decides n r.node).0 e in
-    let pushed : item_count r.node (b.items ++ r ∷ []) ≡ item_count r.node b.items + 1 = count_by-push (is_item_at r.node) r b.items ∙ ap (λ t. item_count r.node b.items + cond t 1 0) (same_node-itself r.node) in
+    let pushed : item_count r.node (b.items ++ r ∷ []) ≡ item_count r.node b.items + 1 = count_by-push (is_item_at r.node) r b.items ∙ ap (λ t. item_count r.node b.items + cond t 1 0)
+    (same_node-itself r.node) in
     subst (λ (k : NodeKey). item_count k (b.items ++ r ∷ []) ≤ item_bound (node_at k b.nodes)) (sym same) (omega (arith, pushed, room))
 push-bounded n r b false e room is =
     let pushed : item_count n (b.items ++ r ∷ []) ≡ item_count n b.items + 0 = count_by-push (is_item_at n) r b.items ∙ ap (λ t. item_count n b.items + cond t 1 0) e in
@@ -95,7 +99,8 @@ push-bounded n r b false e room is =
 row-kept : (r : BaseRow) (s : State) → has_place r s ≡ true → IsReachable s.book → HoldsItems s.book → HoldsItems (book_with r s.book)
 row-kept (node r) s ok reach is = record {
   leaves = each-by (IsAtLeaf (s.book.nodes ++ r ∷ [])) (IsAtLeaf s.book.nodes) s.book.items (leaf-more s.book.nodes r) is.leaves;
-  bounded = λ n. let more = bound-more (node_at n s.book.nodes) (node_at n (r ∷ [])) in let before = is.bounded n in let same = ap item_bound (find-append (is_node n) s.book.nodes (r ∷ [])) in omega (arith, more, before, same);
+  bounded = λ n. let more = bound-more (node_at n s.book.nodes) (node_at n (r ∷ [])) in let before = is.bounded n in let same = ap item_bound (find-append (is_node n) s.book.nodes (r ∷ [])) in omega
+      (arith, more, before, same);
 }
 row-kept (affiliation r) s ok reach is = record { leaves = is.leaves; bounded = is.bounded }
 row-kept (subscription r) s ok reach is = record { leaves = is.leaves; bounded = is.bounded }
@@ -109,7 +114,8 @@ row-kept (link r) s ok reach is =
     let b = s.book in
     let ls = b.links ++ r ∷ [] in
     let p = four (stands r.child b.nodes) (is_collection_at (config_at r.collection b.nodes)) (not (same_node r.child r.collection)) (not (list_any (is_link_at r.child) b.links)) ok in
-    let now = nodes-now b r reach (record { child = p.0; collection = p.1; differ = not-true (same_node r.child r.collection) p.2 }) (none-any r.child b.links (not-true (list_any (is_link_at r.child) b.links) p.3)) in
+    let now = nodes-now b r reach (record { child = p.0; collection = p.1; differ = not-true (same_node r.child r.collection) p.2 })
+    (none-any r.child b.links (not-true (list_any (is_link_at r.child) b.links) p.3)) in
     subst (λ (ns : List NodeRow). HoldsItems (record b { links = ls; nodes = ns })) (sym now)
     (record {
       leaves = each-by (IsAtLeaf (map (named ls) b.nodes)) (IsAtLeaf b.nodes) b.items (λ x h. leaf-named ls x.node b.nodes ∙ h) is.leaves;

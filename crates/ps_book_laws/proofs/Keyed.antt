@@ -78,6 +78,7 @@ vers-set row rows is = vers-at (ver_at row.ver rows) row rows refl is
 pub nodes-set : (node : NodeKey) (config : NodeConfig) (rows : List NodeRow) → AreApart node_key rows → AreApart node_key (nodes_with node config rows)
 nodes-set node config rows is = apart-change node_key (is_node node) (with_config config) (λ y x. refl) (λ y x. refl) rows is
 
-pub items-set : (persist : Bool) (node : NodeKey) (config : NodeConfig) (rows : List ItemRow) → AreApart item_key rows → AreApart item_key (cond persist (items_kept node config.max_items rows) (items_without node rows))
+pub items-set : (persist : Bool) (node : NodeKey) (config : NodeConfig) (rows : List ItemRow) → AreApart item_key rows
+    → AreApart item_key (cond persist (items_kept node config.max_items rows) (items_without node rows))
 items-set true node config rows is = apart-keep item_key (is_item_at node) config.max_items rows is
 items-set false node config rows is = apart-filter item_key (λ x. not (is_item_at node x)) rows is

@@ -85,7 +85,8 @@ last-stands None row false e = absurd (cc e)
 last-stands (Some r) row b e = refl
 
 pub stands-new : (nodes : List NodeRow) (row : NodeRow) → stands row.key (nodes ++ row ∷ []) ≡ true
-stands-new nodes row = ap (λ (o : Option NodeRow). is_some o) (find-append (is_node row.key) nodes (row ∷ [])) ∙ last-stands (node_at row.key nodes) row (same_node row.key row.key) (same_node-itself row.key)
+stands-new nodes row = ap (λ (o : Option NodeRow). is_some o) (find-append (is_node row.key) nodes (row ∷ [])) ∙ last-stands (node_at row.key nodes) row (same_node row.key row.key)
+    (same_node-itself row.key)
 
 some-map : (config : NodeConfig) (o : Option NodeRow) → is_some (option_map (with_config config) o) ≡ is_some o
 some-map config None = refl
@@ -102,7 +103,8 @@ stands-with k node config nodes = stands-with-at k node config nodes (same_node 
 
 -- ---- a node that isn't there is in no link
 
-clash : (k : NodeKey) (l : LinkRow) (nodes : List NodeRow) (a c : Bool) → same_node k l.child ≡ a → same_node k l.collection ≡ c → stands k nodes ≡ false → stands l.child nodes ≡ true → stands l.collection nodes ≡ true → (a || c) ≡ false
+clash : (k : NodeKey) (l : LinkRow) (nodes : List NodeRow) (a c : Bool) → same_node k l.child ≡ a → same_node k l.collection ≡ c → stands k nodes ≡ false → stands l.child nodes ≡ true
+    → stands l.collection nodes ≡ true → (a || c) ≡ false
 clash k l nodes true c p q absent child coll = absurd (true≢false (sym child ∙ ap (λ (n : NodeKey). stands n nodes) (sym ((same_node-Decides k l.child).0 p)) ∙ absent))
 clash k l nodes false true p q absent child coll = absurd (true≢false (sym coll ∙ ap (λ (n : NodeKey). stands n nodes) (sym ((same_node-Decides k l.collection).0 q)) ∙ absent))
 clash k l nodes false false p q absent child coll = refl
@@ -111,7 +113,8 @@ skip : (k : NodeKey) (l : LinkRow) (ls : List LinkRow) (b : Bool) → b ≡ fals
 skip k l ls true e h = absurd (cc e)
 skip k l ls false e h = h
 
-pub no-link : (k : NodeKey) (nodes : List NodeRow) (links : List LinkRow) → stands k nodes ≡ false → Each (λ (l : LinkRow). (stands l.child nodes ≡ true) × (stands l.collection nodes ≡ true)) links → is_none (find (is_link_at k) links) ≡ true
+pub no-link : (k : NodeKey) (nodes : List NodeRow) (links : List LinkRow) → stands k nodes ≡ false → Each (λ (l : LinkRow). (stands l.child nodes ≡ true) × (stands l.collection nodes ≡ true)) links
+    → is_none (find (is_link_at k) links) ≡ true
 no-link k nodes [] absent is = refl
 no-link k nodes (l ∷ ls) absent is =
     skip k l ls (is_link_at k l) (clash k l nodes (same_node k l.child) (same_node k l.collection) refl refl absent is.0.0 is.0.1) (no-link k nodes ls absent is.1)
@@ -123,7 +126,8 @@ pub Linkable : List ℕ → NodeKey → List NodeRow → Type 0
 Linkable [] node nodes = Unit {0}
 Linkable (x ∷ name) node nodes = stands (record { service = node.service; name = x ∷ name }) nodes ≡ true
 
-linked-apart : (name : List ℕ) (node : NodeKey) (nodes : List NodeRow) (links : List LinkRow) → is_none (find (is_link_at node) links) ≡ true → AreApart link_key links → AreApart link_key (linked node name links)
+linked-apart : (name : List ℕ) (node : NodeKey) (nodes : List NodeRow) (links : List LinkRow) → is_none (find (is_link_at node) links) ≡ true → AreApart link_key links
+    → AreApart link_key (linked node name links)
 linked-apart [] node nodes links none is = is
 linked-apart (x ∷ name) node nodes links none is = apart-push link_key links (record { child = node; collection = record { service = node.service; name = x ∷ name } }) none is
 
@@ -132,21 +136,35 @@ linked-stand : (name : List ℕ) (row : NodeRow) (nodes : List NodeRow) (links :
     → Each (λ (l : LinkRow). (stands l.child (nodes ++ row ∷ []) ≡ true) × (stands l.collection (nodes ++ row ∷ []) ≡ true)) (linked row.key name links)
 unfolding Linkable
 linked-stand [] row nodes links at is =
-    each-by (λ l. (stands l.child (nodes ++ row ∷ []) ≡ true) × (stands l.collection (nodes ++ row ∷ []) ≡ true)) (λ l. (stands l.child nodes ≡ true) × (stands l.collection nodes ≡ true)) links (λ l h. (stands-more l.child nodes row h.0, stands-more l.collection nodes row h.1)) is
+    each-by (λ l. (stands l.child (nodes ++ row ∷ []) ≡ true) × (stands l.collection (nodes ++ row ∷ []) ≡ true)) (λ l. (stands l.child nodes ≡ true) × (stands l.collection nodes ≡ true)) links
+    (λ l h. (stands-more l.child nodes row h.0, stands-more l.collection nodes row h.1)) is
 linked-stand (x ∷ name) row nodes links at is =
-    each-push (λ l. (stands l.child (nodes ++ row ∷ []) ≡ true) × (stands l.collection (nodes ++ row ∷ []) ≡ true)) links (record { child = row.key; collection = record { service = row.key.service; name = x ∷ name } })
-    (each-by (λ l. (stands l.child (nodes ++ row ∷ []) ≡ true) × (stands l.collection (nodes ++ row ∷ []) ≡ true)) (λ l. (stands l.child nodes ≡ true) × (stands l.collection nodes ≡ true)) links (λ l h. (stands-more l.child nodes row h.0, stands-more l.collection nodes row h.1)) is)
+    each-push (λ l. (stands l.child (nodes ++ row ∷ []) ≡ true) × (stands l.collection (nodes ++ row ∷ []) ≡ true)) links
+    (record { child = row.key; collection = record { service = row.key.service; name = x ∷ name } })
+    (each-by (λ l. (stands l.child (nodes ++ row ∷ []) ≡ true) × (stands l.collection (nodes ++ row ∷ []) ≡ true)) (λ l. (stands l.child nodes ≡ true) × (stands l.collection nodes ≡ true)) links
+    (λ l h. (stands-more l.child nodes row h.0, stands-more l.collection nodes row h.1)) is)
     (stands-new nodes row, stands-more (record { service = row.key.service; name = x ∷ name }) nodes row at)
 
 pub none-stands : (o : Option NodeRow) → is_some o ≡ false → is_none o ≡ true
 none-stands None h = refl
 none-stands (Some r) h = absurd (cc h)
 
-pub created-keyed : (node : NodeKey) (who : Jid) (config : NodeConfig) (book : Book) → stands node book.nodes ≡ false → Linkable config.collection node book.nodes → IsKeyed book → IsKeyed (created node who config book)
+pub created-keyed : (node : NodeKey) (who : Jid) (config : NodeConfig) (book : Book) → stands node book.nodes ≡ false → Linkable config.collection node book.nodes → IsKeyed book
+    → IsKeyed (created node who config book)
 created-keyed node who config book absent at is =
     let none = no-link node book.nodes book.links absent is.links in
     record {
-      keys = record { nodes = apart-push node_key book.nodes (new_node node who config) (none-stands (node_at node book.nodes) absent) is.keys.nodes; affils = affils-set (owner_row node who) book.affils is.keys.affils; subs = is.keys.subs; items = is.keys.items; links = linked-apart config.collection node book.nodes book.links none is.keys.links; rosters = is.keys.rosters; vers = is.keys.vers; counts = is.keys.counts };
+      keys = record {
+        nodes = apart-push node_key book.nodes (new_node node who config) (none-stands (node_at node book.nodes) absent) is.keys.nodes;
+        affils = affils-set (owner_row node who)
+            book.affils is.keys.affils;
+        subs = is.keys.subs;
+        items = is.keys.items;
+        links = linked-apart config.collection node book.nodes book.links none is.keys.links;
+        rosters = is.keys.rosters;
+        vers = is.keys.vers;
+        counts = is.keys.counts;
+      };
       links = linked-stand config.collection (new_node node who config) book.nodes book.links at is.links;
     }
 
@@ -182,7 +200,21 @@ kept-apart false row most rows is = is
 
 published-keyed : (node : NodeKey) (config : NodeConfig) (who : Jid) (moment : Option ℕ) (items : List AskItem) (book : Book) → IsKeyed book → IsKeyed (published node config who moment items book)
 published-keyed node config who moment [] book is = is
-published-keyed node config who moment (item ∷ items) book is = record { keys = record { nodes = is.keys.nodes; affils = is.keys.affils; subs = is.keys.subs; items = kept-apart config.persist_items (item_row node (item_id item.id book node who) who item.payloads moment) config.max_items book.items is.keys.items; links = is.keys.links; rosters = is.keys.rosters; vers = is.keys.vers; counts = counted-apart item.id node who book is.keys.counts }; links = is.links }
+published-keyed node config who moment (item ∷ items) book is = record {
+  keys = record {
+    nodes = is.keys.nodes;
+    affils = is.keys.affils;
+    subs = is.keys.subs;
+    items = kept-apart config.persist_items
+        (item_row node (item_id item.id book node who) who item.payloads moment) config.max_items book.items is.keys.items;
+    links = is.keys.links;
+    rosters = is.keys.rosters;
+    vers = is.keys.vers;
+    counts =
+        counted-apart item.id node who book is.keys.counts;
+  };
+  links = is.links;
+}
 
 new-keyed : (given : Result NodeConfig Condition) (r : Request) (node : List ℕ) (moment : Option ℕ) (items : List AskItem) (book : Book) → stands (node_of r node) book.nodes ≡ false
     → made_step given book r ≡ None → IsKeyed book → IsKeyed (published_new given (node_of r node) r.from moment items book)
@@ -206,7 +238,8 @@ publish-keyed None r node items options moment book at ok is = own (is_own_accou
 
 -- ---- a node goes
 
-off : (l : LinkRow) (node : NodeKey) (nodes : List NodeRow) (a c : Bool) → same_node node l.child ≡ a → same_node node l.collection ≡ c → (a || c) ≡ false → (same_node l.child node ≡ false) × (same_node l.collection node ≡ false)
+off : (l : LinkRow) (node : NodeKey) (nodes : List NodeRow) (a c : Bool) → same_node node l.child ≡ a → same_node node l.collection ≡ c → (a || c) ≡ false
+    → (same_node l.child node ≡ false) × (same_node l.collection node ≡ false)
 off l node nodes true c p q h = absurd (cc h)
 off l node nodes false true p q h = absurd (cc h)
 off l node nodes false false p q h = (same_node-turned l.child node ∙ p, same_node-turned l.collection node ∙ q)
@@ -229,7 +262,18 @@ links-without-stand node nodes (l ∷ ls) is = links-without-at node nodes l (li
 
 deleted-keyed : (node : NodeKey) (book : Book) → IsKeyed book → IsKeyed (deleted node book)
 deleted-keyed node book is = record {
-  keys = record { nodes = apart-filter node_key (λ x. not (is_node node x)) book.nodes is.keys.nodes; affils = apart-filter affil_key (λ x. not (is_affil_at node x)) book.affils is.keys.affils; subs = apart-filter sub_key (λ x. not (is_sub_at node x)) book.subs is.keys.subs; items = apart-filter item_key (λ x. not (is_item_at node x)) book.items is.keys.items; links = apart-filter link_key (λ x. not (is_link_at node x)) book.links is.keys.links; rosters = is.keys.rosters; vers = is.keys.vers; counts = apart-filter count_key (λ x. not (is_count_at node x)) book.counts is.keys.counts };
+  keys = record {
+    nodes = apart-filter node_key (λ x. not (is_node node x)) book.nodes is.keys.nodes;
+    affils = apart-filter affil_key (λ x. not (is_affil_at node x)) book.affils is.keys.affils;
+    subs = apart-filter sub_key (λ x. not (is_sub_at node x)) book.subs is.keys.subs;
+    items = apart-filter item_key (λ x. not (is_item_at node x)) book.items is.keys.items;
+    links = apart-filter
+        link_key (λ x. not (is_link_at node x)) book.links is.keys.links;
+    rosters = is.keys.rosters;
+    vers = is.keys.vers;
+    counts = apart-filter count_key (λ x. not (is_count_at node x)) book.counts
+        is.keys.counts;
+  };
   links = links-without-stand node book.nodes book.links is.links;
 }
 
@@ -238,8 +282,18 @@ deleted-keyed node book is = record {
 configured-keyed : (given : Result NodeConfig Condition) (node : NodeKey) (book : Book) → IsKeyed book → IsKeyed (configured node given book)
 configured-keyed (Err why) node book is = is
 configured-keyed (Ok config) node book is = record {
-  keys = record { nodes = nodes-set node config book.nodes is.keys.nodes; affils = is.keys.affils; subs = is.keys.subs; items = items-set config.persist_items node config book.items is.keys.items; links = is.keys.links; rosters = is.keys.rosters; vers = is.keys.vers; counts = is.keys.counts };
-  links = each-by (λ (l : LinkRow). (stands l.child (nodes_with node config book.nodes) ≡ true) × (stands l.collection (nodes_with node config book.nodes) ≡ true)) (λ l. (stands l.child book.nodes ≡ true) × (stands l.collection book.nodes ≡ true)) book.links
+  keys = record {
+    nodes = nodes-set node config book.nodes is.keys.nodes;
+    affils = is.keys.affils;
+    subs = is.keys.subs;
+    items = items-set config.persist_items node config book.items is.keys.items;
+    links = is.keys.links;
+    rosters = is.keys.rosters;
+    vers = is.keys.vers;
+    counts = is.keys.counts;
+  };
+  links = each-by (λ (l : LinkRow). (stands l.child (nodes_with node config book.nodes) ≡ true) × (stands l.collection (nodes_with node config book.nodes) ≡ true))
+      (λ l. (stands l.child book.nodes ≡ true) × (stands l.collection book.nodes ≡ true)) book.links
       (λ l h. (stands-with l.child node config book.nodes ∙ h.0, stands-with l.collection node config book.nodes ∙ h.1)) is.links;
 }
 
@@ -252,23 +306,88 @@ configured_by-keyed (Some row) node (Some form) book is = configured-keyed (conf
 
 retract-keyed : (node : NodeKey) (ids : List (List ℕ)) (book : Book) → IsKeyed book → IsKeyed (retract_change node ids book)
 retract-keyed node [] book is = is
-retract-keyed node (id ∷ ids) book is = record { keys = record { nodes = is.keys.nodes; affils = is.keys.affils; subs = is.keys.subs; items = apart-filter item_key (λ x. not (is_item_of node id x)) book.items is.keys.items; links = is.keys.links; rosters = is.keys.rosters; vers = is.keys.vers; counts = is.keys.counts }; links = is.links }
+retract-keyed node (id ∷ ids) book is = record {
+  keys = record {
+    nodes = is.keys.nodes;
+    affils = is.keys.affils;
+    subs = is.keys.subs;
+    items = apart-filter item_key (λ x. not (is_item_of node id x)) book.items is.keys.items;
+    links = is.keys.links;
+    rosters =
+        is.keys.rosters;
+    vers = is.keys.vers;
+    counts = is.keys.counts;
+  };
+  links = is.links;
+}
 
 subscribed-keyed : (given : Result SubOptions Condition) (node : NodeKey) (who : Jid) (state : SubState) (book : Book) → IsKeyed book → IsKeyed (subscribed_by given node who state book)
 subscribed-keyed (Err why) node who state book is = is
-subscribed-keyed (Ok options) node who state book is = record { keys = record { nodes = is.keys.nodes; affils = is.keys.affils; subs = subs-set (record { node = node; who = who; state = state; options = options }) book.subs is.keys.subs; items = is.keys.items; links = is.keys.links; rosters = is.keys.rosters; vers = is.keys.vers; counts = is.keys.counts }; links = is.links }
+subscribed-keyed (Ok options) node who state book is = record {
+  keys = record {
+    nodes = is.keys.nodes;
+    affils = is.keys.affils;
+    subs = subs-set (record { node = node; who = who; state = state; options = options }) book.subs is.keys.subs;
+    items =
+        is.keys.items;
+    links = is.keys.links;
+    rosters = is.keys.rosters;
+    vers = is.keys.vers;
+    counts = is.keys.counts;
+  };
+  links = is.links;
+}
 
 roster-keyed : (asked : Option RosterAsk) (who : Jid) (item : AskContact) (book : Book) → IsKeyed book → IsKeyed (roster_by asked who item book)
 roster-keyed None who item book is = is
-roster-keyed (Some remove) who item book is = record { keys = record { nodes = is.keys.nodes; affils = is.keys.affils; subs = is.keys.subs; items = is.keys.items; links = is.keys.links; rosters = apart-filter roster_key (λ x. not (is_contact_of who item.jid x)) book.rosters is.keys.rosters; vers = is.keys.vers; counts = is.keys.counts }; links = is.links }
-roster-keyed (Some (set state)) who item book is = record { keys = record { nodes = is.keys.nodes; affils = is.keys.affils; subs = is.keys.subs; items = is.keys.items; links = is.keys.links; rosters = apart-put roster_key roster-key _ book.rosters is.keys.rosters; vers = is.keys.vers; counts = is.keys.counts }; links = is.links }
+roster-keyed (Some remove) who item book is = record {
+  keys = record {
+    nodes = is.keys.nodes;
+    affils = is.keys.affils;
+    subs = is.keys.subs;
+    items = is.keys.items;
+    links = is.keys.links;
+    rosters = apart-filter roster_key (λ x. not (is_contact_of who item.jid x))
+        book.rosters is.keys.rosters;
+    vers = is.keys.vers;
+    counts = is.keys.counts;
+  };
+  links = is.links;
+}
+roster-keyed (Some (set state)) who item book is = record {
+  keys = record {
+    nodes = is.keys.nodes;
+    affils = is.keys.affils;
+    subs = is.keys.subs;
+    items = is.keys.items;
+    links = is.keys.links;
+    rosters = apart-put roster_key roster-key _ book.rosters is.keys.rosters;
+    vers = is.keys.vers;
+    counts = is.keys.counts;
+  };
+  links = is.links;
+}
 
-vers-apart : (b : Bool) (caps : Caps) (info : Info) (book : Book) → AreApart ver_key book.vers → AreApart ver_key (cond b (vers_with (record { ver = caps.ver; features = info.features }) book.vers) book.vers)
+vers-apart : (b : Bool) (caps : Caps) (info : Info) (book : Book) → AreApart ver_key book.vers
+    → AreApart ver_key (cond b (vers_with (record { ver = caps.ver; features = info.features }) book.vers) book.vers)
 vers-apart true caps info book is = vers-set (record { ver = caps.ver; features = info.features }) book.vers is
 vers-apart false caps info book is = is
 
 usable-keyed : (usable : Bool) (caps : Caps) (who : Jid) (info : Info) (book : Book) → IsKeyed book → IsKeyed (usable_answer usable caps who info book)
-usable-keyed true caps who info book is = record { keys = record { nodes = is.keys.nodes; affils = is.keys.affils; subs = is.keys.subs; items = is.keys.items; links = is.keys.links; rosters = is.keys.rosters; vers = vers-apart (is_verified caps info) caps info book is.keys.vers; counts = is.keys.counts }; links = is.links }
+usable-keyed true caps who info book is = record {
+  keys = record {
+    nodes = is.keys.nodes;
+    affils = is.keys.affils;
+    subs = is.keys.subs;
+    items = is.keys.items;
+    links = is.keys.links;
+    rosters = is.keys.rosters;
+    vers = vers-apart (is_verified caps info) caps info
+        book is.keys.vers;
+    counts = is.keys.counts;
+  };
+  links = is.links;
+}
 usable-keyed false caps who info book is = is
 
 answer-keyed : (shown : Option Caps) (who : Jid) (node : List ℕ) (info : Info) (book : Book) → IsKeyed book → IsKeyed (answer_by shown who node info book)
@@ -282,30 +401,114 @@ changed-keyed (ask.Create node form) r moment book ok is =
     let third = new_node_step (new_config r.target form) book r in
     let one = step-parts first (second ∷ third ∷ node_limit_step book r ∷ []) ok in
     let two = step-parts second (third ∷ node_limit_step book r ∷ []) one.1 in
-    create-by (new_config r.target form) r node book (not-true (stands (node_of r node) book.nodes) (unless-none (not (stands (node_of r node) book.nodes)) C8 one.0)) (step-parts third (node_limit_step book r ∷ []) two.1).0 is
+    create-by (new_config r.target form) r node book (not-true (stands (node_of r node) book.nodes) (unless-none (not (stands (node_of r node) book.nodes)) C8 one.0))
+    (step-parts third (node_limit_step book r ∷ []) two.1).0 is
 changed-keyed (ask.Publish node items options) r moment book ok is = publish-keyed (node_at (node_of r node) book.nodes) r node items options moment book refl ok is
 changed-keyed (ask.Retract node ids notify) r moment book ok is = retract-keyed (node_of r node) ids book is
-changed-keyed (ask.Purge node) r moment book ok is = record { keys = record { nodes = is.keys.nodes; affils = is.keys.affils; subs = is.keys.subs; items = apart-filter item_key (λ x. not (is_item_at (node_of r node) x)) book.items is.keys.items; links = is.keys.links; rosters = is.keys.rosters; vers = is.keys.vers; counts = is.keys.counts }; links = is.links }
+changed-keyed (ask.Purge node) r moment book ok is = record {
+  keys = record {
+    nodes = is.keys.nodes;
+    affils = is.keys.affils;
+    subs = is.keys.subs;
+    items = apart-filter item_key (λ x. not (is_item_at (node_of r node) x)) book.items is.keys.items;
+    links = is.keys.links;
+    rosters = is.keys.rosters;
+    vers = is.keys.vers;
+    counts = is.keys.counts;
+  };
+  links = is.links;
+}
 changed-keyed (ask.Delete node) r moment book ok is = deleted-keyed (node_of r node) book is
 changed-keyed (ask.ConfigGet node) r moment book ok is = is
 changed-keyed (ask.ConfigSet node form) r moment book ok is = configured_by-keyed (node_at (node_of r node) book.nodes) (node_of r node) form book is
 changed-keyed (ask.AffilsGet node) r moment book ok is = is
-changed-keyed (ask.AffilsSet node rows) r moment book ok is = record { keys = record { nodes = is.keys.nodes; affils = affils-all (node_of r node) rows book.affils is.keys.affils; subs = is.keys.subs; items = is.keys.items; links = is.keys.links; rosters = is.keys.rosters; vers = is.keys.vers; counts = is.keys.counts }; links = is.links }
+changed-keyed (ask.AffilsSet node rows) r moment book ok is = record {
+  keys = record {
+    nodes = is.keys.nodes;
+    affils = affils-all (node_of r node) rows book.affils is.keys.affils;
+    subs = is.keys.subs;
+    items = is.keys.items;
+    links = is.keys.links;
+    rosters =
+        is.keys.rosters;
+    vers = is.keys.vers;
+    counts = is.keys.counts;
+  };
+  links = is.links;
+}
 changed-keyed (ask.SubsGet node) r moment book ok is = is
-changed-keyed (ask.SubsSet node rows) r moment book ok is = record { keys = record { nodes = is.keys.nodes; affils = is.keys.affils; subs = subs-all (node_of r node) rows book.subs is.keys.subs; items = is.keys.items; links = is.keys.links; rosters = is.keys.rosters; vers = is.keys.vers; counts = is.keys.counts }; links = is.links }
+changed-keyed (ask.SubsSet node rows) r moment book ok is = record {
+  keys = record {
+    nodes = is.keys.nodes;
+    affils = is.keys.affils;
+    subs = subs-all (node_of r node) rows book.subs is.keys.subs;
+    items = is.keys.items;
+    links = is.keys.links;
+    rosters =
+        is.keys.rosters;
+    vers = is.keys.vers;
+    counts = is.keys.counts;
+  };
+  links = is.links;
+}
 changed-keyed (ask.MyAffils node) r moment book ok is = is
 changed-keyed (ask.MySubs node) r moment book ok is = is
-changed-keyed (ask.Subscribe node who form) r moment book ok is = subscribed-keyed (sub_options form (base_options book (node_of r node) who)) (node_of r node) who (new_state book r (node_of r node) who) book is
-changed-keyed (ask.Unsubscribe node who subid) r moment book ok is = record { keys = record { nodes = is.keys.nodes; affils = is.keys.affils; subs = subs-set (record { node = node_of r node; who = who; state = sub.Nothing; options = base_options book (node_of r node) who }) book.subs is.keys.subs; items = is.keys.items; links = is.keys.links; rosters = is.keys.rosters; vers = is.keys.vers; counts = is.keys.counts }; links = is.links }
+changed-keyed (ask.Subscribe node who form) r moment book ok is = subscribed-keyed (sub_options form (base_options book (node_of r node) who)) (node_of r node) who
+    (new_state book r (node_of r node) who) book is
+changed-keyed (ask.Unsubscribe node who subid) r moment book ok is = record {
+  keys = record {
+    nodes = is.keys.nodes;
+    affils = is.keys.affils;
+    subs = subs-set
+        (record { node = node_of r node; who = who; state = sub.Nothing; options = base_options book (node_of r node) who }) book.subs is.keys.subs;
+    items = is.keys.items;
+    links = is.keys.links;
+    rosters = is.keys.rosters;
+    vers = is.keys.vers;
+    counts = is.keys.counts;
+  };
+  links = is.links;
+}
 changed-keyed (ask.OptionsGet node who) r moment book ok is = is
-changed-keyed (ask.OptionsSet node who form) r moment book ok is = subscribed-keyed (sub_options form (base_options book (node_of r node) who)) (node_of r node) who (sub_at (node_of r node) who book.subs) book is
+changed-keyed (ask.OptionsSet node who form) r moment book ok is = subscribed-keyed (sub_options form (base_options book (node_of r node) who)) (node_of r node) who
+    (sub_at (node_of r node) who book.subs) book is
 changed-keyed (ask.ItemsGet node max ids) r moment book ok is = is
 changed-keyed (ask.InfoGet node) r moment book ok is = is
 changed-keyed (ask.NodesGet node) r moment book ok is = is
 changed-keyed (ask.RosterSet item) r moment book ok is = roster-keyed (roster_of item.subscription) r.from item book is
-changed-keyed (ask.Approve node who allow) r moment book ok is = record { keys = record { nodes = is.keys.nodes; affils = is.keys.affils; subs = subs-set (sub_with (node_of r node) who (approved (is_true allow)) book.subs) book.subs is.keys.subs; items = is.keys.items; links = is.keys.links; rosters = is.keys.rosters; vers = is.keys.vers; counts = is.keys.counts }; links = is.links }
-changed-keyed (ask.Present caps) r moment book ok is = record { keys = record { nodes = is.keys.nodes; affils = is.keys.affils; subs = is.keys.subs; items = is.keys.items; links = is.keys.links; rosters = is.keys.rosters; vers = is.keys.vers; counts = is.keys.counts }; links = is.links }
-changed-keyed ask.Absent r moment book ok is = record { keys = record { nodes = is.keys.nodes; affils = is.keys.affils; subs = is.keys.subs; items = is.keys.items; links = is.keys.links; rosters = is.keys.rosters; vers = is.keys.vers; counts = is.keys.counts }; links = is.links }
+changed-keyed (ask.Approve node who allow) r moment book ok is = record {
+  keys = record {
+    nodes = is.keys.nodes;
+    affils = is.keys.affils;
+    subs = subs-set (sub_with (node_of r node) who (approved (is_true allow)) book.subs) book.subs is.keys.subs;
+    items =
+        is.keys.items;
+    links = is.keys.links;
+    rosters = is.keys.rosters;
+    vers = is.keys.vers;
+    counts = is.keys.counts;
+  };
+  links = is.links;
+}
+changed-keyed (ask.Present caps) r moment book ok is = record {
+  keys = record {
+    nodes = is.keys.nodes;
+    affils = is.keys.affils;
+    subs = is.keys.subs;
+    items = is.keys.items;
+    links = is.keys.links;
+    rosters = is.keys.rosters;
+    vers = is.keys.vers;
+    counts =
+        is.keys.counts;
+  };
+  links = is.links;
+}
+changed-keyed ask.Absent r moment book ok is = record {
+  keys = record
+      { nodes = is.keys.nodes; affils = is.keys.affils; subs = is.keys.subs; items = is.keys.items; links = is.keys.links; rosters = is.keys.rosters; vers = is.keys.vers; counts = is.keys.counts };
+  links = is.links;
+}
 changed-keyed (ask.CapsAnswer node info) r moment book ok is = answer-keyed (caps_in (resource_at r.from book.resources)) r.from node (info_of info) book is
 changed-keyed ask.Silent r moment book ok is = is
 

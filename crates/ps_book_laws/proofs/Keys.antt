@@ -51,10 +51,12 @@ pub count-key : IsKey count_key
 count-key = key-and (λ a b. same_node a.node b.node) (λ a b. same_bare a.who b.who) (key-by same_node same_node-Decides (λ (r : CountRow). r.node)) (bare-key (λ (r : CountRow). r.who))
 
 pub sub-key : IsKey sub_key
-sub-key = key-and (λ a b. same_node a.node b.node) (λ a b. same_jid a.who b.who) (key-by same_node same_node-Decides (λ (r : SubRow). r.node)) (key-by same_jid same_jid-Decides (λ (r : SubRow). r.who))
+sub-key = key-and (λ a b. same_node a.node b.node) (λ a b. same_jid a.who b.who) (key-by same_node same_node-Decides (λ (r : SubRow). r.node))
+    (key-by same_jid same_jid-Decides (λ (r : SubRow). r.who))
 
 pub item-key : IsKey item_key
-item-key = key-and (λ a b. same_node a.node b.node) (λ a b. bytes_eq a.id b.id) (key-by same_node same_node-Decides (λ (r : ItemRow). r.node)) (key-by bytes_eq bytes_eq-Decides (λ (r : ItemRow). r.id))
+item-key = key-and (λ a b. same_node a.node b.node) (λ a b. bytes_eq a.id b.id) (key-by same_node same_node-Decides (λ (r : ItemRow). r.node))
+    (key-by bytes_eq bytes_eq-Decides (λ (r : ItemRow). r.id))
 
 pub roster-key : IsKey roster_key
 roster-key = key-and (λ a b. same_bare a.account b.account) (λ a b. same_bare a.contact b.contact) (bare-key (λ (r : RosterRow). r.account)) (bare-key (λ (r : RosterRow). r.contact))
@@ -140,7 +142,8 @@ module _ {R : Type 0} (same : R → R → Bool) where
       let p = push-at x row xs (same row x) refl none in
       (each-push (λ y. same y x ≡ false) xs row is.0 p.0, apart-push xs row p.1 is.1)
 
-  gone-at : (t : R → Bool) (x : R) (xs : List R) (b : Bool) → t x ≡ b → is_none (find t (filter (λ y. not (t y)) xs)) ≡ true → is_none (find t (cond (not b) (x ∷ filter (λ y. not (t y)) xs) (filter (λ y. not (t y)) xs))) ≡ true
+  gone-at : (t : R → Bool) (x : R) (xs : List R) (b : Bool) → t x ≡ b → is_none (find t (filter (λ y. not (t y)) xs)) ≡ true
+      → is_none (find t (cond (not b) (x ∷ filter (λ y. not (t y)) xs) (filter (λ y. not (t y)) xs))) ≡ true
   gone-at t x xs true e h = h
   gone-at t x xs false e h = ap (λ b. is_none (cond b (Some x) (find t (filter (λ y. not (t y)) xs)))) e ∙ h
 
@@ -157,18 +160,21 @@ module _ {R : Type 0} (same : R → R → Bool) where
   apart-keep test most (x ∷ xs) is =
       keep-apart-if x (keep_newest test most xs) (test x && nat_le most (count_by test xs)) (each-keep (λ y. same y x ≡ false) test most xs is.0) (apart-keep test most xs is.1)
 
-  change-at : (f : R → R) (x : R) (xs more : List R) (b : Bool) → ((y : R) → same y (f x) ≡ same y x) → Each (λ y. same y x ≡ false) xs → Each (λ y. same y x ≡ false) more → AreApart same xs → AreApart same more
+  change-at : (f : R → R) (x : R) (xs more : List R) (b : Bool) → ((y : R) → same y (f x) ≡ same y x) → Each (λ y. same y x ≡ false) xs → Each (λ y. same y x ≡ false) more → AreApart same xs
+      → AreApart same more
       → AreApart same (cond b (f x ∷ xs) (x ∷ more))
   change-at f x xs more true at far far' is is' = (each-by (λ y. same y (f x) ≡ false) (λ y. same y x ≡ false) xs (λ y h. at y ∙ h) far, is)
   change-at f x xs more false at far far' is is' = (far', is')
 
-  pub apart-change : (test : R → Bool) (f : R → R) → ((y x : R) → same y (f x) ≡ same y x) → ((y x : R) → same (f y) x ≡ same y x) → (xs : List R) → AreApart same xs → AreApart same (change_row test f xs)
+  pub apart-change : (test : R → Bool) (f : R → R) → ((y x : R) → same y (f x) ≡ same y x) → ((y x : R) → same (f y) x ≡ same y x) → (xs : List R) → AreApart same xs
+      → AreApart same (change_row test f xs)
   apart-change test f right left [] is = tt
   apart-change test f right left (x ∷ xs) is =
       change-at f x xs (change_row test f xs) (test x) (λ y. right y x) is.0 (each-change (λ y. same y x ≡ false) test f xs (λ y h. left y x ∙ h) is.0) is.1 (apart-change test f right left xs is.1)
 
   module _ (key : IsKey same) where
-    put-at : (x row : R) (xs : List R) (b : Bool) → same row x ≡ b → Each (λ y. same y x ≡ false) xs → AreApart same xs → AreApart same (put_row (same row) row xs) → AreApart same (cond b (row ∷ xs) (x ∷ put_row (same row) row xs))
+    put-at : (x row : R) (xs : List R) (b : Bool) → same row x ≡ b → Each (λ y. same y x ≡ false) xs → AreApart same xs → AreApart same (put_row (same row) row xs)
+        → AreApart same (cond b (row ∷ xs) (x ∷ put_row (same row) row xs))
     put-at x row xs true e far is more = (each-by (λ y. same y row ≡ false) (λ y. same y x ≡ false) xs (λ y h. key.turned y row ∙ key.like row x y e ∙ key.turned x y ∙ h) far, is)
     put-at x row xs false e far is more = (each-put (λ y. same y x ≡ false) (same row) row xs e far, more)
 

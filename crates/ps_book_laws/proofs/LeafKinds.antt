@@ -73,7 +73,8 @@ kept-leaf None p h = absurd (cc h)
 kept-leaf (Some r) p h = h
 
 pub leaf-more : (nodes : List NodeRow) (row : NodeRow) (r : ItemRow) → IsAtLeaf nodes r → IsAtLeaf (nodes ++ row ∷ []) r
-leaf-more nodes row r h = ap (λ (o : Option NodeRow). is_leaf_at (option_map (λ x. x.config) o)) (find-append (is_node r.node) nodes (row ∷ [])) ∙ kept-leaf (node_at r.node nodes) (node_at r.node (row ∷ [])) h
+leaf-more nodes row r h = ap (λ (o : Option NodeRow). is_leaf_at (option_map (λ x. x.config) o)) (find-append (is_node r.node) nodes (row ∷ [])) ∙ kept-leaf (node_at r.node nodes)
+    (node_at r.node (row ∷ [])) h
 
 created-leaves : (node : NodeKey) (who : Jid) (config : NodeConfig) (book : Book) → AreAtLeaves book → AreAtLeaves (created node who config book)
 created-leaves node who config book is = each-by (IsAtLeaf (book.nodes ++ new_node node who config ∷ [])) (IsAtLeaf book.nodes) book.items (leaf-more book.nodes (new_node node who config)) is
@@ -82,17 +83,21 @@ created_by-leaves : (given : Result NodeConfig Condition) (node : NodeKey) (who 
 created_by-leaves (Err why) node who book is = is
 created_by-leaves (Ok config) node who book is = created-leaves node who config book is
 
-put-leaves : (persist : Bool) (nodes : List NodeRow) (row : ItemRow) (most : ℕ) (rows : List ItemRow) → IsAtLeaf nodes row → Each (IsAtLeaf nodes) rows → Each (IsAtLeaf nodes) (cond persist (items_with row most rows) rows)
+put-leaves : (persist : Bool) (nodes : List NodeRow) (row : ItemRow) (most : ℕ) (rows : List ItemRow) → IsAtLeaf nodes row → Each (IsAtLeaf nodes) rows
+    → Each (IsAtLeaf nodes) (cond persist (items_with row most rows) rows)
 put-leaves true nodes row most rows leaf is =
     each-keep (IsAtLeaf nodes) (is_item_at row.node) most (without (is_item_of row.node row.id) rows ++ row ∷ [])
     (each-push (IsAtLeaf nodes) (without (is_item_of row.node row.id) rows) row (each-filter (IsAtLeaf nodes) (λ x. not (is_item_of row.node row.id x)) rows is) leaf)
 put-leaves false nodes row most rows leaf is = is
 
-published-leaves : (node : NodeKey) (config : NodeConfig) (who : Jid) (moment : Option ℕ) (items : List AskItem) (book : Book) → is_leaf_at (config_at node book.nodes) ≡ true → AreAtLeaves book → AreAtLeaves (published node config who moment items book)
+published-leaves : (node : NodeKey) (config : NodeConfig) (who : Jid) (moment : Option ℕ) (items : List AskItem) (book : Book) → is_leaf_at (config_at node book.nodes) ≡ true → AreAtLeaves book
+    → AreAtLeaves (published node config who moment items book)
 published-leaves node config who moment [] book leaf is = is
-published-leaves node config who moment (item ∷ items) book leaf is = put-leaves config.persist_items book.nodes (item_row node (item_id item.id book node who) who item.payloads moment) config.max_items book.items leaf is
+published-leaves node config who moment (item ∷ items) book leaf is = put-leaves config.persist_items book.nodes (item_row node (item_id item.id book node who) who item.payloads moment)
+    config.max_items book.items leaf is
 
-last-leaf : (o : Option NodeRow) (row : NodeRow) (b : Bool) → b ≡ true → is_some o ≡ false → not (is_collection row.config.node_type) ≡ true → is_leaf_at (option_map (λ x. x.config) (option_or o (cond b (Some row) None))) ≡ true
+last-leaf : (o : Option NodeRow) (row : NodeRow) (b : Bool) → b ≡ true → is_some o ≡ false → not (is_collection row.config.node_type) ≡ true
+    → is_leaf_at (option_map (λ x. x.config) (option_or o (cond b (Some row) None))) ≡ true
 last-leaf (Some r) row b e none leaf = absurd (cc none)
 last-leaf None row true e none leaf = leaf
 last-leaf None row false e none leaf = absurd (cc e)
@@ -105,13 +110,15 @@ new-leaves (Ok config) r node moment items book none step is =
     let row = new_node key r.from config in
     let leaf = unless-none (not (is_collection config.node_type)) C14 (step-parts (unless (not (is_collection config.node_type)) C14) (collection_step book r config.collection ∷ []) step).0 in
     published-leaves key config r.from moment items (created key r.from config book)
-    (ap (λ (o : Option NodeRow). is_leaf_at (option_map (λ x. x.config) o)) (find-append (is_node key) book.nodes (row ∷ [])) ∙ last-leaf (node_at key book.nodes) row (same_node key key) (same_node-itself key) none leaf)
+    (ap (λ (o : Option NodeRow). is_leaf_at (option_map (λ x. x.config) o)) (find-append (is_node key) book.nodes (row ∷ [])) ∙ last-leaf (node_at key book.nodes) row (same_node key key)
+    (same_node-itself key) none leaf)
     (created-leaves key r.from config book is)
 
 publish-leaves : (o : Option NodeRow) (r : Request) (node : List ℕ) (items : List AskItem) (options : Option Tree) (moment : Option ℕ) (book : Book) → node_at (node_of r node) book.nodes ≡ o
     → first_denial (publish_by o book r node items options) ≡ None → AreAtLeaves book → AreAtLeaves (published_by o (node_of r node) r.from moment items options book)
 publish-leaves (Some row) r node items options moment book at ok is =
-    let leaf = unless-none (not (is_collection row.config.node_type)) C10 (step-parts (leaf_by (Some row)) (denied_by (publish book (node_of r node) r.from) ∷ options_step options row.config ∷ item_steps row.config items) ok).0 in
+    let leaf = unless-none (not (is_collection row.config.node_type)) C10
+    (step-parts (leaf_by (Some row)) (denied_by (publish book (node_of r node) r.from) ∷ options_step options row.config ∷ item_steps row.config items) ok).0 in
     published-leaves (node_of r node) row.config r.from moment items book (ap (λ (o : Option NodeRow). is_leaf_at (option_map (λ x. x.config) o)) at ∙ leaf) is
 publish-leaves None r node items options moment book at ok is = mine (is_own_account r.target r.from) ok
   where
@@ -122,7 +129,8 @@ publish-leaves None r node items options moment book at ok is = mine (is_own_acc
         let given = options_config options (default_config true) in
         new-leaves given r node moment items book (ap (λ (o : Option NodeRow). is_some o) at) (step-parts (made_step given book r) (made_item_steps given items ++ node_limit_step book r ∷ []) h).0 is
 
-gone-at : (node : NodeKey) (nodes : List NodeRow) (r : ItemRow) (more : List ItemRow) (b : Bool) → same_node node r.node ≡ b → IsAtLeaf nodes r → Each (IsAtLeaf (nodes_without node nodes)) more → Each (IsAtLeaf (nodes_without node nodes)) (cond (not b) (r ∷ more) more)
+gone-at : (node : NodeKey) (nodes : List NodeRow) (r : ItemRow) (more : List ItemRow) (b : Bool) → same_node node r.node ≡ b → IsAtLeaf nodes r → Each (IsAtLeaf (nodes_without node nodes)) more
+    → Each (IsAtLeaf (nodes_without node nodes)) (cond (not b) (r ∷ more) more)
 gone-at node nodes r more true e is rest = rest
 gone-at node nodes r more false e is rest = (ap (λ (o : Option NodeRow). is_leaf_at (option_map (λ x. x.config) o)) (node_at-without r.node node (same_node-turned r.node node ∙ e) nodes) ∙ is, rest)
 
@@ -136,24 +144,28 @@ kind-one Leaf Collection h = absurd (cc h)
 kind-one Collection Leaf h = absurd (cc h)
 kind-one Collection Collection h = refl
 
-leaf-with : (k node : NodeKey) (config : NodeConfig) (row : NodeRow) (nodes : List NodeRow) (b : Bool) → same_node k node ≡ b → node_at node nodes ≡ Some row → same_kind row.config.node_type config.node_type ≡ true
+leaf-with : (k node : NodeKey) (config : NodeConfig) (row : NodeRow) (nodes : List NodeRow) (b : Bool) → same_node k node ≡ b → node_at node nodes ≡ Some row
+    → same_kind row.config.node_type config.node_type ≡ true
     → is_leaf_at (config_at k (nodes_with node config nodes)) ≡ is_leaf_at (config_at k nodes)
 leaf-with k node config row nodes true e found same =
     let it : k ≡ node = (same_node-Decides k node).0 e in
     rw (it, node_at-configured node config nodes, found) (kind-one row.config.node_type config.node_type same)
 leaf-with k node config row nodes false e found same = ap (λ (o : Option NodeRow). is_leaf_at (option_map (λ r. r.config) o)) (node_at-with k node e config nodes)
 
-under-leaves : (persist : Bool) (nodes : List NodeRow) (node : NodeKey) (config : NodeConfig) (rows : List ItemRow) → Each (IsAtLeaf nodes) rows → Each (IsAtLeaf nodes) (cond persist (items_kept node config.max_items rows) (items_without node rows))
+under-leaves : (persist : Bool) (nodes : List NodeRow) (node : NodeKey) (config : NodeConfig) (rows : List ItemRow) → Each (IsAtLeaf nodes) rows
+    → Each (IsAtLeaf nodes) (cond persist (items_kept node config.max_items rows) (items_without node rows))
 under-leaves true nodes node config rows is = each-keep (IsAtLeaf nodes) (is_item_at node) config.max_items rows is
 under-leaves false nodes node config rows is = each-filter (IsAtLeaf nodes) (λ x. not (is_item_at node x)) rows is
 
-set-leaves : (node : NodeKey) (config : NodeConfig) (row : NodeRow) (book : Book) → node_at node book.nodes ≡ Some row → is_unmoved row.config config ≡ true → AreAtLeaves book → AreAtLeaves (configured node (Ok config) book)
+set-leaves : (node : NodeKey) (config : NodeConfig) (row : NodeRow) (book : Book) → node_at node book.nodes ≡ Some row → is_unmoved row.config config ≡ true → AreAtLeaves book
+    → AreAtLeaves (configured node (Ok config) book)
 set-leaves node config row book found unmoved is =
     let parts = and_parts (same_kind row.config.node_type config.node_type) (bytes_eq config.collection row.config.collection) unmoved in
     under-leaves config.persist_items (nodes_with node config book.nodes) node config book.items
     (each-by (IsAtLeaf (nodes_with node config book.nodes)) (IsAtLeaf book.nodes) book.items (λ r h. leaf-with r.node node config row book.nodes (same_node r.node node) refl found parts.0 ∙ h) is)
 
-given-leaves : (given : Result NodeConfig Condition) (node : NodeKey) (row : NodeRow) (book : Book) → node_at node book.nodes ≡ Some row → given_step given row.config ≡ None → AreAtLeaves book → AreAtLeaves (configured node given book)
+given-leaves : (given : Result NodeConfig Condition) (node : NodeKey) (row : NodeRow) (book : Book) → node_at node book.nodes ≡ Some row → given_step given row.config ≡ None → AreAtLeaves book
+    → AreAtLeaves (configured node given book)
 given-leaves (Err why) node row book found ok is = is
 given-leaves (Ok config) node row book found ok is =
     set-leaves node config row book found (unless-none (is_unmoved row.config config) C14 ok) is
@@ -163,7 +175,8 @@ step-leaves : (form : Option Form) (node : NodeKey) (row : NodeRow) (book : Book
 step-leaves form node row book true e found ok is = rw (cancelled-given config_type row.config form e) is
 step-leaves form node row book false e found ok is = given-leaves (config_given config_type row.config form) node row book found ok is
 
-configured_by-leaves : (o : Option NodeRow) (node : NodeKey) (form : Option Tree) (book : Book) → node_at node book.nodes ≡ o → config_by o form ≡ None → AreAtLeaves book → AreAtLeaves (configured_by o node form book)
+configured_by-leaves : (o : Option NodeRow) (node : NodeKey) (form : Option Tree) (book : Book) → node_at node book.nodes ≡ o → config_by o form ≡ None → AreAtLeaves book
+    → AreAtLeaves (configured_by o node form book)
 configured_by-leaves None node form book found ok is = is
 configured_by-leaves (Some row) node None book found ok is = is
 configured_by-leaves (Some row) node (Some form) book found ok is = step-leaves (form_of form) node row book (is_cancelled (form_of form)) refl found ok is
@@ -206,10 +219,12 @@ changed-leaves (ask.SubsGet node) r moment book ok is = is
 changed-leaves (ask.SubsSet node rows) r moment book ok is = is
 changed-leaves (ask.MyAffils node) r moment book ok is = is
 changed-leaves (ask.MySubs node) r moment book ok is = is
-changed-leaves (ask.Subscribe node who form) r moment book ok is = subscribed-leaves (sub_options form (base_options book (node_of r node) who)) (node_of r node) who (new_state book r (node_of r node) who) book is
+changed-leaves (ask.Subscribe node who form) r moment book ok is = subscribed-leaves (sub_options form (base_options book (node_of r node) who)) (node_of r node) who
+    (new_state book r (node_of r node) who) book is
 changed-leaves (ask.Unsubscribe node who subid) r moment book ok is = is
 changed-leaves (ask.OptionsGet node who) r moment book ok is = is
-changed-leaves (ask.OptionsSet node who form) r moment book ok is = subscribed-leaves (sub_options form (base_options book (node_of r node) who)) (node_of r node) who (sub_at (node_of r node) who book.subs) book is
+changed-leaves (ask.OptionsSet node who form) r moment book ok is = subscribed-leaves (sub_options form (base_options book (node_of r node) who)) (node_of r node) who
+    (sub_at (node_of r node) who book.subs) book is
 changed-leaves (ask.ItemsGet node max ids) r moment book ok is = is
 changed-leaves (ask.InfoGet node) r moment book ok is = is
 changed-leaves (ask.NodesGet node) r moment book ok is = is

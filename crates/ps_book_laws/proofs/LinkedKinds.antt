@@ -89,15 +89,22 @@ differs : (a c : NodeKey) (nodes : List NodeRow) (b : Bool) → same_node a c �
 differs a c nodes true e none some = absurd (true≢false (sym some ∙ ap (λ (k : NodeKey). stands k nodes) (sym ((same_node-Decides a c).0 e)) ∙ none))
 differs a c nodes false e none some = refl
 
-linked-links : (name : List ℕ) (row : NodeRow) (nodes : List NodeRow) (links : List LinkRow) → stands row.key nodes ≡ false → IsInto name row.key nodes → Each (IsLinkRow nodes) links → Each (IsLinkRow (nodes ++ row ∷ [])) (linked row.key name links)
+linked-links : (name : List ℕ) (row : NodeRow) (nodes : List NodeRow) (links : List LinkRow) → stands row.key nodes ≡ false → IsInto name row.key nodes → Each (IsLinkRow nodes) links
+    → Each (IsLinkRow (nodes ++ row ∷ [])) (linked row.key name links)
 unfolding IsInto
 linked-links [] row nodes links none into is = each-by (IsLinkRow (nodes ++ row ∷ [])) (IsLinkRow nodes) links (link-more nodes row) is
 linked-links (x ∷ name) row nodes links none into is =
     let coll : NodeKey = record { service = row.key.service; name = x ∷ name } in
     each-push (IsLinkRow (nodes ++ row ∷ [])) links (record { child = row.key; collection = coll }) (each-by (IsLinkRow (nodes ++ row ∷ [])) (IsLinkRow nodes) links (link-more nodes row) is)
-    (record { child = stands-new nodes row; collection = kind-more coll nodes row into; differ = differs row.key coll nodes (same_node row.key coll) refl none (kind-stands (node_at coll nodes) into) })
+    (record {
+      child = stands-new nodes row;
+      collection = kind-more coll nodes row into;
+      differ = differs row.key coll nodes (same_node row.key coll) refl none
+          (kind-stands (node_at coll nodes) into);
+    })
 
-absent-at : (k : NodeKey) (r : NodeRow) (rows : List NodeRow) (b : Bool) → same_node k r.key ≡ b → is_some (cond b (Some r) (node_at k rows)) ≡ false → (same_node r.key k ≡ false) × (stands k rows ≡ false)
+absent-at : (k : NodeKey) (r : NodeRow) (rows : List NodeRow) (b : Bool) → same_node k r.key ≡ b → is_some (cond b (Some r) (node_at k rows)) ≡ false
+    → (same_node r.key k ≡ false) × (stands k rows ≡ false)
 absent-at k r rows true e h = absurd (cc h)
 absent-at k r rows false e h = (same_node-turned r.key k ∙ e, h)
 
@@ -113,7 +120,8 @@ none-is : (o : Option LinkRow) → is_none o ≡ true → o ≡ None
 none-is None h = refl
 none-is (Some l) h = absurd (cc h)
 
-pub linked-configured : (name : List ℕ) (row : NodeRow) (nodes : List NodeRow) (links : List LinkRow) → row.config.collection ≡ name → is_none (find (is_link_of row.key) links) ≡ true → Each (λ r. same_node r.key row.key ≡ false) nodes
+pub linked-configured : (name : List ℕ) (row : NodeRow) (nodes : List NodeRow) (links : List LinkRow) → row.config.collection ≡ name → is_none (find (is_link_of row.key) links) ≡ true
+    → Each (λ r. same_node r.key row.key ≡ false) nodes
     → Each (IsConfigured links) nodes → Each (IsConfigured (linked row.key name links)) (nodes ++ row ∷ [])
 linked-configured [] row nodes links has none apart is =
     each-push (IsConfigured links) nodes row is
@@ -124,10 +132,12 @@ linked-configured (x ∷ name) row nodes links has none apart is =
     (both (λ r. same_node r.key row.key ≡ false) (IsConfigured links) (IsConfigured (links ++ l ∷ [])) nodes (λ r far h. named-else links l r far ∙ h) apart is)
     (named-own links l row refl none ∙ ap (λ (c : List ℕ). record row { config = record row.config { collection = c } }) (sym has))
 
-created-linked : (node : NodeKey) (who : Jid) (config : NodeConfig) (book : Book) → stands node book.nodes ≡ false → IsInto config.collection node book.nodes → IsKeyed book → IsLinked book → IsLinked (created node who config book)
+created-linked : (node : NodeKey) (who : Jid) (config : NodeConfig) (book : Book) → stands node book.nodes ≡ false → IsInto config.collection node book.nodes → IsKeyed book → IsLinked book
+    → IsLinked (created node who config book)
 created-linked node who config book none into keyed is = record {
   links = linked-links config.collection (new_node node who config) book.nodes book.links none into is.links;
-  configured = linked-configured config.collection (new_node node who config) book.nodes book.links refl (none-of node book.links (no-link node book.nodes book.links none keyed.links)) (absent node book.nodes none) is.configured;
+  configured = linked-configured config.collection (new_node node who config) book.nodes book.links refl (none-of node book.links (no-link node book.nodes book.links none keyed.links))
+      (absent node book.nodes none) is.configured;
 }
 
 collection-is : (o : Option NodeRow) (book : Book) (who : Jid) → collection_by o book who ≡ None → is_collection_at (option_map (λ row. row.config) o) ≡ true
@@ -146,7 +156,8 @@ not-true : (b : Bool) → not b ≡ true → b ≡ false
 not-true true h = absurd (cc h)
 not-true false h = refl
 
-create-by : (given : Result NodeConfig Condition) (r : Request) (node : List ℕ) (book : Book) → stands (node_of r node) book.nodes ≡ false → new_node_step given book r ≡ None → IsKeyed book → IsLinked book
+create-by : (given : Result NodeConfig Condition) (r : Request) (node : List ℕ) (book : Book) → stands (node_of r node) book.nodes ≡ false → new_node_step given book r ≡ None → IsKeyed book
+    → IsLinked book
     → IsLinked (created_by given (node_of r node) r.from book)
 create-by (Err why) r node book none step keyed is = is
 create-by (Ok config) r node book none step keyed is =
@@ -174,11 +185,13 @@ publish-linked None r node items options moment book at ok keyed is = mine (is_o
     mine false h = absurd (cc h)
     mine true h =
         let given = options_config options (default_config true) in
-        new-linked given r node moment items book (ap (λ (o : Option NodeRow). is_some o) at) (step-parts (made_step given book r) (made_item_steps given items ++ node_limit_step book r ∷ []) h).0 keyed is
+        new-linked given r node moment items book (ap (λ (o : Option NodeRow). is_some o) at) (step-parts (made_step given book r) (made_item_steps given items ++ node_limit_step book r ∷ []) h).0
+        keyed is
 
 -- ---- a node goes that no node is in
 
-link-off : (node : NodeKey) (nodes : List NodeRow) (l : LinkRow) (a c : Bool) → same_node node l.child ≡ a → same_node node l.collection ≡ c → (a || c) ≡ false → IsLinkRow nodes l → IsLinkRow (nodes_without node nodes) l
+link-off : (node : NodeKey) (nodes : List NodeRow) (l : LinkRow) (a c : Bool) → same_node node l.child ≡ a → same_node node l.collection ≡ c → (a || c) ≡ false → IsLinkRow nodes l
+    → IsLinkRow (nodes_without node nodes) l
 link-off node nodes l true c p q h is = absurd (cc h)
 link-off node nodes l false true p q h is = absurd (cc h)
 link-off node nodes l false false p q h is = record {
@@ -187,7 +200,8 @@ link-off node nodes l false false p q h is = record {
   differ = is.differ;
 }
 
-off-at : (node : NodeKey) (nodes : List NodeRow) (l : LinkRow) (more : List LinkRow) (b : Bool) → is_link_at node l ≡ b → IsLinkRow nodes l → Each (IsLinkRow (nodes_without node nodes)) more → Each (IsLinkRow (nodes_without node nodes)) (cond (not b) (l ∷ more) more)
+off-at : (node : NodeKey) (nodes : List NodeRow) (l : LinkRow) (more : List LinkRow) (b : Bool) → is_link_at node l ≡ b → IsLinkRow nodes l → Each (IsLinkRow (nodes_without node nodes)) more
+    → Each (IsLinkRow (nodes_without node nodes)) (cond (not b) (l ∷ more) more)
 off-at node nodes l more true e is rest = rest
 off-at node nodes l more false e is rest = (link-off node nodes l (same_node node l.child) (same_node node l.collection) refl refl e is, rest)
 
@@ -196,7 +210,8 @@ off-links node nodes [] is = tt
 off-links node nodes (l ∷ links) is = off-at node nodes l (links_without node links) (is_link_at node l) refl is.0 (off-links node nodes links is.1)
 
 -- the link of another node stays
-find-off-at : (k node : NodeKey) (l : LinkRow) (links : List LinkRow) (a c : Bool) → same_node node l.child ≡ a → same_node node l.collection ≡ c → (c || has_children node links) ≡ false → same_node k node ≡ false
+find-off-at : (k node : NodeKey) (l : LinkRow) (links : List LinkRow) (a c : Bool) → same_node node l.child ≡ a → same_node node l.collection ≡ c → (c || has_children node links) ≡ false
+    → same_node k node ≡ false
     → (has_children node links ≡ false → find (is_link_of k) (links_without node links) ≡ find (is_link_of k) links)
     → find (is_link_of k) (cond (not (a || c)) (l ∷ links_without node links) (links_without node links)) ≡ cond (is_link_of k l) (Some l) (find (is_link_of k) links)
 find-off-at k node l links a true p q h far more = absurd (cc h)
@@ -209,13 +224,15 @@ find-off : (k node : NodeKey) (links : List LinkRow) → same_node k node ≡ fa
 find-off k node [] far h = refl
 find-off k node (l ∷ links) far h = find-off-at k node l links (same_node node l.child) (same_node node l.collection) refl refl h far (λ g. find-off k node links far g)
 
-off-configured-at : (node : NodeKey) (links : List LinkRow) (r : NodeRow) (more : List NodeRow) (b : Bool) → same_node node r.key ≡ b → has_children node links ≡ false → IsConfigured links r → Each (IsConfigured (links_without node links)) more
+off-configured-at : (node : NodeKey) (links : List LinkRow) (r : NodeRow) (more : List NodeRow) (b : Bool) → same_node node r.key ≡ b → has_children node links ≡ false → IsConfigured links r
+    → Each (IsConfigured (links_without node links)) more
     → Each (IsConfigured (links_without node links)) (cond (not b) (r ∷ more) more)
 off-configured-at node links r more true e h is rest = rest
 off-configured-at node links r more false e h is rest =
     (ap (λ (o : Option LinkRow). record r { config = record r.config { collection = name_in o } }) (find-off r.key node links (same_node-turned r.key node ∙ e) h) ∙ is, rest)
 
-off-configured : (node : NodeKey) (links : List LinkRow) (nodes : List NodeRow) → has_children node links ≡ false → Each (IsConfigured links) nodes → Each (IsConfigured (links_without node links)) (nodes_without node nodes)
+off-configured : (node : NodeKey) (links : List LinkRow) (nodes : List NodeRow) → has_children node links ≡ false → Each (IsConfigured links) nodes
+    → Each (IsConfigured (links_without node links)) (nodes_without node nodes)
 off-configured node links [] h is = tt
 off-configured node links (r ∷ nodes) h is = off-configured-at node links r (nodes_without node nodes) (is_node node r) refl h is.0 (off-configured node links nodes h is.1)
 
@@ -230,14 +247,16 @@ kind-one Leaf Collection h = absurd (cc h)
 kind-one Collection Leaf h = absurd (cc h)
 kind-one Collection Collection h = refl
 
-kind-with : (k node : NodeKey) (config : NodeConfig) (row : NodeRow) (nodes : List NodeRow) (b : Bool) → same_node k node ≡ b → node_at node nodes ≡ Some row → same_kind row.config.node_type config.node_type ≡ true
+kind-with : (k node : NodeKey) (config : NodeConfig) (row : NodeRow) (nodes : List NodeRow) (b : Bool) → same_node k node ≡ b → node_at node nodes ≡ Some row
+    → same_kind row.config.node_type config.node_type ≡ true
     → is_collection_at (config_at k (nodes_with node config nodes)) ≡ is_collection_at (config_at k nodes)
 kind-with k node config row nodes true e found same =
     let it : k ≡ node = (same_node-Decides k node).0 e in
     rw (it, node_at-configured node config nodes, found) (kind-one row.config.node_type config.node_type same)
 kind-with k node config row nodes false e found same = ap (λ (o : Option NodeRow). is_collection_at (option_map (λ r. r.config) o)) (node_at-with k node e config nodes)
 
-with-at : (links : List LinkRow) (node : NodeKey) (config : NodeConfig) (row r : NodeRow) (nodes : List NodeRow) (b : Bool) → is_node node r ≡ b → cond b (Some r) (node_at node nodes) ≡ Some row → config.collection ≡ row.config.collection
+with-at : (links : List LinkRow) (node : NodeKey) (config : NodeConfig) (row r : NodeRow) (nodes : List NodeRow) (b : Bool) → is_node node r ≡ b → cond b (Some r) (node_at node nodes) ≡ Some row
+    → config.collection ≡ row.config.collection
     → IsConfigured links r → Each (IsConfigured links) nodes → (node_at node nodes ≡ Some row → Each (IsConfigured links) (nodes_with node config nodes))
     → Each (IsConfigured links) (cond b (with_config config r ∷ nodes) (r ∷ nodes_with node config nodes))
 with-at links node config row r nodes true e found same is rest more =
@@ -246,20 +265,29 @@ with-at links node config row r nodes true e found same is rest more =
     (ap (λ (c : List ℕ). record r { config = record config { collection = c } }) names, rest)
 with-at links node config row r nodes false e found same is rest more = (is, more found)
 
-with-configured : (links : List LinkRow) (node : NodeKey) (config : NodeConfig) (row : NodeRow) (nodes : List NodeRow) → node_at node nodes ≡ Some row → config.collection ≡ row.config.collection → Each (IsConfigured links) nodes → Each (IsConfigured links) (nodes_with node config nodes)
+with-configured : (links : List LinkRow) (node : NodeKey) (config : NodeConfig) (row : NodeRow) (nodes : List NodeRow) → node_at node nodes ≡ Some row → config.collection ≡ row.config.collection
+    → Each (IsConfigured links) nodes → Each (IsConfigured links) (nodes_with node config nodes)
 with-configured links node config row [] found same is = tt
-with-configured links node config row (r ∷ nodes) found same is = with-at links node config row r nodes (is_node node r) refl found same is.0 is.1 (λ h. with-configured links node config row nodes h same is.1)
+with-configured links node config row (r ∷ nodes) found same is = with-at links node config row r nodes (is_node node r) refl found same is.0 is.1
+    (λ h. with-configured links node config row nodes h same is.1)
 
-set-linked : (node : NodeKey) (config : NodeConfig) (row : NodeRow) (book : Book) → node_at node book.nodes ≡ Some row → is_unmoved row.config config ≡ true → IsLinked book → IsLinked (configured node (Ok config) book)
+set-linked : (node : NodeKey) (config : NodeConfig) (row : NodeRow) (book : Book) → node_at node book.nodes ≡ Some row → is_unmoved row.config config ≡ true → IsLinked book
+    → IsLinked (configured node (Ok config) book)
 set-linked node config row book found unmoved is =
     let parts = and_parts (same_kind row.config.node_type config.node_type) (bytes_eq config.collection row.config.collection) unmoved in
     record {
       links = each-by (IsLinkRow (nodes_with node config book.nodes)) (IsLinkRow book.nodes) book.links
-          (λ l h. record { child = stands-with l.child node config book.nodes ∙ h.child; collection = kind-with l.collection node config row book.nodes (same_node l.collection node) refl found parts.0 ∙ h.collection; differ = h.differ }) is.links;
+          (λ l h. record {
+            child = stands-with l.child node config book.nodes ∙ h.child;
+            collection = kind-with l.collection node config row book.nodes (same_node l.collection node) refl found
+                parts.0 ∙ h.collection;
+            differ = h.differ;
+          }) is.links;
       configured = with-configured book.links node config row book.nodes found ((bytes_eq-Decides config.collection row.config.collection).0 parts.1) is.configured;
     }
 
-given-linked : (given : Result NodeConfig Condition) (node : NodeKey) (row : NodeRow) (book : Book) → node_at node book.nodes ≡ Some row → given_step given row.config ≡ None → IsLinked book → IsLinked (configured node given book)
+given-linked : (given : Result NodeConfig Condition) (node : NodeKey) (row : NodeRow) (book : Book) → node_at node book.nodes ≡ Some row → given_step given row.config ≡ None → IsLinked book
+    → IsLinked (configured node given book)
 given-linked (Err why) node row book found ok is = is
 given-linked (Ok config) node row book found ok is =
     set-linked node config row book found (unless-none (is_unmoved row.config config) C14 ok) is
@@ -280,7 +308,8 @@ step-linked : (form : Option Form) (node : NodeKey) (row : NodeRow) (book : Book
 step-linked form node row book true e found ok is = rw (cancelled-given config_type row.config form e) is
 step-linked form node row book false e found ok is = given-linked (config_given config_type row.config form) node row book found ok is
 
-configured_by-linked : (o : Option NodeRow) (node : NodeKey) (form : Option Tree) (book : Book) → node_at node book.nodes ≡ o → config_by o form ≡ None → IsLinked book → IsLinked (configured_by o node form book)
+configured_by-linked : (o : Option NodeRow) (node : NodeKey) (form : Option Tree) (book : Book) → node_at node book.nodes ≡ o → config_by o form ≡ None → IsLinked book
+    → IsLinked (configured_by o node form book)
 configured_by-linked None node form book found ok is = is
 configured_by-linked (Some row) node None book found ok is = is
 configured_by-linked (Some row) node (Some form) book found ok is = step-linked (form_of form) node row book (is_cancelled (form_of form)) refl found ok is
@@ -315,7 +344,8 @@ changed-linked (ask.Create node form) r moment book ok keyed is =
     let third = new_node_step (new_config r.target form) book r in
     let one = step-parts first (second ∷ third ∷ node_limit_step book r ∷ []) ok in
     let two = step-parts second (third ∷ node_limit_step book r ∷ []) one.1 in
-    create-by (new_config r.target form) r node book (not-true (stands (node_of r node) book.nodes) (unless-none (not (stands (node_of r node) book.nodes)) C8 one.0)) (step-parts third (node_limit_step book r ∷ []) two.1).0 keyed is
+    create-by (new_config r.target form) r node book (not-true (stands (node_of r node) book.nodes) (unless-none (not (stands (node_of r node) book.nodes)) C8 one.0))
+    (step-parts third (node_limit_step book r ∷ []) two.1).0 keyed is
 changed-linked (ask.Publish node items options) r moment book ok keyed is = publish-linked (node_at (node_of r node) book.nodes) r node items options moment book refl ok keyed is
 changed-linked (ask.Retract node ids notify) r moment book ok keyed is = retract-linked (node_of r node) ids book is
 changed-linked (ask.Purge node) r moment book ok keyed is = record { links = is.links; configured = is.configured }
@@ -334,10 +364,12 @@ changed-linked (ask.SubsGet node) r moment book ok keyed is = is
 changed-linked (ask.SubsSet node rows) r moment book ok keyed is = record { links = is.links; configured = is.configured }
 changed-linked (ask.MyAffils node) r moment book ok keyed is = is
 changed-linked (ask.MySubs node) r moment book ok keyed is = is
-changed-linked (ask.Subscribe node who form) r moment book ok keyed is = subscribed-linked (sub_options form (base_options book (node_of r node) who)) (node_of r node) who (new_state book r (node_of r node) who) book is
+changed-linked (ask.Subscribe node who form) r moment book ok keyed is = subscribed-linked (sub_options form (base_options book (node_of r node) who)) (node_of r node) who
+    (new_state book r (node_of r node) who) book is
 changed-linked (ask.Unsubscribe node who subid) r moment book ok keyed is = record { links = is.links; configured = is.configured }
 changed-linked (ask.OptionsGet node who) r moment book ok keyed is = is
-changed-linked (ask.OptionsSet node who form) r moment book ok keyed is = subscribed-linked (sub_options form (base_options book (node_of r node) who)) (node_of r node) who (sub_at (node_of r node) who book.subs) book is
+changed-linked (ask.OptionsSet node who form) r moment book ok keyed is = subscribed-linked (sub_options form (base_options book (node_of r node) who)) (node_of r node) who
+    (sub_at (node_of r node) who book.subs) book is
 changed-linked (ask.ItemsGet node max ids) r moment book ok keyed is = is
 changed-linked (ask.InfoGet node) r moment book ok keyed is = is
 changed-linked (ask.NodesGet node) r moment book ok keyed is = is

@@ -102,7 +102,8 @@ place name r = record r { config = record r.config { collection = name } }
 module _ (done : List LinkRow) (l : LinkRow) (none : is_none (find (is_link_of l.child) done) ≡ true) where
   change-step : (r x : NodeRow) (xs : List NodeRow) (b : Bool) → is_node l.child x ≡ b → cond b (Some x) (node_at l.child xs) ≡ Some r → AreApart node_key (x ∷ xs)
       → (node_at l.child xs ≡ Some r → change_row (is_node l.child) (with_config (place l.collection.name r).config) (map (named done) xs) ≡ map (named (done ++ l ∷ [])) xs)
-      → cond b (with_config (place l.collection.name r).config (named done x) ∷ map (named done) xs) (named done x ∷ change_row (is_node l.child) (with_config (place l.collection.name r).config) (map (named done) xs))
+      → cond b (with_config (place l.collection.name r).config (named done x) ∷ map (named done) xs)
+      (named done x ∷ change_row (is_node l.child) (with_config (place l.collection.name r).config) (map (named done) xs))
       ≡ named (done ++ l ∷ []) x ∷ map (named (done ++ l ∷ [])) xs
   unfolding place
   change-step r x xs true is found apart more =

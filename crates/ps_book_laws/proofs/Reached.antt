@@ -80,7 +80,8 @@ length-none xs e = by xs (eqb-true (length xs) 0 e)
     by [] h = refl
     by (x ∷ ys) h = absurd (let over : 0 < 0 = omega (arith, h) in omega (arith, over))
 
-none-any-at : (k : NodeKey) (l : LinkRow) (ls : List LinkRow) (b : Bool) → (b || list_any (is_link_at k) ls) ≡ false → (list_any (is_link_at k) ls ≡ false → is_none (find (is_link_at k) ls) ≡ true) → is_none (cond b (Some l) (find (is_link_at k) ls)) ≡ true
+none-any-at : (k : NodeKey) (l : LinkRow) (ls : List LinkRow) (b : Bool) → (b || list_any (is_link_at k) ls) ≡ false → (list_any (is_link_at k) ls ≡ false → is_none (find (is_link_at k) ls) ≡ true)
+    → is_none (cond b (Some l) (find (is_link_at k) ls)) ≡ true
 none-any-at k l ls true h more = absurd (cc h)
 none-any-at k l ls false h more = more h
 
@@ -90,7 +91,8 @@ none-any k (l ∷ ls) h = none-any-at k l ls (is_link_at k l) h (none-any k ls)
 
 fresh-item : (o : Option NodeConfig) (r : ItemRow) (b : Book) → takes_item o r b ≡ true → is_none (item_at r.node r.id b.items) ≡ true
 fresh-item None r b e = absurd (cc e)
-fresh-item (Some config) r b e = by (not (is_collection config.node_type)) config.persist_items (nat_lt (item_count r.node b.items) config.max_items) (is_none (item_at r.node r.id b.items)) (is_early r.moment) (is_shallow r.payload) e
+fresh-item (Some config) r b e = by (not (is_collection config.node_type)) config.persist_items (nat_lt (item_count r.node b.items) config.max_items) (is_none (item_at r.node r.id b.items))
+    (is_early r.moment) (is_shallow r.payload) e
   where
     by : (a c d x y z : Bool) → (a && c && d && x && y && z) ≡ true → x ≡ true
     by true true true true y z e = refl
@@ -135,20 +137,33 @@ module _ (b : Book) (l : LinkRow) (is : IsReachable b) (good : IsLinkRow b.nodes
       let keys = is.keyed.keys in
       record {
         keyed = record {
-          keys = record { nodes = apart-named ls b.nodes keys.nodes; affils = keys.affils; subs = keys.subs; items = keys.items; links = apart-push link_key b.links l fresh keys.links; rosters = keys.rosters; vers = keys.vers; counts = keys.counts };
+          keys = record {
+            nodes = apart-named ls b.nodes keys.nodes;
+            affils = keys.affils;
+            subs = keys.subs;
+            items = keys.items;
+            links = apart-push link_key b.links l fresh keys.links;
+            rosters =
+                keys.rosters;
+            vers = keys.vers;
+            counts = keys.counts;
+          };
           links = each-push (λ (x : LinkRow). (stands x.child (map (named ls) b.nodes) ≡ true) × (stands x.collection (map (named ls) b.nodes) ≡ true)) b.links l
-              (each-by (λ (x : LinkRow). (stands x.child (map (named ls) b.nodes) ≡ true) × (stands x.collection (map (named ls) b.nodes) ≡ true)) (λ x. (stands x.child b.nodes ≡ true) × (stands x.collection b.nodes ≡ true)) b.links
+              (each-by (λ (x : LinkRow). (stands x.child (map (named ls) b.nodes) ≡ true) × (stands x.collection (map (named ls) b.nodes) ≡ true))
+              (λ x. (stands x.child b.nodes ≡ true) × (stands x.collection b.nodes ≡ true)) b.links
               (λ x h. (stands-named ls x.child b.nodes ∙ h.0, stands-named ls x.collection b.nodes ∙ h.1)) is.keyed.links)
               (stands-named ls l.child b.nodes ∙ good.child, stands-named ls l.collection b.nodes ∙ stands-l);
         };
         linked = record {
-          links = each-push (IsLinkRow (map (named ls) b.nodes)) b.links l (each-by (IsLinkRow (map (named ls) b.nodes)) (IsLinkRow b.nodes) b.links (link-named ls b.nodes) is.linked.links) (link-named ls b.nodes l good);
+          links = each-push (IsLinkRow (map (named ls) b.nodes)) b.links l (each-by (IsLinkRow (map (named ls) b.nodes)) (IsLinkRow b.nodes) b.links (link-named ls b.nodes) is.linked.links)
+              (link-named ls b.nodes l good);
           configured = all-configured ls b.nodes;
         };
         rowed = record {
           affils = each-by (IsAffilRow (map (named ls) b.nodes)) (IsAffilRow b.nodes) b.affils (affil-named ls b.nodes) is.rowed.affils;
           subs = each-by (IsSubRow (map (named ls) b.nodes)) (IsSubRow b.nodes) b.subs (sub-named ls b.nodes) is.rowed.subs;
-          counts = each-by (IsCountRow (map (named ls) b.nodes)) (IsCountRow b.nodes) b.counts (λ r h. record { stands = stands-named ls r.node b.nodes ∙ h.stands; bare = h.bare; some = h.some }) is.rowed.counts;
+          counts = each-by (IsCountRow (map (named ls) b.nodes)) (IsCountRow b.nodes) b.counts (λ r h. record { stands = stands-named ls r.node b.nodes ∙ h.stands; bare = h.bare; some = h.some })
+              is.rowed.counts;
         };
       }
 
@@ -164,12 +179,23 @@ row-reachable (node r) s ok formed is =
     let none = not-true (stands r.key b.nodes) p.0 in
     record {
       keyed = record {
-        keys = record { nodes = apart-push node_key b.nodes r (none-stands (node_at r.key b.nodes) none) keys.nodes; affils = keys.affils; subs = keys.subs; items = keys.items; links = keys.links; rosters = keys.rosters; vers = keys.vers; counts = keys.counts };
-        links = each-by (λ (x : LinkRow). (stands x.child (b.nodes ++ r ∷ []) ≡ true) × (stands x.collection (b.nodes ++ r ∷ []) ≡ true)) (λ x. (stands x.child b.nodes ≡ true) × (stands x.collection b.nodes ≡ true)) b.links (λ x h. (stands-more x.child b.nodes r h.0, stands-more x.collection b.nodes r h.1)) is.keyed.links;
+        keys = record {
+          nodes = apart-push node_key b.nodes r (none-stands (node_at r.key b.nodes) none) keys.nodes;
+          affils = keys.affils;
+          subs = keys.subs;
+          items = keys.items;
+          links = keys.links;
+          rosters = keys.rosters;
+          vers = keys.vers;
+          counts = keys.counts;
+        };
+        links = each-by (λ (x : LinkRow). (stands x.child (b.nodes ++ r ∷ []) ≡ true) × (stands x.collection (b.nodes ++ r ∷ []) ≡ true))
+            (λ x. (stands x.child b.nodes ≡ true) × (stands x.collection b.nodes ≡ true)) b.links (λ x h. (stands-more x.child b.nodes r h.0, stands-more x.collection b.nodes r h.1)) is.keyed.links;
       };
       linked = record {
         links = each-by (IsLinkRow (b.nodes ++ r ∷ [])) (IsLinkRow b.nodes) b.links (link-more b.nodes r) is.linked.links;
-        configured = linked-configured [] r b.nodes b.links (length-none r.config.collection p.1) (none-of r.key b.links (no-link r.key b.nodes b.links none is.keyed.links)) (absent r.key b.nodes none) is.linked.configured;
+        configured = linked-configured [] r b.nodes b.links (length-none r.config.collection p.1) (none-of r.key b.links (no-link r.key b.nodes b.links none is.keyed.links))
+            (absent r.key b.nodes none) is.linked.configured;
       };
       rowed = record {
         affils = each-by (IsAffilRow (b.nodes ++ r ∷ [])) (IsAffilRow b.nodes) b.affils (affil-more b.nodes r) is.rowed.affils;
@@ -182,7 +208,19 @@ row-reachable (affiliation r) s ok formed is =
     let keys = is.keyed.keys in
     let p = four (is_some_affil r.affil) (stands r.node b.nodes) (is_bare r.who) (is_none (find (is_affil_of r.node r.who) b.affils)) ok in
     record {
-      keyed = record { keys = record { nodes = keys.nodes; affils = apart-push affil_key b.affils r p.3 keys.affils; subs = keys.subs; items = keys.items; links = keys.links; rosters = keys.rosters; vers = keys.vers; counts = keys.counts }; links = is.keyed.links };
+      keyed = record {
+        keys = record {
+          nodes = keys.nodes;
+          affils = apart-push affil_key b.affils r p.3 keys.affils;
+          subs = keys.subs;
+          items = keys.items;
+          links = keys.links;
+          rosters = keys.rosters;
+          vers = keys.vers;
+          counts = keys.counts;
+        };
+        links = is.keyed.links;
+      };
       linked = record { links = is.linked.links; configured = is.linked.configured };
       rowed = record { affils = each-push (IsAffilRow b.nodes) b.affils r is.rowed.affils (record { some = p.0; stands = p.1; bare = p.2 }); subs = is.rowed.subs; counts = is.rowed.counts };
     }
@@ -191,7 +229,19 @@ row-reachable (subscription r) s ok formed is =
     let keys = is.keyed.keys in
     let p = three (is_pending r.state || is_subscribed r.state) (stands r.node b.nodes) (is_none (sub_row r.node r.who b.subs)) ok in
     record {
-      keyed = record { keys = record { nodes = keys.nodes; affils = keys.affils; subs = apart-push sub_key b.subs r p.2 keys.subs; items = keys.items; links = keys.links; rosters = keys.rosters; vers = keys.vers; counts = keys.counts }; links = is.keyed.links };
+      keyed = record {
+        keys = record {
+          nodes = keys.nodes;
+          affils = keys.affils;
+          subs = apart-push sub_key b.subs r p.2 keys.subs;
+          items = keys.items;
+          links = keys.links;
+          rosters = keys.rosters;
+          vers = keys.vers;
+          counts = keys.counts;
+        };
+        links = is.keyed.links;
+      };
       linked = record { links = is.linked.links; configured = is.linked.configured };
       rowed = record { affils = is.rowed.affils; subs = each-push (IsSubRow b.nodes) b.subs r is.rowed.subs (record { some = p.0; stands = p.1 }); counts = is.rowed.counts };
     }
@@ -199,19 +249,44 @@ row-reachable (item r) s ok formed is =
     let b = s.book in
     let keys = is.keyed.keys in
     record {
-      keyed = record { keys = record { nodes = keys.nodes; affils = keys.affils; subs = keys.subs; items = apart-push item_key b.items r (fresh-item (config_at r.node b.nodes) r b ok) keys.items; links = keys.links; rosters = keys.rosters; vers = keys.vers; counts = keys.counts }; links = is.keyed.links };
+      keyed = record {
+        keys = record {
+          nodes = keys.nodes;
+          affils = keys.affils;
+          subs = keys.subs;
+          items = apart-push item_key b.items r (fresh-item (config_at r.node b.nodes) r b ok) keys.items;
+          links = keys.links;
+          rosters = keys.rosters;
+          vers = keys.vers;
+          counts = keys.counts;
+        };
+        links = is.keyed.links;
+      };
       linked = record { links = is.linked.links; configured = is.linked.configured };
       rowed = record { affils = is.rowed.affils; subs = is.rowed.subs; counts = is.rowed.counts };
     }
 row-reachable (link r) s ok formed is =
     let b = s.book in
     let p = four (stands r.child b.nodes) (is_collection_at (config_at r.collection b.nodes)) (not (same_node r.child r.collection)) (not (list_any (is_link_at r.child) b.links)) ok in
-    link-reachable b r is (record { child = p.0; collection = p.1; differ = not-true (same_node r.child r.collection) p.2 }) (none-any r.child b.links (not-true (list_any (is_link_at r.child) b.links) p.3))
+    link-reachable b r is (record { child = p.0; collection = p.1; differ = not-true (same_node r.child r.collection) p.2 })
+    (none-any r.child b.links (not-true (list_any (is_link_at r.child) b.links) p.3))
 row-reachable (contact r) s ok formed is =
     let b = s.book in
     let keys = is.keyed.keys in
     record {
-      keyed = record { keys = record { nodes = keys.nodes; affils = keys.affils; subs = keys.subs; items = keys.items; links = keys.links; rosters = apart-push roster_key b.rosters r ok keys.rosters; vers = keys.vers; counts = keys.counts }; links = is.keyed.links };
+      keyed = record {
+        keys = record {
+          nodes = keys.nodes;
+          affils = keys.affils;
+          subs = keys.subs;
+          items = keys.items;
+          links = keys.links;
+          rosters = apart-push roster_key b.rosters r ok keys.rosters;
+          vers = keys.vers;
+          counts = keys.counts;
+        };
+        links = is.keyed.links;
+      };
       linked = record { links = is.linked.links; configured = is.linked.configured };
       rowed = record { affils = is.rowed.affils; subs = is.rowed.subs; counts = is.rowed.counts };
     }
@@ -219,7 +294,20 @@ row-reachable (ver r) s ok formed is =
     let b = s.book in
     let keys = is.keyed.keys in
     record {
-      keyed = record { keys = record { nodes = keys.nodes; affils = keys.affils; subs = keys.subs; items = keys.items; links = keys.links; rosters = keys.rosters; vers = apart-push ver_key b.vers r ok keys.vers; counts = keys.counts }; links = is.keyed.links };
+      keyed = record {
+        keys = record {
+          nodes = keys.nodes;
+          affils = keys.affils;
+          subs = keys.subs;
+          items = keys.items;
+          links = keys.links;
+          rosters = keys.rosters;
+          vers = apart-push ver_key b.vers r
+              ok keys.vers;
+          counts = keys.counts;
+        };
+        links = is.keyed.links;
+      };
       linked = record { links = is.linked.links; configured = is.linked.configured };
       rowed = record { affils = is.rowed.affils; subs = is.rowed.subs; counts = is.rowed.counts };
     }
@@ -228,9 +316,27 @@ row-reachable (made r) s ok formed is =
     let keys = is.keyed.keys in
     let p = three (stands r.node b.nodes) (is_none (find (is_count_of r.node r.who) b.counts)) (is_number r.made) ok in
     record {
-      keyed = record { keys = record { nodes = keys.nodes; affils = keys.affils; subs = keys.subs; items = keys.items; links = keys.links; rosters = keys.rosters; vers = keys.vers; counts = apart-push count_key b.counts r p.1 keys.counts }; links = is.keyed.links };
+      keyed = record {
+        keys = record {
+          nodes = keys.nodes;
+          affils = keys.affils;
+          subs = keys.subs;
+          items = keys.items;
+          links = keys.links;
+          rosters = keys.rosters;
+          vers = keys.vers;
+          counts =
+              apart-push count_key b.counts r p.1 keys.counts;
+        };
+        links = is.keyed.links;
+      };
       linked = record { links = is.linked.links; configured = is.linked.configured };
-      rowed = record { affils = is.rowed.affils; subs = is.rowed.subs; counts = each-push (IsCountRow b.nodes) b.counts r is.rowed.counts (record { stands = p.0; bare = formed; some = (and_parts (nat_lt 0 r.made) (nat_lt r.made (2 ^ 62)) p.2).0 }) };
+      rowed = record {
+        affils = is.rowed.affils;
+        subs = is.rowed.subs;
+        counts = each-push (IsCountRow b.nodes) b.counts r is.rowed.counts
+            (record { stands = p.0; bare = formed; some = (and_parts (nat_lt 0 r.made) (nat_lt r.made (2 ^ 62)) p.2).0 });
+      };
     }
 row-reachable (counter who n) s ok formed is = is
 row-reachable (notice to line) s ok formed is = is
@@ -241,7 +347,20 @@ same-reachable : (b : Book) (service : List ℕ) (resources : List ResourceRow) 
 same-reachable b service resources is =
     let keys = is.keyed.keys in
     record {
-      keyed = record { keys = record { nodes = keys.nodes; affils = keys.affils; subs = keys.subs; items = keys.items; links = keys.links; rosters = keys.rosters; vers = keys.vers; counts = keys.counts }; links = is.keyed.links };
+      keyed = record {
+        keys = record {
+          nodes = keys.nodes;
+          affils = keys.affils;
+          subs = keys.subs;
+          items = keys.items;
+          links = keys.links;
+          rosters = keys.rosters;
+          vers = keys.vers;
+          counts =
+              keys.counts;
+        };
+        links = is.keyed.links;
+      };
       linked = record { links = is.linked.links; configured = is.linked.configured };
       rowed = record { affils = is.rowed.affils; subs = is.rowed.subs; counts = is.rowed.counts };
     }

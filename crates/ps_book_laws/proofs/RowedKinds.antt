@@ -74,7 +74,8 @@ use Rattle.ps_model.proofs.Splits.{unless-none}
 
 -- ---- rows that are set
 
-affils-by : (nodes : List NodeRow) (a : Affil) (row : AffilRow) (rows : List AffilRow) → row.affil ≡ a → stands row.node nodes ≡ true → is_bare row.who ≡ true → Each (IsAffilRow nodes) rows → Each (IsAffilRow nodes) (affils_by a row rows)
+affils-by : (nodes : List NodeRow) (a : Affil) (row : AffilRow) (rows : List AffilRow) → row.affil ≡ a → stands row.node nodes ≡ true → is_bare row.who ≡ true → Each (IsAffilRow nodes) rows
+    → Each (IsAffilRow nodes) (affils_by a row rows)
 affils-by nodes affil.Nothing row rows e s b is = each-filter (IsAffilRow nodes) (λ x. not (is_affil_of row.node row.who x)) rows is
 affils-by nodes affil.Owner row rows e s b is = each-put (IsAffilRow nodes) (is_affil_of row.node row.who) row rows (record { some = ap is_some_affil e; stands = s; bare = b }) is
 affils-by nodes affil.Publisher row rows e s b is = each-put (IsAffilRow nodes) (is_affil_of row.node row.who) row rows (record { some = ap is_some_affil e; stands = s; bare = b }) is
@@ -82,22 +83,27 @@ affils-by nodes affil.PublishOnly row rows e s b is = each-put (IsAffilRow nodes
 affils-by nodes affil.Member row rows e s b is = each-put (IsAffilRow nodes) (is_affil_of row.node row.who) row rows (record { some = ap is_some_affil e; stands = s; bare = b }) is
 affils-by nodes affil.Outcast row rows e s b is = each-put (IsAffilRow nodes) (is_affil_of row.node row.who) row rows (record { some = ap is_some_affil e; stands = s; bare = b }) is
 
-affils-set : (nodes : List NodeRow) (row : AffilRow) (rows : List AffilRow) → stands row.node nodes ≡ true → is_bare row.who ≡ true → Each (IsAffilRow nodes) rows → Each (IsAffilRow nodes) (affils_with row rows)
+affils-set : (nodes : List NodeRow) (row : AffilRow) (rows : List AffilRow) → stands row.node nodes ≡ true → is_bare row.who ≡ true → Each (IsAffilRow nodes) rows
+    → Each (IsAffilRow nodes) (affils_with row rows)
 affils-set nodes row rows s b is = affils-by nodes row.affil row rows refl s b is
 
-affils-all : (nodes : List NodeRow) (node : NodeKey) (asked : List AskRow) (rows : List AffilRow) → stands node nodes ≡ true → Each (IsAffilRow nodes) rows → Each (IsAffilRow nodes) (affils_asked node asked rows)
+affils-all : (nodes : List NodeRow) (node : NodeKey) (asked : List AskRow) (rows : List AffilRow) → stands node nodes ≡ true → Each (IsAffilRow nodes) rows
+    → Each (IsAffilRow nodes) (affils_asked node asked rows)
 affils-all nodes node [] rows s is = is
 affils-all nodes node (r ∷ asked) rows s is = affils-all nodes node asked (affils_with (asked_affil node r) rows) s (affils-set nodes (asked_affil node r) rows s refl is)
 
-subs-by : (nodes : List NodeRow) (a : SubState) (row : SubRow) (rows : List SubRow) → row.state ≡ a → stands row.node nodes ≡ true → Each (IsSubRow nodes) rows → Each (IsSubRow nodes) (subs_by a row rows)
+subs-by : (nodes : List NodeRow) (a : SubState) (row : SubRow) (rows : List SubRow) → row.state ≡ a → stands row.node nodes ≡ true → Each (IsSubRow nodes) rows
+    → Each (IsSubRow nodes) (subs_by a row rows)
 subs-by nodes sub.Nothing row rows e s is = each-filter (IsSubRow nodes) (λ x. not (is_sub_of row.node row.who x)) rows is
 subs-by nodes sub.Pending row rows e s is = each-put (IsSubRow nodes) (is_sub_of row.node row.who) row rows (record { some = ap (λ (x : SubState). is_pending x || is_subscribed x) e; stands = s }) is
-subs-by nodes sub.Subscribed row rows e s is = each-put (IsSubRow nodes) (is_sub_of row.node row.who) row rows (record { some = ap (λ (x : SubState). is_pending x || is_subscribed x) e; stands = s }) is
+subs-by nodes sub.Subscribed row rows e s is = each-put (IsSubRow nodes) (is_sub_of row.node row.who) row rows (record { some = ap (λ (x : SubState). is_pending x || is_subscribed x) e; stands = s })
+    is
 
 subs-set : (nodes : List NodeRow) (row : SubRow) (rows : List SubRow) → stands row.node nodes ≡ true → Each (IsSubRow nodes) rows → Each (IsSubRow nodes) (subs_with row rows)
 subs-set nodes row rows s is = subs-by nodes row.state row rows refl s is
 
-subs-all : (nodes : List NodeRow) (node : NodeKey) (asked : List AskRow) (rows : List SubRow) → stands node nodes ≡ true → Each (IsSubRow nodes) rows → Each (IsSubRow nodes) (subs_asked node asked rows)
+subs-all : (nodes : List NodeRow) (node : NodeKey) (asked : List AskRow) (rows : List SubRow) → stands node nodes ≡ true → Each (IsSubRow nodes) rows
+    → Each (IsSubRow nodes) (subs_asked node asked rows)
 subs-all nodes node [] rows s is = is
 subs-all nodes node (r ∷ asked) rows s is =
     let row = sub_with node r.jid (unwrap_or (sub_of r.value) sub.Nothing) rows in
@@ -118,7 +124,8 @@ created-rowed : (node : NodeKey) (who : Jid) (config : NodeConfig) (book : Book)
 created-rowed node who config book is =
     let row = new_node node who config in
     record {
-      affils = affils-set (book.nodes ++ row ∷ []) (owner_row node who) book.affils (stands-new book.nodes row) refl (each-by (IsAffilRow (book.nodes ++ row ∷ [])) (IsAffilRow book.nodes) book.affils (affil-more book.nodes row) is.affils);
+      affils = affils-set (book.nodes ++ row ∷ []) (owner_row node who) book.affils (stands-new book.nodes row) refl
+          (each-by (IsAffilRow (book.nodes ++ row ∷ [])) (IsAffilRow book.nodes) book.affils (affil-more book.nodes row) is.affils);
       subs = each-by (IsSubRow (book.nodes ++ row ∷ [])) (IsSubRow book.nodes) book.subs (sub-more book.nodes row) is.subs;
       counts = each-by (IsCountRow (book.nodes ++ row ∷ [])) (IsCountRow book.nodes) book.counts (count-more book.nodes row) is.counts;
     }
@@ -130,25 +137,31 @@ created_by-rowed (Ok config) node who book is = created-rowed node who config bo
 positive : (n : ℕ) → nat_lt 0 (n + 1) ≡ true
 positive n = grind (arith, nat_tests)
 
-counted-rowed : (nodes : List NodeRow) (id : List ℕ) (node : NodeKey) (who : Jid) (book : Book) → stands node nodes ≡ true → Each (IsCountRow nodes) book.counts → Each (IsCountRow nodes) (counted id node who book)
+counted-rowed : (nodes : List NodeRow) (id : List ℕ) (node : NodeKey) (who : Jid) (book : Book) → stands node nodes ≡ true → Each (IsCountRow nodes) book.counts
+    → Each (IsCountRow nodes) (counted id node who book)
 counted-rowed nodes [] node who book s is =
     let row = count_row node who (next_made book node who) in
     each-put (IsCountRow nodes) (is_count_of row.node row.who) row book.counts (record { stands = s; bare = refl; some = positive (made_at node who book.counts) }) is
 counted-rowed nodes (x ∷ id) node who book s is = is
 
-published-rowed : (node : NodeKey) (config : NodeConfig) (who : Jid) (moment : Option ℕ) (items : List AskItem) (book : Book) → stands node book.nodes ≡ true → IsRowed book → IsRowed (published node config who moment items book)
+published-rowed : (node : NodeKey) (config : NodeConfig) (who : Jid) (moment : Option ℕ) (items : List AskItem) (book : Book) → stands node book.nodes ≡ true → IsRowed book
+    → IsRowed (published node config who moment items book)
 published-rowed node config who moment [] book s is = is
 published-rowed node config who moment (item ∷ items) book s is = record { affils = is.affils; subs = is.subs; counts = counted-rowed book.nodes item.id node who book s is.counts }
 
-new-rowed : (given : Result NodeConfig Condition) (node : NodeKey) (who : Jid) (moment : Option ℕ) (items : List AskItem) (book : Book) → IsRowed book → IsRowed (published_new given node who moment items book)
+new-rowed : (given : Result NodeConfig Condition) (node : NodeKey) (who : Jid) (moment : Option ℕ) (items : List AskItem) (book : Book) → IsRowed book
+    → IsRowed (published_new given node who moment items book)
 new-rowed (Err why) node who moment items book is = is
-new-rowed (Ok config) node who moment items book is = published-rowed node config who moment items (created node who config book) (stands-new book.nodes (new_node node who config)) (created-rowed node who config book is)
+new-rowed (Ok config) node who moment items book is = published-rowed node config who moment items (created node who config book) (stands-new book.nodes (new_node node who config))
+    (created-rowed node who config book is)
 
-publish-rowed : (o : Option NodeRow) (node : NodeKey) (who : Jid) (moment : Option ℕ) (items : List AskItem) (options : Option Tree) (book : Book) → node_at node book.nodes ≡ o → IsRowed book → IsRowed (published_by o node who moment items options book)
+publish-rowed : (o : Option NodeRow) (node : NodeKey) (who : Jid) (moment : Option ℕ) (items : List AskItem) (options : Option Tree) (book : Book) → node_at node book.nodes ≡ o → IsRowed book
+    → IsRowed (published_by o node who moment items options book)
 publish-rowed None node who moment items options book at is = new-rowed (options_config options (default_config true)) node who moment items book is
 publish-rowed (Some row) node who moment items options book at is = published-rowed node row.config who moment items book (ap (λ (o : Option NodeRow). is_some o) at) is
 
-gone-affils-at : (node : NodeKey) (nodes : List NodeRow) (r : AffilRow) (more : List AffilRow) (b : Bool) → same_node node r.node ≡ b → IsAffilRow nodes r → Each (IsAffilRow (nodes_without node nodes)) more → Each (IsAffilRow (nodes_without node nodes)) (cond (not b) (r ∷ more) more)
+gone-affils-at : (node : NodeKey) (nodes : List NodeRow) (r : AffilRow) (more : List AffilRow) (b : Bool) → same_node node r.node ≡ b → IsAffilRow nodes r
+    → Each (IsAffilRow (nodes_without node nodes)) more → Each (IsAffilRow (nodes_without node nodes)) (cond (not b) (r ∷ more) more)
 gone-affils-at node nodes r more true e is rest = rest
 gone-affils-at node nodes r more false e is rest = (record { some = is.some; stands = stands-without r.node node nodes (same_node-turned r.node node ∙ e) ∙ is.stands; bare = is.bare }, rest)
 
@@ -156,7 +169,8 @@ gone-affils : (node : NodeKey) (nodes : List NodeRow) (rows : List AffilRow) →
 gone-affils node nodes [] is = tt
 gone-affils node nodes (r ∷ rows) is = gone-affils-at node nodes r (affils_without node rows) (same_node node r.node) refl is.0 (gone-affils node nodes rows is.1)
 
-gone-subs-at : (node : NodeKey) (nodes : List NodeRow) (r : SubRow) (more : List SubRow) (b : Bool) → same_node node r.node ≡ b → IsSubRow nodes r → Each (IsSubRow (nodes_without node nodes)) more → Each (IsSubRow (nodes_without node nodes)) (cond (not b) (r ∷ more) more)
+gone-subs-at : (node : NodeKey) (nodes : List NodeRow) (r : SubRow) (more : List SubRow) (b : Bool) → same_node node r.node ≡ b → IsSubRow nodes r → Each (IsSubRow (nodes_without node nodes)) more
+    → Each (IsSubRow (nodes_without node nodes)) (cond (not b) (r ∷ more) more)
 gone-subs-at node nodes r more true e is rest = rest
 gone-subs-at node nodes r more false e is rest = (record { some = is.some; stands = stands-without r.node node nodes (same_node-turned r.node node ∙ e) ∙ is.stands }, rest)
 
@@ -164,7 +178,8 @@ gone-subs : (node : NodeKey) (nodes : List NodeRow) (rows : List SubRow) → Eac
 gone-subs node nodes [] is = tt
 gone-subs node nodes (r ∷ rows) is = gone-subs-at node nodes r (subs_without node rows) (same_node node r.node) refl is.0 (gone-subs node nodes rows is.1)
 
-gone-counts-at : (node : NodeKey) (nodes : List NodeRow) (r : CountRow) (more : List CountRow) (b : Bool) → same_node node r.node ≡ b → IsCountRow nodes r → Each (IsCountRow (nodes_without node nodes)) more → Each (IsCountRow (nodes_without node nodes)) (cond (not b) (r ∷ more) more)
+gone-counts-at : (node : NodeKey) (nodes : List NodeRow) (r : CountRow) (more : List CountRow) (b : Bool) → same_node node r.node ≡ b → IsCountRow nodes r
+    → Each (IsCountRow (nodes_without node nodes)) more → Each (IsCountRow (nodes_without node nodes)) (cond (not b) (r ∷ more) more)
 gone-counts-at node nodes r more true e is rest = rest
 gone-counts-at node nodes r more false e is rest = (record { stands = stands-without r.node node nodes (same_node-turned r.node node ∙ e) ∙ is.stands; bare = is.bare; some = is.some }, rest)
 
@@ -173,14 +188,22 @@ gone-counts node nodes [] is = tt
 gone-counts node nodes (r ∷ rows) is = gone-counts-at node nodes r (counts_without node rows) (same_node node r.node) refl is.0 (gone-counts node nodes rows is.1)
 
 deleted-rowed : (node : NodeKey) (book : Book) → IsRowed book → IsRowed (deleted node book)
-deleted-rowed node book is = record { affils = gone-affils node book.nodes book.affils is.affils; subs = gone-subs node book.nodes book.subs is.subs; counts = gone-counts node book.nodes book.counts is.counts }
+deleted-rowed node book is = record {
+  affils = gone-affils node book.nodes book.affils is.affils;
+  subs = gone-subs node book.nodes book.subs is.subs;
+  counts = gone-counts node book.nodes book.counts
+      is.counts;
+}
 
 configured-rowed : (given : Result NodeConfig Condition) (node : NodeKey) (book : Book) → IsRowed book → IsRowed (configured node given book)
 configured-rowed (Err why) node book is = is
 configured-rowed (Ok config) node book is = record {
-  affils = each-by (IsAffilRow (nodes_with node config book.nodes)) (IsAffilRow book.nodes) book.affils (λ r h. record { some = h.some; stands = stands-with r.node node config book.nodes ∙ h.stands; bare = h.bare }) is.affils;
-  subs = each-by (IsSubRow (nodes_with node config book.nodes)) (IsSubRow book.nodes) book.subs (λ r h. record { some = h.some; stands = stands-with r.node node config book.nodes ∙ h.stands }) is.subs;
-  counts = each-by (IsCountRow (nodes_with node config book.nodes)) (IsCountRow book.nodes) book.counts (λ r h. record { stands = stands-with r.node node config book.nodes ∙ h.stands; bare = h.bare; some = h.some }) is.counts;
+  affils = each-by (IsAffilRow (nodes_with node config book.nodes)) (IsAffilRow book.nodes) book.affils
+      (λ r h. record { some = h.some; stands = stands-with r.node node config book.nodes ∙ h.stands; bare = h.bare }) is.affils;
+  subs = each-by (IsSubRow (nodes_with node config book.nodes)) (IsSubRow book.nodes) book.subs (λ r h. record { some = h.some; stands = stands-with r.node node config book.nodes ∙ h.stands })
+      is.subs;
+  counts = each-by (IsCountRow (nodes_with node config book.nodes)) (IsCountRow book.nodes) book.counts
+      (λ r h. record { stands = stands-with r.node node config book.nodes ∙ h.stands; bare = h.bare; some = h.some }) is.counts;
 }
 
 configured_by-rowed : (o : Option NodeRow) (node : NodeKey) (form : Option Tree) (book : Book) → IsRowed book → IsRowed (configured_by o node form book)
@@ -190,9 +213,11 @@ configured_by-rowed (Some row) node (Some form) book is = configured-rowed (conf
 
 -- ---- the others
 
-subscribed-rowed : (given : Result SubOptions Condition) (node : NodeKey) (who : Jid) (state : SubState) (book : Book) → stands node book.nodes ≡ true → IsRowed book → IsRowed (subscribed_by given node who state book)
+subscribed-rowed : (given : Result SubOptions Condition) (node : NodeKey) (who : Jid) (state : SubState) (book : Book) → stands node book.nodes ≡ true → IsRowed book
+    → IsRowed (subscribed_by given node who state book)
 subscribed-rowed (Err why) node who state book s is = is
-subscribed-rowed (Ok options) node who state book s is = record { affils = is.affils; subs = subs-set book.nodes (record { node = node; who = who; state = state; options = options }) book.subs s is.subs; counts = is.counts }
+subscribed-rowed (Ok options) node who state book s is = record
+    { affils = is.affils; subs = subs-set book.nodes (record { node = node; who = who; state = state; options = options }) book.subs s is.subs; counts = is.counts }
 
 retract-rowed : (node : NodeKey) (ids : List (List ℕ)) (book : Book) → IsRowed book → IsRowed (retract_change node ids book)
 retract-rowed node [] book is = is
@@ -224,20 +249,48 @@ changed-rowed (ask.Delete node) r moment book ok is = deleted-rowed (node_of r n
 changed-rowed (ask.ConfigGet node) r moment book ok is = is
 changed-rowed (ask.ConfigSet node form) r moment book ok is = configured_by-rowed (node_at (node_of r node) book.nodes) (node_of r node) form book is
 changed-rowed (ask.AffilsGet node) r moment book ok is = is
-changed-rowed (ask.AffilsSet node rows) r moment book ok is = record { affils = affils-all book.nodes (node_of r node) rows book.affils (first-stands book r node (denied_by (own book (node_of r node) r.from) ∷ unless (list_all is_affil_word rows) C1 ∷ unless (keeps_owner book (node_of r node) rows) C14 ∷ []) ok) is.affils; subs = is.subs; counts = is.counts }
+changed-rowed (ask.AffilsSet node rows) r moment book ok is = record {
+  affils = affils-all book.nodes (node_of r node) rows book.affils
+      (first-stands book r node (denied_by (own book (node_of r node) r.from) ∷ unless (list_all is_affil_word rows) C1 ∷ unless (keeps_owner book (node_of r node) rows) C14 ∷ []) ok) is.affils;
+  subs =
+      is.subs;
+  counts = is.counts;
+}
 changed-rowed (ask.SubsGet node) r moment book ok is = is
-changed-rowed (ask.SubsSet node rows) r moment book ok is = record { affils = is.affils; subs = subs-all book.nodes (node_of r node) rows book.subs (first-stands book r node (denied_by (own book (node_of r node) r.from) ∷ unless (not (list_any is_unconfigured rows)) C14 ∷ unless (list_all is_sub_word rows) C1 ∷ unless (nat_le (sub_count (node_of r node) (subs_asked (node_of r node) rows book.subs)) max_subs) C23 ∷ []) ok) is.subs; counts = is.counts }
+changed-rowed (ask.SubsSet node rows) r moment book ok is = record {
+  affils = is.affils;
+  subs = subs-all book.nodes (node_of r node) rows book.subs
+      (first-stands book r node (denied_by (own book (node_of r node) r.from) ∷ unless (not (list_any is_unconfigured rows)) C14 ∷ unless (list_all is_sub_word rows) C1 ∷ unless
+      (nat_le (sub_count (node_of r node) (subs_asked (node_of r node) rows book.subs)) max_subs) C23 ∷ []) ok) is.subs;
+  counts = is.counts;
+}
 changed-rowed (ask.MyAffils node) r moment book ok is = is
 changed-rowed (ask.MySubs node) r moment book ok is = is
-changed-rowed (ask.Subscribe node who form) r moment book ok is = subscribed-rowed (sub_options form (base_options book (node_of r node) who)) (node_of r node) who (new_state book r (node_of r node) who) book (first-stands book r node (denied_by (subscribe book (node_of r node) r.from) ∷ unless (not (is_pending (sub_at (node_of r node) who book.subs))) C21 ∷ denial_of (sub_options form (base_options book (node_of r node) who)) ∷ sub_limit_step book r node who ∷ []) ok) is
-changed-rowed (ask.Unsubscribe node who subid) r moment book ok is = record { affils = is.affils; subs = subs-set book.nodes (record { node = node_of r node; who = who; state = sub.Nothing; options = base_options book (node_of r node) who }) book.subs (first-stands book r node (unless (length subid == 0) C15 ∷ row_step book r node who ∷ []) ok) is.subs; counts = is.counts }
+changed-rowed (ask.Subscribe node who form) r moment book ok is = subscribed-rowed (sub_options form (base_options book (node_of r node) who)) (node_of r node) who
+    (new_state book r (node_of r node) who) book (first-stands book r node
+    (denied_by (subscribe book (node_of r node) r.from) ∷ unless (not (is_pending (sub_at (node_of r node) who book.subs))) C21 ∷ denial_of (sub_options form (base_options book (node_of r node) who))
+    ∷ sub_limit_step book r node who ∷ []) ok) is
+changed-rowed (ask.Unsubscribe node who subid) r moment book ok is = record {
+  affils = is.affils;
+  subs = subs-set book.nodes (record { node = node_of r node; who = who; state = sub.Nothing; options = base_options book (node_of r node) who }) book.subs
+      (first-stands book r node (unless (length subid == 0) C15 ∷ row_step book r node who ∷ []) ok) is.subs;
+  counts = is.counts;
+}
 changed-rowed (ask.OptionsGet node who) r moment book ok is = is
-changed-rowed (ask.OptionsSet node who form) r moment book ok is = subscribed-rowed (sub_options form (base_options book (node_of r node) who)) (node_of r node) who (sub_at (node_of r node) who book.subs) book (first-stands book r node (row_step book r node who ∷ unless (is_some form) C28 ∷ denial_of (sub_options form (base_options book (node_of r node) who)) ∷ []) ok) is
+changed-rowed (ask.OptionsSet node who form) r moment book ok is = subscribed-rowed (sub_options form (base_options book (node_of r node) who)) (node_of r node) who
+    (sub_at (node_of r node) who book.subs) book (first-stands book r node
+    (row_step book r node who ∷ unless (is_some form) C28 ∷ denial_of (sub_options form (base_options book (node_of r node) who)) ∷ []) ok) is
 changed-rowed (ask.ItemsGet node max ids) r moment book ok is = is
 changed-rowed (ask.InfoGet node) r moment book ok is = is
 changed-rowed (ask.NodesGet node) r moment book ok is = is
 changed-rowed (ask.RosterSet item) r moment book ok is = roster-rowed (roster_of item.subscription) r.from item book is
-changed-rowed (ask.Approve node who allow) r moment book ok is = record { affils = is.affils; subs = subs-set book.nodes (sub_with (node_of r node) who (approved (is_true allow)) book.subs) book.subs (first-stands book r node (denied_by (own book (node_of r node) r.from) ∷ unless (is_pending (sub_at (node_of r node) who book.subs)) C22 ∷ unless (is_some (boolean_of allow)) C1 ∷ []) ok) is.subs; counts = is.counts }
+changed-rowed (ask.Approve node who allow) r moment book ok is = record {
+  affils = is.affils;
+  subs = subs-set book.nodes (sub_with (node_of r node) who (approved (is_true allow)) book.subs) book.subs
+      (first-stands book r node (denied_by (own book (node_of r node) r.from) ∷ unless (is_pending (sub_at (node_of r node) who book.subs)) C22 ∷ unless (is_some (boolean_of allow)) C1 ∷ []) ok)
+      is.subs;
+  counts = is.counts;
+}
 changed-rowed (ask.Present caps) r moment book ok is = record { affils = is.affils; subs = is.subs; counts = is.counts }
 changed-rowed ask.Absent r moment book ok is = record { affils = is.affils; subs = is.subs; counts = is.counts }
 changed-rowed (ask.CapsAnswer node info) r moment book ok is = answer-rowed (caps_in (resource_at r.from book.resources)) r.from node (info_of info) book is

@@ -19,7 +19,8 @@ use Rattle.ps_caps.proofs.Kept.{all_sort}
 use Rattle.ps_caps.proofs.Orders.{repeated_cmp}
 
 pub identity_total : IsTotalOrder identity_cmp
-identity_total = then_total (on_texts (λ (i : Identity). i.category)) (then_total (on_texts (λ (i : Identity). i.kind)) (then_total (on_texts (λ (i : Identity). i.lang)) (on_texts (λ (i : Identity). i.name))))
+identity_total = then_total (on_texts (λ (i : Identity). i.category))
+    (then_total (on_texts (λ (i : Identity). i.kind)) (then_total (on_texts (λ (i : Identity). i.lang)) (on_texts (λ (i : Identity). i.name))))
 
 identity_tied : (x y : Identity) → same_identity x y ≡ eq_by_cmp identity_cmp x y
 identity_tied x y =

@@ -52,7 +52,8 @@ module _ {X : Type 0} (p : X → Bool) where
       let both = at_by (nat_lt (position_or_len p xs) (length xs)) (position_or_len p xs) i h in
       find_at p xs ∙ ap (slice_get xs) both.1 ∙ got xs i x (position_below xs i h) e
 
-hidden : (field other : Field) (fields others : List Field) → find (is_field form_type_var) fields ≡ Some field → find (is_field form_type_var) fields ≡ Some other → bytes_eq field.kind (codes "hidden") ≡ true
+hidden : (field other : Field) (fields others : List Field) → find (is_field form_type_var) fields ≡ Some field → find (is_field form_type_var) fields ≡ Some other
+    → bytes_eq field.kind (codes "hidden") ≡ true
     → typed_field (find (is_field form_type_var) fields) fields ≡ typed_by other.values (without_first (is_field form_type_var) fields)
 hidden field other fields others found again h =
     let same : field ≡ other = cc in
@@ -61,7 +62,8 @@ hidden field other fields others found again h =
     ∙ ap (λ (f : Field). typed_by f.values (without_first (is_field form_type_var) fields)) same
 
 -- by the field at its place, and the others
-pub typed_at : (fields : List Field) (i : ℕ) (field other : Field) (others : List Field) → position (is_field form_type_var) fields ≡ Some i → field ≡ get_or fields i field → other ≡ get_or fields i other
+pub typed_at : (fields : List Field) (i : ℕ) (field other : Field) (others : List Field) → position (is_field form_type_var) fields ≡ Some i → field ≡ get_or fields i field
+    → other ≡ get_or fields i other
     → others ≡ remove fields i → bytes_eq field.kind (codes "hidden") ≡ true → typed_by other.values others ≡ typed_field (find (is_field form_type_var) fields) fields
 typed_at fields i field other others h e d r t =
     let gone : others ≡ without_first (is_field form_type_var) fields = r ∙ ap (λ o. remove_at o fields) (sym h) ∙ remove_at-position (is_field form_type_var) fields in

@@ -1,5 +1,34 @@
 -- What the commands have that report on a store, feed a follower, follow and mirror.
-use Rattle.std.proofs.Common.{◌-◌, ◌≡◌, ◌≢◌, ◌≤◌, ◌<◌, ◌^◌, ℕ, Bool, true, false, cond, not, ◌&&◌, List, [], ◌∷◌, length, Option, Some, None, option_and_then, option_map, refl, sym, ap, ◌∙◌, subst, arith}
+use Rattle.std.proofs.Common.{
+  ◌-◌,
+  ◌≡◌,
+  ◌≢◌,
+  ◌≤◌,
+  ◌<◌,
+  ◌^◌,
+  ℕ,
+  Bool,
+  true,
+  false,
+  cond,
+  not,
+  ◌&&◌,
+  List,
+  [],
+  ◌∷◌,
+  length,
+  Option,
+  Some,
+  None,
+  option_and_then,
+  option_map,
+  refl,
+  sym,
+  ap,
+  ◌∙◌,
+  subst,
+  arith,
+}
 use Rattle.std.specs.Prelude.{◌==◌, nat_le, codes}
 use Rattle.std.specs.Str.{bytes_eq}
 use Rattle.std.proofs.lemmas.Bool.{and_parts, true≢false}
@@ -12,7 +41,35 @@ use Rattle.ps_types.proofs.Lowered.{spelled-is}
 use Rattle.ps_model.specs.Stanza.{jid_of}
 use Rattle.ps_model.proofs.Splits.{jid-spelled}
 use Rattle.ps_args.specs.Words.{are_two, command_of as first_of, host_of, if_between, number_between, number_in}
-use Rattle.ps_commands.specs.Words.{are_three, bare_in, command_of, either, explain_of, explained, explained_by, fed, fed_by, feed_of, follow_of, followed, followed_by, follower_of, is_name, items_in, key_of, mirror_of, mirrored, mirrored_by, node_in, of_first, other_of, readers_by, readers_in, readers_of, report_of}
+use Rattle.ps_commands.specs.Words.{
+  are_three,
+  bare_in,
+  command_of,
+  either,
+  explain_of,
+  explained,
+  explained_by,
+  fed,
+  fed_by,
+  feed_of,
+  follow_of,
+  followed,
+  followed_by,
+  follower_of,
+  is_name,
+  items_in,
+  key_of,
+  mirror_of,
+  mirrored,
+  mirrored_by,
+  node_in,
+  of_first,
+  other_of,
+  readers_by,
+  readers_in,
+  readers_of,
+  report_of,
+}
 use Rattle.ps_commands.specs.Well.{IsWell, IsWellNode}
 use Rattle.ps_commands.specs.declared.command.Command.{Command}
 use Rattle.ps_commands.specs.declared.command.Command.TheVariants.{Explain, Readers, Feed, Follow, Mirror}

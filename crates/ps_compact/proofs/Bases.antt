@@ -91,7 +91,8 @@ module _ (E : List Entry) (ok : lawful E) (own : AreEntries E) where
     pub left-is-base : map written (rows_left s waiting) ≡ base E
     left-is-base =
         ap (λ (x : State). map written (rows_left x waiting)) state
-        ∙ ap (λ (ns : List Notice). map written (book_rows (replay E).book ++ (counter_rows (replay E).tallies ++ map notice_row ns))) (queues-are E waiting (told_addresses (replay E).tallies) stand (told-bare E))
+        ∙ ap (λ (ns : List Notice). map written (book_rows (replay E).book ++ (counter_rows (replay E).tallies ++ map notice_row ns)))
+        (queues-are E waiting (told_addresses (replay E).tallies) stand (told-bare E))
 
     pub serves : AreMade s.book.counts → AreHanded s.tallies → ServesOn E (base E)
     serves made handed =

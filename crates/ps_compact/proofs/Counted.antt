@@ -1,5 +1,36 @@
 -- The numbers of handed notices, one row or address more at a time.
-use Rattle.std.proofs.Common.{◌≡◌, ℕ, zero, suc, ◌+◌, ◌<◌, ◌≤◌, ◌^◌, Bool, true, false, cond, List, [], ◌∷◌, ◌++◌, map, take, length, get_or, Option, Some, None, refl, sym, ap, ◌∙◌, subst, arith, append_assoc}
+use Rattle.std.proofs.Common.{
+  ◌≡◌,
+  ℕ,
+  zero,
+  suc,
+  ◌+◌,
+  ◌<◌,
+  ◌≤◌,
+  ◌^◌,
+  Bool,
+  true,
+  false,
+  cond,
+  List,
+  [],
+  ◌∷◌,
+  ◌++◌,
+  map,
+  take,
+  length,
+  get_or,
+  Option,
+  Some,
+  None,
+  refl,
+  sym,
+  ap,
+  ◌∙◌,
+  subst,
+  arith,
+  append_assoc,
+}
 use Rattle.std.specs.Prelude.{IfSome, find, option_to_list, slice_get}
 use Rattle.std.specs.List.{AllByRecursion as Each, cons_option}
 use Rattle.std.proofs.lemmas.List.{map-append, take_all, take_more}
@@ -40,7 +71,8 @@ next-few (x ∷ rows) (suc at) few one = (few.0, next-few rows at few.1 one)
 pub no-whos : AreWhos [] []
 no-whos = record { are = refl; few = tt }
 
-pub whos-more : (rows : List TallyRow) (at : ℕ) (now after : List Jid) → AreWhos (take at rows) now → after ≡ now ++ who_at (slice_get rows at) → IfSome (slice_get rows at) (λ (r : TallyRow). r.handed < 2 ^ 62) → AreWhos (take (at + 1) rows) after
+pub whos-more : (rows : List TallyRow) (at : ℕ) (now after : List Jid) → AreWhos (take at rows) now → after ≡ now ++ who_at (slice_get rows at)
+    → IfSome (slice_get rows at) (λ (r : TallyRow). r.handed < 2 ^ 62) → AreWhos (take (at + 1) rows) after
 whos-more rows at now after so_far more one =
     let next : suc at ≡ at + 1 = omega arith in
     subst (λ (n : ℕ). AreWhos (take n rows) after) next (record {
@@ -67,7 +99,8 @@ standing-push [] (Some r) = refl
 standing-push (None ∷ slots) s = standing-push slots s
 standing-push (Some r ∷ slots) s = ap (λ (rs : List CountRow). r ∷ rs) (standing-push slots s)
 
-pub made-more : (slots : List (Option CountRow)) (i : ℕ) (s : Option CountRow) → i < length slots → s ≡ get_or slots i s → AreMade (standing (take i slots)) → AreMade (option_to_list s) → AreMade (standing (take (i + 1) slots))
+pub made-more : (slots : List (Option CountRow)) (i : ℕ) (s : Option CountRow) → i < length slots → s ≡ get_or slots i s → AreMade (standing (take i slots)) → AreMade (option_to_list s)
+    → AreMade (standing (take (i + 1) slots))
 made-more slots i s within is so_far one =
     let more : take (i + 1) slots ≡ take i slots ++ s ∷ [] = take_more slots i s within ∙ ap (λ (x : Option CountRow). take i slots ++ x ∷ []) (sym is) in
     subst AreMade (sym (ap standing more ∙ standing-push (take i slots) s)) (each-both (λ (r : CountRow). r.made < 2 ^ 62) (standing (take i slots)) (option_to_list s) so_far one)
@@ -81,7 +114,8 @@ one-option : (o : Option BaseRow) → cons_option o [] ≡ option_to_list o
 one-option None = refl
 one-option (Some r) = refl
 
-pub counters-more : (T : List TallyRow) (whos : List Jid) (i : ℕ) (who : Jid) (front now after : List Entry) → i < length whos → who ≡ get_or whos i who → now ≡ front ++ map written (counters_of T (take i whos))
+pub counters-more : (T : List TallyRow) (whos : List Jid) (i : ℕ) (who : Jid) (front now after : List Entry) → i < length whos → who ≡ get_or whos i who
+    → now ≡ front ++ map written (counters_of T (take i whos))
     → after ≡ now ++ map written (option_to_list (counter_at T who)) → after ≡ front ++ map written (counters_of T (take (i + 1) whos))
 counters-more T whos i who front now after within is so_far more =
     let next : take (i + 1) whos ≡ take i whos ++ who ∷ [] = take_more whos i who within ∙ ap (λ (x : Jid). take i whos ++ x ∷ []) (sym is) in
@@ -93,5 +127,6 @@ counters-more T whos i who front now after within is so_far more =
     ∙ sym (map-append written (counters_of T (take i whos)) (counters_of T (who ∷ [])))
     ∙ ap (map written) (sym (filter_map-append (counter_at T) (take i whos) (who ∷ [])) ∙ ap (counters_of T) (sym next)))
 
-pub counters-all : (T : List TallyRow) (whos : List Jid) (i : ℕ) (front now : List Entry) → length whos ≤ i → now ≡ front ++ map written (counters_of T (take i whos)) → now ≡ front ++ map written (counters_of T whos)
+pub counters-all : (T : List TallyRow) (whos : List Jid) (i : ℕ) (front now : List Entry) → length whos ≤ i → now ≡ front ++ map written (counters_of T (take i whos))
+    → now ≡ front ++ map written (counters_of T whos)
 counters-all T whos i front now all is = is ∙ ap (λ (js : List Jid). front ++ map written (counters_of T js)) (take_all i whos all)

@@ -93,7 +93,8 @@ counter-low : (T : List TallyRow) (whos : List Jid) → Each IsLow (filter_map (
 counter-low T [] = tt
 counter-low T (who ∷ whos) = by (handed_to who T == 0) (counter-low T whos)
   where
-    by : (b : Bool) → Each IsLow (filter_map (λ who. counter_by (handed_to who T) who) whos) → Each IsLow (cons_option (cond b None (Some (kind.counter who (handed_to who T)))) (filter_map (λ who. counter_by (handed_to who T) who) whos))
+    by : (b : Bool) → Each IsLow (filter_map (λ who. counter_by (handed_to who T) who) whos)
+        → Each IsLow (cons_option (cond b None (Some (kind.counter who (handed_to who T)))) (filter_map (λ who. counter_by (handed_to who T) who) whos))
     by true more = more
     by false more = (omega arith, more)
 

@@ -119,7 +119,8 @@ module _ (store : List ℕ) (E : List Entry) (stored : IsStore store E) where
   pub leaves-base : (synced : List ℕ) (written : List (ℕ × ℕ)) → LeavesList synced written (base E) → LeavesBase store synced written
   leaves-base synced written leaves F is = subst (λ (l : List Entry). LeavesList synced written (base l)) (one_list store E F stored.spells is.spells) leaves
 
-  pub left-base : {D : Type 0} (moment : D → ℕ) (left_since : D → ℕ → List ℕ → Type 0) (old new : D) (synced : List ℕ) (written : List (ℕ × ℕ)) → LeavesOnly moment left_since old new (LeftEmptyOrWhole synced written (base E))
+  pub left-base : {D : Type 0} (moment : D → ℕ) (left_since : D → ℕ → List ℕ → Type 0) (old new : D) (synced : List ℕ) (written : List (ℕ × ℕ))
+      → LeavesOnly moment left_since old new (LeftEmptyOrWhole synced written (base E))
       → LeavesOnly moment left_since old new (LeftEmptyOrBase store synced written)
   left-base moment left_since old new synced written runs =
       weaker moment left_since old new (LeftEmptyOrWhole synced written (base E)) (LeftEmptyOrBase store synced written) runs

@@ -84,7 +84,8 @@ appended-still P append.Full full not = full refl
 appended-still P append.Store full not = absurd (not refl)
 
 -- an empty store was found, and then written or not
-pub kept-empty : {T : Type 0} (before after : List ℕ) (r : Result T WriteWhy) → spelled before [] → (IsErrOf r Occupied → ⊥) → IfErr r (λ w. w ≢ Store → spelled after []) → IfErr r (λ w. KeepsNew w before after)
+pub kept-empty : {T : Type 0} (before after : List ℕ) (r : Result T WriteWhy) → spelled before [] → (IsErrOf r Occupied → ⊥) → IfErr r (λ w. w ≢ Store → spelled after [])
+    → IfErr r (λ w. KeepsNew w before after)
 kept-empty before after (Ok x) free never still = tt
 kept-empty before after (Err Store) free never still = tt
 kept-empty before after (Err Occupied) free never still = absurd (never refl)
@@ -118,7 +119,8 @@ module _ (synced : List ℕ) (written : List (ℕ × ℕ)) (E : List Entry) wher
     then-left old mid now runs more = then_on moment left_since old mid now (LeftOrHas synced written []) (IsWithOrWithout [] E) (LeftEmptyOrWhole synced written E) runs more before-is after-is
 
 -- nothing is pending, so a crash leaves what is seen, which it might have left before
-pub quiet-left : (seen synced : List ℕ) (written : List (ℕ × ℕ)) (now synced' : List ℕ) (written' : List (ℕ × ℕ)) → MayLeave synced written seen → now ≡ seen → IsQuiet now synced' written' → (c : List ℕ) → MayLeave synced' written' c → MayLeave synced written c
+pub quiet-left : (seen synced : List ℕ) (written : List (ℕ × ℕ)) (now synced' : List ℕ) (written' : List (ℕ × ℕ)) → MayLeave synced written seen → now ≡ seen → IsQuiet now synced' written'
+    → (c : List ℕ) → MayLeave synced' written' c → MayLeave synced written c
 quiet-left seen synced written now synced' written' may same quiet c left =
     let only : c ≡ synced' = only_synced synced' c (subst (λ (w : List (ℕ × ℕ)). MayLeave synced' w c) quiet.nothing left) in
     subst (MayLeave synced written) (sym (only ∙ quiet.kept ∙ same)) may
@@ -129,7 +131,8 @@ module _ {D : Type 0} (moment : D → ℕ) (left_since : D → ℕ → List ℕ 
   only-looked old now runs = weaker moment left_since old now (MayLeave synced written) (LeftEmptyOrWhole synced written E) runs (λ c left. inl left)
 
   -- an empty store was found and then written
-  pub then-written : (old mid now : D) → ((c : List ℕ) → MayLeave synced' written' c → MayLeave synced written c) → LeavesOnly moment left_since old mid (MayLeave synced written) → LeavesOnly moment left_since mid now (LeftEmptyOrWhole synced' written' E)
+  pub then-written : (old mid now : D) → ((c : List ℕ) → MayLeave synced' written' c → MayLeave synced written c) → LeavesOnly moment left_since old mid (MayLeave synced written)
+      → LeavesOnly moment left_since mid now (LeftEmptyOrWhole synced' written' E)
       → LeavesOnly moment left_since old now (LeftEmptyOrWhole synced written E)
   then-written old mid now back first second =
       then_on moment left_since old mid now (MayLeave synced written) (LeftEmptyOrWhole synced' written' E) (LeftEmptyOrWhole synced written E) first second (λ c left. inl left)

@@ -1,5 +1,37 @@
 -- The notices that wait, moved one by one to the entries.
-use Rattle.std.proofs.Common.{◌≡◌, ℕ, zero, suc, ◌+◌, ◌<◌, ◌≤◌, Bool, true, false, cond, List, [], ◌∷◌, ◌++◌, map, take, drop, filter, length, get_or, Option, Some, None, refl, sym, ap, ◌∙◌, subst, arith, append_assoc}
+use Rattle.std.proofs.Common.{
+  ◌≡◌,
+  ℕ,
+  zero,
+  suc,
+  ◌+◌,
+  ◌<◌,
+  ◌≤◌,
+  Bool,
+  true,
+  false,
+  cond,
+  List,
+  [],
+  ◌∷◌,
+  ◌++◌,
+  map,
+  take,
+  drop,
+  filter,
+  length,
+  get_or,
+  Option,
+  Some,
+  None,
+  refl,
+  sym,
+  ap,
+  ◌∙◌,
+  subst,
+  arith,
+  append_assoc,
+}
 use Rattle.std.specs.Prelude.{IfSome, find, nat_lt, option_to_list, slice_get}
 use Rattle.std.specs.List.{AllByRecursion as Each}
 use Rattle.std.proofs.lemmas.Bool.{lt-ltb}
@@ -73,7 +105,8 @@ far-back : (a b : Jid) (t : Bool) → same_bare b a ≡ t → same_bare a b ≡ 
 far-back a b true e far = let back = bare-back b a e in absurd (cc (back, far))
 far-back a b false e far = refl
 
-pub moved-more : (who : Jid) (at : ℕ) (old now after : List Notice) (front entries more : List Entry) → AreMoved who at old now front entries → more ≡ entries ++ notice_entries (option_to_list (find (is_to who) now)) → after ≡ without_first (is_to who) now
+pub moved-more : (who : Jid) (at : ℕ) (old now after : List Notice) (front entries more : List Entry) → AreMoved who at old now front entries
+    → more ≡ entries ++ notice_entries (option_to_list (find (is_to who) now)) → after ≡ without_first (is_to who) now
     → AreMoved who (at + 1) old after front more
 moved-more who at old now after front entries more so_far added gone =
     let q = queue who old in
@@ -90,12 +123,14 @@ moved-more who at old now after front entries more so_far added gone =
       others = λ other far. ap (queue other) gone ∙ others_stay who other now (far-back other who (same_bare who other) refl far) ∙ so_far.others other far;
     })
 
-pub moved-all : (who : Jid) (at : ℕ) (old now : List Notice) (front entries : List Entry) → length (queue who old) ≤ at → AreMoved who at old now front entries → entries ≡ front ++ notice_entries (queue who old)
+pub moved-all : (who : Jid) (at : ℕ) (old now : List Notice) (front entries : List Entry) → length (queue who old) ≤ at → AreMoved who at old now front entries
+    → entries ≡ front ++ notice_entries (queue who old)
 moved-all who at old now front entries all is = is.moved ∙ ap (λ (ns : List Notice). front ++ notice_entries ns) (take_all at (queue who old) all)
 
 -- the first of those that are left
 pub first-ready : (count : ℕ) (who : Jid) (at : ℕ) (old now : List Notice) → AreReady count (queue who old) → queue who now ≡ drop at (queue who old) → IfSome (find (is_to who) now) (IsReady count)
-first-ready count who at old now ready left = subst (λ (o : Option Notice). IfSome o (IsReady count)) (sym (find-first (is_to who) now ∙ ap (λ (ns : List Notice). slice_get ns 0) left)) (at-drop (queue who old) at ready)
+first-ready count who at old now ready left = subst (λ (o : Option Notice). IfSome o (IsReady count)) (sym (find-first (is_to who) now ∙ ap (λ (ns : List Notice). slice_get ns 0) left))
+    (at-drop (queue who old) at ready)
   where
     at-drop : (ns : List Notice) (at : ℕ) → AreReady count ns → IfSome (slice_get (drop at ns) 0) (IsReady count)
     at-drop [] zero are = tt
@@ -130,12 +165,14 @@ each-left P zero whos ps = ps
 each-left P (suc i) [] ps = tt
 each-left P (suc i) (who ∷ whos) ps = each-left P i whos ps.1
 
-stay-same : (who : Jid) (old now after : List Notice) (whos : List Jid) → ((other : Jid) → same_bare other who ≡ false → queue other after ≡ queue other now) → Each (λ y. same_bare y who ≡ false) whos → Each (λ a. queue a now ≡ queue a old) whos
+stay-same : (who : Jid) (old now after : List Notice) (whos : List Jid) → ((other : Jid) → same_bare other who ≡ false → queue other after ≡ queue other now)
+    → Each (λ y. same_bare y who ≡ false) whos → Each (λ a. queue a now ≡ queue a old) whos
     → Each (λ a. queue a after ≡ queue a old) whos
 stay-same who old now after [] others far same = tt
 stay-same who old now after (x ∷ whos) others far same = (others x far.0 ∙ same.0, stay-same who old now after whos others far.1 same.1)
 
-module _ (whos : List Jid) (i : ℕ) (who : Jid) (old now : List Notice) (front entries : List Entry) (within : i < length whos) (is : who ≡ get_or whos i who) (so_far : AreEmptied whos i old now front entries) where
+module _ (whos : List Jid) (i : ℕ) (who : Jid) (old now : List Notice) (front entries : List Entry) (within : i < length whos) (is : who ≡ get_or whos i who)
+    (so_far : AreEmptied whos i old now front entries) where
   -- its own notices wait as before
   pub own-same : queue who now ≡ queue who old
   own-same = (subst (Each (λ a. queue a now ≡ queue a old)) (left-of whos i who within is) so_far.rest).0
@@ -144,7 +181,8 @@ module _ (whos : List Jid) (i : ℕ) (who : Jid) (old now : List Notice) (front 
   own-ready count ready =
       subst (AreReady count) (sym own-same) (subst (Each (λ a. AreReady count (queue a old))) (left-of whos i who within is) (each-left (λ a. AreReady count (queue a old)) i whos ready)).0
 
-  pub emptied-more : (after : List Notice) (more : List Entry) → AreApart same_bare whos → more ≡ entries ++ notice_entries (queue who now) → ((other : Jid) → same_bare other who ≡ false → queue other after ≡ queue other now)
+  pub emptied-more : (after : List Notice) (more : List Entry) → AreApart same_bare whos → more ≡ entries ++ notice_entries (queue who now)
+      → ((other : Jid) → same_bare other who ≡ false → queue other after ≡ queue other now)
       → AreEmptied whos (i + 1) old after front more
   emptied-more after more apart added others =
       let next : take (i + 1) whos ≡ take i whos ++ who ∷ [] = take_more whos i who within ∙ ap (λ (x : Jid). take i whos ++ x ∷ []) (sym is) in
@@ -157,9 +195,11 @@ module _ (whos : List Jid) (i : ℕ) (who : Jid) (old now : List Notice) (front 
             ∙ ap (λ (es : List Entry). front ++ es)
             (ap (λ (ns : List Notice). notice_entries (notices_of old (take i whos)) ++ notice_entries ns) own-same
             ∙ joined (notices_of old (take i whos)) (queue who old)
-            ∙ ap notice_entries (ap (λ (ns : List Notice). notices_of old (take i whos) ++ ns) (sym (append-nil (queue who old))) ∙ sym (flat_map-append (λ a. queue a old) (take i whos) (who ∷ [])) ∙ ap (notices_of old) (sym next)));
+            ∙ ap notice_entries (ap (λ (ns : List Notice). notices_of old (take i whos) ++ ns) (sym (append-nil (queue who old))) ∙ sym (flat_map-append (λ a. queue a old) (take i whos) (who ∷ [])) ∙
+            ap (notices_of old) (sym next)));
         rest = stay-same who old now after (drop (i + 1) whos) others far rest;
       }
 
-pub emptied-all : (whos : List Jid) (i : ℕ) (old now : List Notice) (front entries : List Entry) → length whos ≤ i → AreEmptied whos i old now front entries → entries ≡ front ++ notice_entries (notices_of old whos)
+pub emptied-all : (whos : List Jid) (i : ℕ) (old now : List Notice) (front entries : List Entry) → length whos ≤ i → AreEmptied whos i old now front entries
+    → entries ≡ front ++ notice_entries (notices_of old whos)
 emptied-all whos i old now front entries all is = is.moved ∙ ap (λ (js : List Jid). front ++ notice_entries (notices_of old js)) (take_all i whos all)

@@ -70,7 +70,8 @@ module _ (t : Tree) where
 
   pub read-is : held_row_of t ≡ shown (row_in t)
   read-is =
-      named (is_named (codes "node") base_ns t) _ _ _ _ (part (jid_at (codes "creator") t) _ _ (λ creator. part (key_at t) _ _ (λ key. part (config_at t) _ _ (λ config. whole (node (record { key = key; creator = creator; config = config })) refl))))
+      named (is_named (codes "node") base_ns t) _ _ _ _ (part (jid_at (codes "creator") t) _ _
+      (λ creator. part (key_at t) _ _ (λ key. part (config_at t) _ _ (λ config. whole (node (record { key = key; creator = creator; config = config })) refl))))
       (named (is_named (codes "affiliation") base_ns t) _ _ _ _ (part (affil_of (attr_text (codes "affiliation") t)) _ _ (λ affil. part (jid_at (codes "jid") t) _ _ (λ who. part (key_at t) _ _
       (λ key. whole (affiliation (record { node = key; who = who; affil = affil })) refl))))
       (named (is_named (codes "subscription") base_ns t) _ _ _ _

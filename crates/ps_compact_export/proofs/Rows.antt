@@ -19,7 +19,8 @@ module _ {R : Type 0} (kind : R → BaseRow) where
   one-row (x ∷ rows) (suc at) = ap (λ (es : List Entry). written (kind x) ∷ es) (one-row rows at)
 
   -- one row more
-  pub row-more : (rows : List R) (at : ℕ) (front now after : List Entry) → now ≡ front ++ all_written kind (take at rows) → after ≡ now ++ if_written kind (slice_get rows at) → after ≡ front ++ all_written kind (take (at + 1) rows)
+  pub row-more : (rows : List R) (at : ℕ) (front now after : List Entry) → now ≡ front ++ all_written kind (take at rows) → after ≡ now ++ if_written kind (slice_get rows at)
+      → after ≡ front ++ all_written kind (take (at + 1) rows)
   row-more rows at front now after before more =
       let next : at + 1 ≡ suc at = omega arith in
       more ∙ ap (λ (es : List Entry). es ++ if_written kind (slice_get rows at)) before ∙ append_assoc front (all_written kind (take at rows)) (if_written kind (slice_get rows at))

@@ -32,7 +32,27 @@ use Rattle.ps_types.specs.Shape.{attr_text, trees_in, tree_text}
 use Rattle.ps_types.specs.Tree.{Tree, is_named}
 use Rattle.ps_types.proofs.AddressLaws.{parts-again}
 use Rattle.ps_model.specs.BaseFields.{◌>>=◌, roster_choices, depth_choices, type_choices, config_in, key_of}
-use Rattle.ps_model.specs.BaseRows.{BaseRow, node, affiliation, subscription, item, link, contact, ver, made, counter, notice, base_ns, depth_text, feature_nodes, group_nodes, group_words, roster_text, row_tree, type_text}
+use Rattle.ps_model.specs.BaseRows.{
+  BaseRow,
+  node,
+  affiliation,
+  subscription,
+  item,
+  link,
+  contact,
+  ver,
+  made,
+  counter,
+  notice,
+  base_ns,
+  depth_text,
+  feature_nodes,
+  group_nodes,
+  group_words,
+  roster_text,
+  row_tree,
+  type_text,
+}
 use Rattle.ps_model.specs.Stanza.{jid_of}
 use Rattle.ps_model.specs.Words.{affil_of, affil_text, sub_of, sub_text}
 use Rattle.ps_types.specs.Values.{choice_of}
@@ -90,13 +110,15 @@ pub affiliation-again : (r : AffilRow) → IsAddress r.who → IsAddress r.node.
 affiliation-again r who service =
     let t = row_tree (affiliation r) in
     written (affiliation r) _
-    (λ i. affil-again r.affil i >>= λ a. jid-again r.who who i >>= λ w. option_map (key_of t) (jid-again r.node.service service i) >>= λ k. Some (affiliation (record { node = k; who = w; affil = a })))
+    (λ i. affil-again r.affil i >>= λ a. jid-again r.who who i >>= λ w. option_map (key_of t) (jid-again r.node.service service i) >>= λ k. Some
+    (affiliation (record { node = k; who = w; affil = a })))
 
 pub subscription-again : (r : SubRow) → IsAddress r.who → IsAddress r.node.service → ReadBack (subscription r)
 subscription-again r who service =
     let t = row_tree (subscription r) in
     written (subscription r) _
-    (λ i. depth-again r.options.deep i >>= λ deep. jid-again r.who who i >>= λ w. option_map (key_of t) (jid-again r.node.service service i) >>= λ k. sub-again r.state i >>= λ state. type-again r.options.items i >>= λ items.
+    (λ i. depth-again r.options.deep i >>= λ deep. jid-again r.who who i >>= λ w. option_map (key_of t) (jid-again r.node.service service i) >>= λ k. sub-again r.state i >>= λ state. type-again
+    r.options.items i >>= λ items.
     Some (subscription (record { node = k; who = w; state = state; options = record { items = items; deep = deep } })))
 
 pub link-again : (r : LinkRow) → IsAddress r.child.service → r.collection.service ≡ r.child.service → ReadBack (link r)
@@ -134,30 +156,38 @@ features-again (f ∷ fs) = ap (λ (xs : List (List ℕ)). f ∷ xs) (features-a
 pub contact-again : (r : RosterRow) → IsAddress r.account → IsAddress r.contact → ReadBack (contact r)
 contact-again r account who =
     written (contact r) _
-    (λ i. jid-again r.account account i >>= λ a. jid-again r.contact who i >>= λ w. roster-again r.state i >>= λ state. Some (contact (record { account = a; contact = w; state = state; groups = groups-again r.groups i })))
+    (λ i. jid-again r.account account i >>= λ a. jid-again r.contact who i >>= λ w. roster-again r.state i >>= λ state. Some
+    (contact (record { account = a; contact = w; state = state; groups = groups-again r.groups i })))
 
 pub ver-again : (r : VerRow) → ReadBack (ver r)
 ver-again r = written (ver r) _ (λ i. Some (ver (record { ver = r.ver; features = features-again r.features i })))
 
 -- an item, with and without its moment and its payload
-pub item-again : (key : NodeKey) (id : List ℕ) (publisher : Jid) (payload : Option Tree) (moment : Option ℕ) → ((m : ℕ) → moment ≡ Some m → m < 2 ^ 64) → IsAddress publisher → IsAddress key.service → ReadBack (item (record { node = key; id = id; publisher = publisher; payload = payload; moment = moment }))
+pub item-again : (key : NodeKey) (id : List ℕ) (publisher : Jid) (payload : Option Tree) (moment : Option ℕ) → ((m : ℕ) → moment ≡ Some m → m < 2 ^ 64) → IsAddress publisher → IsAddress key.service
+    → ReadBack (item (record { node = key; id = id; publisher = publisher; payload = payload; moment = moment }))
 item-again key id publisher None None early who service =
     let r : ItemRow = record { node = key; id = id; publisher = publisher; payload = None; moment = None } in
-    written (item r) _ (λ i. jid-again publisher who i >>= λ w. option_map (key_of (row_tree (item r))) (jid-again key.service service i) >>= λ k. Some (item (record { node = k; id = id; publisher = w; payload = None; moment = None })))
+    written (item r) _ (λ i. jid-again publisher who i >>= λ w. option_map (key_of (row_tree (item r))) (jid-again key.service service i) >>= λ k. Some
+    (item (record { node = k; id = id; publisher = w; payload = None; moment = None })))
 item-again key id publisher (Some p) None early who service =
     let r : ItemRow = record { node = key; id = id; publisher = publisher; payload = Some p; moment = None } in
-    written (item r) _ (λ i. jid-again publisher who i >>= λ w. option_map (key_of (row_tree (item r))) (jid-again key.service service i) >>= λ k. Some (item (record { node = k; id = id; publisher = w; payload = Some p; moment = None })))
+    written (item r) _ (λ i. jid-again publisher who i >>= λ w. option_map (key_of (row_tree (item r))) (jid-again key.service service i) >>= λ k. Some
+    (item (record { node = k; id = id; publisher = w; payload = Some p; moment = None })))
 item-again key id publisher None (Some m) early who service =
     let r : ItemRow = record { node = key; id = id; publisher = publisher; payload = None; moment = Some m } in
-    written (item r) _ (λ i. jid-again publisher who i >>= λ w. option_map (key_of (row_tree (item r))) (jid-again key.service service i) >>= λ k. Some (item (record { node = k; id = id; publisher = w; payload = None; moment = Some (number-again m (early m refl) i) })))
+    written (item r) _ (λ i. jid-again publisher who i >>= λ w. option_map (key_of (row_tree (item r))) (jid-again key.service service i) >>= λ k. Some
+    (item (record { node = k; id = id; publisher = w; payload = None; moment = Some (number-again m (early m refl) i) })))
 item-again key id publisher (Some p) (Some m) early who service =
     let r : ItemRow = record { node = key; id = id; publisher = publisher; payload = Some p; moment = Some m } in
-    written (item r) _ (λ i. jid-again publisher who i >>= λ w. option_map (key_of (row_tree (item r))) (jid-again key.service service i) >>= λ k. Some (item (record { node = k; id = id; publisher = w; payload = Some p; moment = Some (number-again m (early m refl) i) })))
+    written (item r) _ (λ i. jid-again publisher who i >>= λ w. option_map (key_of (row_tree (item r))) (jid-again key.service service i) >>= λ k. Some
+    (item (record { node = k; id = id; publisher = w; payload = Some p; moment = Some (number-again m (early m refl) i) })))
 
 -- a node whose configuration's form reads back (both facts are laws of the crates of forms and of configurations)
-pub node-again : (r : NodeRow) → IsAddress r.creator → IsAddress r.key.service → form_of (form_tree (config_form r.config)) ≡ Some (config_form r.config) → read_config (config_form r.config) service_config ≡ Ok r.config → ReadBack (node r)
+pub node-again : (r : NodeRow) → IsAddress r.creator → IsAddress r.key.service → form_of (form_tree (config_form r.config)) ≡ Some (config_form r.config)
+    → read_config (config_form r.config) service_config ≡ Ok r.config → ReadBack (node r)
 node-again r creator service form config =
     let t = row_tree (node r) in
     written (node r) _
-    ((λ i. jid-again r.creator creator i >>= λ c. option_map (key_of t) (jid-again r.key.service service i) >>= λ k. (form i >>= λ f. config_in (read_config f service_config)) >>= λ g. Some (node (record { key = k; creator = c; config = g })))
+    ((λ i. jid-again r.creator creator i >>= λ c. option_map (key_of t) (jid-again r.key.service service i) >>= λ k. (form i >>= λ f. config_in (read_config f service_config)) >>= λ g. Some
+    (node (record { key = k; creator = c; config = g })))
     ∙ ap (λ (given : Result NodeConfig ℕ). config_in given >>= λ g. Some (node (record { key = r.key; creator = r.creator; config = g }))) config)

@@ -95,7 +95,8 @@ of_bare_told [] ns = ns
 of_bare_told (x ∷ resource) ns = []
 
 filter-step : (a : Jid) (n : Notice) (ns : List Notice) (b : Bool) → map told_of (filter (λ n. same_bare n.to a) ns) ≡ filter (λ d. same_bare d.to a) (map told_of ns)
-    → map told_of (cond b (n ∷ filter (λ n. same_bare n.to a) ns) (filter (λ n. same_bare n.to a) ns)) ≡ cond b (told_of n ∷ filter (λ d. same_bare d.to a) (map told_of ns)) (filter (λ d. same_bare d.to a) (map told_of ns))
+    → map told_of (cond b (n ∷ filter (λ n. same_bare n.to a) ns) (filter (λ n. same_bare n.to a) ns)) ≡ cond b (told_of n ∷ filter (λ d. same_bare d.to a) (map told_of ns))
+    (filter (λ d. same_bare d.to a) (map told_of ns))
 filter-step a n ns true h = ap (λ (ds : List Told). told_of n ∷ ds) h
 filter-step a n ns false h = h
 

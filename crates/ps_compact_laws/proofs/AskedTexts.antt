@@ -122,10 +122,12 @@ pub ask-text : (service : List ℕ) (t : Tree) (from target : Jid) (a : Ask) →
 ask-text service t from target (ask.Create node form) is fits = node-name (codes "set") pubsub_ns (codes "create") node t is.part is.rest is.pubsub is.node_is is.named fits
 ask-text service t from target (ask.Publish node items options) is fits = (
   node-name (codes "set") pubsub_ns (codes "publish") node t is.part is.rest is.pubsub is.node_is is.named fits,
-  subst (Each AskItemIs) is.items_is (items-are (children_of (codes "item") pubsub_ns is.part) (children-fit 29 (codes "item") pubsub_ns is.part (part-fits (codes "set") pubsub_ns (codes "publish") t is.part is.rest is.pubsub fits))),
+  subst (Each AskItemIs) is.items_is (items-are (children_of (codes "item") pubsub_ns is.part)
+      (children-fit 29 (codes "item") pubsub_ns is.part (part-fits (codes "set") pubsub_ns (codes "publish") t is.part is.rest is.pubsub fits))),
 )
 ask-text service t from target (ask.Retract node ids notify) is fits =
-    subst (Each IsUtf8) is.ids_is (ids-are (children_of (codes "item") pubsub_ns is.part) (children-fit 29 (codes "item") pubsub_ns is.part (part-fits (codes "set") pubsub_ns (codes "retract") t is.part is.rest is.pubsub fits)))
+    subst (Each IsUtf8) is.ids_is (ids-are (children_of (codes "item") pubsub_ns is.part)
+    (children-fit 29 (codes "item") pubsub_ns is.part (part-fits (codes "set") pubsub_ns (codes "retract") t is.part is.rest is.pubsub fits)))
 ask-text service t from target (ask.Purge node) is fits = tt
 ask-text service t from target (ask.Delete node) is fits = tt
 ask-text service t from target (ask.ConfigGet node) is fits = tt

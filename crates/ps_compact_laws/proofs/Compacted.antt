@@ -83,7 +83,8 @@ boot-told service F s t a like =
     ap (λ (ns : List Notice). map told_of (ns ++ x)) (to-none a.resource) ∙ like-told F (step.after t (Boot service)) (step.after s (Boot service)) like a
     ∙ sym (ap (λ (ns : List Notice). map told_of (ns ++ y)) (to-none a.resource))
 
-pub serves-on : (E : List Entry) → lawful E → IsSoundBook (replay_from empty_state E).book → AreSoundNumbers (replay_from empty_state E).tallies (unhanded E) → Each ReadBack (rows_of E) → Each (λ r. is_well_formed r ≡ true) (rows_of E)
+pub serves-on : (E : List Entry) → lawful E → IsSoundBook (replay_from empty_state E).book → AreSoundNumbers (replay_from empty_state E).tallies (unhanded E) → Each ReadBack (rows_of E)
+    → Each (λ r. is_well_formed r ≡ true) (rows_of E)
     → ((a : Jid) → handed E a ≤ length (notices_from empty_state E a))
     → ((a : Jid) → to_address a (flat_map (unhanded E) (told_addresses (replay_from empty_state E).tallies)) ≡ unhanded E a)
     → ServesOn E (base E)

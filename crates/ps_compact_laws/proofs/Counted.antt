@@ -121,7 +121,8 @@ module _ (a : Jid) (bare : a.resource ≡ []) where
   Some-on : State → List Entry → Type 0
   Some-on s E = (counter_of E a ≡ 0) × (handed_to a (replay_from s E).tallies ≡ handed_to a s.tallies + handed E a)
 
-  base-some : (row : Tree) (E : List Entry) (s : State) → 0 < made_for a s.tallies → Kind (row_of row) s.tallies → (0 < made_for a (row_tallies (row_of row) s.tallies) → Some-on (step.after s (Base row)) E) → Some-on s (Base row ∷ E)
+  base-some : (row : Tree) (E : List Entry) (s : State) → 0 < made_for a s.tallies → Kind (row_of row) s.tallies
+      → (0 < made_for a (row_tallies (row_of row) s.tallies) → Some-on (step.after s (Base row)) E) → Some-on s (Base row ∷ E)
   unfolding Kind Some-on
   base-some row E s some (inl is) more = absurd (let z = is.none_before in no-less 0 (omega (arith, some, z)))
   base-some row E s some (inr is) more =
@@ -180,7 +181,8 @@ module _ (a : Jid) (bare : a.resource ≡ []) where
       let less : handed_to a s.tallies < made_for a s.tallies = subst (λ (j : Jid). handed_to j s.tallies < made_for j s.tallies) ((same_jid-Decides b a).0 e) (handed-has-one s b ok) in
       absurd (no-less 0 (omega (arith, less, nought)))
   handed-none b E s ok nought none false e more =
-      let kept : handed_to a (step.after s (Handed b)).tallies ≡ 0 = handed-more b s ok ∙ ap (λ t. handed_to a s.tallies + cond t 1 0) e ∙ (let z : handed_to a s.tallies + 0 ≡ 0 = omega (arith, none) in z) in
+      let kept : handed_to a (step.after s (Handed b)).tallies ≡ 0 = handed-more b s ok ∙ ap (λ t. handed_to a s.tallies + cond t 1 0) e ∙
+      (let z : handed_to a s.tallies + 0 ≡ 0 = omega (arith, none) in z) in
       more (made-handed a b s.tallies ∙ nought) kept ∙ ap (λ t. counter_of E a + cond t (suc (handed E a)) (handed E a)) (sym e)
 
   none-on : (E : List Entry) (s : State) → IsLawfulFrom s E → made_for a s.tallies ≡ 0 → handed_to a s.tallies ≡ 0 → None-on s E
@@ -191,7 +193,8 @@ module _ (a : Jid) (bare : a.resource ≡ []) where
       rest-on E (step.after s (Boot service)) is.1 kept (λ still. none-on E (step.after s (Boot service)) is.1 still kept) (made_for a (step.after s (Boot service)).tallies) refl
   none-on (Change host line m t ∷ E) s is nought none =
       let kept = tallied-handed (step.handed_out s (Change host line m t)) s.tallies ∙ none in
-      rest-on E (step.after s (Change host line m t)) is.1 kept (λ still. none-on E (step.after s (Change host line m t)) is.1 still kept) (made_for a (step.after s (Change host line m t)).tallies) refl
+      rest-on E (step.after s (Change host line m t)) is.1 kept (λ still. none-on E (step.after s (Change host line m t)) is.1 still kept) (made_for a (step.after s (Change host line m t)).tallies)
+      refl
   none-on (Gone host ∷ E) s is nought none =
       let kept = tallied-handed (step.handed_out s (Gone host)) s.tallies ∙ none in
       rest-on E (step.after s (Gone host)) is.1 kept (λ still. none-on E (step.after s (Gone host)) is.1 still kept) (made_for a (step.after s (Gone host)).tallies) refl

@@ -35,7 +35,26 @@ use Rattle.ps_model.specs.Book.{Book}
 use Rattle.ps_model.specs.Due.{About, about_new, about_node, always, delivered, delivers, is_granted, items_inside, may_pass, may_read, node_message, node_notice, one_way, told_about}
 use Rattle.ps_model.specs.Given.{given, to_one}
 use Rattle.ps_model.specs.Last.{is_leaf, last_notice, sends_last}
-use Rattle.ps_model.specs.NoticeTrees.{approval_form, associate_tree, delay_nodes, event_nodes, header_nodes, headers, item_nodes, items_tree, kind_attr, message, named_tree, notice_id, only, payload_nodes, question, retract_tree, told_tree, with_id}
+use Rattle.ps_model.specs.NoticeTrees.{
+  approval_form,
+  associate_tree,
+  delay_nodes,
+  event_nodes,
+  header_nodes,
+  headers,
+  item_nodes,
+  items_tree,
+  kind_attr,
+  message,
+  named_tree,
+  notice_id,
+  only,
+  payload_nodes,
+  question,
+  retract_tree,
+  told_tree,
+  with_id,
+}
 use Rattle.ps_model.specs.Stanza.{host_jid}
 use Rattle.ps_model.specs.Streams.{is_reply}
 use Rattle.ps_model.specs.Ways.{Way, NoWay, OwnRow, Through, is_interested}
@@ -75,7 +94,8 @@ id-utf8 n = IsUtf8-append (codes "n-") (decimal n) (word (codes "n-") refl) (dec
 
 pub message-is : (from to : Jid) (k : NoticeKind) (kids : Nodes) → IsUtf8 (jid_text from) → IsUtf8 (jid_text to) → FitIn 31 kids → IsDraft to (message from to (kind_attr k) kids)
 message-is from to Normal kids u v fit = record {
-  fits = λ n. fit-tree 31 (codes "message") (codes "jabber:client") _ kids refl refl (word (codes "from") refl, u, (word (codes "id") refl, id-utf8 n, (word (codes "to") refl, v, tt))) ((refl, (refl, tt)), ((refl, tt), (tt, tt))) fit;
+  fits = λ n. fit-tree 31 (codes "message") (codes "jabber:client") _ kids refl refl (word (codes "from") refl, u, (word (codes "id") refl, id-utf8 n, (word (codes "to") refl, v, tt)))
+      ((refl, (refl, tt)), ((refl, tt), (tt, tt))) fit;
   to_is = λ n. refl;
   id_is = λ n. refl;
   no_reply = λ n. refl;
@@ -117,7 +137,8 @@ delivered-fits false payload is = fit-none 28
 
 item-fits : (config : NodeConfig) (item : Option ItemRow) → ItemOr item → FitIn 29 (item_nodes (delivered config) item)
 item-fits config None is = fit-none 29
-item-fits config (Some row) is = fit-only 29 _ (fit-tree 28 (codes "item") event_ns _ _ refl refl (word (codes "id") refl, is.id, tt) (tt, tt) (delivered-fits config.deliver_payloads row.payload is.payload))
+item-fits config (Some row) is = fit-only 29 _ (fit-tree 28 (codes "item") event_ns _ _ refl refl (word (codes "id") refl, is.id, tt) (tt, tt)
+    (delivered-fits config.deliver_payloads row.payload is.payload))
 
 items-fit : (node : NodeKey) (kids : Nodes) → IsUtf8 node.name → FitIn 29 kids → Fits 30 (items_tree node kids)
 items-fit node kids name fit = fit-tree 29 (codes "items") event_ns _ kids refl refl (word (codes "node") refl, name, tt) (tt, tt) fit
@@ -150,7 +171,8 @@ state-utf8 sub.Subscribed = word (codes "subscribed") refl
 told-fits : (node : NodeKey) (who : Jid) (state : SubState) → IsUtf8 node.name → IsUtf8 (jid_text who) → FitIn 31 (only (told_tree node who state))
 told-fits node who state u v =
     fit-only 31 _ (fit-tree 30 (codes "pubsub") pubsub_ns [] _ refl refl tt tt
-    (fit-only 30 _ (fit-tree 29 (codes "subscription") pubsub_ns _ none refl refl (word (codes "jid") refl, v, (word (codes "node") refl, u, (word (codes "subscription") refl, state-utf8 state, tt))) ((refl, (refl, tt)), ((refl, tt), (tt, tt))) (fit-none 29))))
+    (fit-only 30 _ (fit-tree 29 (codes "subscription") pubsub_ns _ none refl refl (word (codes "jid") refl, v, (word (codes "node") refl, u, (word (codes "subscription") refl, state-utf8 state, tt)))
+    ((refl, (refl, tt)), ((refl, tt), (tt, tt))) (fit-none 29))))
 
 -- ---- a form
 
@@ -162,7 +184,8 @@ field-fits : (kind var v : List ℕ) → is_word kind ≡ true → is_word var �
 field-fits [] var v e f text = absurd (cc e)
 field-fits (x ∷ kind) [] v e f text = absurd (cc f)
 field-fits (x ∷ kind) (y ∷ var) v e f text =
-    fit-tree 29 (codes "field") (codes "jabber:x:data") _ _ refl refl (word (codes "type") refl, word (x ∷ kind) e, (word (codes "var") refl, word (y ∷ var) f, tt)) ((refl, tt), (tt, tt)) (fit-only 29 (value_tree v) (value-fits v text))
+    fit-tree 29 (codes "field") (codes "jabber:x:data") _ _ refl refl (word (codes "type") refl, word (x ∷ kind) e, (word (codes "var") refl, word (y ∷ var) f, tt)) ((refl, tt), (tt, tt))
+    (fit-only 29 (value_tree v) (value-fits v text))
 
 form-fits : (node : NodeKey) (who : Jid) → IsUtf8 node.name → IsUtf8 (jid_text who) → FitIn 31 (only (form_tree (approval_form node who)))
 form-fits node who u v =
@@ -189,7 +212,8 @@ read-key node who b (Some row) are e h = found-key node b.nodes row are e
 pub may-key : (node : NodeKey) (who : Jid) (b : Book) → IsPrintable b → may_read b node who ≡ true → IsKeyText node
 may-key node who b is h = read-key node who b (node_at node b.nodes) is.nodes refl h
 
-config-key : (node : NodeKey) (nodes : List NodeRow) (o : Option NodeRow) (config : NodeConfig) → Each NodeIs nodes → node_at node nodes ≡ o → option_map (λ (r : NodeRow). r.config) o ≡ Some config → IsKeyText node
+config-key : (node : NodeKey) (nodes : List NodeRow) (o : Option NodeRow) (config : NodeConfig) → Each NodeIs nodes → node_at node nodes ≡ o → option_map (λ (r : NodeRow). r.config) o ≡ Some config
+    → IsKeyText node
 config-key node nodes None config are e h = absurd (cc h)
 config-key node nodes (Some row) config are e h = found-key node nodes row are e
 
@@ -207,9 +231,11 @@ record TellsFit (b : Book) (a : About) (who : Jid) : Type 0 where
 
 module _ (b : Book) (a : About) (who : Jid) (is : IsPrintable b) (to : IsUtf8 (jid_text who)) (tells : TellsFit b a who) where
   node-message : (config : NodeConfig) (behind : Nodes) → IsKeyText a.node → IsKeyText a.rules → FitIn 31 behind → IsDraft who (node_message a config who behind)
-  node-message config behind key rules fit = message-is a.node.service who config.notification_type _ (jid-utf8 a.node.service key.service) to (event-fits (a.inside config) behind (tells.inside config key rules) fit)
+  node-message config behind key rules fit = message-is a.node.service who config.notification_type _ (jid-utf8 a.node.service key.service) to
+      (event-fits (a.inside config) behind (tells.inside config key rules) fit)
 
-  one-draft : (passes wanted : Bool) (config : NodeConfig) (w : Way) → may_pass b who w ≡ passes → IsKeyText a.node → IsKeyText a.rules → Drafts who (one_way passes wanted (node_message a config who (a.behind w)) (node_message a config who none))
+  one-draft : (passes wanted : Bool) (config : NodeConfig) (w : Way) → may_pass b who w ≡ passes → IsKeyText a.node → IsKeyText a.rules
+      → Drafts who (one_way passes wanted (node_message a config who (a.behind w)) (node_message a config who none))
   one-draft true wanted config w e key rules = drafts-some who _ (node-message config (a.behind w) key rules (tells.behind w e))
   one-draft false true config w e key rules = drafts-some who _ (node-message config none key rules (fit-none 31))
   one-draft false false config w e key rules = drafts-none who
@@ -217,7 +243,8 @@ module _ (b : Book) (a : About) (who : Jid) (is : IsPrintable b) (to : IsUtf8 (j
   notice-draft : (o : Option NodeConfig) → config_at a.rules b.nodes ≡ o → Drafts who (node_notice b a who o)
   notice-draft None e = drafts-none who
   notice-draft (Some config) e =
-      drafts-if who (may_read b a.node who && delivers a.switch config b who) (one_way (may_pass b who (a.way who)) (a.wanted who) (node_message a config who (a.behind (a.way who))) (node_message a config who none))
+      drafts-if who (may_read b a.node who && delivers a.switch config b who)
+      (one_way (may_pass b who (a.way who)) (a.wanted who) (node_message a config who (a.behind (a.way who))) (node_message a config who none))
       (λ h. one-draft (may_pass b who (a.way who)) (a.wanted who) config (a.way who) refl (may-key a.node who b is (and_parts (may_read b a.node who) (delivers a.switch config b who) h).0)
       (config-key a.rules b.nodes (node_at a.rules b.nodes) config is.nodes refl e))
 
@@ -247,7 +274,8 @@ found-item test (x ∷ rows) is = at (test x) is.0 (found-item test rows is.1)
     at true own more = own
     at false own more = more
 
-last-draft : (b : Book) (node : NodeKey) (to : Jid) (by : Bool) (moment : Option ℕ) (o : Option NodeConfig) (item : Option ItemRow) → IsPrintable b → IsUtf8 (jid_text to) → ItemOr item → is_early moment ≡ true
+last-draft : (b : Book) (node : NodeKey) (to : Jid) (by : Bool) (moment : Option ℕ) (o : Option NodeConfig) (item : Option ItemRow) → IsPrintable b → IsUtf8 (jid_text to) → ItemOr item
+    → is_early moment ≡ true
     → config_at node b.nodes ≡ o → Drafts to (last_notice b node to by moment o item)
 last-draft b node to by moment None item is text own early e = drafts-none to
 last-draft b node to by moment (Some config) None is text own early e = drafts-none to
@@ -271,13 +299,15 @@ given-draft b (event.Configuration node) who is to text early = node-draft b fal
 given-draft b (event.Associate node collection) who is to text early = new-draft b node collection who is to
 given-draft b (event.Approval node owner subscriber) who is to text early =
     one-address owner who _ (λ same. drafts-some who _ (subst (λ (j : Jid). IsDraft j (message node.service owner [] (only (form_tree (approval_form node subscriber))))) same
-    (message-is node.service owner Normal _ (jid-utf8 node.service text.0.service) (subst (λ (j : Jid). IsUtf8 (jid_text j)) (sym same) to) (form-fits node subscriber text.0.name.text (jid-utf8 subscriber text.1)))))
+    (message-is node.service owner Normal _ (jid-utf8 node.service text.0.service) (subst (λ (j : Jid). IsUtf8 (jid_text j)) (sym same) to)
+    (form-fits node subscriber text.0.name.text (jid-utf8 subscriber text.1)))))
 given-draft b (event.Told node subscriber state) who is to text early =
     one-address subscriber who _ (λ same. drafts-some who _ (subst (λ (j : Jid). IsDraft j (message node.service subscriber [] (only (told_tree node subscriber state)))) same
     (message-is node.service subscriber Normal _ (jid-utf8 node.service text.0.service) (jid-utf8 subscriber text.1) (told-fits node subscriber state text.0.name.text (jid-utf8 subscriber text.1)))))
 given-draft b (event.Last node to by moment) who is text own early =
     one-address to who _ (λ same. subst (λ (j : Jid). Drafts j (last_notice b node to by moment (config_at node b.nodes) (last_item node b.items))) same
-    (last-draft b node to by moment (config_at node b.nodes) (last_item node b.items) is (subst (λ (j : Jid). IsUtf8 (jid_text j)) (sym same) text) (found-item (is_item_at node) (reverse b.items) (each-turned b.items is.items)) early refl))
+    (last-draft b node to by moment (config_at node b.nodes) (last_item node b.items) is (subst (λ (j : Jid). IsUtf8 (jid_text j)) (sym same) text)
+    (found-item (is_item_at node) (reverse b.items) (each-turned b.items is.items)) early refl))
 given-draft b (event.Question to caps) who is text own early =
     one-address to who _ (λ same. drafts-some who _ (subst (λ (j : Jid). IsDraft j (question (host_jid b.service) to caps)) same
     (question-is (host_jid b.service) to caps is.service (subst (λ (j : Jid). IsUtf8 (jid_text j)) (sym same) text) own)))

@@ -45,7 +45,8 @@ fit-only n t one = fit-branch n t none one (fit-none n)
 pub fit-words : (n : ℕ) (s : List ℕ) (kids : Nodes) → IsUtf8 s → FitIn n kids → FitIn n (words s kids)
 fit-words n s kids text more = record { form = (text, more.form); low = more.low }
 
-pub fit-tree : (n : ℕ) (name ns : List ℕ) (attrs : List Attr) (kids : Nodes) → is_word name ≡ true → are_ascii ns ≡ true → AreTexts attrs → IsSorted attrs → FitIn n kids → Fits (suc n) (tree name ns attrs kids)
+pub fit-tree : (n : ℕ) (name ns : List ℕ) (attrs : List Attr) (kids : Nodes) → is_word name ≡ true → are_ascii ns ≡ true → AreTexts attrs → IsSorted attrs → FitIn n kids
+    → Fits (suc n) (tree name ns attrs kids)
 fit-tree n name ns attrs kids word ascii texts sorted more = record {
   form = (record { name_is_text = word-utf8 name word; named = word-some name word; ns_is_text = IsUtf8-are_ascii ns ascii; texts = texts; sorted = sorted }, more.form);
   low = omega (arith, more.low);
@@ -102,7 +103,8 @@ found-if n false o p x y = y
 
 pub child-at-fits : (n : ℕ) (name ns : List ℕ) (kids : Nodes) → FitIn n kids → FoundFits n (child_at name ns kids)
 child-at-fits n name ns none fit = found-none n
-child-at-fits n name ns (branch t kids) fit = found-if n (is_named name ns t) (Some t) (child_at name ns kids) (found-some n t (head-fits n t kids fit)) (child-at-fits n name ns kids (rest-fits n t kids fit))
+child-at-fits n name ns (branch t kids) fit = found-if n (is_named name ns t) (Some t) (child_at name ns kids) (found-some n t (head-fits n t kids fit))
+    (child-at-fits n name ns kids (rest-fits n t kids fit))
 child-at-fits n name ns (words s kids) fit = child-at-fits n name ns kids (text-fits n s kids fit)
 
 pub child-fits : (n : ℕ) (name ns : List ℕ) (t : Tree) → Fits (suc n) t → FoundFits n (child_of name ns t)

@@ -30,7 +30,8 @@ module _ (nodes : List NodeRow) (apart : AreApart node_key nodes) where
   unfolding linked_book
   step-book done l b none is = ap (λ (ns : List NodeRow). record b { links = done ++ l ∷ []; nodes = ns }) (linked done l none nodes is apart)
 
-  not-any-at : (k : NodeKey) (x : LinkRow) (xs : List LinkRow) (b : Bool) → is_none (cond b (Some x) (find (is_link_at k) xs)) ≡ true → (is_none (find (is_link_at k) xs) ≡ true → list_any (is_link_at k) xs ≡ false)
+  not-any-at : (k : NodeKey) (x : LinkRow) (xs : List LinkRow) (b : Bool) → is_none (cond b (Some x) (find (is_link_at k) xs)) ≡ true
+      → (is_none (find (is_link_at k) xs) ≡ true → list_any (is_link_at k) xs ≡ false)
       → (b || list_any (is_link_at k) xs) ≡ false
   not-any-at k x xs true h more = absurd (cc h)
   not-any-at k x xs false h more = more h
@@ -43,16 +44,19 @@ module _ (nodes : List NodeRow) (apart : AreApart node_key nodes) where
   unfolding linked_book
   takes done l b is none = rw (stands-named done l.child nodes, is.child, kind-named done l.collection nodes, is.collection, is.differ, not-any l.child done none) refl
 
-  pub links-accepted : (todo done : List LinkRow) (s : State) (b : Book) → s.book ≡ linked_book done b → Each (IsLinkRow nodes) todo → AreFresh link_key done todo → AreApart link_key todo → ArePlaced s (map link todo)
+  pub links-accepted : (todo done : List LinkRow) (s : State) (b : Book) → s.book ≡ linked_book done b → Each (IsLinkRow nodes) todo → AreFresh link_key done todo → AreApart link_key todo
+      → ArePlaced s (map link todo)
   links-accepted [] done s b at good fresh far = tt
   links-accepted (l ∷ todo) done s b at good fresh far = (
     ap (takes_link l) at ∙ takes done l b good.0 fresh.0,
-    links-accepted todo (done ++ l ∷ []) (with_row s (link l)) b (ap (book_with (link l)) at ∙ step-book done l b (none-of l.child done fresh.0) good.0.child) good.1 (fresh-more link_key done l todo fresh.1 far.0) far.1,
+    links-accepted todo (done ++ l ∷ []) (with_row s (link l)) b (ap (book_with (link l)) at ∙ step-book done l b (none-of l.child done fresh.0) good.0.child) good.1
+        (fresh-more link_key done l todo fresh.1 far.0) far.1,
   )
 
   pub links-rebuilt : (todo done : List LinkRow) (s : State) (b : Book) → s.book ≡ linked_book done b → Each (IsLinkRow nodes) todo → AreFresh link_key done todo → AreApart link_key todo
       → (with_rows s (map link todo)).book ≡ linked_book (done ++ todo) b
   links-rebuilt [] done s b at good fresh far = at ∙ sym (ap (λ (ls : List LinkRow). linked_book ls b) (append-nil done))
   links-rebuilt (l ∷ todo) done s b at good fresh far =
-      links-rebuilt todo (done ++ l ∷ []) (with_row s (link l)) b (ap (book_with (link l)) at ∙ step-book done l b (none-of l.child done fresh.0) good.0.child) good.1 (fresh-more link_key done l todo fresh.1 far.0) far.1
+      links-rebuilt todo (done ++ l ∷ []) (with_row s (link l)) b (ap (book_with (link l)) at ∙ step-book done l b (none-of l.child done fresh.0) good.0.child) good.1
+      (fresh-more link_key done l todo fresh.1 far.0) far.1
       ∙ ap (λ (ls : List LinkRow). linked_book ls b) (append_assoc done (l ∷ []) todo)

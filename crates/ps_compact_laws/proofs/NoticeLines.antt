@@ -95,7 +95,8 @@ draft-line to t n is =
     let reads = reads-line (print u) u (print_reads u (is-tree u (is.fits n))) in
     ap (λ (r : Result Tree LineRefusal). is_notice_line to n (print u) r) reads
     ∙ four (bytes_eq (print u) (print u)) (bytes_eq (attr_text (codes "to") u) (jid_text to)) (bytes_eq (attr_text (codes "id") u) (notice_id n)) (is_reply u)
-    ((bytes_eq-Decides (print u) (print u)).1 refl) ((bytes_eq-Decides (attr_text (codes "to") u) (jid_text to)).1 (is.to_is n)) ((bytes_eq-Decides (attr_text (codes "id") u) (notice_id n)).1 (is.id_is n))
+    ((bytes_eq-Decides (print u) (print u)).1 refl) ((bytes_eq-Decides (attr_text (codes "to") u) (jid_text to)).1 (is.to_is n))
+    ((bytes_eq-Decides (attr_text (codes "id") u) (notice_id n)).1 (is.id_is n))
     (is.no_reply n)
 
 numbered-are : (due : List (Jid × Tree)) (place : ℕ) (T : List TallyRow) → Each DueIs due → Each NoticeIs (numbered place T due)

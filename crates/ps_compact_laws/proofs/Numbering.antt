@@ -47,7 +47,8 @@ module _ (h : Jid → ℕ) where
   NoneMade : List TallyRow → List Jid → Type 0
   NoneMade tallies A = Each (λ a. made_for a tallies ≡ 0) A
 
-  none-later : (a : Jid) (n : ℕ) (tallies : List TallyRow) (A : List Jid) → Each (λ y. same_bare y a ≡ false) A → Each (λ y. made_for y tallies ≡ 0) A → Each (λ y. made_for y (tallies_with a n n tallies) ≡ 0) A
+  none-later : (a : Jid) (n : ℕ) (tallies : List TallyRow) (A : List Jid) → Each (λ y. same_bare y a ≡ false) A → Each (λ y. made_for y tallies ≡ 0) A
+      → Each (λ y. made_for y (tallies_with a n n tallies) ≡ 0) A
   none-later a n tallies [] far none = tt
   none-later a n tallies (y ∷ A) far none = (made-kept y a n n tallies far.0 ∙ none.0, none-later a n tallies A far.1 none.1)
 
@@ -78,12 +79,14 @@ module _ (h : Jid → ℕ) where
       ∙ ap (number_at b A) (set-made b a (h a) s.tallies (same_bare b a) refl)
       ∙ past b a A (made_for b s.tallies) (h a) (same_bare b a) refl far)
 
-  pub counters-made : (b : Jid) (A : List Jid) (s : State) → AreApart same_bare A → Each (λ a. made_for a s.tallies ≡ 0) A → made_for b (with_rows s (counters A)).tallies ≡ number_at b A (made_for b s.tallies)
+  pub counters-made : (b : Jid) (A : List Jid) (s : State) → AreApart same_bare A → Each (λ a. made_for a s.tallies ≡ 0) A
+      → made_for b (with_rows s (counters A)).tallies ≡ number_at b A (made_for b s.tallies)
   counters-made b [] s apart none = refl
   counters-made b (a ∷ A) s apart none = made-by b a A s (h a == 0) refl apart.0 none (λ x nones. counters-made b A x apart.1 nones)
 
   -- the same of what was handed, where nothing was handed to one for whom nothing was made
-  handed-later : (a : Jid) (n : ℕ) (tallies : List TallyRow) (A : List Jid) → Each (λ y. same_bare y a ≡ false) A → Each (λ y. handed_to y tallies ≡ 0) A → Each (λ y. handed_to y (tallies_with a n n tallies) ≡ 0) A
+  handed-later : (a : Jid) (n : ℕ) (tallies : List TallyRow) (A : List Jid) → Each (λ y. same_bare y a ≡ false) A → Each (λ y. handed_to y tallies ≡ 0) A
+      → Each (λ y. handed_to y (tallies_with a n n tallies) ≡ 0) A
   handed-later a n tallies [] far none = tt
   handed-later a n tallies (y ∷ A) far none = (handed-kept y a n n tallies far.0 ∙ none.0, handed-later a n tallies A far.1 none.1)
 
@@ -97,11 +100,13 @@ module _ (h : Jid → ℕ) where
       ∙ ap (number_at b A) (set-handed b a (h a) s.tallies (same_bare b a) refl)
       ∙ past b a A (handed_to b s.tallies) (h a) (same_bare b a) refl far)
 
-  pub counters-handed : (b : Jid) (A : List Jid) (s : State) → AreApart same_bare A → Each (λ a. handed_to a s.tallies ≡ 0) A → handed_to b (with_rows s (counters A)).tallies ≡ number_at b A (handed_to b s.tallies)
+  pub counters-handed : (b : Jid) (A : List Jid) (s : State) → AreApart same_bare A → Each (λ a. handed_to a s.tallies ≡ 0) A
+      → handed_to b (with_rows s (counters A)).tallies ≡ number_at b A (handed_to b s.tallies)
   counters-handed b [] s apart none = refl
   counters-handed b (a ∷ A) s apart none = handed-by b a A s (h a == 0) refl apart.0 none (λ x nones. counters-handed b A x apart.1 nones)
 
-  accepted-by : (a : Jid) (A : List Jid) (s : State) (t : Bool) → (h a == 0) ≡ t → is_bare a ≡ true → h a < 2 ^ 62 → Each (λ y. same_bare y a ≡ false) A → (made_for a s.tallies ≡ 0) × Each (λ y. made_for y s.tallies ≡ 0) A
+  accepted-by : (a : Jid) (A : List Jid) (s : State) (t : Bool) → (h a == 0) ≡ t → is_bare a ≡ true → h a < 2 ^ 62 → Each (λ y. same_bare y a ≡ false) A
+      → (made_for a s.tallies ≡ 0) × Each (λ y. made_for y s.tallies ≡ 0) A
       → ((x : State) → Each (λ y. made_for y x.tallies ≡ 0) A → ArePlaced x (counters A)) → ArePlaced s (counters (a ∷ A))
   accepted-by a A s true e bare few far none more = rw e (more s none.1)
   accepted-by a A s false e bare few far none more =

@@ -64,7 +64,8 @@ module _ (a : Jid) (bare : a.resource ≡ []) where
       let n = ap (λ (ns : List Notice). length ns) (notices-append xs (e ∷ []) empty_state a) in
       let l = length-append (notices xs a) (notices_from (replay xs) (e ∷ []) a) in
       subst (λ (F : List Entry). handed F a ≤ length (notices F a)) (append_assoc xs (e ∷ []) E)
-      (few-on E (xs ++ e ∷ []) (lawful-join xs (e ∷ []) empty_state is (more.0, tt)) (subst (λ (s : State). IsLawfulFrom s E) (sym (replay-append xs (e ∷ []) empty_state)) more.1) (omega (arith, f, h, n, l)))
+      (few-on E (xs ++ e ∷ []) (lawful-join xs (e ∷ []) empty_state is (more.0, tt)) (subst (λ (s : State). IsLawfulFrom s E) (sym (replay-append xs (e ∷ []) empty_state)) more.1)
+      (omega (arith, f, h, n, l)))
 
   pub handed-few : (E : List Entry) → lawful E → handed E a ≤ length (notices E a)
   handed-few E is = few-on E [] tt is (omega arith)

@@ -1,5 +1,35 @@
 -- The other kinds of rows: nodes, subscriptions, items, contacts, vers, counts of ids.
-use Rattle.std.proofs.Common.{◌≡◌, ℕ, ◌+◌, ◌<◌, ◌≤◌, Bool, true, false, cond, ◌&&◌, not, List, [], ◌∷◌, ◌++◌, length, map, Option, Some, None, refl, sym, ap, ap₂, subst, ◌∙◌, append_assoc, append-nil, arith}
+use Rattle.std.proofs.Common.{
+  ◌≡◌,
+  ℕ,
+  ◌+◌,
+  ◌<◌,
+  ◌≤◌,
+  Bool,
+  true,
+  false,
+  cond,
+  ◌&&◌,
+  not,
+  List,
+  [],
+  ◌∷◌,
+  ◌++◌,
+  length,
+  map,
+  Option,
+  Some,
+  None,
+  refl,
+  sym,
+  ap,
+  ap₂,
+  subst,
+  ◌∙◌,
+  append_assoc,
+  append-nil,
+  arith,
+}
 use Rattle.std.specs.Prelude.{find, is_none, is_some, nat_lt, ◌==◌}
 use Rattle.std.proofs.lemmas.Bool.Decides.{nat_tests}
 use Rattle.ps_base.proofs.Rows.{count_by-cons, count_by-push}
@@ -111,14 +141,16 @@ abbrev pub most_at : Option NodeConfig → ℕ
 most_at None = 0
 most_at (Some config) = config.max_items
 
-item-takes : (o : Option NodeConfig) (r : ItemRow) (b : Book) → keeps_items o ≡ true → is_early r.moment ≡ true → is_shallow r.payload ≡ true → item_count r.node b.items < most_at o → is_none (find (item_key r) b.items) ≡ true
+item-takes : (o : Option NodeConfig) (r : ItemRow) (b : Book) → keeps_items o ≡ true → is_early r.moment ≡ true → is_shallow r.payload ≡ true → item_count r.node b.items < most_at o
+    → is_none (find (item_key r) b.items) ≡ true
     → takes_item o r b ≡ true
 item-takes None r b kept early shallow room fresh = absurd (cc kept)
 item-takes (Some config) r b kept early shallow room fresh =
     let few : nat_lt (item_count r.node b.items) config.max_items ≡ true = grind (arith, nat_tests) in
     both (not (is_collection config.node_type)) config.persist_items kept few
   where
-    both : (x y : Bool) → (x && y) ≡ true → nat_lt (item_count r.node b.items) config.max_items ≡ true → (x && y && nat_lt (item_count r.node b.items) config.max_items && is_none (find (item_key r) b.items) && is_early r.moment && is_shallow r.payload) ≡ true
+    both : (x y : Bool) → (x && y) ≡ true → nat_lt (item_count r.node b.items) config.max_items ≡ true
+        → (x && y && nat_lt (item_count r.node b.items) config.max_items && is_none (find (item_key r) b.items) && is_early r.moment && is_shallow r.payload) ≡ true
     both true true e few = rw (few, fresh, early, shallow) refl
     both true false e few = absurd (cc e)
     both false y e few = absurd (cc e)
@@ -142,10 +174,12 @@ module _ (nodes : List NodeRow) where
       let all = room r.node in
       omega (arith, first, all)
 
-  pub items-accepted : (rows : List ItemRow) (s : State) → s.book.nodes ≡ nodes → Each (IsItemRow nodes) rows → HaveRoom s.book.items rows → AreFresh item_key s.book.items rows → AreApart item_key rows → ArePlaced s (map item rows)
+  pub items-accepted : (rows : List ItemRow) (s : State) → s.book.nodes ≡ nodes → Each (IsItemRow nodes) rows → HaveRoom s.book.items rows → AreFresh item_key s.book.items rows
+      → AreApart item_key rows → ArePlaced s (map item rows)
   items-accepted [] s at good room fresh apart = tt
   items-accepted (r ∷ rows) s at good room fresh apart = (
-    ap (λ (ns : List NodeRow). takes_item (config_at r.node ns) r s.book) at ∙ item-takes (config_at r.node nodes) r s.book good.0.kept good.0.early good.0.shallow (room-one s.book.items r rows room) fresh.0,
+    ap (λ (ns : List NodeRow). takes_item (config_at r.node ns) r s.book) at ∙ item-takes (config_at r.node nodes) r s.book good.0.kept good.0.early good.0.shallow (room-one s.book.items r rows room)
+        fresh.0,
     items-accepted rows (with_row s (item r)) at good.1 (room-more s.book.items r rows room) (fresh-more item_key s.book.items r rows fresh.1 apart.0) apart.1,
   )
 

@@ -36,7 +36,8 @@ made-text true node o = tt
 made-text false node None = tt
 made-text false node (Some collection) = (tt, tt)
 
-item-text : (node : NodeKey) (who : Jid) (moment : Option ℕ) (items : List AskItem) (b : Book) → Each AskItemIs items → IsAddress who → is_early moment ≡ true → ItemOr (item_asked node who moment items b)
+item-text : (node : NodeKey) (who : Jid) (moment : Option ℕ) (items : List AskItem) (b : Book) → Each AskItemIs items → IsAddress who → is_early moment ≡ true
+    → ItemOr (item_asked node who moment items b)
 item-text node who moment [] b own by early = tt
 item-text node who moment (item ∷ items) b own by early = row-is node who moment item b own.0 by early
 
@@ -53,7 +54,8 @@ told-text old row after key own =
     each-cond IsEventText (is_same old row.state) [] (event.Told row.node row.who row.state ∷ cond (is_subscribed row.state) (last_event after row.node row.who true ∷ []) []) tt
     ((key, own), last-text (is_subscribed row.state) after row.node row.who)
 
-rows-text : (node : NodeKey) (rows : List AskRow) (subs : List SubRow) (after : Book) → IsKeyText node → Each (λ (row : AskRow). IsAddress row.jid) rows → Each IsEventText (rows_events node rows subs after)
+rows-text : (node : NodeKey) (rows : List AskRow) (subs : List SubRow) (after : Book) → IsKeyText node → Each (λ (row : AskRow). IsAddress row.jid) rows
+    → Each IsEventText (rows_events node rows subs after)
 rows-text node [] subs after key own = tt
 rows-text node (row ∷ rows) subs after key own =
     let asked = row_asked node row subs in

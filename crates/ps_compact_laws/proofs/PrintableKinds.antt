@@ -79,7 +79,8 @@ read-gives why (Err row) is = gives-none why
 
 given-is : (type : List ℕ) (base : NodeConfig) (o : Option Form) → IsConfig base → Gives (config_given type base o)
 given-is type base None is = gives-none _
-given-is type base (Some form) is = gives-if (is_submit form.kind && has_form_type type form) (config_or _ (read_config form base)) _ (read-gives _ (read_config form base) (λ c e. config-kept form base c is e)) (gives-none _)
+given-is type base (Some form) is = gives-if (is_submit form.kind && has_form_type type form) (config_or _ (read_config form base)) _
+    (read-gives _ (read_config form base) (λ c e. config-kept form base c is e)) (gives-none _)
 
 options-give : (base : NodeConfig) (o : Option Form) → IsConfig base → Gives (form_options o base)
 options-give base None is = gives-none _
@@ -131,14 +132,16 @@ pub id-is : (id : List ℕ) (b : Book) (node : NodeKey) (who : Jid) → IsUtf8 i
 id-is [] b node who text by =
     let dash = IsUtf8-are_ascii (codes "-") refl in
     let number = IsUtf8-append (codes "auto-") (decimal (next_made b node who)) (IsUtf8-are_ascii (codes "auto-") refl) (decimal-utf8 (next_made b node who)) in
-    IsUtf8-append (codes "auto-" ++ decimal (next_made b node who) ++ codes "-") (jid_text (bare who)) (IsUtf8-append (codes "auto-" ++ decimal (next_made b node who)) (codes "-") number dash) (jid-utf8 (bare who) (bare-is who by))
+    IsUtf8-append (codes "auto-" ++ decimal (next_made b node who) ++ codes "-") (jid_text (bare who)) (IsUtf8-append (codes "auto-" ++ decimal (next_made b node who)) (codes "-") number dash)
+    (jid-utf8 (bare who) (bare-is who by))
 id-is (x ∷ id) b node who text by = text
 
 payload-is : (payloads : List Tree) → Each (Fits 28) payloads → PayloadIs (payload_of payloads)
 payload-is [] are = tt
 payload-is (p ∷ payloads) are = are.0
 
-pub row-is : (node : NodeKey) (who : Jid) (moment : Option ℕ) (item : AskItem) (b : Book) → AskItemIs item → IsAddress who → is_early moment ≡ true → ItemIs (item_row node (item_id item.id b node who) who item.payloads moment)
+pub row-is : (node : NodeKey) (who : Jid) (moment : Option ℕ) (item : AskItem) (b : Book) → AskItemIs item → IsAddress who → is_early moment ≡ true
+    → ItemIs (item_row node (item_id item.id b node who) who item.payloads moment)
 row-is node who moment item b own by early = record { id = id-is item.id b node who own.id by; publisher = bare-is who by; early = early; payload = payload-is item.payloads own.payloads }
 
 put-is : (persist : Bool) (row : ItemRow) (most : ℕ) (rows : List ItemRow) → ItemIs row → Each ItemIs rows → Each ItemIs (cond persist (items_with row most rows) rows)
@@ -163,11 +166,13 @@ module _ (node : NodeKey) (who : Jid) (moment : Option ℕ) (by : IsAddress who)
     counts = counted-is item.id node who b by is.counts;
   }
 
-  new-published : (given : Result NodeConfig Condition) (items : List AskItem) (b : Book) → Gives given → IsKeyText node → Each AskItemIs items → IsPrintable b → IsPrintable (published_new given node who moment items b)
+  new-published : (given : Result NodeConfig Condition) (items : List AskItem) (b : Book) → Gives given → IsKeyText node → Each AskItemIs items → IsPrintable b
+      → IsPrintable (published_new given node who moment items b)
   new-published (Err why) items b ok key own is = is
   new-published (Ok config) items b ok key own is = published-is config items (created node who config b) own (created-is node who config b key by (ok.config config refl) is)
 
-  published_by-is : (o : Option NodeRow) (items : List AskItem) (options : Option Tree) (b : Book) → IsKeyText node → Each AskItemIs items → IsPrintable b → IsPrintable (published_by o node who moment items options b)
+  published_by-is : (o : Option NodeRow) (items : List AskItem) (options : Option Tree) (b : Book) → IsKeyText node → Each AskItemIs items → IsPrintable b
+      → IsPrintable (published_by o node who moment items options b)
   published_by-is None items options b key own is = new-published (options_config options (default_config true)) items b (made-is options) key own is
   published_by-is (Some row) items options b key own is = published-is row.config items b own is
 
@@ -226,7 +231,8 @@ node-found node (x ∷ nodes) are = found-if (is_node node x) x (node_at node no
 configured_by-is : (o : Option NodeRow) (node : NodeKey) (form : Option Tree) (b : Book) → FoundNode o → IsPrintable b → IsPrintable (configured_by o node form b)
 configured_by-is None node form b found is = is
 configured_by-is (Some row) node None b found is = is
-configured_by-is (Some row) node (Some form) b found is = configured-is (config_given config_type row.config (form_of form)) node b (given-is config_type row.config (form_of form) (found.found row refl).config) is
+configured_by-is (Some row) node (Some form) b found is = configured-is (config_given config_type row.config (form_of form)) node b
+    (given-is config_type row.config (form_of form) (found.found row refl).config) is
 
 -- ---- the others
 
@@ -236,13 +242,22 @@ subscribed-is (Ok options) node who state b is = record { service = is.service; 
 
 roster-is : (asked : Option RosterAsk) (who : Jid) (item : AskContact) (b : Book) → IsAddress who → IsAddress item.jid → IsPrintable b → IsPrintable (roster_by asked who item b)
 roster-is None who item b by own is = is
-roster-is (Some remove) who item b by own is = record { service = is.service; nodes = is.nodes; items = is.items; links = is.links; rosters = each-filter ContactIs (λ x. not (is_contact_of who item.jid x)) b.rosters is.rosters; counts = is.counts }
+roster-is (Some remove) who item b by own is = record {
+  service = is.service;
+  nodes = is.nodes;
+  items = is.items;
+  links = is.links;
+  rosters = each-filter ContactIs
+      (λ x. not (is_contact_of who item.jid x)) b.rosters is.rosters;
+  counts = is.counts;
+}
 roster-is (Some (set state)) who item b by own is = record {
   service = is.service;
   nodes = is.nodes;
   items = is.items;
   links = is.links;
-  rosters = each-put ContactIs (is_contact_of (bare who) (bare item.jid)) (record { account = bare who; contact = bare item.jid; state = state; groups = item.groups }) b.rosters (record { account = bare-is who by; contact = bare-is item.jid own }) is.rosters;
+  rosters = each-put ContactIs (is_contact_of (bare who) (bare item.jid)) (record { account = bare who; contact = bare item.jid; state = state; groups = item.groups }) b.rosters
+      (record { account = bare-is who by; contact = bare-is item.jid own }) is.rosters;
   counts = is.counts;
 }
 

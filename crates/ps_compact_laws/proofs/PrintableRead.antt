@@ -57,14 +57,16 @@ none-holds = record { row = λ r e. absurd (cc e) }
 some-holds : (r : BaseRow) → ReadIs r → Holds (Some r)
 some-holds r is = record { row = λ x e. subst ReadIs (same_Some r x e) is }
 
-some-node : (key : NodeKey) (creator : Jid) (config : NodeConfig) → IsKeyRead key → IsAddress creator → IsConfig config → Holds (Some (base.node (record { key = key; creator = creator; config = config })))
+some-node : (key : NodeKey) (creator : Jid) (config : NodeConfig) → IsKeyRead key → IsAddress creator → IsConfig config
+    → Holds (Some (base.node (record { key = key; creator = creator; config = config })))
 some-node key creator config is by ok = some-holds (base.node (record { key = key; creator = creator; config = config })) (is, by, ok)
 
 some-item : (node : NodeKey) (id : List ℕ) (publisher : Jid) (payload : Option Tree) (moment : Option ℕ) → IsUtf8 id → IsAddress publisher → PayloadFits payload
     → Holds (Some (base.item (record { node = node; id = id; publisher = publisher; payload = payload; moment = moment })))
 some-item node id publisher payload moment text by fits = some-holds (base.item (record { node = node; id = id; publisher = publisher; payload = payload; moment = moment })) (text, by, fits)
 
-some-contact : (account who : Jid) (state : RosterState) (groups : List (List ℕ)) → IsAddress account → IsAddress who → Holds (Some (base.contact (record { account = account; contact = who; state = state; groups = groups })))
+some-contact : (account who : Jid) (state : RosterState) (groups : List (List ℕ)) → IsAddress account → IsAddress who
+    → Holds (Some (base.contact (record { account = account; contact = who; state = state; groups = groups })))
 some-contact account who state groups is own = some-holds (base.contact (record { account = account; contact = who; state = state; groups = groups })) (record { account = is; contact = own })
 
 some-link : (key : NodeKey) (name : List ℕ) → Holds (Some (base.link (record { child = key; collection = record { service = key.service; name = name } })))
@@ -94,7 +96,8 @@ written-holds f (Some r) more is = more r (is.row r refl)
 module _ (t : Tree) (fits : Fits 32 t) where
   key-by : (o : Option Jid) (key : NodeKey) → jid_at (codes "service") t ≡ o → option_map (key_of t) o ≡ Some key → IsKeyRead key
   key-by None key e h = absurd (cc h)
-  key-by (Some service) key e h = subst IsKeyRead (same_Some (key_of t service) key h) (record { service = jid-is (attr_text (codes "service") t) service e; name = attr-utf8 32 (codes "name") t fits })
+  key-by (Some service) key e h = subst IsKeyRead (same_Some (key_of t service) key h)
+      (record { service = jid-is (attr_text (codes "service") t) service e; name = attr-utf8 32 (codes "name") t fits })
 
   key-is : (key : NodeKey) → key_at t ≡ Some key → IsKeyRead key
   key-is key e = key-by (jid_at (codes "service") t) key refl e
@@ -142,8 +145,10 @@ module _ (t : Tree) (fits : Fits 32 t) where
       (either-holds (is_named (codes "contact") base.base_ns t) _ _ (search (bind-holds, some-contact, who-is) depth 16)
       (either-holds (is_named (codes "ver") base.base_ns t) _ _ (search (some-holds))
       (either-holds (is_named (codes "made") base.base_ns t) _ _ (search (bind-holds, some-made, who-is) depth 16)
-      (either-holds (is_named (codes "counter") base.base_ns t) _ _ (mapped-holds (jid_at (codes "jid") t) (λ who. base.counter who (number_at (codes "handed") t)) (λ who e. who-is (codes "jid") who e))
-      (either-holds (is_named (codes "notice") base.base_ns t) _ _ (mapped-holds (jid_at (codes "jid") t) (λ to. base.notice to (tree_text t)) (λ who e. who-is (codes "jid") who e)) none-holds))))))))))
+      (either-holds (is_named (codes "counter") base.base_ns t) _ _
+      (mapped-holds (jid_at (codes "jid") t) (λ who. base.counter who (number_at (codes "handed") t)) (λ who e. who-is (codes "jid") who e))
+      (either-holds (is_named (codes "notice") base.base_ns t) _ _ (mapped-holds (jid_at (codes "jid") t) (λ to. base.notice to (tree_text t)) (λ who e. who-is (codes "jid") who e))
+      none-holds))))))))))
 
   pub row-read : (r : BaseRow) → row_of t ≡ Some r → ReadIs r
   row-read r e = row-holds.row r e

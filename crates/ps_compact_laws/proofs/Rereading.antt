@@ -57,7 +57,8 @@ stands-by node nodes (Some row) e are h = (found-key node nodes row are e).servi
 stands-at : (node : NodeKey) (nodes : List NodeRow) → Each NodeIs nodes → stands node nodes ≡ true → IsAddress node.service
 stands-at node nodes are h = stands-by node nodes (node_at node nodes) refl are h
 
-leaf-by : (node : NodeKey) (nodes : List NodeRow) (o : Option NodeRow) → node_at node nodes ≡ o → Each NodeIs nodes → is_leaf_at (option_map (λ (r : NodeRow). r.config) o) ≡ true → IsAddress node.service
+leaf-by : (node : NodeKey) (nodes : List NodeRow) (o : Option NodeRow) → node_at node nodes ≡ o → Each NodeIs nodes → is_leaf_at (option_map (λ (r : NodeRow). r.config) o) ≡ true
+    → IsAddress node.service
 leaf-by node nodes None e are h = absurd (cc h)
 leaf-by node nodes (Some row) e are h = (found-key node nodes row are e).service
 
@@ -173,7 +174,8 @@ told-read ns [] are = tt
 told-read ns (who ∷ whos) are =
     both (ns who) (flat_map ns whos) (notices-read who (ns who) (are who)) (told-read ns whos are)
   where
-    both : (xs ys : List Notice) → Each ReadBack (map (λ (n : Notice). base.notice n.to n.line) xs) → Each ReadBack (map (λ (n : Notice). base.notice n.to n.line) ys) → Each ReadBack (map (λ (n : Notice). base.notice n.to n.line) (xs ++ ys))
+    both : (xs ys : List Notice) → Each ReadBack (map (λ (n : Notice). base.notice n.to n.line) xs) → Each ReadBack (map (λ (n : Notice). base.notice n.to n.line) ys)
+        → Each ReadBack (map (λ (n : Notice). base.notice n.to n.line) (xs ++ ys))
     both [] ys p q = q
     both (x ∷ xs) ys p q = (p.0, both xs ys p.1 q)
 

@@ -24,7 +24,8 @@ counted-all (r ∷ rows) all few = (
   counted-all rows all (λ n. let c = count_by-cons (is_item_at n) r rows in let f = few n in omega (arith, c, f)),
 )
 
-keeps-at : (o : Option NodeRow) (n : ℕ) → is_leaf_at (option_map (λ (row : NodeRow). row.config) o) ≡ true → 0 < n → n ≤ item_bound o → keeps_items (option_map (λ (row : NodeRow). row.config) o) ≡ true
+keeps-at : (o : Option NodeRow) (n : ℕ) → is_leaf_at (option_map (λ (row : NodeRow). row.config) o) ≡ true → 0 < n → n ≤ item_bound o
+    → keeps_items (option_map (λ (row : NodeRow). row.config) o) ≡ true
 keeps-at None n leaf some few = absurd (cc leaf)
 keeps-at (Some row) n leaf some few = by row.config.persist_items few
   where
@@ -32,7 +33,8 @@ keeps-at (Some row) n leaf some few = by row.config.persist_items few
     by true few = ap (λ x. x && true) leaf
     by false few = absurd (let over : 0 < 0 = omega (arith, some, few) in omega (arith, over))
 
-keeps-all : (b : Book) (rows : List ItemRow) → IsBounded b → Each (IsAtLeaf b.nodes) rows → Each (λ (r : ItemRow). 0 < item_count r.node b.items) rows → Each (λ (r : ItemRow). keeps_items (config_at r.node b.nodes) ≡ true) rows
+keeps-all : (b : Book) (rows : List ItemRow) → IsBounded b → Each (IsAtLeaf b.nodes) rows → Each (λ (r : ItemRow). 0 < item_count r.node b.items) rows
+    → Each (λ (r : ItemRow). keeps_items (config_at r.node b.nodes) ≡ true) rows
 keeps-all b [] bound leaves some = tt
 keeps-all b (r ∷ rows) bound leaves some = (keeps-at (node_at r.node b.nodes) (item_count r.node b.items) leaves.0 some.0 (bound r.node), keeps-all b rows bound leaves.1 some.1)
 

@@ -42,7 +42,8 @@ counts-both : (nodes : List NodeRow) (rows : List CountRow) → Each (IsCountRow
 counts-both nodes [] hs ns = tt
 counts-both nodes (r ∷ rows) hs ns = (record { stands = hs.0.stands; bare = hs.0.bare; number = ap₂ (λ x y. x && y) hs.0.some ns.0 }, counts-both nodes rows hs.1 ns.1)
 
-items-both : (nodes : List NodeRow) (rows : List ItemRow) → Each (λ (r : ItemRow). keeps_items (config_at r.node nodes) ≡ true) rows → Each (λ (r : ItemRow). (is_early r.moment ≡ true) × (is_shallow r.payload ≡ true)) rows → Each (IsItemRow nodes) rows
+items-both : (nodes : List NodeRow) (rows : List ItemRow) → Each (λ (r : ItemRow). keeps_items (config_at r.node nodes) ≡ true) rows
+    → Each (λ (r : ItemRow). (is_early r.moment ≡ true) × (is_shallow r.payload ≡ true)) rows → Each (IsItemRow nodes) rows
 items-both nodes [] ks es = tt
 items-both nodes (r ∷ rows) ks es = (record { kept = ks.0; early = es.0.0; shallow = es.0.1 }, items-both nodes rows ks.1 es.1)
 
@@ -72,7 +73,8 @@ module _ (ns : Jid → List Notice) (a : Jid) (bare : a.resource ≡ []) where
   far-like x [] same far = tt
   far-like x (y ∷ A) same far = (same_bare-like a x y same ∙ same_bare-turned x y ∙ far.0, far-like x A same far.1)
 
-  found-at : (x : Jid) (A : List Jid) (t : Bool) → same_bare a x ≡ t → x.resource ≡ [] → AreLines x (ns x) → Each (λ x. AreLines x (ns x)) A → Each (λ y. same_bare y x ≡ false) A → Found A → Found (x ∷ A)
+  found-at : (x : Jid) (A : List Jid) (t : Bool) → same_bare a x ≡ t → x.resource ≡ [] → AreLines x (ns x) → Each (λ x. AreLines x (ns x)) A → Each (λ y. same_bare y x ≡ false) A → Found A
+      → Found (x ∷ A)
   unfolding Found
   found-at x A true e none are ares far rest =
       let p = (same_bare-Decides a x).0 e in
@@ -86,11 +88,13 @@ module _ (ns : Jid → List Notice) (a : Jid) (bare : a.resource ≡ []) where
   found-in [] bs are apart = inr (refl, tt)
   found-in (x ∷ A) bs are apart = found-at x A (same_bare a x) refl bs.0 are.0 are.1 apart.0 (found-in A bs.1 are.1 apart.1)
 
-  pub own-notices : (A : List Jid) → Each (λ (x : Jid). x.resource ≡ []) A → Each (λ x. AreLines x (ns x)) A → AreApart same_bare A → (Each (λ x. same_bare a x ≡ false) A → ns a ≡ []) → filter (λ n. same_bare n.to a) (flat_map ns A) ≡ ns a
+  pub own-notices : (A : List Jid) → Each (λ (x : Jid). x.resource ≡ []) A → Each (λ x. AreLines x (ns x)) A → AreApart same_bare A → (Each (λ x. same_bare a x ≡ false) A → ns a ≡ [])
+      → filter (λ n. same_bare n.to a) (flat_map ns A) ≡ ns a
   unfolding Found
   own-notices A bs are apart none = by (found-in A bs are apart)
     where
-      by : ((filter (λ n. same_bare n.to a) (flat_map ns A) ≡ ns a) ⊎ ((filter (λ n. same_bare n.to a) (flat_map ns A) ≡ []) × Each (λ x. same_bare a x ≡ false) A)) → filter (λ n. same_bare n.to a) (flat_map ns A) ≡ ns a
+      by : ((filter (λ n. same_bare n.to a) (flat_map ns A) ≡ ns a) ⊎ ((filter (λ n. same_bare n.to a) (flat_map ns A) ≡ []) × Each (λ x. same_bare a x ≡ false) A))
+          → filter (λ n. same_bare n.to a) (flat_map ns A) ≡ ns a
       by (inl is) = is
       by (inr is) = is.0 ∙ sym (none is.1)
 
@@ -137,7 +141,8 @@ own-by E is stored a [] bare =
     (let none = none-made a T (unsorted (λ j. same_bare a j ≡ false) whos stored.addresses far) in
     let whole = made-whole a bare E is in
     omega (arith, none, whole))))
-own-by E is stored a (x ∷ resource) full = ap (λ (r : List ℕ). of_bare r (filter (λ n. same_bare n.to a) (flat_map (unhanded E) (told_addresses (replay_from empty_state E).tallies)))) full ∙ (sym (ap (drop (handed E a)) (of-full E empty_state a x resource full) ∙ drop-none (handed E a)))
+own-by E is stored a (x ∷ resource) full = ap (λ (r : List ℕ). of_bare r (filter (λ n. same_bare n.to a) (flat_map (unhanded E) (told_addresses (replay_from empty_state E).tallies)))) full ∙
+    (sym (ap (drop (handed E a)) (of-full E empty_state a x resource full) ∙ drop-none (handed E a)))
 
 -- the law
 pub base-serves-on : (E : List Entry) → lawful E → IsStored E → ServesOn E (base E)
@@ -146,7 +151,16 @@ base-serves-on E is stored =
     let sound = lawful-sound E is in
     let kept = lawful-kept E is in
     serves-on E is
-    (record { keys = sound.keys; affils = sound.affils; subs = sound.subs; items = items-both b.nodes b.items (items-keep b kept) stored.items; room = items-room b kept; links = sound.links; configured = sound.configured; counts = counts-both b.nodes b.counts sound.counts stored.counts })
+    (record {
+      keys = sound.keys;
+      affils = sound.affils;
+      subs = sound.subs;
+      items = items-both b.nodes b.items (items-keep b kept) stored.items;
+      room = items-room b kept;
+      links = sound.links;
+      configured = sound.configured;
+      counts = counts-both b.nodes b.counts sound.counts stored.counts;
+    })
     (sound-numbers E is (lawful-bares E) stored.addresses stored.few stored.lines)
     stored.reads
     (rows-formed E is)

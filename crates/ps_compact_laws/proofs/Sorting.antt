@@ -79,9 +79,12 @@ module _ (E : List Entry) (is : lawful E) where
   told : List TallyRow
   told = (replay_from empty_state E).tallies
 
-  module _ (bares : Each (λ (j : Jid). j.resource ≡ []) (map (λ (r : TallyRow). r.who) (replay_from empty_state E).tallies)) (addresses : Each IsAddress (map (λ (r : TallyRow). r.who) (replay_from empty_state E).tallies)) where
-    made-by : (b : Jid) → IsIn (λ a. handed_to a (replay_from empty_state E).tallies) (unhanded E) b (told_addresses (replay_from empty_state E).tallies) ⊎ IsOut (λ a. handed_to a (replay_from empty_state E).tallies) (unhanded E) b (told_addresses (replay_from empty_state E).tallies)
-        → (made_for b (replay_from empty_state E).tallies ≡ number_at (λ a. handed_to a (replay_from empty_state E).tallies) b (told_addresses (replay_from empty_state E).tallies) 0 + more_at (unhanded E) b (told_addresses (replay_from empty_state E).tallies))
+  module _ (bares : Each (λ (j : Jid). j.resource ≡ []) (map (λ (r : TallyRow). r.who) (replay_from empty_state E).tallies))
+      (addresses : Each IsAddress (map (λ (r : TallyRow). r.who) (replay_from empty_state E).tallies)) where
+    made-by : (b : Jid) → IsIn (λ a. handed_to a (replay_from empty_state E).tallies) (unhanded E) b (told_addresses (replay_from empty_state E).tallies) ⊎ IsOut
+        (λ a. handed_to a (replay_from empty_state E).tallies) (unhanded E) b (told_addresses (replay_from empty_state E).tallies)
+        → (made_for b (replay_from empty_state E).tallies ≡ number_at (λ a. handed_to a (replay_from empty_state E).tallies) b (told_addresses (replay_from empty_state E).tallies) 0 + more_at
+        (unhanded E) b (told_addresses (replay_from empty_state E).tallies))
         × (handed_to b (replay_from empty_state E).tallies ≡ number_at (λ a. handed_to a (replay_from empty_state E).tallies) b (told_addresses (replay_from empty_state E).tallies) 0)
     made-by b (inl at) =
         let T = (replay_from empty_state E).tallies in
@@ -91,11 +94,13 @@ module _ (E : List Entry) (is : lawful E) where
         let none = not-found b T (unsorted (λ j. same_bare b j ≡ false) (map (λ r. r.who) T) addresses out.far) in
         (ap made_in none ∙ ap₂ (λ x y. x + y) (sym out.number) (sym out.more), ap handed_in none ∙ sym out.number)
 
-    lines-all : (A : List Jid) → Each (λ a. a.resource ≡ []) A → Each (λ a. AreLines a (unhanded E a)) A → Each (λ a. AreLines a (unhanded E a) × RiseFrom (handed_to a (replay_from empty_state E).tallies) (unhanded E a)) A
+    lines-all : (A : List Jid) → Each (λ a. a.resource ≡ []) A → Each (λ a. AreLines a (unhanded E a)) A
+        → Each (λ a. AreLines a (unhanded E a) × RiseFrom (handed_to a (replay_from empty_state E).tallies) (unhanded E a)) A
     lines-all [] bs ls = tt
     lines-all (a ∷ A) bs ls = ((ls.0, unhanded-rise a bs.0 E is), lines-all A bs.1 ls.1)
 
-    few-all : (A : List Jid) → Each (λ a. a.resource ≡ []) A → ((a : Jid) → handed_to a (replay_from empty_state E).tallies < 2 ^ 62) → Each (λ a. (is_bare a ≡ true) × (handed_to a (replay_from empty_state E).tallies < 2 ^ 62)) A
+    few-all : (A : List Jid) → Each (λ a. a.resource ≡ []) A → ((a : Jid) → handed_to a (replay_from empty_state E).tallies < 2 ^ 62)
+        → Each (λ a. (is_bare a ≡ true) × (handed_to a (replay_from empty_state E).tallies < 2 ^ 62)) A
     few-all [] bs few = tt
     few-all (a ∷ A) bs few = ((ap (λ (r : List ℕ). length r == 0) bs.0, few a), few-all A bs.1 few)
 

@@ -58,7 +58,8 @@ shallow-payload (Some p) fits low = record { form = fits.form; low = grind (arit
 
 item-taken : (o : Option NodeConfig) (r : ItemRow) (b : Book) → takes_item o r b ≡ true → (is_early r.moment ≡ true) × (is_shallow r.payload ≡ true)
 item-taken None r b e = absurd (cc e)
-item-taken (Some config) r b e = by (not (is_collection config.node_type)) config.persist_items (nat_lt (item_count r.node b.items) config.max_items) (is_none (item_at r.node r.id b.items)) (is_early r.moment) (is_shallow r.payload) e
+item-taken (Some config) r b e = by (not (is_collection config.node_type)) config.persist_items (nat_lt (item_count r.node b.items) config.max_items) (is_none (item_at r.node r.id b.items))
+    (is_early r.moment) (is_shallow r.payload) e
   where
     by : (x y z w early shallow : Bool) → (x && y && z && w && early && shallow) ≡ true → (early ≡ true) × (shallow ≡ true)
     by true true true true true shallow e = (refl, e)
@@ -68,7 +69,8 @@ item-taken (Some config) r b e = by (not (is_collection config.node_type)) confi
     by true false z w early shallow e = absurd (cc e)
     by false y z w early shallow e = absurd (cc e)
 
-collection-of : (o : Option NodeRow) (l : LinkRow) (nodes : List NodeRow) → node_at l.collection nodes ≡ o → Each NodeIs nodes → is_collection_at (option_map (λ (r : NodeRow). r.config) o) ≡ true → length l.collection.name ≤ 512
+collection-of : (o : Option NodeRow) (l : LinkRow) (nodes : List NodeRow) → node_at l.collection nodes ≡ o → Each NodeIs nodes → is_collection_at (option_map (λ (r : NodeRow). r.config) o) ≡ true
+    → length l.collection.name ≤ 512
 collection-of None l nodes e is h = absurd (cc h)
 collection-of (Some row) l nodes e is h = (found-key l.collection nodes row is e).name.short
 
@@ -77,19 +79,28 @@ in-linked : (o : Option NodeRow) (l : LinkRow) (nodes : List NodeRow) → FoundN
 in-linked None l nodes found short is = is
 in-linked (Some r) l nodes found short is =
     let ok = (found.found r refl).config in
-    nodes-with l.child (record r.config { collection = l.collection.name }) nodes (record { some_items = ok.some_items; most_items = ok.most_items; some_bytes = ok.some_bytes; most_bytes = ok.most_bytes; name = short }) is
+    nodes-with l.child (record r.config { collection = l.collection.name }) nodes
+    (record { some_items = ok.some_items; most_items = ok.most_items; some_bytes = ok.some_bytes; most_bytes = ok.most_bytes; name = short }) is
 
 linked-nodes : (l : LinkRow) (b : Book) → takes_link l b ≡ true → Each NodeIs b.nodes → Each NodeIs (in_collection l.collection.name (config_at l.child b.nodes) l b.nodes)
 linked-nodes l b ok is =
     in-linked (node_at l.child b.nodes) l b.nodes (node-found l.child b.nodes is)
-    (collection-of (node_at l.collection b.nodes) l b.nodes refl is (four (stands l.child b.nodes) (is_collection_at (config_at l.collection b.nodes)) (not (same_node l.child l.collection)) (not (list_any (is_link_at l.child) b.links)) ok).1) is
+    (collection-of (node_at l.collection b.nodes) l b.nodes refl is
+    (four (stands l.child b.nodes) (is_collection_at (config_at l.collection b.nodes)) (not (same_node l.child l.collection)) (not (list_any (is_link_at l.child) b.links)) ok).1) is
 
 below : (name : List ℕ) → is_short name ≡ true → length name ≤ 512
 below name e = grind (arith, nat_tests, e)
 
 node-read : (r : NodeRow) → ReadIs (base.node r) → is_well_formed (base.node r) ≡ true → NodeIs r
 node-read r is formed = record {
-  key = record { service = is.0.service; name = record { text = is.0.name; short = below r.key.name (four (is_bare r.creator) (is_bare r.key.service) (nat_lt 0 (length r.key.name)) (is_short r.key.name) formed).3 } };
+  key = record {
+    service = is.0.service;
+    name = record {
+      text = is.0.name;
+      short = below r.key.name
+          (four (is_bare r.creator) (is_bare r.key.service) (nat_lt 0 (length r.key.name)) (is_short r.key.name) formed).3;
+    };
+  };
   creator = is.1;
   config = is.2;
 }
@@ -100,14 +111,51 @@ item-read r b is ok =
     record { id = is.0; publisher = is.1; early = p.0; payload = shallow-payload r.payload is.2 p.1 }
 
 row-printable : (r : BaseRow) (s : State) → ReadIs r → is_well_formed r ≡ true → has_place r s ≡ true → IsPrintable s.book → IsPrintable (book_with r s.book)
-row-printable (base.node r) s read formed ok is = record { service = is.service; nodes = each-push NodeIs s.book.nodes r is.nodes (node-read r read formed); items = is.items; links = is.links; rosters = is.rosters; counts = is.counts }
+row-printable (base.node r) s read formed ok is = record {
+  service = is.service;
+  nodes = each-push NodeIs s.book.nodes r is.nodes (node-read r read formed);
+  items = is.items;
+  links = is.links;
+  rosters = is.rosters;
+  counts = is.counts;
+}
 row-printable (base.affiliation r) s read formed ok is = record { service = is.service; nodes = is.nodes; items = is.items; links = is.links; rosters = is.rosters; counts = is.counts }
 row-printable (base.subscription r) s read formed ok is = record { service = is.service; nodes = is.nodes; items = is.items; links = is.links; rosters = is.rosters; counts = is.counts }
-row-printable (base.item r) s read formed ok is = record { service = is.service; nodes = is.nodes; items = each-push ItemIs s.book.items r is.items (item-read r s.book read ok); links = is.links; rosters = is.rosters; counts = is.counts }
-row-printable (base.link r) s read formed ok is = record { service = is.service; nodes = linked-nodes r s.book ok is.nodes; items = is.items; links = each-push LinkIs s.book.links r is.links read; rosters = is.rosters; counts = is.counts }
-row-printable (base.contact r) s read formed ok is = record { service = is.service; nodes = is.nodes; items = is.items; links = is.links; rosters = each-push ContactIs s.book.rosters r is.rosters read; counts = is.counts }
+row-printable (base.item r) s read formed ok is = record {
+  service = is.service;
+  nodes = is.nodes;
+  items = each-push ItemIs s.book.items r is.items (item-read r s.book read ok);
+  links = is.links;
+  rosters = is.rosters;
+  counts = is.counts;
+}
+row-printable (base.link r) s read formed ok is = record {
+  service = is.service;
+  nodes = linked-nodes r s.book ok is.nodes;
+  items = is.items;
+  links = each-push LinkIs s.book.links r is.links read;
+  rosters = is.rosters;
+  counts = is.counts;
+}
+row-printable (base.contact r) s read formed ok is = record {
+  service = is.service;
+  nodes = is.nodes;
+  items = is.items;
+  links = is.links;
+  rosters = each-push ContactIs s.book.rosters r is.rosters
+      read;
+  counts = is.counts;
+}
 row-printable (base.ver r) s read formed ok is = record { service = is.service; nodes = is.nodes; items = is.items; links = is.links; rosters = is.rosters; counts = is.counts }
-row-printable (base.made r) s read formed ok is = record { service = is.service; nodes = is.nodes; items = is.items; links = is.links; rosters = is.rosters; counts = each-push CountIs s.book.counts r is.counts read }
+row-printable (base.made r) s read formed ok is = record {
+  service = is.service;
+  nodes = is.nodes;
+  items = is.items;
+  links = is.links;
+  rosters = is.rosters;
+  counts = each-push CountIs s.book.counts r
+      is.counts read;
+}
 row-printable (base.counter who handed) s read formed ok is = is
 row-printable (base.notice to line) s read formed ok is = is
 

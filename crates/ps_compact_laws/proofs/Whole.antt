@@ -32,7 +32,21 @@ use Rattle.ps_compact_laws.proofs.Folds.{accepted-append, affils-accepted, affil
 use Rattle.ps_book_laws.proofs.Keys.{each-by}
 use Rattle.ps_book_laws.proofs.Naming.{affil-named, apart-named, configured-all, find-named, sub-named}
 use Rattle.ps_compact_laws.proofs.Linking.{linked_book, links-accepted, links-rebuilt}
-use Rattle.ps_compact_laws.proofs.Others.{contacts-accepted, contacts-rebuilt, counts-accepted, counts-rebuilt, items-accepted, items-rebuilt, most_at, nodes-accepted, nodes-rebuilt, subs-accepted, subs-rebuilt, vers-accepted, vers-rebuilt}
+use Rattle.ps_compact_laws.proofs.Others.{
+  contacts-accepted,
+  contacts-rebuilt,
+  counts-accepted,
+  counts-rebuilt,
+  items-accepted,
+  items-rebuilt,
+  most_at,
+  nodes-accepted,
+  nodes-rebuilt,
+  subs-accepted,
+  subs-rebuilt,
+  vers-accepted,
+  vers-rebuilt,
+}
 use Rattle.ps_compact_laws.proofs.Facts.{AreLines}
 use Rattle.ps_compact_laws.proofs.Numbering.{all-accepted, all-handed, all-made, all-told, counters, counters-accepted, counters-handed, counters-made, more_at, notices_by, number_at, rows_for}
 
@@ -141,22 +155,26 @@ module _ (b : Book) (is : IsSoundBook b) where
   stage2 : (s : State) → IsAt s book1 → IsReached s (map affiliation b.affils) book2
   unfolding book1 book2
   stage2 s at = record {
-    accepted = affils-accepted b.affils s (subst (λ (c : Book). Each (IsAffilRow c.nodes) b.affils) (sym at.book) (each-by (IsAffilRow (map (named []) b.nodes)) (IsAffilRow b.nodes) b.affils (affil-named [] b.nodes) is.affils)) (ap (λ (c : Book). c.affils) at.book) is.keys.affils;
+    accepted = affils-accepted b.affils s (subst (λ (c : Book). Each (IsAffilRow c.nodes) b.affils) (sym at.book)
+        (each-by (IsAffilRow (map (named []) b.nodes)) (IsAffilRow b.nodes) b.affils (affil-named [] b.nodes) is.affils)) (ap (λ (c : Book). c.affils) at.book) is.keys.affils;
     at = record { book = affils-rebuilt b.affils s ∙ ap (λ (c : Book). record c { affils = c.affils ++ b.affils }) at.book; tallies = kept-tallies affiliation (λ r t. refl) b.affils s ∙ at.tallies };
   }
 
   stage3 : (s : State) → IsAt s book2 → IsReached s (map subscription b.subs) book3
   unfolding book2 book3
   stage3 s at = record {
-    accepted = subs-accepted b.subs s (subst (λ (c : Book). Each (IsSubRow c.nodes) b.subs) (sym at.book) (each-by (IsSubRow (map (named []) b.nodes)) (IsSubRow b.nodes) b.subs (sub-named [] b.nodes) is.subs)) (ap (λ (c : Book). c.subs) at.book) is.keys.subs;
+    accepted = subs-accepted b.subs s (subst (λ (c : Book). Each (IsSubRow c.nodes) b.subs) (sym at.book)
+        (each-by (IsSubRow (map (named []) b.nodes)) (IsSubRow b.nodes) b.subs (sub-named [] b.nodes) is.subs)) (ap (λ (c : Book). c.subs) at.book) is.keys.subs;
     at = record { book = subs-rebuilt b.subs s ∙ ap (λ (c : Book). record c { subs = c.subs ++ b.subs }) at.book; tallies = kept-tallies subscription (λ r t. refl) b.subs s ∙ at.tallies };
   }
 
   stage4 : (s : State) → IsAt s book3 → IsReached s (map item b.items) book4
   unfolding book3 book4
   stage4 s at = record {
-    accepted = items-accepted (map (named []) b.nodes) b.items s (ap (λ (c : Book). c.nodes) at.book) (each-by (IsItemRow (map (named []) b.nodes)) (IsItemRow b.nodes) b.items (item-named [] b.nodes) is.items)
-        (λ n. subst (λ (rs : List ItemRow). item_count n rs + item_count n b.items ≤ most_at (config_at n (map (named []) b.nodes))) (sym (ap (λ (c : Book). c.items) at.book)) (let same = most-named [] n b.nodes in let room = is.room n in omega (arith, same, room)))
+    accepted = items-accepted (map (named []) b.nodes) b.items s (ap (λ (c : Book). c.nodes) at.book)
+        (each-by (IsItemRow (map (named []) b.nodes)) (IsItemRow b.nodes) b.items (item-named [] b.nodes) is.items)
+        (λ n. subst (λ (rs : List ItemRow). item_count n rs + item_count n b.items ≤ most_at (config_at n (map (named []) b.nodes))) (sym (ap (λ (c : Book). c.items) at.book))
+        (let same = most-named [] n b.nodes in let room = is.room n in omega (arith, same, room)))
         (subst (λ (rs : List ItemRow). AreFresh item_key rs b.items) (sym (ap (λ (c : Book). c.items) at.book)) (fresh-empty item_key b.items)) is.keys.items;
     at = record { book = items-rebuilt b.items s ∙ ap (λ (c : Book). record c { items = c.items ++ b.items }) at.book; tallies = kept-tallies item (λ r t. refl) b.items s ∙ at.tallies };
   }
@@ -165,14 +183,22 @@ module _ (b : Book) (is : IsSoundBook b) where
   unfolding book4 book5 linked_book
   stage5 s at = record {
     accepted = links-accepted b.nodes is.keys.nodes b.links [] s book4 at.book is.links (fresh-empty link_key b.links) is.keys.links;
-    at = record { book = links-rebuilt b.nodes is.keys.nodes b.links [] s book4 at.book is.links (fresh-empty link_key b.links) is.keys.links; tallies = kept-tallies link (λ r t. refl) b.links s ∙ at.tallies };
+    at = record {
+      book = links-rebuilt b.nodes is.keys.nodes b.links [] s book4 at.book is.links (fresh-empty link_key b.links) is.keys.links;
+      tallies = kept-tallies link (λ r t. refl) b.links s ∙
+          at.tallies;
+    };
   }
 
   stage6 : (s : State) → IsAt s book5 → IsReached s (map contact b.rosters) book6
   unfolding book5 book6
   stage6 s at = record {
     accepted = contacts-accepted b.rosters s (ap (λ (c : Book). c.rosters) at.book) is.keys.rosters;
-    at = record { book = contacts-rebuilt b.rosters s ∙ ap (λ (c : Book). record c { rosters = c.rosters ++ b.rosters }) at.book; tallies = kept-tallies contact (λ r t. refl) b.rosters s ∙ at.tallies };
+    at = record {
+      book = contacts-rebuilt b.rosters s ∙ ap (λ (c : Book). record c { rosters = c.rosters ++ b.rosters }) at.book;
+      tallies = kept-tallies contact (λ r t. refl) b.rosters s ∙
+          at.tallies;
+    };
   }
 
   stage7 : (s : State) → IsAt s book6 → IsReached s (map ver b.vers) book7
@@ -185,7 +211,8 @@ module _ (b : Book) (is : IsSoundBook b) where
   stage8 : (s : State) → IsAt s book7 → IsReached s (map made b.counts) book8
   unfolding book7 book8
   stage8 s at = record {
-    accepted = counts-accepted b.counts s (subst (λ (ns : List NodeRow). Each (IsNumbered ns) b.counts) (sym (ap (λ (c : Book). c.nodes) at.book ∙ configured-all b.links b.nodes is.configured)) is.counts) (ap (λ (c : Book). c.counts) at.book) is.keys.counts;
+    accepted = counts-accepted b.counts s (subst (λ (ns : List NodeRow). Each (IsNumbered ns) b.counts) (sym (ap (λ (c : Book). c.nodes) at.book ∙ configured-all b.links b.nodes is.configured))
+        is.counts) (ap (λ (c : Book). c.counts) at.book) is.keys.counts;
     at = record { book = counts-rebuilt b.counts s ∙ ap (λ (c : Book). record c { counts = c.counts ++ b.counts }) at.book; tallies = kept-tallies made (λ r t. refl) b.counts s ∙ at.tallies };
   }
 
@@ -281,7 +308,8 @@ unfolding Silent
 silent-counters h [] = tt
 silent-counters h (a ∷ A) = by (h a == 0) refl (silent-counters h A)
   where
-    by : (t : Bool) → (h a == 0) ≡ t → Each (λ r. (count : ℕ) (tallies : List TallyRow) → row_notices count tallies (Some r) ≡ []) (counters h A) → Each (λ r. (count : ℕ) (tallies : List TallyRow) → row_notices count tallies (Some r) ≡ []) (counters h (a ∷ A))
+    by : (t : Bool) → (h a == 0) ≡ t → Each (λ r. (count : ℕ) (tallies : List TallyRow) → row_notices count tallies (Some r) ≡ []) (counters h A)
+        → Each (λ r. (count : ℕ) (tallies : List TallyRow) → row_notices count tallies (Some r) ≡ []) (counters h (a ∷ A))
     by true e more = rw e more
     by false e more = rw e ((λ c t. refl), more)
 

@@ -31,7 +31,8 @@ entry_here true made child = refl
 entry_here false made child = refl
 
 -- the reply where the journal is full stands beside an entry
-pub full_here : (t : Tree) (r : Request) (kept : Bool) (made : Entry) (child : Option Tree) (entry : Option Entry) (full : Option Tree) → entry ≡ cond kept (Some made) None → full ≡ cond kept (full_reply t r) None
+pub full_here : (t : Tree) (r : Request) (kept : Bool) (made : Entry) (child : Option Tree) (entry : Option Entry) (full : Option Tree) → entry ≡ cond kept (Some made) None
+    → full ≡ cond kept (full_reply t r) None
     → full ≡ full_by entry (outcome_reply t r (kept && true) (accepted child))
 full_here t r true made child entry full e f = f ∙ sym (ap (λ (x : Option Entry). full_by x (full_reply t r)) e)
 full_here t r false made child entry full e f = f ∙ sym (ap (λ (x : Option Entry). full_by x (accepted_reply t r child)) e)

@@ -74,10 +74,12 @@ below_made n node who (x ∷ rows) b = by (is_count_of node who x) (below_made n
 
 counted_below : (n : ℕ) (id : List ℕ) (node : NodeKey) (who : Jid) (book : Book) → AllBelow n book.counts → AllBelow (n + 1) (counted id node who book)
 counted_below n [] node who book b =
-    below_put (n + 1) _ (count_row node who (next_made book node who)) book.counts (let m : made_at node who book.counts ≤ n = below_made n node who book.counts b in omega (arith, m)) (below_more n (n + 1) book.counts (omega arith) b)
+    below_put (n + 1) _ (count_row node who (next_made book node who)) book.counts (let m : made_at node who book.counts ≤ n = below_made n node who book.counts b in omega (arith, m))
+    (below_more n (n + 1) book.counts (omega arith) b)
 counted_below n (x ∷ id) node who book b = below_more n (n + 1) book.counts (omega arith) b
 
-published_below : (n : ℕ) (node : NodeKey) (config : NodeConfig) (who : Jid) (moment : Option ℕ) (items : List AskItem) (book : Book) → AllBelow n book.counts → AllBelow (n + 1) (published node config who moment items book).counts
+published_below : (n : ℕ) (node : NodeKey) (config : NodeConfig) (who : Jid) (moment : Option ℕ) (items : List AskItem) (book : Book) → AllBelow n book.counts
+    → AllBelow (n + 1) (published node config who moment items book).counts
 published_below n node config who moment [] book b = below_more n (n + 1) book.counts (omega arith) b
 published_below n node config who moment (item ∷ items) book b = counted_below n item.id node who book b
 
@@ -89,7 +91,8 @@ KeepsCounts before after = after.counts ≡ before.counts
 kept : (n : ℕ) (before after : Book) → KeepsCounts before after → AllBelow n before.counts → AllBelow (n + 1) after.counts
 kept n before after is b = subst (λ (rows : List CountRow). AllBelow (n + 1) rows) (sym is) (below_more n (n + 1) before.counts (omega arith) b)
 
-publish_below : (n : ℕ) (row : Option NodeRow) (node : NodeKey) (who : Jid) (moment : Option ℕ) (items : List AskItem) (options : Option Tree) (book : Book) → AllBelow n book.counts → AllBelow (n + 1) (published_by row node who moment items options book).counts
+publish_below : (n : ℕ) (row : Option NodeRow) (node : NodeKey) (who : Jid) (moment : Option ℕ) (items : List AskItem) (options : Option Tree) (book : Book) → AllBelow n book.counts
+    → AllBelow (n + 1) (published_by row node who moment items options book).counts
 publish_below n (Some row) node who moment items options book b = published_below n node row.config who moment items book b
 publish_below n None node who moment items options book b = new_below _
   where

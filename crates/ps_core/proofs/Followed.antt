@@ -26,11 +26,13 @@ on_ok (Ok x) f h = f h
 on_ok (Err e) f h = tt
 
 -- a resource wants what its row says, and the others what they wanted
-pub row-followed : (who : Jid) (o : Option ResourceRow) (features : List (List ℕ)) (old new : List Want) (after : List ResourceRow) → o ≡ resource_at who after → features ≡ features_in o → SetsWants who features old new
+pub row-followed : (who : Jid) (o : Option ResourceRow) (features : List (List ℕ)) (old new : List Want) (after : List ResourceRow) → o ≡ resource_at who after → features ≡ features_in o
+    → SetsWants who features old new
     → FollowsRow who after old new
 row-followed who o features old new after is f sets = λ before differs are other name. sets other name ∙ by before differs are other name (same_jid who other) refl
   where
-    by : (before : List ResourceRow) → DiffersAt who before after → AreWants old before → (other : Jid) (name : List ℕ) (b : Bool) → same_jid who other ≡ b → cond b (asks_for name features) (is_wanted other name old) ≡ wants other name after
+    by : (before : List ResourceRow) → DiffersAt who before after → AreWants old before → (other : Jid) (name : List ℕ) (b : Bool) → same_jid who other ≡ b
+        → cond b (asks_for name features) (is_wanted other name old) ≡ wants other name after
     by before differs are other name true e =
         let s : who ≡ other = (same_jid-Decides who other).0 e in
         subst (λ j. asks_for name features ≡ wants j name after) s (ap (asks_for name) (f ∙ ap features_in is))

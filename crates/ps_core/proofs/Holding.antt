@@ -46,7 +46,8 @@ stay test (row ∷ rows) is = by (test row) (stay test rows is.1)
     by false more = more
 
 -- a tree that is accepted is taken as a request
-pub taken-request : (book : Book) (host : List ℕ) (t : Tree) (x : Taken) → tree_taken host book.service t ≡ x → request_accepted (request_in x) book ≡ true → (u : Tree) × (r : Request) × (tree_taken host book.service t ≡ asked u r)
+pub taken-request : (book : Book) (host : List ℕ) (t : Tree) (x : Taken) → tree_taken host book.service t ≡ x → request_accepted (request_in x) book ≡ true
+    → (u : Tree) × (r : Request) × (tree_taken host book.service t ≡ asked u r)
 taken-request book host t x is h = by x is h
   where
     by : (x : Taken) → tree_taken host book.service t ≡ x → request_accepted (request_in x) book ≡ true → (u : Tree) × (r : Request) × (tree_taken host book.service t ≡ asked u r)
@@ -56,7 +57,8 @@ taken-request book host t x is h = by x is h
     by (asked u r) is h = (u, r, is)
 
 -- and the Book after it is what the request leaves
-book-taken : (book : Book) (host : List ℕ) (line : ℕ) (moment : Option ℕ) (t u : Tree) (r : Request) → tree_taken host book.service t ≡ asked u r → book_after book (Change host line moment t) ≡ changed r moment book
+book-taken : (book : Book) (host : List ℕ) (line : ℕ) (moment : Option ℕ) (t u : Tree) (r : Request) → tree_taken host book.service t ≡ asked u r
+    → book_after book (Change host line moment t) ≡ changed r moment book
 book-taken book host line moment t u r is = ap (λ (x : Taken). book_changed (request_in x) moment book) is
 
 -- a row of a compacted store
@@ -104,7 +106,8 @@ holds-after p e h timely is = record {
 }
 
 -- what is known where the notices of a request are found
-pub can-tell : (p : Part) (host : List ℕ) (line : ℕ) (moment : Option ℕ) (t : Tree) (r : Request) (tallies : List TallyRow) → fits_book p.book (Change host line moment t) ≡ true → IsTimely (Change host line moment t) → Holds p → p.count < 2 ^ 62
+pub can-tell : (p : Part) (host : List ℕ) (line : ℕ) (moment : Option ℕ) (t : Tree) (r : Request) (tallies : List TallyRow) → fits_book p.book (Change host line moment t) ≡ true
+    → IsTimely (Change host line moment t) → Holds p → p.count < 2 ^ 62
     → AreFewMade p.count tallies → asked t r ≡ tree_taken host p.book.service t → CanTell p (part_after p (Change host line moment t)) tallies r moment
 can-tell p host line moment t r tallies h timely is less few e =
     let e' = Change host line moment t in

@@ -15,7 +15,8 @@ use Rattle.ps_model.specs.Taking.{tree_taken}
 use Rattle.ps_core.specs.Requests.{IsRequestOf}
 
 -- the entry that a line makes has the request that its tree was taken as
-pub request_made : (service host : List ℕ) (book : Book) (line : ℕ) (moment : Option ℕ) (t : Tree) (r : Request) (o : Option Entry) → o ≡ entry_by (asked t r) host book line moment false → asked t r ≡ tree_taken host service t
+pub request_made : (service host : List ℕ) (book : Book) (line : ℕ) (moment : Option ℕ) (t : Tree) (r : Request) (o : Option Entry) → o ≡ entry_by (asked t r) host book line moment false
+    → asked t r ≡ tree_taken host service t
     → IfSome o (λ e. IsRequestOf service e (Some r))
 request_made service host book line moment t r o made is =
     subst (λ (x : Option Entry). IfSome x (λ e. IsRequestOf service e (Some r))) (sym made) (by (commits book r && not false) (check book r))

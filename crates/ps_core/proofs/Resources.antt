@@ -49,12 +49,14 @@ items-published : (node : NodeKey) (config : NodeConfig) (who : Jid) (moment : O
 items-published node config who moment [] book = refl
 items-published node config who moment (item ∷ items) book = refl
 
-new-published : (o : Result NodeConfig Condition) (node : NodeKey) (who : Jid) (moment : Option ℕ) (items : List AskItem) (book : Book) → (published_new o node who moment items book).resources ≡ book.resources
+new-published : (o : Result NodeConfig Condition) (node : NodeKey) (who : Jid) (moment : Option ℕ) (items : List AskItem) (book : Book)
+    → (published_new o node who moment items book).resources ≡ book.resources
 new-published (Err why) node who moment items book = refl
 new-published (Ok config) node who moment [] book = refl
 new-published (Ok config) node who moment (item ∷ items) book = refl
 
-publishes : (o : Option NodeRow) (node : NodeKey) (who : Jid) (moment : Option ℕ) (items : List AskItem) (options : Option Tree) (book : Book) → (published_by o node who moment items options book).resources ≡ book.resources
+publishes : (o : Option NodeRow) (node : NodeKey) (who : Jid) (moment : Option ℕ) (items : List AskItem) (options : Option Tree) (book : Book)
+    → (published_by o node who moment items options book).resources ≡ book.resources
 publishes None node who moment items options book = new-published (options_config options (default_config true)) node who moment items book
 publishes (Some row) node who moment items options book = items-published node row.config who moment items book
 

@@ -22,7 +22,8 @@ back-staged (Prepared kept numbers) front back tallies is = tt
 back-staged (Behind kept) front back tallies is = is
 back-staged Stale front back tallies is = tt
 
-module _ (front back : Part) (kept : Kept) (numbers : NumberChange) (before now : Table TallyRow) (follows : Follows front kept back) (are : AreNumbers front before kept.entry numbers) (done : now.rows ≡ numbers_after numbers before.rows) where
+module _ (front back : Part) (kept : Kept) (numbers : NumberChange) (before now : Table TallyRow) (follows : Follows front kept back) (are : AreNumbers front before kept.entry numbers)
+    (done : now.rows ≡ numbers_after numbers before.rows) where
   pub committed-kept : StageIsKept (Behind kept) back front now
   committed-kept = record {
     holds = subst Holds (sym follows.is_after) (holds-after front kept.entry follows.is_accepted follows.is_timely follows.holds);

@@ -41,15 +41,18 @@ fits_held book (Gone host) h = refl
 fits_held book (Base row) h = fits-held (row_of row) book h
 
 -- what fits it is a request that is accepted and makes an entry
-pub accepted_asked : (book : Book) (host : List ℕ) (line : ℕ) (moment : Option ℕ) (t u : Tree) (r : Request) → fits_book book (Change host line moment t) ≡ true → asked u r ≡ tree_taken host book.service t → makes_entry book r ≡ true
+pub accepted_asked : (book : Book) (host : List ℕ) (line : ℕ) (moment : Option ℕ) (t u : Tree) (r : Request) → fits_book book (Change host line moment t) ≡ true
+    → asked u r ≡ tree_taken host book.service t → makes_entry book r ≡ true
 accepted_asked book host line moment t u r h e = subst (λ (x : Taken). request_accepted (request_in x) book ≡ true) (sym e) h
 
-pub accepted_refused : (book : Book) (host : List ℕ) (line : ℕ) (moment : Option ℕ) (t : Tree) (why : LineRefusal) → fits_book book (Change host line moment t) ≡ true → refused why ≡ tree_taken host book.service t → ⊥
+pub accepted_refused : (book : Book) (host : List ℕ) (line : ℕ) (moment : Option ℕ) (t : Tree) (why : LineRefusal) → fits_book book (Change host line moment t) ≡ true
+    → refused why ≡ tree_taken host book.service t → ⊥
 accepted_refused book host line moment t why h e =
     let no : false ≡ true = subst (λ (x : Taken). request_accepted (request_in x) book ≡ true) (sym e) h in
     absurd (cc)
 
-pub accepted_denied : (book : Book) (host : List ℕ) (line : ℕ) (moment : Option ℕ) (t : Tree) (head : Head) (why : Condition) → fits_book book (Change host line moment t) ≡ true → denied head why ≡ tree_taken host book.service t → ⊥
+pub accepted_denied : (book : Book) (host : List ℕ) (line : ℕ) (moment : Option ℕ) (t : Tree) (head : Head) (why : Condition) → fits_book book (Change host line moment t) ≡ true
+    → denied head why ≡ tree_taken host book.service t → ⊥
 accepted_denied book host line moment t head why h e =
     let no : false ≡ true = subst (λ (x : Taken). request_accepted (request_in x) book ≡ true) (sym e) h in
     absurd (cc)
@@ -60,16 +63,19 @@ accepted_silent book host line moment t h e =
     absurd (cc)
 
 -- the Book after a request that is taken from a line
-pub book_asked : (book : Book) (host : List ℕ) (line : ℕ) (moment : Option ℕ) (t : Tree) (r : Request) → asked t r ≡ tree_taken host book.service t → book_after book (Change host line moment t) ≡ changed r moment book
+pub book_asked : (book : Book) (host : List ℕ) (line : ℕ) (moment : Option ℕ) (t : Tree) (r : Request) → asked t r ≡ tree_taken host book.service t
+    → book_after book (Change host line moment t) ≡ changed r moment book
 book_asked book host line moment t r e = ap (λ (x : Taken). book_changed (request_in x) moment book) (sym e)
 
 -- and what is kept twice
-pub change_after : (p : Part) (host : List ℕ) (line : ℕ) (moment : Option ℕ) (t : Tree) (r : Request) → asked t r ≡ tree_taken host p.book.service t → part_after p (Change host line moment t) ≡ changed_part r moment host line p
+pub change_after : (p : Part) (host : List ℕ) (line : ℕ) (moment : Option ℕ) (t : Tree) (r : Request) → asked t r ≡ tree_taken host p.book.service t
+    → part_after p (Change host line moment t) ≡ changed_part r moment host line p
 change_after p host line moment t r e = λ i. record { book = book_asked p.book host line moment t r e i; count = p.count + 1; lines = lines_with host line p.lines }
 
 -- the notices of a change are those that its request's events give
 pub notices_asked : (s : State) (host : List ℕ) (line : ℕ) (moment : Option ℕ) (t : Tree) (r : Request) → asked t r ≡ tree_taken host s.book.service t
-    → notices_at s (Change host line moment t) ≡ notices_by (record { book = s.book; count = s.count; lines = s.lines }) (part_after (record { book = s.book; count = s.count; lines = s.lines }) (Change host line moment t)) s.tallies r moment
+    → notices_at s (Change host line moment t) ≡ notices_by (record { book = s.book; count = s.count; lines = s.lines })
+    (part_after (record { book = s.book; count = s.count; lines = s.lines }) (Change host line moment t)) s.tallies r moment
 notices_asked s host line moment t r e =
     let after = book_after s.book (Change host line moment t) in
     ap (λ (x : Taken). numbered s.count s.tallies (all_due s.book after (events_by (request_in x) moment s.book after))) (sym e)

@@ -76,7 +76,8 @@ few-none tallies none = λ who.
 -- ---- what an entry does to the numbers
 
 -- a row of a compacted store that is no counter makes its notice, if it is one
-based : (count : ℕ) (tallies : List TallyRow) (o : Option BaseRow) (ns : List Notice) (whos : List Jid) → ns ≡ row_notices count tallies o → whos ≡ map (λ (n : Notice). n.to) ns → is_counter o ≡ false → row_tallies o tallies ≡ tallied_by tallies whos
+based : (count : ℕ) (tallies : List TallyRow) (o : Option BaseRow) (ns : List Notice) (whos : List Jid) → ns ≡ row_notices count tallies o → whos ≡ map (λ (n : Notice). n.to) ns
+    → is_counter o ≡ false → row_tallies o tallies ≡ tallied_by tallies whos
 based count tallies o ns whos are is plain = by o plain ∙ ap (tallied_by tallies) (ap (map (λ (n : Notice). n.to)) (sym are) ∙ sym is)
   where
     by : (o : Option BaseRow) → is_counter o ≡ false → row_tallies o tallies ≡ tallied_by tallies (map (λ (n : Notice). n.to) (row_notices count tallies o))
@@ -93,7 +94,8 @@ based count tallies o ns whos are is plain = by o plain ∙ ap (tallied_by talli
     by (Some (base.notice to line)) plain = refl
 
 -- it is what its notices say
-pub counted-is : (p : Part) (tallies : List TallyRow) (e : Entry) (ns : List Notice) (numbers : NumberChange) → fits_book p.book e ≡ true → ns ≡ notices_at (state_with p tallies) e → IsCountOf e ns numbers
+pub counted-is : (p : Part) (tallies : List TallyRow) (e : Entry) (ns : List Notice) (numbers : NumberChange) → fits_book p.book e ≡ true → ns ≡ notices_at (state_with p tallies) e
+    → IsCountOf e ns numbers
     → tallies_after (state_with p tallies) e ≡ numbers_after numbers tallies
 counted-is p tallies (Handed to) ns (Made whos) fits are is = absurd is
 counted-is p tallies (Handed to) ns (Handed' who) fits are is = ap (λ (j : Jid). one_handed j tallies) (sym is)
@@ -127,7 +129,8 @@ set-few o book who n fits is =
     ltb-true n (2 ^ 62) (and_right (nat_lt 0 n) (nat_lt n (2 ^ 62)) bounded)
 
 -- the numbers stay below the end of their type, and few
-pub counted-fit : (p : Part) (tallies : List TallyRow) (e : Entry) (ns : List Notice) (numbers : NumberChange) → accepted (state_with p tallies) e ≡ true → fits_book p.book e ≡ true → p.count < 2 ^ 62 → AreFewMade p.count tallies → IsCountOf e ns numbers
+pub counted-fit : (p : Part) (tallies : List TallyRow) (e : Entry) (ns : List Notice) (numbers : NumberChange) → accepted (state_with p tallies) e ≡ true → fits_book p.book e ≡ true
+    → p.count < 2 ^ 62 → AreFewMade p.count tallies → IsCountOf e ns numbers
     → Fit numbers tallies
 counted-fit p tallies (Handed to) ns (Handed' who) ok fits less few is =
     let has : handed_to to tallies < made_for to tallies = handed-has-one (state_with p tallies) to ok in

@@ -47,7 +47,8 @@ one_place : (at p : ℕ) → nat_eq at p ≡ true → at ≡ p
 one_place at p h = grind (arith, nat_tests, h)
 
 -- the place of a node is the one at which it stands
-pub place-there : (node : NodeKey) (rows : List NodeRow) (o : Option ℕ) → IfSome o (λ at. is_there node (slice_get rows at) ≡ true) → IsAlone node rows o → (at : ℕ) → is_at_place at o ≡ is_there node (slice_get rows at)
+pub place-there : (node : NodeKey) (rows : List NodeRow) (o : Option ℕ) → IfSome o (λ at. is_there node (slice_get rows at) ≡ true) → IsAlone node rows o → (at : ℕ)
+    → is_at_place at o ≡ is_there node (slice_get rows at)
 place-there node rows o here alone at = by o here alone (is_there node (slice_get rows at)) refl
   where
     apart : (p : ℕ) → is_there node (slice_get rows p) ≡ true → is_there node (slice_get rows at) ≡ false → (c : Bool) → nat_eq at p ≡ c → c ≡ false

@@ -47,8 +47,10 @@ module _ (node collection : NodeKey) where
   here x links true e h = or_first (same_node x.child node) (list_any (λ child. same_node child node) (children_in collection links)) h
   here x links false e h = absurd (cc)
 
-  named_step : (x : LinkRow) (links : List LinkRow) (b : Bool) → is_link_of node x ≡ b → (under (collection_of node links) ≡ true → list_any (λ child. same_node child node) (children_in collection links) ≡ true)
-      → under (option_map (λ (row : LinkRow). row.collection) (cond b (Some x) (find (is_link_of node) links))) ≡ true → list_any (λ child. same_node child node) (children_in collection (x ∷ links)) ≡ true
+  named_step : (x : LinkRow) (links : List LinkRow) (b : Bool) → is_link_of node x ≡ b
+      → (under (collection_of node links) ≡ true → list_any (λ child. same_node child node) (children_in collection links) ≡ true)
+      → under (option_map (λ (row : LinkRow). row.collection) (cond b (Some x) (find (is_link_of node) links))) ≡ true
+      → list_any (λ child. same_node child node) (children_in collection (x ∷ links)) ≡ true
   named_step x links true e more h =
       let k : same_node collection x.collection ≡ true = h in
       here x links (is_link_to collection x) k (same_back node x.child e)
@@ -72,7 +74,8 @@ module _ (collection : NodeKey) (links : List LinkRow) where
       by true false f k = k
       by false b f k = k
 
-  some_held : (node : NodeKey) → holds node ≡ true → (nodes : List NodeKey) → list_any (λ child. same_node child node) nodes ≡ true → list_any (λ child. same_node child node && holds child) nodes ≡ true
+  some_held : (node : NodeKey) → holds node ≡ true → (nodes : List NodeKey) → list_any (λ child. same_node child node) nodes ≡ true
+      → list_any (λ child. same_node child node && holds child) nodes ≡ true
   some_held node h [] k = absurd (cc)
   some_held node h (x ∷ nodes) k = by (same_node x node) (holds x) (λ e. ap holds ((same_node-Decides x node).0 e) ∙ h) k (λ m. some_held node h nodes m)
     where

@@ -16,7 +16,8 @@ nodes-append [] ys = refl
 nodes-append (child.Tree t ∷ xs) ys = ap (λ (n : Nodes). branch t n) (nodes-append xs ys)
 nodes-append (child.Words s ∷ xs) ys = ap (λ (n : Nodes). words s n) (nodes-append xs ys)
 
-pub two-kids : (kids both : List Child) (first last : Tree) (behind : Nodes) → nodes kids ≡ branch first none → both ≡ kids ++ child.Tree last ∷ [] → behind ≡ branch last none → nodes both ≡ branch first behind
+pub two-kids : (kids both : List Child) (first last : Tree) (behind : Nodes) → nodes kids ≡ branch first none → both ≡ kids ++ child.Tree last ∷ [] → behind ≡ branch last none
+    → nodes both ≡ branch first behind
 unfolding more_nodes
 two-kids kids both first last behind one two is =
     ap nodes two ∙ nodes-append kids (child.Tree last ∷ []) ∙ ap (λ (n : Nodes). more_nodes n (branch last none)) one ∙ ap (λ (n : Nodes). branch first n) (sym is)

@@ -93,10 +93,12 @@ in-parts s to through id = at s.kind
         → attrs_begin ++ ((quoted s.from ++ (then_id ++ (quoted id ++ (then_to ++ (quoted to ++ attrs_end kind))))) ++ (kids_begin ++ ((print s.event ++ behind_event through) ++ last_name)))
         ≡ line_of (record s { kind = kind }) to through id
     at Normal =
-        joined attrs_begin (quoted s.from) then_id (quoted id) then_to (quoted to) (attrs_end Normal) kids_begin (print s.event) (rest_of through) ((print s.event ++ behind_event through) ++ last_name)
+        joined attrs_begin (quoted s.from) then_id (quoted id) then_to (quoted to) (attrs_end Normal) kids_begin (print s.event) (rest_of through)
+        ((print s.event ++ behind_event through) ++ last_name)
         (append_assoc (print s.event) (behind_event through) last_name ∙ ap (λ (z : List ℕ). print s.event ++ z) (rest-is through))
     at Headline =
-        joined attrs_begin (quoted s.from) then_id (quoted id) then_to (quoted to) (attrs_end Headline) kids_begin (print s.event) (rest_of through) ((print s.event ++ behind_event through) ++ last_name)
+        joined attrs_begin (quoted s.from) then_id (quoted id) then_to (quoted to) (attrs_end Headline) kids_begin (print s.event) (rest_of through)
+        ((print s.event ++ behind_event through) ++ last_name)
         (append_assoc (print s.event) (behind_event through) last_name ∙ ap (λ (z : List ℕ). print s.event ++ z) (rest-is through))
 
 pub line-printed : (s : Shape) (to : List ℕ) (through : Option (List ℕ)) (number : ℕ) → line_of s to through (notice_id number) ≡ print (with_id number (message_of s to through))
@@ -104,7 +106,8 @@ unfolding escape_byte
 line-printed s to through number = at s.kind through (in-parts s to through (notice_id number))
   where
     at : (kind : NoticeKind) (through : Option (List ℕ))
-        → attrs_begin ++ ((quoted s.from ++ (then_id ++ (quoted (notice_id number) ++ (then_to ++ (quoted to ++ attrs_end kind))))) ++ (kids_begin ++ ((print s.event ++ behind_event through) ++ last_name)))
+        → attrs_begin ++ ((quoted s.from ++ (then_id ++ (quoted (notice_id number) ++ (then_to ++ (quoted to ++ attrs_end kind))))) ++
+        (kids_begin ++ ((print s.event ++ behind_event through) ++ last_name)))
         ≡ line_of (record s { kind = kind }) to through (notice_id number)
         → line_of (record s { kind = kind }) to through (notice_id number) ≡ print (with_id number (message_of (record s { kind = kind }) to through))
     at Normal None is = sym is

@@ -46,6 +46,7 @@ unfolding IsThere with_ask
 there_at book r node who form h = first_holds (stands (node_of r node) book.nodes) _ _ _ h
 
 -- a node that is subscribed to stands
-pub subscribe_there : (book : Book) (r : Request) (node : List ℕ) (who : Jid) (form : Option Tree) → r.ask ≡ ask.Subscribe node who form → is_accepted (check book r) ≡ true → stands (node_of r node) book.nodes ≡ true
+pub subscribe_there : (book : Book) (r : Request) (node : List ℕ) (who : Jid) (form : Option Tree) → r.ask ≡ ask.Subscribe node who form → is_accepted (check book r) ≡ true
+    → stands (node_of r node) book.nodes ≡ true
 unfolding IsThere with_ask
 subscribe_there book r node who form is = subst (λ (a : Ask). IsThere book node (with_ask r a)) (sym is) (there_at book r node who form)

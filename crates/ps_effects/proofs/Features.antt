@@ -22,11 +22,13 @@ module _ (who : Jid) (caps : Caps) (features : List (List ℕ)) where
   step : (x : ResourceRow) (xs : List ResourceRow) (b : Bool) → is_resource_of who x ≡ b
       → (caps_in (resource_at who xs) ≡ Some caps → put_row (is_resource_of who) (shown who caps features) xs ≡ change_row (is_resource_of who) (with_features features) xs)
       → caps_in (cond b (Some x) (resource_at who xs)) ≡ Some caps
-      → cond b (shown who caps features ∷ xs) (x ∷ put_row (is_resource_of who) (shown who caps features) xs) ≡ cond b (with_features features x ∷ xs) (x ∷ change_row (is_resource_of who) (with_features features) xs)
+      → cond b (shown who caps features ∷ xs) (x ∷ put_row (is_resource_of who) (shown who caps features) xs) ≡ cond b (with_features features x ∷ xs)
+      (x ∷ change_row (is_resource_of who) (with_features features) xs)
   step x xs true is more h = ap (λ (r : ResourceRow). r ∷ xs) (same-row who caps features x ((same_jid-Decides who x.who).0 is) h)
   step x xs false is more h = ap (λ (rs : List ResourceRow). x ∷ rs) (more h)
 
-  put : (rows : List ResourceRow) → caps_in (resource_at who rows) ≡ Some caps → put_row (is_resource_of who) (shown who caps features) rows ≡ change_row (is_resource_of who) (with_features features) rows
+  put : (rows : List ResourceRow) → caps_in (resource_at who rows) ≡ Some caps
+      → put_row (is_resource_of who) (shown who caps features) rows ≡ change_row (is_resource_of who) (with_features features) rows
   put [] h = absurd (cc)
   put (x ∷ xs) h = step x xs (is_resource_of who x) refl (put xs) h
 

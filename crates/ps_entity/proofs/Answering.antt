@@ -33,7 +33,8 @@ same_string-itself a = both (bytes_eq a.ver a.ver) (pointwise bytes_eq a.feature
     both false c p q = absurd (cc)
 
 -- the resource is as it was where it had these features
-features-set : (who : Jid) (features : List (List ℕ)) (rows : List ResourceRow) (row : ResourceRow) → resource_at who rows ≡ Some row → same_resources (change_row (is_resource_of who) (with_features features) rows) rows ≡ pointwise bytes_eq features row.features
+features-set : (who : Jid) (features : List (List ℕ)) (rows : List ResourceRow) (row : ResourceRow) → resource_at who rows ≡ Some row
+    → same_resources (change_row (is_resource_of who) (with_features features) rows) rows ≡ pointwise bytes_eq features row.features
 features-set who features rows row h =
     same-change resource.eq-value.it same_resource-itself (is_resource_of who) (with_features features) rows
     ∙ ap (found-kept resource.eq-value.it same_resource-itself (with_features features)) h ∙ same_features row features

@@ -25,7 +25,8 @@ fewer : (test : ItemRow → Bool) (rows : List ItemRow) → length (filter test 
 fewer test rows = omega (arith, length-filter test rows, count_by-le-length test rows)
 
 -- the newest of all
-pub all_chosen : (max : List ℕ) (ids : List (List ℕ)) (node : NodeKey) (rows : List ItemRow) → (length ids == 0) ≡ true → newest_of (most max (length rows)) (items_of node rows) ≡ newest max (named_items ids (items_of node rows))
+pub all_chosen : (max : List ℕ) (ids : List (List ℕ)) (node : NodeKey) (rows : List ItemRow) → (length ids == 0) ≡ true
+    → newest_of (most max (length rows)) (items_of node rows) ≡ newest max (named_items ids (items_of node rows))
 all_chosen max [] node rows e = newest_as max (length rows) (items_of node rows) (fewer (is_item_at node) rows)
 all_chosen max (id ∷ ids) node rows e =
     let some : (length (id ∷ ids) == 0) ≡ false = search rules in
@@ -36,13 +37,15 @@ both : (p q : ItemRow → Bool) (rows : List ItemRow) → filter (λ row. p row 
 both p q [] = refl
 both p q (row ∷ rows) = by (p row) (q row) refl (both p q rows)
   where
-    by : (a b : Bool) → q row ≡ b → filter (λ r. p r && q r) rows ≡ filter q (filter p rows) → cond (a && b) (row ∷ filter (λ r. p r && q r) rows) (filter (λ r. p r && q r) rows) ≡ filter q (cond a (row ∷ filter p rows) (filter p rows))
+    by : (a b : Bool) → q row ≡ b → filter (λ r. p r && q r) rows ≡ filter q (filter p rows)
+        → cond (a && b) (row ∷ filter (λ r. p r && q r) rows) (filter (λ r. p r && q r) rows) ≡ filter q (cond a (row ∷ filter p rows) (filter p rows))
     by true true e m = rw e (ap (λ r. row ∷ r) m)
     by true false e m = rw e m
     by false b e m = m
 
 -- the newest of those that are named
-pub named_chosen : (max : List ℕ) (ids : List (List ℕ)) (node : NodeKey) (rows : List ItemRow) → (length ids == 0) ≡ false → newest_of (most max (length rows)) (items_named node ids rows) ≡ newest max (named_items ids (items_of node rows))
+pub named_chosen : (max : List ℕ) (ids : List (List ℕ)) (node : NodeKey) (rows : List ItemRow) → (length ids == 0) ≡ false
+    → newest_of (most max (length rows)) (items_named node ids rows) ≡ newest max (named_items ids (items_of node rows))
 named_chosen max [] node rows e = absurd (cc)
 named_chosen max (id ∷ ids) node rows e =
     newest_as max (length rows) (items_named node (id ∷ ids) rows) (fewer _ rows) ∙ ap (newest max) (both (is_item_at node) (is_named_item (id ∷ ids)) rows)

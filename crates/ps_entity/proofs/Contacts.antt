@@ -18,7 +18,8 @@ use Rattle.ps_model.specs.SameRows.{same_rosters}
 use Rattle.ps_entity.specs.Contacts.{is_contact}
 use Rattle.ps_entity.proofs.Rows.{put-changes, put-adds, removal-changes, find-passes, all_same}
 
-same_contact-parts : (a b : RosterRow) → row.eq-value.it a b ≡ (same_jid a.account b.account && (same_jid a.contact b.contact && (state.eq-value.it a.state b.state && pointwise bytes_eq a.groups b.groups)))
+same_contact-parts : (a b : RosterRow) → row.eq-value.it a b ≡
+    (same_jid a.account b.account && (same_jid a.contact b.contact && (state.eq-value.it a.state b.state && pointwise bytes_eq a.groups b.groups)))
 unfolding same_jid
 same_contact-parts a b = refl
 
@@ -54,20 +55,23 @@ bare_parts true false c d e f g h = absurd (cc)
 bare_parts false b c d e f g h = absurd (cc)
 
 -- the contact that is there already has the same addresses, but for their resources
-found_same : (who other : Jid) (s : RosterState) (groups : List (List ℕ)) (old : RosterRow) → is_contact_of who other old ≡ true → row.eq-value.it (new_contact who other s groups) old ≡ is_contact s groups old
+found_same : (who other : Jid) (s : RosterState) (groups : List (List ℕ)) (old : RosterRow) → is_contact_of who other old ≡ true
+    → row.eq-value.it (new_contact who other s groups) old ≡ is_contact s groups old
 unfolding same_jid same_bare
 found_same who other s groups old h =
     bare_parts (bytes_eq who.local old.account.local) (bytes_eq who.host old.account.host) (bytes_eq other.local old.contact.local) (bytes_eq other.host old.contact.host)
     (bytes_eq [] old.account.resource) (bytes_eq [] old.contact.resource) (state.eq-value.it s old.state && pointwise bytes_eq groups old.groups) h
     ∙ ap₂ (λ (x y : Bool). x && (y && (state.eq-value.it s old.state && pointwise bytes_eq groups old.groups))) (empty-test old.account.resource) (empty-test old.contact.resource)
 
-pub contact-found : (who other : Jid) (s : RosterState) (groups : List (List ℕ)) (rows : List RosterRow) (old : RosterRow) → Some old ≡ contact_at who other rows → not (is_contact s groups old) ≡ not (same_rosters (roster_with (new_contact who other s groups) rows) rows)
+pub contact-found : (who other : Jid) (s : RosterState) (groups : List (List ℕ)) (rows : List RosterRow) (old : RosterRow) → Some old ≡ contact_at who other rows
+    → not (is_contact s groups old) ≡ not (same_rosters (roster_with (new_contact who other s groups) rows) rows)
 unfolding same_bare
 contact-found who other s groups rows old h =
     ap not (sym (found_same who other s groups old (find-passes (is_contact_of who other) rows old (sym h))))
     ∙ put-changes row.eq-value.it same_contact-itself (is_contact_of who other) (new_contact who other s groups) old rows h
 
-pub contact-absent : (who other : Jid) (s : RosterState) (groups : List (List ℕ)) (rows : List RosterRow) → None ≡ contact_at who other rows → true ≡ not (same_rosters (roster_with (new_contact who other s groups) rows) rows)
+pub contact-absent : (who other : Jid) (s : RosterState) (groups : List (List ℕ)) (rows : List RosterRow) → None ≡ contact_at who other rows
+    → true ≡ not (same_rosters (roster_with (new_contact who other s groups) rows) rows)
 unfolding same_bare
 contact-absent who other s groups rows h = put-adds row.eq-value.it same_contact-itself (is_contact_of who other) (new_contact who other s groups) rows h
 

@@ -53,28 +53,33 @@ both_true true false c h = absurd (cc)
 both_true false b c h = absurd (cc)
 
 -- the row that is there already has the same node and address
-found_same : (node : NodeKey) (who : Jid) (s : SubState) (o : SubOptions) (rows : List SubRow) (old : SubRow) → sub_row node who rows ≡ Some old → row.eq-value.it (new_row node who s o) old ≡ has_them s o old
+found_same : (node : NodeKey) (who : Jid) (s : SubState) (o : SubOptions) (rows : List SubRow) (old : SubRow) → sub_row node who rows ≡ Some old
+    → row.eq-value.it (new_row node who s o) old ≡ has_them s o old
 found_same node who s o rows old h =
     same_sub-parts (new_row node who s o) old ∙ both_true (same_node node old.node) (same_jid who old.who) (has_them s o old) (find-passes (is_sub_of node who) rows old h)
 
 -- ---- what setting a row changes
 
-pub sub-removed : (node : NodeKey) (who : Jid) (s : SubState) (o : SubOptions) (rows : List SubRow) → s ≡ sub.Nothing → is_some (sub_row node who rows) ≡ not (same_subs (subs_with (new_row node who s o) rows) rows)
+pub sub-removed : (node : NodeKey) (who : Jid) (s : SubState) (o : SubOptions) (rows : List SubRow) → s ≡ sub.Nothing
+    → is_some (sub_row node who rows) ≡ not (same_subs (subs_with (new_row node who s o) rows) rows)
 sub-removed node who sub.Nothing o rows e = removal-changes row.eq-value.it same_sub-itself (is_sub_of node who) rows
 sub-removed node who sub.Pending o rows e = absurd (cc)
 sub-removed node who sub.Subscribed o rows e = absurd (cc)
 
 -- a state that is set puts the row
-put : (node : NodeKey) (who : Jid) (s : SubState) (o : SubOptions) (rows : List SubRow) → s ≢ sub.Nothing → put_row (is_sub_of node who) (new_row node who s o) rows ≡ subs_with (new_row node who s o) rows
+put : (node : NodeKey) (who : Jid) (s : SubState) (o : SubOptions) (rows : List SubRow) → s ≢ sub.Nothing
+    → put_row (is_sub_of node who) (new_row node who s o) rows ≡ subs_with (new_row node who s o) rows
 put node who sub.Nothing o rows some = absurd (some refl)
 put node who sub.Pending o rows some = refl
 put node who sub.Subscribed o rows some = refl
 
-pub sub-found : (node : NodeKey) (who : Jid) (s : SubState) (o : SubOptions) (rows : List SubRow) (old : SubRow) → s ≢ sub.Nothing → Some old ≡ sub_row node who rows → not (has_them s o old) ≡ not (same_subs (subs_with (new_row node who s o) rows) rows)
+pub sub-found : (node : NodeKey) (who : Jid) (s : SubState) (o : SubOptions) (rows : List SubRow) (old : SubRow) → s ≢ sub.Nothing → Some old ≡ sub_row node who rows
+    → not (has_them s o old) ≡ not (same_subs (subs_with (new_row node who s o) rows) rows)
 sub-found node who s o rows old some h =
     ap not (sym (found_same node who s o rows old (sym h))) ∙ put-changes row.eq-value.it same_sub-itself (is_sub_of node who) (new_row node who s o) old rows h
     ∙ ap (λ (after : List SubRow). not (same_subs after rows)) (put node who s o rows some)
 
-pub sub-absent : (node : NodeKey) (who : Jid) (s : SubState) (o : SubOptions) (rows : List SubRow) → s ≢ sub.Nothing → None ≡ sub_row node who rows → true ≡ not (same_subs (subs_with (new_row node who s o) rows) rows)
+pub sub-absent : (node : NodeKey) (who : Jid) (s : SubState) (o : SubOptions) (rows : List SubRow) → s ≢ sub.Nothing → None ≡ sub_row node who rows
+    → true ≡ not (same_subs (subs_with (new_row node who s o) rows) rows)
 sub-absent node who s o rows some h =
     put-adds row.eq-value.it same_sub-itself (is_sub_of node who) (new_row node who s o) rows h ∙ ap (λ (after : List SubRow). not (same_subs after rows)) (put node who s o rows some)

@@ -46,7 +46,8 @@ filter-both p q (x ∷ xs) = by (p x) refl (q x) (filter-both p q xs)
     by false h true e = rw h e
     by false h false e = e
 
-pub wanted-new : (who : Jid) (features : List (List ℕ)) (before after : Book) → features ≡ filter (is_new (features_in (resource_at who before.resources))) (features_in (resource_at who after.resources))
+pub wanted-new : (who : Jid) (features : List (List ℕ)) (before after : Book)
+    → features ≡ filter (is_new (features_in (resource_at who before.resources))) (features_in (resource_at who after.resources))
     → all_lasts who features after ≡ wanted_events who before after
 wanted-new who features before after is =
     let old = features_in (resource_at who before.resources) in
@@ -97,4 +98,5 @@ module _ (who : Jid) (after : Book) where
       rw e (step ∙ (ap (λ (l : List Event). l ++ last_in who after (slice_get rows place)) stands
       ∙ (append_assoc first some (last_in who after (slice_get rows place))
       ∙ ap (λ (l : List Event). first ++ l)
-      (ap (λ (l : List Event). some ++ l) (last-alone (slice_get rows place)) ∙ (sym (lasts-append (rows_at (take at places) rows) (option_list (slice_get rows place))) ∙ ap (λ (l : List NodeRow). lasts who after l) (sym more))))))
+      (ap (λ (l : List Event). some ++ l) (last-alone (slice_get rows place)) ∙
+      (sym (lasts-append (rows_at (take at places) rows) (option_list (slice_get rows place))) ∙ ap (λ (l : List NodeRow). lasts who after l) (sym more))))))

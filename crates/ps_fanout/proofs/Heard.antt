@@ -46,7 +46,8 @@ parts_tree node joins config event who way = message node.service who (kind_attr
 abbrev parts_hear : Book → NodeKey → Bool → Bool → List NodeKey → NodeConfig → Bool → Tree → Jid → Option Tree
 parts_hear book node joins items up config is_on event who =
     option_map (parts_tree node joins config event who)
-    (cond (may_hear book node config is_on who) (heard_by (may_pass book who (way_by book (not joins) items node up who)) (not joins && is_interested book node who) (way_by book (not joins) items node up who)) None)
+    (cond (may_hear book node config is_on who) (heard_by (may_pass book who (way_by book (not joins) items node up who)) (not joins && is_interested book node who)
+    (way_by book (not joins) items node up who)) None)
 
 -- a header names the collection
 header-is : (joins : Bool) (way : ways.Way) → drafts.behind (named joins way) ≡ behind joins way
@@ -62,7 +63,8 @@ header-heard n who (Some way) =
     ap (λ (kids : Nodes). Some (message n.node.now.service who (kind_attr n.config.now.notification_type) (branch (arc_value n.event) kids))) (header-is n.joins way)
 
 -- the parts of the news are these
-parts-are : (book : Book) (node : NodeKey) (joins items : Bool) (up : List NodeKey) (config : NodeConfig) (is_on : Bool) (inside : Tree) (n : News) → IsNews node joins items up config is_on inside n → (who : Jid)
+parts-are : (book : Book) (node : NodeKey) (joins items : Bool) (up : List NodeKey) (config : NodeConfig) (is_on : Bool) (inside : Tree) (n : News) → IsNews node joins items up config is_on inside n
+    → (who : Jid)
     → hears book n who ≡ parts_hear book node joins items up config is_on (tree (codes "event") event_ns [] (branch inside none)) who
 parts-are book node joins items up config is_on inside n is who =
     header-heard n who (heard book n who)

@@ -25,7 +25,8 @@ given-append f (x ∷ xs) ys = at (f x) (given-append f xs ys)
     at (Some t) e = ap (λ (l : List (Jid × Tree)). (x, t) ∷ l) e
 
 -- one more that is given nothing, or something
-pub given-none : (f : Jid → Option Tree) (xs : List Jid) (i : ℕ) (x : Jid) → i < length xs → x ≡ get_or xs i x → f x ≡ None → (told : List (Jid × Tree)) → told ≡ given_to f (take i xs) → told ≡ given_to f (take (i + 1) xs)
+pub given-none : (f : Jid → Option Tree) (xs : List Jid) (i : ℕ) (x : Jid) → i < length xs → x ≡ get_or xs i x → f x ≡ None → (told : List (Jid × Tree)) → told ≡ given_to f (take i xs)
+    → told ≡ given_to f (take (i + 1) xs)
 given-none f xs i x less is none told stands =
     stands ∙ sym (append-nil (given_to f (take i xs))) ∙ ap (λ (o : Option Tree). given_to f (take i xs) ++ cons_option (option_map (λ (t : Tree). (x, t)) o) []) (sym none)
     ∙ sym (given-append f (take i xs) (x ∷ [])) ∙ sym (ap (given_to f) (one-more xs i x less is))

@@ -39,7 +39,8 @@ module _ (gives : Jid → Option Tree) (size : ℕ) where
   pieces (p ∷ parts) xs le each =
       let front : drop (0 * size) xs ≡ xs = ap (λ (k : ℕ). drop k xs) (let z : 0 * size ≡ 0 = omega arith in z) in
       let first : part_told p ≡ given_to gives (take size xs) = ap part_told (sym (at-front p p parts)) ∙ each 0 p (omega arith) ∙ ap (λ (l : List Jid). given_to gives (take size l)) front in
-      let fewer : length (drop size xs) ≤ length parts * size = (let cut = length-drop size xs in let more : suc (length parts) * size ≡ size + length parts * size = omega arith in omega (arith, le, cut, more)) in
+      let fewer : length (drop size xs) ≤ length parts * size = (let cut = length-drop size xs in let more : suc (length parts) * size ≡ size + length parts * size = omega arith in omega
+      (arith, le, cut, more)) in
       let rest = pieces parts (drop size xs) fewer
       (λ n d less. ap part_told (sym (at-next p d parts n)) ∙ each (suc n) d (omega (arith, less))
       ∙ sym (ap (λ (l : List Jid). given_to gives (take size l)) (drop-on (n * size) size (suc n * size) xs (let e : suc n * size ≡ size + n * size = omega arith in e)))) in

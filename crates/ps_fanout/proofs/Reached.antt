@@ -68,7 +68,8 @@ way-reaches : (book : Book) (own items : Bool) (node : NodeKey) (above : List No
     → In who (reached book node above ws)
 way-reaches book own items node above who ws h = at (own && is_subscribed (sub_at node who book.subs)) refl h
   where
-    at : (b : Bool) → (own && is_subscribed (sub_at node who book.subs)) ≡ b → may_pass book who (cond b ways.OwnRow (way_above items false who above book.subs)) ≡ true → In who (reached book node above ws)
+    at : (b : Bool) → (own && is_subscribed (sub_at node who book.subs)) ≡ b → may_pass book who (cond b ways.OwnRow (way_above items false who above book.subs)) ≡ true
+        → In who (reached book node above ws)
     at true e h =
         in-left who (ws ++ subscribers book node) (flat_map (subscribers book) above)
         (in-right who ws (subscribers book node) (row-in node who book.subs (row-there (sub_row node who book.subs) (and_parts own (is_subscribed (sub_at node who book.subs)) e).1)))
@@ -114,7 +115,8 @@ each-of P [] f = tt
 each-of P (x ∷ xs) f = (f x (inl refl), each-of P xs (λ j i. f j (inr i)))
 
 -- the wants are those of present resources, so they are of addresses
-each-want : (P : Jid → Type 0) (name : List ℕ) (rows : List Want) (resources : List ResourceRow) → AreWants rows resources → Each P (map (λ (row : ResourceRow). row.who) resources) → Each P (who_want name rows)
+each-want : (P : Jid → Type 0) (name : List ℕ) (rows : List Want) (resources : List ResourceRow) → AreWants rows resources → Each P (map (λ (row : ResourceRow). row.who) resources)
+    → Each P (who_want name rows)
 each-want P name rows resources follows ps =
     each-of P (who_want name rows)
     (λ j i. each-in P j (map (λ (row : ResourceRow). row.who) resources) ps (wants-row j name resources (sym (follows j name) ∙ in-want j name rows i)))
@@ -149,7 +151,8 @@ pass-or-want false pass wanted way h = absurd (true≢false (sym h))
 pub hears-in : (book : Book) (n : News) (ws : List Jid) → ((who : Jid) → is_interested book n.node.now who ≡ true → In who ws) → (who : Jid) → is_some (hears book n who) ≡ true
     → In who (reached book n.node.now n.above.items ws)
 hears-in book n ws all who h =
-    by (pass-or-want (may_read book n.node.now who && is_delivered book n who) (may_pass book who (way_in book n who)) (is_wanted book n who) (way_in book n who) (hears-some book n who (heard book n who) h))
+    by (pass-or-want (may_read book n.node.now who && is_delivered book n who) (may_pass book who (way_in book n who)) (is_wanted book n who) (way_in book n who)
+    (hears-some book n who (heard book n who) h))
   where
     by : (may_pass book who (way_in book n who) ≡ true) ⊎ (is_wanted book n who ≡ true) → In who (reached book n.node.now n.above.items ws)
     by (inl passes) = way-reaches book (not n.joins) n.items n.node.now n.above.items who ws passes
@@ -181,7 +184,8 @@ each-candidate P book node above ws ps qs =
     each-append P (ws ++ subscribers book node) (flat_map (subscribers book) above)
     (each-append P ws (subscribers book node) qs (whos-filter P (is_sub_at node) book.subs ps)) (each-above P book above ps)
 
-pub each-wanting : (P : Jid → Type 0) (rows : List Want) (resources : List ResourceRow) (node : NodeKey) → AreWants rows resources → Each P (map (λ (row : ResourceRow). row.who) resources) → Each P (wanting rows node)
+pub each-wanting : (P : Jid → Type 0) (rows : List Want) (resources : List ResourceRow) (node : NodeKey) → AreWants rows resources → Each P (map (λ (row : ResourceRow). row.who) resources)
+    → Each P (wanting rows node)
 each-wanting P rows resources node follows ps = at (is_account node.service)
   where
     at : (b : Bool) → Each P (cond b (sorted (who_want node.name rows)) [])

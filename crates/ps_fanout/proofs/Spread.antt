@@ -44,7 +44,8 @@ pub candidates-are : (book : Book) (wants : List Want) (n : News) → AreAddress
 candidates-are book wants n are follows =
     each-candidate IsAddress book n.node.now n.above.items (wanting wants n.node.now) are.subs (each-wanting IsAddress wants book.resources n.node.now follows are.resources)
 
-spread-some : (book : Book) (wants : List Want) (event : Event) (n : News) → AreAddresses book → AreWants wants book.resources → asked book event ≡ all_whos book → Tells book (given book event) (Some n) → spread book wants (Some n) ≡ told book event
+spread-some : (book : Book) (wants : List Want) (event : Event) (n : News) → AreAddresses book → AreWants wants book.resources → asked book event ≡ all_whos book
+    → Tells book (given book event) (Some n) → spread book wants (Some n) ≡ told book event
 spread-some book wants event n are follows all tells =
     let among : (who : Jid) → is_some (hears book n who) ≡ true → In who (all_whos book) = λ who h.
     let has : is_some (given book event who) ≡ true = subst (λ (o : Option Tree). is_some o ≡ true) (tells who) h in
@@ -91,11 +92,13 @@ to-itself to o = ap (λ (b : Bool). cond b o None) ((same_jid-Decides to to).1 r
 one-told : (book : Book) (event e : Event) (to : Jid) (o : Option Tree) → event ≡ e → asked book e ≡ to ∷ [] → given book e to ≡ o → to_one to o ≡ told book event
 one-told book event e to o same all gives = sym (single-told book e to o all gives) ∙ ap (told book) (sym same)
 
-pub approval-told : (book : Book) (event : Event) (node : NodeKey) (owner who : Jid) (t : Tree) → event ≡ Approval node owner who → t ≡ approval node owner who → to_one owner (Some t) ≡ told book event
+pub approval-told : (book : Book) (event : Event) (node : NodeKey) (owner who : Jid) (t : Tree) → event ≡ Approval node owner who → t ≡ approval node owner who
+    → to_one owner (Some t) ≡ told book event
 approval-told book event node owner who t same e =
     one-told book event (Approval node owner who) owner (Some t) same refl (to-itself owner (Some (approval node owner who)) ∙ ap (λ (u : Tree). Some u) (sym e))
 
-pub sub-told : (book : Book) (event : Event) (node : NodeKey) (who : Jid) (state : SubState) (t : Tree) → event ≡ Told node who state → t ≡ sub_tree node who state → to_one who (Some t) ≡ told book event
+pub sub-told : (book : Book) (event : Event) (node : NodeKey) (who : Jid) (state : SubState) (t : Tree) → event ≡ Told node who state → t ≡ sub_tree node who state
+    → to_one who (Some t) ≡ told book event
 sub-told book event node who state t same e =
     one-told book event (Told node who state) who (Some t) same refl (to-itself who (Some (sub_tree node who state)) ∙ ap (λ (u : Tree). Some u) (sym e))
 

@@ -3,7 +3,20 @@ use Rattle.std.proofs.Common.{◌≡◌, ℕ, zero, suc, ◌+◌, ◌-◌, ◌*�
 use Rattle.std.specs.Prelude.{None, codes, nat_lt}
 use Rattle.std.proofs.lemmas.Bool.{cases_lt, ltb-true, ltb-false}
 use Rattle.jiff.specs.Names.{iso_datetime_text}
-use Rattle.jiff_core.proofs.CalendarLemmas.{day_count-day_of_year, day_count-end, day_count-epoch, day_count-later_year, day_count-next_year, day_count-year_is, day_count_bounds, days_from_civil-day_count, days_in_year_bounds, days_of_months-zero, days_of_months_more, days_of_months_mono}
+use Rattle.jiff_core.proofs.CalendarLemmas.{
+  day_count-day_of_year,
+  day_count-end,
+  day_count-epoch,
+  day_count-later_year,
+  day_count-next_year,
+  day_count-year_is,
+  day_count_bounds,
+  days_from_civil-day_count,
+  days_in_year_bounds,
+  days_of_months-zero,
+  days_of_months_more,
+  days_of_months_mono,
+}
 use Rattle.jiff_core.proofs.DateLemmas.{civil}
 use Rattle.jiff_core.proofs.DateTimeLemmas.{civil_nanos-parts, time_nanos_bound}
 use Rattle.jiff_core.proofs.SignedLemmas.{signed_arith}
@@ -27,11 +40,13 @@ month-found zero year month day mo da low le most some fits at =
     let back : month - 1 ≡ mo - 1 = omega arith in
     let left : day ≡ da - 1 = omega (arith, ap (days_of_months (pos year)) back) in
     pair month day mo (da - 1) same left
-month-found (suc more) year month day mo da low le most some fits at = by (nat_lt day (days_in_month (pos year) month)) refl (month-found more year (month + 1) (day - days_in_month (pos year) month) mo da)
+month-found (suc more) year month day mo da low le most some fits at = by (nat_lt day (days_in_month (pos year) month)) refl
+    (month-found more year (month + 1) (day - days_in_month (pos year) month) mo da)
   where
     by : (b : Bool) → nat_lt day (days_in_month (pos year) month) ≡ b
         → (1 ≤ month + 1 → month + 1 ≤ mo → mo ≤ month + 1 + more → 1 ≤ da → da ≤ days_in_month (pos year) mo
-        → day - days_in_month (pos year) month + 1 + days_of_months (pos year) (month + 1 - 1) ≡ days_of_months (pos year) (mo - 1) + da → month_from more year (month + 1) (day - days_in_month (pos year) month) ≡ (mo, da - 1))
+        → day - days_in_month (pos year) month + 1 + days_of_months (pos year) (month + 1 - 1) ≡ days_of_months (pos year) (mo - 1) + da
+        → month_from more year (month + 1) (day - days_in_month (pos year) month) ≡ (mo, da - 1))
         → elim b as (λ b. ℕ × ℕ) [ true ↦ (month, day) | false ↦ month_from more year (month + 1) (day - days_in_month (pos year) month) ] ≡ (mo, da - 1)
     by true e later =
         let lt : day < days_in_month (pos year) month = ltb-true day (days_in_month (pos year) month) e in
@@ -48,7 +63,8 @@ month-found (suc more) year month day mo da low le most some fits at = by (nat_l
         let more-days = days_of_months_more (pos year) month low in
         let below : month < mo = elim (cases_lt month mo) as (λ c. month < mo) [
           | inl below ↦ below
-          | inr above ↦ (let same : month ≡ mo = omega (arith, above) in let back : month - 1 ≡ mo - 1 = omega (arith, same) in absurd (let no : day + 1 ≤ day = omega (arith, ap (days_of_months (pos year)) back, ap (days_in_month (pos year)) same) in omega (arith, no)))
+          | inr above ↦ (let same : month ≡ mo = omega (arith, above) in let back : month - 1 ≡ mo - 1 = omega (arith, same) in absurd
+              (let no : day + 1 ≤ day = omega (arith, ap (days_of_months (pos year)) back, ap (days_in_month (pos year)) same) in omega (arith, no)))
         ] in
         let here : month + 1 - 1 ≡ month = omega arith in
         later (omega arith) (omega (arith, below)) (omega arith) some fits (omega (arith, ap (days_of_months (pos year)) here, more-days))
@@ -67,8 +83,10 @@ is-year year y mo da is le = elim (cases_lt year 10000) as (λ c. IsYear (pos ye
 
     past : 10000 ≤ year → ⊥
     past above = elim (cases_lt 10000 year) as (λ c. ⊥) [
-      | inl far ↦ (let later = day_count-later_year (pos 10000) (pos year) (omega (arith, signed_arith)) (omega (arith, signed_arith, far)) in let no : 7304850 ≤ 7304849 = omega (arith, later, day_count-end, le, bound) in omega (arith, no))
-      | inr near ↦ (let same : year ≡ 10000 = omega (arith, near, above) in let no : 7304850 ≤ 7304849 = omega (arith, ap (λ k. day_count (pos k) 1 1) same, day_count-end, le, bound) in omega (arith, no))
+      | inl far ↦ (let later = day_count-later_year (pos 10000) (pos year) (omega (arith, signed_arith)) (omega (arith, signed_arith, far)) in let no : 7304850 ≤ 7304849 = omega
+          (arith, later, day_count-end, le, bound) in omega (arith, no))
+      | inr near ↦ (let same : year ≡ 10000 = omega (arith, near, above) in let no : 7304850 ≤ 7304849 = omega (arith, ap (λ k. day_count (pos k) 1 1) same, day_count-end, le, bound) in omega
+          (arith, no))
     ]
 
 record Found (y : ℤ) (mo da : ℕ) (at : ℕ × ℕ) : Type 0 where
@@ -86,7 +104,8 @@ year-found zero year day y mo da is at le = here year day y mo da is at (omega (
 year-found (suc more) year day y mo da is at le = by (nat_lt day (days_in_year (pos year))) refl (year-found more (year + 1) (day - days_in_year (pos year)) y mo da is)
   where
     by : (b : Bool) → nat_lt day (days_in_year (pos year)) ≡ b
-        → (day - days_in_year (pos year) + day_count (pos (year + 1)) 1 1 ≡ day_count y mo da → day - days_in_year (pos year) ≤ more → Found y mo da (year_from more (year + 1) (day - days_in_year (pos year))))
+        → (day - days_in_year (pos year) + day_count (pos (year + 1)) 1 1 ≡ day_count y mo da → day - days_in_year (pos year) ≤ more
+        → Found y mo da (year_from more (year + 1) (day - days_in_year (pos year))))
         → Found y mo da (elim b as (λ b. ℕ × ℕ) [ true ↦ (year, day) | false ↦ year_from more (year + 1) (day - days_in_year (pos year)) ])
     by true e later = here year day y mo da is at (ltb-true day (days_in_year (pos year)) e)
     by false e later =

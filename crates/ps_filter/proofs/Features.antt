@@ -45,7 +45,8 @@ any-push h xs x = list_any-append h xs (x ∷ []) ∙ ap (λ b. list_any h xs ||
     by false = refl
 
 -- one feature more
-pub asks_more : (name feature : List ℕ) (features : List (List ℕ)) (at : ℕ) → slice_get features at ≡ Some feature → asks_for name (take (suc at) features) ≡ (asks_for name (take at features) || bytes_eq (notify_feature name) feature)
+pub asks_more : (name feature : List ℕ) (features : List (List ℕ)) (at : ℕ) → slice_get features at ≡ Some feature
+    → asks_for name (take (suc at) features) ≡ (asks_for name (take at features) || bytes_eq (notify_feature name) feature)
 asks_more name feature [] at h = absurd (cc)
 asks_more name feature (x ∷ xs) zero h = let e : x ≡ feature = cc in ap (λ f. bytes_eq (notify_feature name) f || false) e ∙ by (bytes_eq (notify_feature name) feature)
   where
@@ -58,7 +59,8 @@ asks_more name feature (x ∷ xs) (suc at) h = ap (λ b. bytes_eq (notify_featur
     by true = refl
     by false = refl
 
-asks_next : (name feature : List ℕ) (features : List (List ℕ)) (at : ℕ) → slice_get features at ≡ Some feature → asks_for name (take (at + 1) features) ≡ (asks_for name (take at features) || bytes_eq (notify_feature name) feature)
+asks_next : (name feature : List ℕ) (features : List (List ℕ)) (at : ℕ) → slice_get features at ≡ Some feature
+    → asks_for name (take (at + 1) features) ≡ (asks_for name (take at features) || bytes_eq (notify_feature name) feature)
 asks_next name feature features at h =
     let e : suc at ≡ at + 1 = omega arith in
     subst (λ n. asks_for name (take n features) ≡ (asks_for name (take at features) || bytes_eq (notify_feature name) feature)) e (asks_more name feature features at h)
@@ -94,7 +96,9 @@ or_false true b h = refl
 or_false false b h = h
 
 -- it asks for none
-pub wanted_same : (who other : Jid) (name feature : List ℕ) (features : List (List ℕ)) (rows : List Want) (at : ℕ) → slice_get features at ≡ Some feature → ((got : List ℕ) → feature ≢ notify_feature got)
+pub wanted_same : (who other : Jid) (name feature : List ℕ) (features : List (List ℕ)) (rows : List Want) (at : ℕ) → slice_get features at ≡ Some feature
+    → ((got : List ℕ) → feature ≢ notify_feature got)
     → is_wanted other name rows ≡ (same_jid who other && asks_for name (take at features)) → is_wanted other name rows ≡ (same_jid who other && asks_for name (take (at + 1) features))
 wanted_same who other name feature features rows at h none before =
-    before ∙ ap (λ b. same_jid who other && b) (sym (asks_next name feature features at h ∙ or_false (asks_for name (take at features)) (bytes_eq (notify_feature name) feature) (not_it name feature none (bytes_eq (notify_feature name) feature) refl)))
+    before ∙ ap (λ b. same_jid who other && b) (sym (asks_next name feature features at h ∙ or_false (asks_for name (take at features)) (bytes_eq (notify_feature name) feature)
+    (not_it name feature none (bytes_eq (notify_feature name) feature) refl)))

@@ -93,11 +93,13 @@ no_feature name (Some row) h = absurd (cc)
 module _ (p : Jid → Bool) where
   wanted_by : (other : Jid) (name : List ℕ) (b : Bool) → p other ≡ b → (rows : List Want) → is_wanted other name (without (λ want. p want.who) rows) ≡ cond b false (is_wanted other name rows)
   wanted_by other name true e rows =
-      any_gone (λ want. p want.who) (is_want other name) (λ want h. let s : other ≡ want.who = is_same other want.who (first_part (is_want_of other want) (is_want_for name want) h) in ap p (sym s) ∙ e) rows
+      any_gone (λ want. p want.who) (is_want other name) (λ want h. let s : other ≡ want.who = is_same other want.who (first_part (is_want_of other want) (is_want_for name want) h) in ap p (sym s) ∙
+      e) rows
   wanted_by other name false e rows = any_stays (λ want. p want.who) (is_want other name) (λ want h. apart want h (is_want other name want) refl) rows
     where
       apart : (want : Want) → p want.who ≡ true → (c : Bool) → is_want other name want ≡ c → c ≡ false
-      apart want h true k = let s : other ≡ want.who = is_same other want.who (first_part (is_want_of other want) (is_want_for name want) k) in let t : p other ≡ true = ap p s ∙ h in absurd (cc (e, t))
+      apart want h true k = let s : other ≡ want.who = is_same other want.who (first_part (is_want_of other want) (is_want_for name want) k) in let t : p other ≡ true = ap p s ∙ h in absurd
+          (cc (e, t))
       apart want h false k = refl
 
   -- who goes wants nothing, and the others what they wanted
@@ -138,7 +140,8 @@ set_by row other name false e resources =
         absurd (cc (e, u))
     apart x false k h = refl
 
-pub follow-set : (who : Jid) (features : List (List ℕ)) (old new : List Want) (resources : List ResourceRow) (row : ResourceRow) → SetsWants who features old new → AreWants old resources → row.who ≡ who → row.features ≡ features
+pub follow-set : (who : Jid) (features : List (List ℕ)) (old new : List Want) (resources : List ResourceRow) (row : ResourceRow) → SetsWants who features old new → AreWants old resources
+    → row.who ≡ who → row.features ≡ features
     → AreWants new (resources_with row resources)
 follow-set who features old new resources row sets are w f = λ other name.
     subst (λ j. is_wanted other name new ≡ cond (same_jid j other) (asks_for name features) (is_wanted other name old)) (sym w) (sets other name)
@@ -158,4 +161,5 @@ pub set-wants : (who : Jid) (features : List (List ℕ)) (old left more new : Li
     → ((other : Jid) (name : List ℕ) → is_wanted other name new ≡ (is_wanted other name left || is_wanted other name more)) → SetsWants who features old new
 set-wants who features old left more new gone comes both = λ other name.
     let l : is_wanted other name left ≡ cond (same_jid who other) false (is_wanted other name old) = ap (is_wanted other name) gone ∙ wanted-without (same_jid who) other name old in
-    both other name ∙ (ap (λ b. b || is_wanted other name more) l ∙ (ap (λ b. cond (same_jid who other) false (is_wanted other name old) || b) (comes other name) ∙ joined (same_jid who other) (asks_for name features) (is_wanted other name old)))
+    both other name ∙ (ap (λ b. b || is_wanted other name more) l ∙
+    (ap (λ b. cond (same_jid who other) false (is_wanted other name old) || b) (comes other name) ∙ joined (same_jid who other) (asks_for name features) (is_wanted other name old)))

@@ -22,7 +22,8 @@ pub values-printed : (whos : List Jid) → values_of (printed whos) ≡ whos
 values-printed [] = refl
 values-printed (x ∷ whos) = ap (λ r. x ∷ r) (values-printed whos)
 
-absent_step : (who x : Jid) (whos : List Jid) (o : Ordering) → (is_some (lookup (is_at (by_text (jid_text who))) (printed whos)) ≡ false → insert_entry by_text (printed whos) (jid_text who) who ≡ printed (put_sorted who whos))
+absent_step : (who x : Jid) (whos : List Jid) (o : Ordering)
+    → (is_some (lookup (is_at (by_text (jid_text who))) (printed whos)) ≡ false → insert_entry by_text (printed whos) (jid_text who) who ≡ printed (put_sorted who whos))
     → is_some (cond (is_eq o) (Some x) (lookup (is_at (by_text (jid_text who))) (printed whos))) ≡ false
     → match_ordering o ((jid_text who, who) ∷ (jid_text x, x) ∷ printed whos) ((jid_text x, who) ∷ printed whos) ((jid_text x, x) ∷ insert_entry by_text (printed whos) (jid_text who) who)
     ≡ printed (match_ordering o (who ∷ x ∷ whos) (x ∷ whos) (x ∷ put_sorted who whos))
@@ -31,11 +32,13 @@ absent_step who x whos Equal more h = absurd (cc)
 absent_step who x whos Greater more h = ap (λ r. (jid_text x, x) ∷ r) (more h)
 
 -- one that isn't there
-pub put-absent : (who : Jid) (whos : List Jid) → is_some (lookup (is_at (by_text (jid_text who))) (printed whos)) ≡ false → insert_entry by_text (printed whos) (jid_text who) who ≡ printed (put_sorted who whos)
+pub put-absent : (who : Jid) (whos : List Jid) → is_some (lookup (is_at (by_text (jid_text who))) (printed whos)) ≡ false
+    → insert_entry by_text (printed whos) (jid_text who) who ≡ printed (put_sorted who whos)
 put-absent who [] h = refl
 put-absent who (x ∷ whos) h = absent_step who x whos (by_text (jid_text who) (jid_text x)) (put-absent who whos) h
 
-present_step : (who x : Jid) (whos : List Jid) (o : Ordering) → by_text (jid_text who) (jid_text x) ≡ o → IsStrictlySortedBy by_text (jid_text x ∷ keys_of (printed whos)) → (is_some (lookup (is_at (by_text (jid_text who))) (printed whos)) ≡ true → put_sorted who whos ≡ whos)
+present_step : (who x : Jid) (whos : List Jid) (o : Ordering) → by_text (jid_text who) (jid_text x) ≡ o → IsStrictlySortedBy by_text (jid_text x ∷ keys_of (printed whos))
+    → (is_some (lookup (is_at (by_text (jid_text who))) (printed whos)) ≡ true → put_sorted who whos ≡ whos)
     → is_some (cond (is_eq o) (Some x) (lookup (is_at (by_text (jid_text who))) (printed whos))) ≡ true → match_ordering o (who ∷ x ∷ whos) (x ∷ whos) (x ∷ put_sorted who whos) ≡ x ∷ whos
 present_step who x whos Less e s more h = absurd (cc (none, here))
   where
@@ -51,7 +54,8 @@ present_step who x whos Equal e s more h = refl
 present_step who x whos Greater e s more h = ap (λ r. x ∷ r) (more h)
 
 -- one that is there
-pub put-present : (who : Jid) (whos : List Jid) → IsStrictlySortedBy by_text (keys_of (printed whos)) → is_some (lookup (is_at (by_text (jid_text who))) (printed whos)) ≡ true → put_sorted who whos ≡ whos
+pub put-present : (who : Jid) (whos : List Jid) → IsStrictlySortedBy by_text (keys_of (printed whos)) → is_some (lookup (is_at (by_text (jid_text who))) (printed whos)) ≡ true
+    → put_sorted who whos ≡ whos
 put-present who [] s h = absurd (cc)
 put-present who (x ∷ whos) s h =
     present_step who x whos (by_text (jid_text who) (jid_text x)) refl s (put-present who whos (sorted_tail by_text (jid_text x) (keys_of (printed whos)) s)) h

@@ -1,10 +1,59 @@
 -- Records are taken one after the other.
-use Rattle.std.proofs.Common.{◌≡◌, inr, ℕ, ◌+◌, ◌-◌, ◌<◌, ◌≤◌, arith, List, [], ◌∷◌, ◌++◌, length, take, drop, Some, None, refl, sym, ap, subst, ◌∙◌, append_assoc, append-nil, length-append, length-drop}
+use Rattle.std.proofs.Common.{
+  ◌≡◌,
+  inr,
+  ℕ,
+  ◌+◌,
+  ◌-◌,
+  ◌<◌,
+  ◌≤◌,
+  arith,
+  List,
+  [],
+  ◌∷◌,
+  ◌++◌,
+  length,
+  take,
+  drop,
+  Some,
+  None,
+  refl,
+  sym,
+  ap,
+  subst,
+  ◌∙◌,
+  append_assoc,
+  append-nil,
+  length-append,
+  length-drop,
+}
 use Rattle.std.proofs.lemmas.List.{drop-drop, take_all}
 use Rattle.std.proofs.lemmas.List.Concat.{flat_map-append}
 use Rattle.ps_types.specs.declared.entry.Entry.{Entry}
 use Rattle.ps_model.specs.Book.{State}
-use Rattle.ps_follow_laws.specs.Feed.{AreTaken, Fate, IsPart, Sent, Stop, Stops, adds, after_all, after_sent, bad, beyond, differs, entries_with, fate, feed_of, gap, other, refused, repeats, sent_bytes, stop_by}
+use Rattle.ps_follow_laws.specs.Feed.{
+  AreTaken,
+  Fate,
+  IsPart,
+  Sent,
+  Stop,
+  Stops,
+  adds,
+  after_all,
+  after_sent,
+  bad,
+  beyond,
+  differs,
+  entries_with,
+  fate,
+  feed_of,
+  gap,
+  other,
+  refused,
+  repeats,
+  sent_bytes,
+  stop_by,
+}
 use Rattle.ps_follow_laws.proofs.Piecewise.{after-both, taken-both}
 use Rattle.ps_follow_laws.proofs.Heads.{length-sent}
 use Rattle.ps_follow.specs.Feeding.{Going, Stopped, TookOne, Went}

@@ -1,7 +1,36 @@
 -- Bytes lead to one list, one offset and one stop.
 use Rattle.std.proofs.Common.{◌≡◌, ◌⊎◌, inl, inr, ℕ, true, false, List, [], ◌∷◌, ◌++◌, length, Some, None, refl, sym, ap, subst, ◌∙◌, append_assoc}
 use Rattle.ps_types.specs.declared.entry.Entry.{Entry}
-use Rattle.ps_follow_laws.specs.Feed.{AreTaken, Ends, Fate, Fed, IsNoEntry, IsPart, IsSent, Sent, Stop, Stops, adds, after_all, after_sent, bad, beyond, differs, entries_with, fate, feed_of, gap, goes_on, is_long, is_whole, other, refused, repeats, sent_bytes, stop_by}
+use Rattle.ps_follow_laws.specs.Feed.{
+  AreTaken,
+  Ends,
+  Fate,
+  Fed,
+  IsNoEntry,
+  IsPart,
+  IsSent,
+  Sent,
+  Stop,
+  Stops,
+  adds,
+  after_all,
+  after_sent,
+  bad,
+  beyond,
+  differs,
+  entries_with,
+  fate,
+  feed_of,
+  gap,
+  goes_on,
+  is_long,
+  is_whole,
+  other,
+  refused,
+  repeats,
+  sent_bytes,
+  stop_by,
+}
 use Rattle.ps_follow_laws.specs.Follow.{IsFront}
 use Rattle.ps_follow_laws.proofs.Gets.{front-itself, front-more, front-trans}
 use Rattle.ps_follow_laws.proofs.Heads.{clash, long-sent, sent_one, whole-sent}

@@ -1,5 +1,41 @@
 -- Any bytes lead to some list, at some offset, with some stop.
-use Rattle.std.proofs.Common.{◌≡◌, ◌⊎◌, inl, inr, ℕ, zero, suc, ◌+◌, ◌<◌, ◌≤◌, ◌^◌, Bool, true, false, List, [], ◌∷◌, ◌++◌, length, take, drop, get_or, Option, Some, None, refl, sym, ap, subst, ◌∙◌, append_assoc, append-nil, arith, length-append, length-drop}
+use Rattle.std.proofs.Common.{
+  ◌≡◌,
+  ◌⊎◌,
+  inl,
+  inr,
+  ℕ,
+  zero,
+  suc,
+  ◌+◌,
+  ◌<◌,
+  ◌≤◌,
+  ◌^◌,
+  Bool,
+  true,
+  false,
+  List,
+  [],
+  ◌∷◌,
+  ◌++◌,
+  length,
+  take,
+  drop,
+  get_or,
+  Option,
+  Some,
+  None,
+  refl,
+  sym,
+  ap,
+  subst,
+  ◌∙◌,
+  append_assoc,
+  append-nil,
+  arith,
+  length-append,
+  length-drop,
+}
 use Rattle.std.specs.Prelude.{◌&&◌, nat_lt}
 use Rattle.std.specs.Int.{w32, w64, from_be_bytes, to_be_bytes}
 use Rattle.std.specs.List.{AllByRecursion as Each}
@@ -10,7 +46,35 @@ use Rattle.ps_types.specs.declared.entry.Entry.{Entry}
 use Rattle.ps_model.specs.Entries.{IsEntryIn, spelling}
 use Rattle.ps_model.proofs.OneList.{entry_one, front_one}
 use Rattle.ps_spelling_laws.proofs.Entries.{Begins, BeginsWithNone, entry-decided}
-use Rattle.ps_follow_laws.specs.Feed.{Ends, Fate, Fed, IsNoEntry, IsPart, IsSent, Sent, Stop, Stops, adds, after_sent, bad, beyond, differs, fate, feed_of, gap, goes_on, is_long, is_whole, max_size, other, refused, repeats, sent_bytes, size_at, stop_by}
+use Rattle.ps_follow_laws.specs.Feed.{
+  Ends,
+  Fate,
+  Fed,
+  IsNoEntry,
+  IsPart,
+  IsSent,
+  Sent,
+  Stop,
+  Stops,
+  adds,
+  after_sent,
+  bad,
+  beyond,
+  differs,
+  fate,
+  feed_of,
+  gap,
+  goes_on,
+  is_long,
+  is_whole,
+  max_size,
+  other,
+  refused,
+  repeats,
+  sent_bytes,
+  size_at,
+  stop_by,
+}
 use Rattle.ps_follow_laws.proofs.Heads.{flat, length-sent, size-sent}
 use Rattle.ps_follow_laws.proofs.Piecewise.{sized}
 

@@ -7,7 +7,29 @@ use Rattle.std.proofs.lemmas.List.{take_at, drop_at, take-append-le, drop-append
 use Rattle.std.proofs.lemmas.List.Concat.{flat_map-append}
 use Rattle.ps_types.specs.declared.entry.Entry.{Entry}
 use Rattle.ps_model.specs.Entries.{spelling}
-use Rattle.ps_follow_laws.specs.Feed.{AreTaken, Ends, Fed, IsNoEntry, IsSent, Sent, Stop, Stops, after_all, after_sent, bad, feed_of, gap, goes_on, has_head, is_long, is_whole, max_size, other, sent_bytes, size_at}
+use Rattle.ps_follow_laws.specs.Feed.{
+  AreTaken,
+  Ends,
+  Fed,
+  IsNoEntry,
+  IsSent,
+  Sent,
+  Stop,
+  Stops,
+  after_all,
+  after_sent,
+  bad,
+  feed_of,
+  gap,
+  goes_on,
+  has_head,
+  is_long,
+  is_whole,
+  max_size,
+  other,
+  sent_bytes,
+  size_at,
+}
 use Rattle.ps_follow_laws.proofs.Heads.{le-is, le-true, length-sent, size-sent}
 
 -- ---- records that go on

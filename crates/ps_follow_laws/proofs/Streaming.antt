@@ -10,7 +10,34 @@ use Rattle.ps_model.specs.Book.{empty_state}
 use Rattle.ps_model.specs.Entries.{spelling}
 use Rattle.ps_model.specs.Replay.{accepted, lawful, replay}
 use Rattle.ps_model.proofs.Going.{lawful-more}
-use Rattle.ps_follow_laws.specs.Feed.{AreTaken, Ends, Fed, IsNoEntry, IsSent, Sent, Stop, Stops, adds, after_all, after_sent, bad, differs, entries_with, fate, fate_at, feed_of, gap, goes_on, is_long, is_whole, other, refused, repeats, sent_bytes, stop_by}
+use Rattle.ps_follow_laws.specs.Feed.{
+  AreTaken,
+  Ends,
+  Fed,
+  IsNoEntry,
+  IsSent,
+  Sent,
+  Stop,
+  Stops,
+  adds,
+  after_all,
+  after_sent,
+  bad,
+  differs,
+  entries_with,
+  fate,
+  fate_at,
+  feed_of,
+  gap,
+  goes_on,
+  is_long,
+  is_whole,
+  other,
+  refused,
+  repeats,
+  sent_bytes,
+  stop_by,
+}
 use Rattle.ps_follow_laws.specs.Follow.{Follows, IsFeedOf, IsFront, IsOf}
 use Rattle.ps_follow_laws.proofs.Ending.{behind, grows}
 use Rattle.ps_follow_laws.proofs.Gets.{front-itself, front-trans, get-behind, get-front}

@@ -35,7 +35,8 @@ kept_less g at disk few firm w le is = record {
   since_start = is.since_start;
 }
 
-pub closed_ok : {V J D : Type 0} {g : Ghosts D} (o : Origin) (v : State) (y : Store D g) (log l : List Deed) (seats : List (TwinSeat V J Deed)) → HomeStands o v log → ArchiveHolds o y l → Prefix l log → v.flushed ≤ store.firm_of y → state_mark v ≡ store_mark y
+pub closed_ok : {V J D : Type 0} {g : Ghosts D} (o : Origin) (v : State) (y : Store D g) (log l : List Deed) (seats : List (TwinSeat V J Deed)) → HomeStands o v log → ArchiveHolds o y l
+    → Prefix l log → v.flushed ≤ store.firm_of y → state_mark v ≡ store_mark y
     → ((k : ℕ) (s : TwinSeat V J Deed) → slice_get seats k ≡ Some s → Later maker_of (number_of s) (seen_of s) log) → HasClosed o v y seats
 closed_ok {V} {J} {D} {g} o v y log l seats home holds front firm mark later =
     let archive = holds.stands in
@@ -49,7 +50,8 @@ closed_ok {V} {J} {D} {g} o v y log l seats home holds front firm mark later =
       list = l;
       archive = archive;
       front = front;
-      kept = λ tells. kept_less g o.at (disk_in y) v.flushed (store.firm_of y) u firm (kept_on g o.at (disk_in y) (store.firm_of y) w u follows (let f = archive.firm in let s = archive.steps in omega (arith, f, s)) (archive.kept tells));
+      kept = λ tells. kept_less g o.at (disk_in y) v.flushed (store.firm_of y) u firm
+          (kept_on g o.at (disk_in y) (store.firm_of y) w u follows (let f = archive.firm in let s = archive.steps in omega (arith, f, s)) (archive.kept tells));
       whole = λ quiet. (
           let whole = archive.whole (broken_later w u follows quiet) in
           let b = home.stands.batch in

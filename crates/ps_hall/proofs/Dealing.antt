@@ -44,7 +44,8 @@ module _ {B D : Type 0} {g : Ghosts D} (o : Origin) (t : OurTwin B D g) where
   none_so_far passes none = subst (λ (l : List (HostPasses B D g)). FreshSoFar l) (sym none) (λ k p h. cc)
 
   dealt_from : (k : ℕ) (hs : List (List ℕ)) (seats : List (TwinSeat (Home B) (Archive B D g) Deed)) → ((i : ℕ) (h : List ℕ) → slice_get hs i ≡ Some h → slice_get o.hosts (k + i) ≡ Some h)
-      → k + length hs ≡ length o.hosts → ((i : ℕ) (s : TwinSeat (Home B) (Archive B D g) Deed) → slice_get seats i ≡ Some s → IsNew t (k + k + i) s) → length seats ≡ length hs + length hs → Dealt k (map named hs) seats
+      → k + length hs ≡ length o.hosts → ((i : ℕ) (s : TwinSeat (Home B) (Archive B D g) Deed) → slice_get seats i ≡ Some s → IsNew t (k + k + i) s) → length seats ≡ length hs + length hs
+      → Dealt k (map named hs) seats
   dealt_from k [] seats there all new size = omega (arith, all)
   dealt_from k (h ∷ hs) [] there all new size = absurd (omega (arith, size))
   dealt_from k (h ∷ hs) (r ∷ []) there all new size = absurd (omega (arith, size))
@@ -61,7 +62,8 @@ module _ {B D : Type 0} {g : Ghosts D} (o : Origin) (t : OurTwin B D g) where
             (omega (arith, size)),
       )
 
-  pub dealt_all : (names : List Names) (seats : List (TwinSeat (Home B) (Archive B D g) Deed)) → names ≡ map named o.hosts → seats_of t ≡ length o.hosts + length o.hosts → AreNew t seats → Dealt 0 names seats
+  pub dealt_all : (names : List Names) (seats : List (TwinSeat (Home B) (Archive B D g) Deed)) → names ≡ map named o.hosts → seats_of t ≡ length o.hosts + length o.hosts → AreNew t seats
+      → Dealt 0 names seats
   dealt_all names seats is two new =
       let all = new.all in
       let size : length seats ≡ length o.hosts + length o.hosts = all ∙ two in
@@ -97,20 +99,26 @@ module _ {B D : Type 0} {g : Ghosts D} (o : Origin) (t : OurTwin B D g) where
       record {
         seen = seen;
         hand = is.hand;
-        none = subst (λ (l : List Jid). HasInHand p.host l (world_at o (seen_of p.seat))) (sym is.hand) (subst (λ l. HasInHand p.host [] (world_at o l)) (sym seen) (hand-none p.host (world_at o []) (λ a e. refl)));
+        none = subst (λ (l : List Jid). HasInHand p.host l (world_at o (seen_of p.seat))) (sym is.hand)
+            (subst (λ l. HasInHand p.host [] (world_at o l)) (sym seen) (hand-none p.host (world_at o []) (λ a e. refl)));
       }
 
-  reader_of : (k : ℕ) (host : List ℕ) (s : TwinSeat (Home B) (Archive B D g) Deed) (p : Pass B D g) → IsPassOf k host s p → slice_get o.hosts k ≡ Some host → IsNew t (k + k) s → IsReader o t p.at p.host p.seat
+  reader_of : (k : ℕ) (host : List ℕ) (s : TwinSeat (Home B) (Archive B D g) Deed) (p : Pass B D g) → IsPassOf k host s p → slice_get o.hosts k ≡ Some host → IsNew t (k + k) s
+      → IsReader o t p.at p.host p.seat
   reader_of k host s p is here new =
-      subst (λ a. IsReader o t a p.host p.seat) (sym is.at_is) (subst (λ h. IsReader o t k h p.seat) (sym is.host_is) (subst (λ (x : TwinSeat (Home B) (Archive B D g) Deed). IsReader o t k host x) (sym is.seat)
+      subst (λ a. IsReader o t a p.host p.seat) (sym is.at_is) (subst (λ h. IsReader o t k h p.seat) (sym is.host_is)
+      (subst (λ (x : TwinSeat (Home B) (Archive B D g) Deed). IsReader o t k host x) (sym is.seat)
       (record { pass = is_pass k (k + k) host s here new; number = new.number })))
 
-  writer_of : (k : ℕ) (host : List ℕ) (s : TwinSeat (Home B) (Archive B D g) Deed) (p : Pass B D g) → IsPassOf k host s p → slice_get o.hosts k ≡ Some host → IsNew t (k + k + 1) s → IsWriter o t p.at p.host p.seat
+  writer_of : (k : ℕ) (host : List ℕ) (s : TwinSeat (Home B) (Archive B D g) Deed) (p : Pass B D g) → IsPassOf k host s p → slice_get o.hosts k ≡ Some host → IsNew t (k + k + 1) s
+      → IsWriter o t p.at p.host p.seat
   writer_of k host s p is here new =
-      subst (λ a. IsWriter o t a p.host p.seat) (sym is.at_is) (subst (λ h. IsWriter o t k h p.seat) (sym is.host_is) (subst (λ (x : TwinSeat (Home B) (Archive B D g) Deed). IsWriter o t k host x) (sym is.seat)
+      subst (λ a. IsWriter o t a p.host p.seat) (sym is.at_is) (subst (λ h. IsWriter o t k h p.seat) (sym is.host_is)
+      (subst (λ (x : TwinSeat (Home B) (Archive B D g) Deed). IsWriter o t k host x) (sym is.seat)
       (record { pass = is_pass k (k + k + 1) host s here new; number = new.number })))
 
-  fresh_of : (k : ℕ) (n : Names) (r w : TwinSeat (Home B) (Archive B D g) Deed) (p : HostPasses B D g) → ArePassesOf k n r w p → IsNamed k n → IsNew t (k + k) r → IsNew t (k + k + 1) w → AreFreshOf k p
+  fresh_of : (k : ℕ) (n : Names) (r w : TwinSeat (Home B) (Archive B D g) Deed) (p : HostPasses B D g) → ArePassesOf k n r w p → IsNamed k n → IsNew t (k + k) r → IsNew t (k + k + 1) w
+      → AreFreshOf k p
   fresh_of k n r w p are here new_r new_w =
       let there : slice_get o.hosts k ≡ Some n.writer = here.0 ∙ ap (λ h. Some h) (sym here.1) in
       record {
@@ -125,8 +133,10 @@ module _ {B D : Type 0} {g : Ghosts D} (o : Origin) (t : OurTwin B D g) where
       }
 
   -- the next host gets its passes
-  pub dealt_on : (names ns : List Names) (n : Names) (seats ss : List (TwinSeat (Home B) (Archive B D g) Deed)) (r w : TwinSeat (Home B) (Archive B D g) Deed) (at : ℕ) (p : HostPasses B D g) (passes now : List (HostPasses B D g)) →
-      names ≡ n ∷ ns → seats ≡ r ∷ w ∷ ss → at ≡ length passes → ArePassesOf at n r w p → now ≡ passes ++ p ∷ [] → Dealt (length passes) names seats → FreshSoFar passes → Dealt (length now) ns ss × FreshSoFar now
+  pub dealt_on : (names ns : List Names) (n : Names) (seats ss : List (TwinSeat (Home B) (Archive B D g) Deed)) (r w : TwinSeat (Home B) (Archive B D g) Deed) (at : ℕ) (p : HostPasses B D g)
+      (passes now : List (HostPasses B D g)) →
+      names ≡ n ∷ ns → seats ≡ r ∷ w ∷ ss → at ≡ length passes → ArePassesOf at n r w p → now ≡ passes ++ p ∷ [] → Dealt (length passes) names seats → FreshSoFar passes
+      → Dealt (length now) ns ss × FreshSoFar now
   dealt_on names ns n seats ss r w at p passes now split two is_at are is d so_far =
       let k = length passes in
       let e : Dealt k (n ∷ ns) (r ∷ w ∷ ss) = subst (λ l. Dealt k l (r ∷ w ∷ ss)) split (subst (λ l. Dealt k names l) two d) in

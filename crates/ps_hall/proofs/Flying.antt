@@ -39,7 +39,8 @@ module _ (o : Origin) (v : State) (k : ℕ) (old found : List Deed) (is : HomeSt
       (hand-run the_core o.boot o.hosts (home_differ o v found is) host k writes hand (world_at o old) later.0 between_owned (none_of k later.0 later.2) held)
 
 -- the writer has them in hand
-pub holding : (o : Origin) (v : State) (log : List Deed) (host : List ℕ) (hand : List Jid) → HomeStands o v log → HasInHand host hand (world_at o log) → (row : HostRow) → row.host ≡ host → IsHolding v hand row
+pub holding : (o : Origin) (v : State) (log : List Deed) (host : List ℕ) (hand : List Jid) → HomeStands o v log → HasInHand host hand (world_at o log) → (row : HostRow) → row.host ≡ host
+    → IsHolding v hand row
 holding o v log host hand is held row same = (world_at o log, is.stands, subst (λ (h : List ℕ). HasInHand h hand (world_at o log)) (sym same) held)
 
 -- after a refusal it is as before, also where the writer ended
@@ -48,17 +49,22 @@ hand_still boot host hand w Store held = held
 hand_still boot host hand w Full held = record { are = held.are; these = held.these; others = held.others }
 hand_still boot host hand w Memory held = held
 
-pub hand_refused : (o : Origin) (log : List Deed) (by bytes : ℕ) (host : List ℕ) (hand : List Jid) (result : Result ℕ HandedRefusal) → HasInHand host hand (world_at o log) → OnErr result (HasInHand host hand (world_at o (log ++ deeds by bytes (record_steps host hand result))))
+pub hand_refused : (o : Origin) (log : List Deed) (by bytes : ℕ) (host : List ℕ) (hand : List Jid) (result : Result ℕ HandedRefusal) → HasInHand host hand (world_at o log)
+    → OnErr result (HasInHand host hand (world_at o (log ++ deeds by bytes (record_steps host hand result))))
 hand_refused o log by bytes host hand (Ok n) held = tt
 hand_refused o log by bytes host hand (Err e) held = subst (HasInHand host hand) (sym (world_more o log by bytes (refused_steps host e))) (hand_still o.boot host hand (world_at o log) e held)
 
 -- once the Records are flushed the others are in hand
-pub hand_landed : {T : Type 0} (o : Origin) (k : ℕ) (host : List ℕ) (hand rest : List Jid) (t : T) (old mid new : List Deed) → AllDiffer o.hosts → IsWriterOf o.hosts k host → HasInHand host hand (world_at o old) → Does o k old mid (RecordDoes o host hand rest (Ok t)) → Flushes o k mid new
+pub hand_landed : {T : Type 0} (o : Origin) (k : ℕ) (host : List ℕ) (hand rest : List Jid) (t : T) (old mid new : List Deed) → AllDiffer o.hosts → IsWriterOf o.hosts k host
+    → HasInHand host hand (world_at o old) → Does o k old mid (RecordDoes o host hand rest (Ok t)) → Flushes o k mid new
     → HasInHand host rest (world_at o new)
 hand_landed o k host hand rest t old mid new differ writes held did flush =
     let r = did.does.2 in
-    let one : Does o k old mid (λ w steps. steps ≡ records_of r.done) = record { between = did.between; none = did.none; steps = did.steps; bytes = did.bytes; does = r.steps_are; seen = did.seen; owned = did.owned } in
+    let one : Does o k old mid (λ w steps. steps ≡ records_of r.done) = record
+    { between = did.between; none = did.none; steps = did.steps; bytes = did.bytes; does = r.steps_are; seen = did.seen; owned = did.owned } in
     let all : HasInHand host (r.done ++ rest) (world_at o old) = subst (λ (l : List Jid). HasInHand host l (world_at o old)) r.split held in
-    let lands = passed-lands the_core the-laws o.boot o.list o.hosts differ host k writes rest (length mid) mid flush.found flush.passed (did-record the_core the-laws o.boot o.list o.hosts differ host k writes r.done rest old mid all one) in
-    ⊎_elim (λ others. subst (λ (l : List Deed). HasInHand host rest (world_at o l)) (sym others.0) (covered-hand host rest (length mid) (world_at o flush.found) others.1 (held-rest host r.done rest all.are) lands))
+    let lands = passed-lands the_core the-laws o.boot o.list o.hosts differ host k writes rest (length mid) mid flush.found flush.passed
+    (did-record the_core the-laws o.boot o.list o.hosts differ host k writes r.done rest old mid all one) in
+    ⊎_elim (λ others. subst (λ (l : List Deed). HasInHand host rest (world_at o l)) (sym others.0)
+    (covered-hand host rest (length mid) (world_at o flush.found) others.1 (held-rest host r.done rest all.are) lands))
     (λ added. records-land-flushed the_core the-laws o.boot o.list o.hosts differ host k writes r.done rest old mid flush.found new all one flush.passed added) flush.flush

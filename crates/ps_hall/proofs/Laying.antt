@@ -41,11 +41,13 @@ module _ (o : Origin) (v now : State) (log : List Deed) (is : HomeStands o v log
   w = world_at o log
 
   -- a line that found no room: its entry passes the limit
-  too_long : (x : Option Entry) → entry_in w host arrival ≡ x → true ≡ lacks_room o.limits.changes v.length v.batch x → bytes_in v ≤ bytes_in now → NoRoom o.limits.changes (bytes_in now) w (Arrive host arrival true)
+  too_long : (x : Option Entry) → entry_in w host arrival ≡ x → true ≡ lacks_room o.limits.changes v.length v.batch x → bytes_in v ≤ bytes_in now
+      → NoRoom o.limits.changes (bytes_in now) w (Arrive host arrival true)
   too_long None e lacks le = absurd (cc lacks)
   too_long (Some x) e lacks le = (x, e, (let a = lt_from o.limits.changes (v.length + bytes_with v.batch x) lacks in let b = body-more v.batch x in omega (arith, a, b, le)))
 
-  no_room : (full : Bool) → full ≡ lacks_room o.limits.changes v.length v.batch (entry_in w host arrival) → bytes_in v ≤ bytes_in now → NoRoom o.limits.changes (bytes_in now) w (Arrive host arrival full)
+  no_room : (full : Bool) → full ≡ lacks_room o.limits.changes v.length v.batch (entry_in w host arrival) → bytes_in v ≤ bytes_in now
+      → NoRoom o.limits.changes (bytes_in now) w (Arrive host arrival full)
   no_room false e le = tt
   no_room true e le = too_long (entry_in w host arrival) refl e le
 
@@ -79,16 +81,19 @@ module _ (o : Origin) (v now : State) (log : List Deed) (is : HomeStands o v log
   cause_is Again h = (h.0, h.1, h.2)
   cause_is Memory h = h.0
 
-  pub lay_stands : (result : Result Receipt ArriveRefusal) → IfOk result (λ r. Laid v now host arrival r) → IfErr result (λ e. NotLaid v now host e) → Stands now (run the_core o.boot w (lay_steps host arrival result))
+  pub lay_stands : (result : Result Receipt ArriveRefusal) → IfOk result (λ r. Laid v now host arrival r) → IfErr result (λ e. NotLaid v now host e)
+      → Stands now (run the_core o.boot w (lay_steps host arrival result))
   lay_stands (Ok r) ok err = subst (λ (b : Bool). Stands now (run the_core o.boot w (Arrive host arrival b ∷ []))) (sym (full_same r ok)) (laid_in r ok).stands
   lay_stands (Err e) ok err = not_laid e (err w is.stands)
 
-  pub lay_does : (result : Result Receipt ArriveRefusal) → IfOk result (λ r. Laid v now host arrival r) → IfErr result (λ e. NotLaid v now host e) → LayDoes o host arrival result w (lay_steps host arrival result)
+  pub lay_does : (result : Result Receipt ArriveRefusal) → IfOk result (λ r. Laid v now host arrival r) → IfErr result (λ e. NotLaid v now host e)
+      → LayDoes o host arrival result w (lay_steps host arrival result)
   lay_does (Ok r) ok err = (receipt_is r ok, refl)
   lay_does (Err e) ok err = (cause_is e (err w is.stands), refl)
 
   -- and at the places of the frames that were begun none waits
-  finds_none : (full : Bool) → full ≡ lacks_room o.limits.changes v.length v.batch (entry_in w host arrival) → w.broken ≡ false → Stands now (run the_core o.boot w (Arrive host arrival full ∷ [])) → bytes_in v ≤ bytes_in now
+  finds_none : (full : Bool) → full ≡ lacks_room o.limits.changes v.length v.batch (entry_in w host arrival) → w.broken ≡ false → Stands now (run the_core o.boot w (Arrive host arrival full ∷ []))
+      → bytes_in v ≤ bytes_in now
       → FindsNoRoom o.limits.changes now.count (now.length + 5) (bytes_in now) w (Arrive host arrival full)
   finds_none false lacks quiet stands le = tt
   finds_none true lacks quiet stands le = (no_room true lacks le, (quiet, λ few. early o.boot now w host arrival stands few))
@@ -122,13 +127,15 @@ module _ (o : Origin) (v now : State) (log : List Deed) (is : HomeStands o v log
       let waits = ap (λ (l : List Entry). length (body l)) (waits_more e made stands) in
       omega (arith, long, waits)
 
-  measured : (full : Bool) (x : Option Entry) → entry_in found host arrival ≡ x → full ≡ lacks_room o.limits.changes v.length v.batch x → bytes_in v ≤ bytes_in now → Stands now (run the_core o.boot found (Arrive host arrival full ∷ []))
+  measured : (full : Bool) (x : Option Entry) → entry_in found host arrival ≡ x → full ≡ lacks_room o.limits.changes v.length v.batch x → bytes_in v ≤ bytes_in now
+      → Stands now (run the_core o.boot found (Arrive host arrival full ∷ []))
       → IsMeasured o.limits.changes (bytes_in now) x full
   measured full None made lacks le stands = lacks
   measured true (Some e) made lacks le stands = (let a = lt_from o.limits.changes (v.length + bytes_with v.batch e) lacks in let b = body-more v.batch e in omega (arith, a, b, le))
   measured false (Some e) made lacks le stands = (let a = not_lt o.limits.changes (v.length + bytes_with v.batch e) lacks in let b = bytes_with_it e made stands in omega (arith, a, b))
 
-  pub lay_room : (by : ℕ) (result : Result Receipt ArriveRefusal) (new : List Deed) → IfOk result (λ r. Laid v now host arrival r) → IfErr result (λ e. NotLaid v now host e) → bytes_in v ≤ bytes_in now
+  pub lay_room : (by : ℕ) (result : Result Receipt ArriveRefusal) (new : List Deed) → IfOk result (λ r. Laid v now host arrival r) → IfErr result (λ e. NotLaid v now host e)
+      → bytes_in v ≤ bytes_in now
       → new ≡ log ++ deeds by (bytes_in now) (lay_steps host arrival result) → IfOk result (λ r. FoundRoom o host arrival r new)
   lay_room by (Err e) new ok err le seen = tt
   lay_room by (Ok r) new ok err le seen = record {
@@ -138,7 +145,8 @@ module _ (o : Origin) (v now : State) (log : List Deed) (is : HomeStands o v log
     room = measured (is_full r.outcome) (entry_in found host arrival) refl (lacks_same o v now log is host arrival r ok) le (lay_stands o v now log is host arrival (Ok r) ok err);
   }
 
-pub lay_owned : (hosts : List (List ℕ)) (by bytes : ℕ) (host : List ℕ) (arrival : Arrival) (result : Result Receipt ArriveRefusal) → IsReaderOf hosts by host → AreOwned hosts (deeds by bytes (lay_steps host arrival result))
+pub lay_owned : (hosts : List (List ℕ)) (by bytes : ℕ) (host : List ℕ) (arrival : Arrival) (result : Result Receipt ArriveRefusal) → IsReaderOf hosts by host
+    → AreOwned hosts (deeds by bytes (lay_steps host arrival result))
 lay_owned hosts by bytes host arrival (Ok r) reads = (reads, tt)
 lay_owned hosts by bytes host arrival (Err e) reads = tt
 

@@ -18,17 +18,20 @@ module _ {V J : Type 0} (o : Origin) (t : Twin V J Deed) (at : ℕ) (host : List
   pub writes_at : (s : TwinSeat V J Deed) (k : ℕ) → k ≡ number_of s → IsWriter o t at host s → IsWriterOf o.hosts k host
   writes_at s k same is = (at, is.pass.here, same ∙ is.number)
 
-  pub pass_on : (s0 s1 s2 : TwinSeat V J Deed) (v : State) (added : List Deed) → IsPass o t at host s0 → TookState s0 s1 → HasLeft t s1 s2 v added → AreOwned o.hosts (seen_of s2) → IsPass o t at host s2
+  pub pass_on : (s0 s1 s2 : TwinSeat V J Deed) (v : State) (added : List Deed) → IsPass o t at host s0 → TookState s0 s1 → HasLeft t s1 s2 v added → AreOwned o.hosts (seen_of s2)
+      → IsPass o t at host s2
   pass_on s0 s1 s2 v added is took left owned = record {
     call = record { twin = left.twin; free = free_kept t s0 s1 s2 v added took left is.call.free };
     here = is.here;
     owned = owned;
   }
 
-  pub reader_on : (s0 s1 s2 : TwinSeat V J Deed) (v : State) (added : List Deed) → IsReader o t at host s0 → number_of s1 ≡ number_of s0 → TookState s0 s1 → HasLeft t s1 s2 v added → AreOwned o.hosts (seen_of s2) → IsReader o t at host s2
+  pub reader_on : (s0 s1 s2 : TwinSeat V J Deed) (v : State) (added : List Deed) → IsReader o t at host s0 → number_of s1 ≡ number_of s0 → TookState s0 s1 → HasLeft t s1 s2 v added
+      → AreOwned o.hosts (seen_of s2) → IsReader o t at host s2
   reader_on s0 s1 s2 v added is number took left owned = record { pass = pass_on s0 s1 s2 v added is.pass took left owned; number = left.number ∙ (number ∙ is.number) }
 
-  pub writer_on : (s0 s1 s2 : TwinSeat V J Deed) (v : State) (added : List Deed) → IsWriter o t at host s0 → number_of s1 ≡ number_of s0 → TookState s0 s1 → HasLeft t s1 s2 v added → AreOwned o.hosts (seen_of s2) → IsWriter o t at host s2
+  pub writer_on : (s0 s1 s2 : TwinSeat V J Deed) (v : State) (added : List Deed) → IsWriter o t at host s0 → number_of s1 ≡ number_of s0 → TookState s0 s1 → HasLeft t s1 s2 v added
+      → AreOwned o.hosts (seen_of s2) → IsWriter o t at host s2
   writer_on s0 s1 s2 v added is number took left owned = record { pass = pass_on s0 s1 s2 v added is.pass took left owned; number = left.number ∙ (number ∙ is.number) }
 
   -- over a flush

@@ -59,13 +59,20 @@ module _ (o : Origin) (v now : State) (log : List Deed) (is : HomeStands o v log
   refused_is mid e Full h = h.0
   refused_is mid e Memory h = h.0
 
-  pub record_stands : (host : List ℕ) (hand : List Jid) (result : Result ℕ HandedRefusal) → hand ≢ [] → RecordsOrEnds v now host hand result → Stands now (run the_core o.boot w (record_steps host hand result))
+  pub record_stands : (host : List ℕ) (hand : List Jid) (result : Result ℕ HandedRefusal) → hand ≢ [] → RecordsOrEnds v now host hand result
+      → Stands now (run the_core o.boot w (record_steps host hand result))
   record_stands host hand (Ok n) some did = (did.goes o.boot is.named w is.stands).stands
   record_stands host [] (Err e) some did = absurd (some refl)
   record_stands host (a ∷ more) (Err e) some did = did.2 o.boot is.named w (refused_stands v did.0 (Handed a) e w (did.1 w is.stands))
 
-  pub record_does : (host : List ℕ) (hand : List Jid) (result : Result ℕ HandedRefusal) → hand ≢ [] → HasInHand host hand w → RecordsOrEnds v now host hand result → RecordsSome o host hand result w (record_steps host hand result)
-  record_does host hand (Ok n) some held did = (held, (did.goes o.boot is.named w is.stands).unbroken, record { done = take n hand; some = some_taken n hand did.some did.most; split = take-drop n hand; steps_are = refl })
+  pub record_does : (host : List ℕ) (hand : List Jid) (result : Result ℕ HandedRefusal) → hand ≢ [] → HasInHand host hand w → RecordsOrEnds v now host hand result
+      → RecordsSome o host hand result w (record_steps host hand result)
+  record_does host hand (Ok n) some held did = (
+    held,
+    (did.goes o.boot is.named w is.stands).unbroken,
+    record
+        { done = take n hand; some = some_taken n hand did.some did.most; split = take-drop n hand; steps_are = refl },
+  )
   record_does host [] (Err e) some held did = absurd (some refl)
   record_does host (a ∷ more) (Err e) some held did = (refused_is did.0 (Handed a) e (did.1 w is.stands), refl, refl)
 
@@ -100,17 +107,20 @@ module _ (o : Origin) (v now : State) (log : List Deed) (is : HomeStands o v log
       let b = body-more v.batch e in
       omega (arith, a, b, le)
 
-  found_over : (mid : State) (e : Entry) (by : ℕ) (step : Step) (new : List Deed) → NotRecordedIn v mid e Full w → bytes_in v ≤ bytes_in now → new ≡ log ++ deeds by (bytes_in now) (step ∷ []) → FoundOver o e new
+  found_over : (mid : State) (e : Entry) (by : ℕ) (step : Step) (new : List Deed) → NotRecordedIn v mid e Full w → bytes_in v ≤ bytes_in now → new ≡ log ++ deeds by (bytes_in now) (step ∷ [])
+      → FoundOver o e new
   found_over mid e by step new h le seen = record { front = log; deed = record { by = by; step = step; bytes = bytes_in now }; rest = []; is = seen; over = too_long mid e h le }
 
-  pub record_over : (by : ℕ) (host : List ℕ) (hand : List Jid) (result : Result ℕ HandedRefusal) (new : List Deed) → RecordsOrEnds v now host hand result → bytes_in v ≤ bytes_in now → new ≡ log ++ deeds by (bytes_in now) (record_steps host hand result) → OfFirst hand (λ a. result ≡ Err Full → FoundOver o (Handed a) new)
+  pub record_over : (by : ℕ) (host : List ℕ) (hand : List Jid) (result : Result ℕ HandedRefusal) (new : List Deed) → RecordsOrEnds v now host hand result → bytes_in v ≤ bytes_in now
+      → new ≡ log ++ deeds by (bytes_in now) (record_steps host hand result) → OfFirst hand (λ a. result ≡ Err Full → FoundOver o (Handed a) new)
   record_over by host [] result new did le seen = tt
   record_over by host (a ∷ more) (Ok n) new did le seen = λ full. absurd (cc full)
   record_over by host (a ∷ more) (Err Store) new did le seen = λ full. absurd (cc full)
   record_over by host (a ∷ more) (Err Full) new did le seen = λ full. found_over did.0 (Handed a) by (Ended host Writer) new (did.1 w is.stands) le seen
   record_over by host (a ∷ more) (Err Memory) new did le seen = λ full. absurd (cc full)
 
-  pub gone_over : {T : Type 0} (by : ℕ) (host : List ℕ) (result : Result T HandedRefusal) (new : List Deed) → LaysOrEnds v now host result → bytes_in v ≤ bytes_in now → new ≡ log ++ deeds by (bytes_in now) (gone_steps host result) → result ≡ Err Full → FoundOver o (GoneEntry host) new
+  pub gone_over : {T : Type 0} (by : ℕ) (host : List ℕ) (result : Result T HandedRefusal) (new : List Deed) → LaysOrEnds v now host result → bytes_in v ≤ bytes_in now
+      → new ≡ log ++ deeds by (bytes_in now) (gone_steps host result) → result ≡ Err Full → FoundOver o (GoneEntry host) new
   gone_over by host (Ok t) new did le seen full = absurd (cc full)
   gone_over by host (Err Store) new did le seen full = absurd (cc full)
   gone_over by host (Err Full) new did le seen full = found_over did.0 (GoneEntry host) by (Ended host Reader) new (did.1 w is.stands) le seen
@@ -125,7 +135,8 @@ owned_all hosts by bytes host zero hand are writes = tt
 owned_all hosts by bytes host (suc n) [] are writes = tt
 owned_all hosts by bytes host (suc n) (a ∷ hand) are writes = (subst (IsWriterOf hosts by) (sym are.0) writes, owned_all hosts by bytes host n hand are.2 writes)
 
-pub record_owned : (hosts : List (List ℕ)) (by bytes : ℕ) (host : List ℕ) (hand : List Jid) (result : Result ℕ HandedRefusal) → AreHeld host hand → IsWriterOf hosts by host → AreOwned hosts (deeds by bytes (record_steps host hand result))
+pub record_owned : (hosts : List (List ℕ)) (by bytes : ℕ) (host : List ℕ) (hand : List Jid) (result : Result ℕ HandedRefusal) → AreHeld host hand → IsWriterOf hosts by host
+    → AreOwned hosts (deeds by bytes (record_steps host hand result))
 record_owned hosts by bytes host hand (Ok n) are writes = owned_all hosts by bytes host n hand are writes
 record_owned hosts by bytes host hand (Err Store) are writes = tt
 record_owned hosts by bytes host hand (Err Full) are writes = (writes, tt)

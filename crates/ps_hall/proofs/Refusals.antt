@@ -26,7 +26,14 @@ use Rattle.ps_hall.specs.Calls.{EndsThen, HasGone, IsNoRecord}
 
 -- over two calls
 pub kept_both : (one two three : State) → KeepsNumbers one two → KeepsNumbers two three → KeepsNumbers one three
-kept_both one two three a b = record { count = b.count ∙ a.count; length_same = b.length_same ∙ a.length_same; flushed = b.flushed ∙ a.flushed; hosts = b.hosts ∙ a.hosts; limits = b.limits ∙ a.limits }
+kept_both one two three a b = record {
+  count = b.count ∙ a.count;
+  length_same = b.length_same ∙ a.length_same;
+  flushed = b.flushed ∙ a.flushed;
+  hosts = b.hosts ∙ a.hosts;
+  limits = b.limits ∙
+      a.limits;
+}
 
 name_at : (rows : List HostRow) (at : ℕ) (row : HostRow) → slice_get rows at ≡ Some row → slice_get (names rows) at ≡ Some row.host
 name_at [] at row e = cc
@@ -58,7 +65,8 @@ refused_few v now e why standing err few =
 -- ---- on the deeds
 
 -- one holding is told as two: a Gone was refused, and then the reader ended
-pub gone_refused : {T : Type 0} (o : Origin) (k : ℕ) (host : List ℕ) (old new : List Deed) (e : HandedRefusal) → Does o k old new (λ w steps. IsNoRecord w e × (steps ≡ Ended host Reader ∷ [])) → HasGone {T = T} o k host old new (Err e)
+pub gone_refused : {T : Type 0} (o : Origin) (k : ℕ) (host : List ℕ) (old new : List Deed) (e : HandedRefusal) → Does o k old new (λ w steps. IsNoRecord w e × (steps ≡ Ended host Reader ∷ []))
+    → HasGone {T = T} o k host old new (Err e)
 gone_refused o k host old new e did =
     let before = old ++ did.between in
     let ends = deeds k did.bytes (Ended host Reader ∷ []) in

@@ -55,7 +55,8 @@ take_front [] ys (suc n) size = absurd (cc size)
 take_front (x ∷ xs) ys zero size = absurd (cc size)
 take_front (x ∷ xs) ys (suc n) size = ap (λ l. x ∷ l) (take_front xs ys n (omega (arith, size)))
 
-pub rest_left : (hand : List Jid) (count left : ℕ) (turned now : List Jid) → count ≤ length hand → left + count ≡ length hand → turned ≡ drop count hand ++ take count hand → now ≡ take left turned → now ≡ drop count hand
+pub rest_left : (hand : List Jid) (count left : ℕ) (turned now : List Jid) → count ≤ length hand → left + count ≡ length hand → turned ≡ drop count hand ++ take count hand → now ≡ take left turned
+    → now ≡ drop count hand
 rest_left hand count left turned now most size turns cuts =
     let l = length-drop count hand in
     cuts ∙ (ap (λ (l : List Jid). take left l) turns ∙ take_front (drop count hand) (take count hand) left (omega (arith, l, size)))
@@ -77,7 +78,8 @@ pub still_standing : (first now : State) (at : ℕ) (row : HostRow) (hand : List
 still_standing first now at row hand n held is = (run the_core name held.0 (records_of (take n hand)), world_of first now hand n held.0 is held.1)
 
 -- and the next notice is in hand
-pub next_held : (first now : State) (at : ℕ) (row : HostRow) (hand : List Jid) (n : ℕ) (a : Jid) → KeepsNumbers first now → slice_get first.rows.items at ≡ Some row → IsHolding first hand row → RecordsFirst first now hand n → slice_get hand n ≡ Some a
+pub next_held : (first now : State) (at : ℕ) (row : HostRow) (hand : List Jid) (n : ℕ) (a : Jid) → KeepsNumbers first now → slice_get first.rows.items at ≡ Some row → IsHolding first hand row
+    → RecordsFirst first now hand n → slice_get hand n ≡ Some a
     → (r : HostRow) → slice_get now.rows.items at ≡ Some r → IsHeldFor now a r
 next_held first now at row hand n a kept was held is got r there_now =
     let w = held.0 in
@@ -91,7 +93,8 @@ next_held first now at row hand n a kept was held is got r there_now =
     held_for now v at r a (world_of first now hand n w is held.1) there_now (here ∙ (sym same.2 ∙ ap (λ (x : HostRow). x.host) which)) flies
 
 -- one more is recorded
-pub records_one : (first mid now : State) (hand : List Jid) (n : ℕ) (a : Jid) → RecordsFirst first mid hand n → RecordsHanded mid now a → slice_get hand n ≡ Some a → n < length hand → n < 2 ^ 20 → RecordsFirst first now hand (n + 1)
+pub records_one : (first mid now : State) (hand : List Jid) (n : ℕ) (a : Jid) → RecordsFirst first mid hand n → RecordsHanded mid now a → slice_get hand n ≡ Some a → n < length hand → n < 2 ^ 20
+    → RecordsFirst first now hand (n + 1)
 records_one first mid now hand n a is more got less few = record {
   some = omega arith;
   most = omega (arith, less);
@@ -137,6 +140,7 @@ records_still first mid now hand n a why is refused = record {
 }
 
 -- the first is
-pub first_refused : (v now : State) (host : List ℕ) (hand : List Jid) (a : Jid) (why : HandedRefusal) → slice_get hand 0 ≡ Some a → EndsFor v now host a why → OfFirst hand (λ b. EndsFor v now host b why)
+pub first_refused : (v now : State) (host : List ℕ) (hand : List Jid) (a : Jid) (why : HandedRefusal) → slice_get hand 0 ≡ Some a → EndsFor v now host a why
+    → OfFirst hand (λ b. EndsFor v now host b why)
 first_refused v now host [] a why got ends = tt
 first_refused v now host (x ∷ hand) a why got ends = (let same : x ≡ a = cc got in subst (λ (b : Jid). EndsFor v now host b why) (sym same) ends)

@@ -37,7 +37,8 @@ said_if true a n e = refl
 said_if false a n e = absurd (cc e)
 
 pub is_said : (low : ℕ) (a : Jid) (f : Flight) (x : Option Note) (n : Note) → f ≡ Nothing → x ≡ Some n → n.place < low → words.noted_word low a f x ≡ words.Note a n ∷ []
-is_said low a f x n free at small = subst (λ (k : Flight). words.noted_word low a k x ≡ words.Note a n ∷ []) (sym free) (subst (λ (y : Option Note). words.noted_word low a Nothing y ≡ words.Note a n ∷ []) (sym at) (said_if (nat_lt n.place low) a n (lt-ltb n.place low small)))
+is_said low a f x n free at small = subst (λ (k : Flight). words.noted_word low a k x ≡ words.Note a n ∷ []) (sym free)
+    (subst (λ (y : Option Note). words.noted_word low a Nothing y ≡ words.Note a n ∷ []) (sym at) (said_if (nat_lt n.place low) a n (lt-ltb n.place low small)))
 
 recorded-not : (t : ℕ) → Recorded t ≡ Unrecorded → ⊥
 recorded-not t e = cc e
@@ -84,12 +85,14 @@ module _ (o : Origin) (v now : State) (log : List Deed) (is : HomeStands o v log
   nothing_now : (hand : List Jid) → HasInHand host hand w → HasOneRecorded w host ⊎ (NoNotice w host × IsAwaitedIn v w host) → NoNotice w host × IsAwaitedIn v w host
   nothing_now hand held which = ⊎_elim (λ one. absurd (not_recorded hand held one)) (λ n. n) which
 
-  pub next_does : {E : Type 0} (inner : Result Told E) (result : Result Next E) (hand after : List Jid) → IsToldAs inner result hand after → IfOk inner (λ n. IsNext v now host n) → HasInHand host hand w → NextDoes o host hand result after w (next_steps host inner)
+  pub next_does : {E : Type 0} (inner : Result Told E) (result : Result Next E) (hand after : List Jid) → IsToldAs inner result hand after → IfOk inner (λ n. IsNext v now host n)
+      → HasInHand host hand w → NextDoes o host hand result after w (next_steps host inner)
   next_does {E = E} (Ok (told.Reply text)) result hand after told_is ok held =
       subst (λ (r : Result Next E). NextDoes o host hand r after w (Take host ∷ [])) (sym told_is.0) ((ok o.boot is.named w is.stands).0, told_is.1, refl)
   next_does {E = E} (Ok (told.Notice to text)) result hand after told_is ok held =
       let n = ok o.boot is.named w is.stands in
-      subst (λ (r : Result Next E). NextDoes o host hand r after w (Emit to ∷ [])) (sym told_is.0) (record { to = to; hand_is = told_is.1; here = n.0; reply = n.1; first = n.2; free = n.3; steps_are = refl })
+      subst (λ (r : Result Next E). NextDoes o host hand r after w (Emit to ∷ [])) (sym told_is.0)
+      (record { to = to; hand_is = told_is.1; here = n.0; reply = n.1; first = n.2; free = n.3; steps_are = refl })
   next_does {E = E} (Ok told.NotYet) result hand after told_is ok held =
       let n = ok o.boot is.named w is.stands in
       let m = nothing_now hand held n.1 in
@@ -100,17 +103,21 @@ module _ (o : Origin) (v now : State) (log : List Deed) (is : HomeStands o v log
   next_does {E = E} (Err e) result hand after told_is ok held = subst (λ (r : Result Next E). NextDoes o host hand r after w []) (sym told_is.0) (told_is.1, refl)
 
   -- what is in hand then
-  pub next_hand : {E : Type 0} (inner : Result Told E) (result : Result Next E) (hand after : List Jid) → IsToldAs inner result hand after → IfOk inner (λ n. IsNext v now host n) → HasInHand host hand w → HasInHand host after (run the_core o.boot w (next_steps host inner))
-  next_hand (Ok (told.Reply text)) result hand after told_is ok held = subst (λ (h : List Jid). HasInHand host h (run the_core o.boot w (Take host ∷ []))) (sym told_is.1) (take-hand the_core o.boot host hand w host held)
+  pub next_hand : {E : Type 0} (inner : Result Told E) (result : Result Next E) (hand after : List Jid) → IsToldAs inner result hand after → IfOk inner (λ n. IsNext v now host n)
+      → HasInHand host hand w → HasInHand host after (run the_core o.boot w (next_steps host inner))
+  next_hand (Ok (told.Reply text)) result hand after told_is ok held = subst (λ (h : List Jid). HasInHand host h (run the_core o.boot w (Take host ∷ []))) (sym told_is.1)
+      (take-hand the_core o.boot host hand w host held)
   next_hand (Ok (told.Notice to text)) result hand after told_is ok held =
       let n = ok o.boot is.named w is.stands in
       subst (λ (h : List Jid). HasInHand host h (run the_core o.boot w (Emit to ∷ []))) (sym told_is.1)
-      (emit-hand the_core o.boot host hand w to n.2.notice n.0 held (is_said (durable w) to (w.addresses to).flight (slice_get (the_core.notices w.entries to) (handed w.entries to)) n.2.notice n.3 n.2.at n.2.low))
+      (emit-hand the_core o.boot host hand w to n.2.notice n.0 held
+      (is_said (durable w) to (w.addresses to).flight (slice_get (the_core.notices w.entries to) (handed w.entries to)) n.2.notice n.3 n.2.at n.2.low))
   next_hand (Ok told.NotYet) result hand after told_is ok held = subst (λ (h : List Jid). HasInHand host h w) (sym told_is.1) held
   next_hand (Ok told.Over) result hand after told_is ok held = subst (λ (h : List Jid). HasInHand host h w) (sym told_is.1) held
   next_hand (Err e) result hand after told_is ok held = subst (λ (h : List Jid). HasInHand host h w) (sym told_is.1) held
 
-  pub next_owned : {E : Type 0} (by bytes : ℕ) (result : Result Told E) → IfOk result (λ n. IsNext v now host n) → IsWriterOf o.hosts by host → AreOwned o.hosts (deeds by bytes (next_steps host result))
+  pub next_owned : {E : Type 0} (by bytes : ℕ) (result : Result Told E) → IfOk result (λ n. IsNext v now host n) → IsWriterOf o.hosts by host
+      → AreOwned o.hosts (deeds by bytes (next_steps host result))
   next_owned by bytes (Ok (told.Reply text)) ok writes = (writes, tt)
   next_owned by bytes (Ok (told.Notice to text)) ok writes = (subst (λ (h : List ℕ). IsWriterOf o.hosts by h) (sym (ok o.boot is.named w is.stands).0) writes, tt)
   next_owned by bytes (Ok told.NotYet) ok writes = tt

@@ -18,7 +18,8 @@ use Rattle.ps_hall_flush.proofs.Logs.{owned_behind}
 use Rattle.ps_hall_flush.proofs.Measuring.{measured_as, within_behind, within_both, within_broken}
 use Rattle.ps_trace.proofs.Owning.{calm}
 
-module _ {D : Type 0} {g : Ghosts D} (o : Origin) (v : State) (y : Store D g) (log l : List Deed) (home : HomeStands o v log) (holds : ArchiveHolds o y l) (front : Prefix l log) (mark : state_mark v ≡ store_mark y) where
+module _ {D : Type 0} {g : Ghosts D} (o : Origin) (v : State) (y : Store D g) (log l : List Deed) (home : HomeStands o v log) (holds : ArchiveHolds o y l) (front : Prefix l log)
+    (mark : state_mark v ≡ store_mark y) where
   -- where no fault is told, the state measures what the store has
   quiet_within : v.broken ≡ false → AreMeasured o (ends (firm_of y) (world_at o l).made) (length_in y) log × AreMeasured o y.count y.length log
   quiet_within quiet =
@@ -38,7 +39,8 @@ module _ {D : Type 0} {g : Ghosts D} (o : Origin) (v : State) (y : Store D g) (l
       let behind = within_behind v.count (v.length + 5) o.boot first l rest (subst (λ (d : List Deed). AreMeasured o v.count v.length d) front.1 home.begun) in
       subst (λ (d : List Deed). AreMeasured o count bytes d) (sym front.1)
       (within_both count (bytes + 5) o.boot first l rest is
-      (within_broken v.count (v.length + 5) count (bytes + 5) o.boot (world_at o l) rest (calm o.hosts rest (owned_behind o.hosts l rest (subst (λ (d : List Deed). AreOwned o.hosts d) front.1 home.owned))) broken behind))
+      (within_broken v.count (v.length + 5) count (bytes + 5) o.boot (world_at o l) rest
+      (calm o.hosts rest (owned_behind o.hosts l rest (subst (λ (d : List Deed). AreOwned o.hosts d) front.1 home.owned))) broken behind))
 
   within_by : (b : Bool) → v.broken ≡ b → AreMeasured o (ends (firm_of y) (world_at o l).made) (length_in y) log × AreMeasured o y.count y.length log
   within_by false quiet = quiet_within quiet

@@ -21,22 +21,27 @@ flushed_owned o k old new (Ok t) ok err = all_owned o k (length old) ok.found ne
 flushed_owned o k old new (Err e) ok err = fault_owned o k err.found new err.passed.owned err.fault
 
 -- the frame was begun by the seat, and written or not
-pub flushes_by : (o : Origin) (k k1 : ℕ) (old found new : List Deed) → k1 ≡ k → Passes o k old found → (world_at o found).broken ≡ false → Adds o k1 found new (Flush (length found)) → Flushes o k old new
-flushes_by o k k1 old found new same passed quiet added = record { found = found; passed = passed; quiet = quiet; flush = inr (adds_as o k1 k found found new (Flush (length found)) (Flush (length found)) same refl refl added) }
+pub flushes_by : (o : Origin) (k k1 : ℕ) (old found new : List Deed) → k1 ≡ k → Passes o k old found → (world_at o found).broken ≡ false → Adds o k1 found new (Flush (length found))
+    → Flushes o k old new
+flushes_by o k k1 old found new same passed quiet added = record
+    { found = found; passed = passed; quiet = quiet; flush = inr (adds_as o k1 k found found new (Flush (length found)) (Flush (length found)) same refl refl added) }
 
 -- others had flushed what it had seen
-pub spared_by : (o : Origin) (k : ℕ) (old found new : List Deed) → Passes o k old found → (world_at o found).broken ≡ false → new ≡ found → length old ≤ (world_at o found).flushed → Flushes o k old new
+pub spared_by : (o : Origin) (k : ℕ) (old found new : List Deed) → Passes o k old found → (world_at o found).broken ≡ false → new ≡ found → length old ≤ (world_at o found).flushed
+    → Flushes o k old new
 spared_by o k old found new passed quiet same low = record { found = found; passed = passed; quiet = quiet; flush = inl (same, low) }
 
 pub fails_by : (o : Origin) (k k1 : ℕ) (old found new : List Deed) → k1 ≡ k → Passes o k old found → Adds o k1 found new Broken → NotFlushed o k old new
 fails_by o k k1 old found new same passed added = record { found = found; passed = passed; fault = inr (adds_as o k1 k found found new Broken Broken same refl refl added) }
 
 -- the same by the answer of the write
-pub flush_ok : {T E : Type 0} (o : Origin) (k k1 : ℕ) (old found new : List Deed) (result : Result T E) → k1 ≡ k → Passes o k old found → (world_at o found).broken ≡ false → OnOk result (Adds o k1 found new (Flush (length found))) → OnOk result (Flushes o k old new)
+pub flush_ok : {T E : Type 0} (o : Origin) (k k1 : ℕ) (old found new : List Deed) (result : Result T E) → k1 ≡ k → Passes o k old found → (world_at o found).broken ≡ false
+    → OnOk result (Adds o k1 found new (Flush (length found))) → OnOk result (Flushes o k old new)
 flush_ok o k k1 old found new (Ok t) same passed quiet added = flushes_by o k k1 old found new same passed quiet added
 flush_ok o k k1 old found new (Err e) same passed quiet added = tt
 
-pub flush_err : {T E : Type 0} (o : Origin) (k k1 : ℕ) (old found new : List Deed) (result : Result T E) → k1 ≡ k → Passes o k old found → OnErr result (Adds o k1 found new Broken) → OnErr result (NotFlushed o k old new)
+pub flush_err : {T E : Type 0} (o : Origin) (k k1 : ℕ) (old found new : List Deed) (result : Result T E) → k1 ≡ k → Passes o k old found → OnErr result (Adds o k1 found new Broken)
+    → OnErr result (NotFlushed o k old new)
 flush_err o k k1 old found new (Ok t) same passed added = tt
 flush_err o k k1 old found new (Err e) same passed added = fails_by o k k1 old found new same passed added
 

@@ -71,7 +71,8 @@ module _ {D : Type 0} {g : Ghosts D} where
   same_begun at v y w u is stands later mark unbroken =
       counts_same v.broken (is_some (broken_in y)) v.count y.count unbroken (sym is.broken ∙ broken_later w u later (sym stands.broken ∙ unbroken)) (ap (λ p. p.0) mark)
 
-  pub loaded_ok : (o : Origin) (v now : State) (y : Store D g) (f : Frame) (w u : World) → StoreStands o.at y w → Stands v u → Follows w u → state_mark v ≡ store_mark y → v.broken ≡ false → IsFrameOf v now f → Loaded o.at y f w u
+  pub loaded_ok : (o : Origin) (v now : State) (y : Store D g) (f : Frame) (w u : World) → StoreStands o.at y w → Stands v u → Follows w u → state_mark v ≡ store_mark y → v.broken ≡ false
+      → IsFrameOf v now f → Loaded o.at y f w u
   loaded_ok o v now y f w u is stands later mark unbroken did =
       let quiet : u.broken ≡ false = sym stands.broken ∙ unbroken in
       let early = broken_later w u later quiet in
@@ -95,30 +96,36 @@ module _ {D : Type 0} {g : Ghosts D} where
 
   module _ {V J : Type 0} (o : Origin) (t : Twin V J Deed) where
     -- a holding in which a frame is begun
-    pub frame_begun : (s0 s1 s2 : TwinSeat V J Deed) (v now : State) (y : Store D g) (f : Frame) → HoldsStore o t s0 y → TookState s0 s1 → HomeStands o v (seen_of s1) → Prefix (list_of s0) (seen_of s1) → state_mark v ≡ mark_of s0 → v.broken ≡ false → IsFrameOf v now f → HasLeft t s1 s2 now []
+    pub frame_begun : (s0 s1 s2 : TwinSeat V J Deed) (v now : State) (y : Store D g) (f : Frame) → HoldsStore o t s0 y → TookState s0 s1 → HomeStands o v (seen_of s1)
+        → Prefix (list_of s0) (seen_of s1) → state_mark v ≡ mark_of s0 → v.broken ≡ false → IsFrameOf v now f → HasLeft t s1 s2 now []
         → FrameBegun o t s2 y f
     frame_begun s0 s1 s2 v now y f holds took stands front mark unbroken did left =
         let seen : seen_of s2 ≡ seen_of s1 = left.seen ∙ nil-right (seen_of s1) in
         let l : list_of s2 ≡ list_of s0 = list_kept t s0 s1 s2 now [] took left in
         let loaded : Loaded o.at y f (world_at o (list_of s0)) (world_at o (seen_of s1)) =
-        loaded_ok o v now y f (world_at o (list_of s0)) (world_at o (seen_of s1)) holds.stands stands.stands (prefix_follows o (list_of s0) (seen_of s1) front stands.owned) (mark ∙ holds.mark) unbroken did in
-        let count : v.count ≡ y.count = same_begun o.at v y (world_at o (list_of s0)) (world_at o (seen_of s1)) holds.stands stands.stands (prefix_follows o (list_of s0) (seen_of s1) front stands.owned) (mark ∙ holds.mark) unbroken in
+        loaded_ok o v now y f (world_at o (list_of s0)) (world_at o (seen_of s1)) holds.stands stands.stands (prefix_follows o (list_of s0) (seen_of s1) front stands.owned) (mark ∙ holds.mark)
+        unbroken did in
+        let count : v.count ≡ y.count = same_begun o.at v y (world_at o (list_of s0)) (world_at o (seen_of s1)) holds.stands stands.stands
+        (prefix_follows o (list_of s0) (seen_of s1) front stands.owned) (mark ∙ holds.mark) unbroken in
         record {
           twin = left.twin;
           held = journal_kept t s0 s1 s2 now [] took left holds.held;
           front = subst (λ (log : List Deed). Prefix (list_of s2) log) (sym seen) (subst (λ (log : List Deed). Prefix log (seen_of s1)) (sym l) front);
           owned = subst (AreOwned o.hosts) (sym seen) stands.owned;
-          loaded = subst (λ (log : List Deed). Loaded o.at y f (world_at o (list_of s2)) (world_at o log)) (sym seen) (subst (λ (log : List Deed). Loaded o.at y f (world_at o log) (world_at o (seen_of s1))) (sym l) loaded);
+          loaded = subst (λ (log : List Deed). Loaded o.at y f (world_at o (list_of s2)) (world_at o log)) (sym seen)
+              (subst (λ (log : List Deed). Loaded o.at y f (world_at o log) (world_at o (seen_of s1))) (sym l) loaded);
           firm = firm_kept t s0 s1 s2 now [] took left ∙ holds.firm;
           mark = left.mark ∙ (quiet_mark now (did.kept.broken ∙ unbroken) ∙ did.mark);
           some = subst (λ (b : Option (List Entry)). IfSome b (λ es. es ≢ [])) (sym did.batch) stands.stands.batch.some;
           few = (let n = loaded.count in let e = few_entries o v (seen_of s1) stands in omega (arith, n, e));
-          before = subst (λ (log : List Deed). AreMeasured o y.count y.length log) (sym seen) (measured_as o v.count v.length y.count y.length (seen_of s1) count (ap (λ p. p.1) (mark ∙ holds.mark)) stands.begun);
+          before = subst (λ (log : List Deed). AreMeasured o y.count y.length log) (sym seen)
+              (measured_as o v.count v.length y.count y.length (seen_of s1) count (ap (λ p. p.1) (mark ∙ holds.mark)) stands.begun);
           after = subst (λ (log : List Deed). AreMeasured o f.count f.length log) (sym seen) (begun_all o v f.count f.length (seen_of s1) stands did.longer);
         }
 
     -- and one in which none is
-    pub no_frame : (s0 s1 s2 : TwinSeat V J Deed) (v : State) (y : Store D g) → HoldsStore o t s0 y → TookState s0 s1 → HomeStands o v (seen_of s1) → Prefix (list_of s0) (seen_of s1) → state_mark v ≡ mark_of s0 → HasLeft t s1 s2 v [] → NoFrame o t s2 y
+    pub no_frame : (s0 s1 s2 : TwinSeat V J Deed) (v : State) (y : Store D g) → HoldsStore o t s0 y → TookState s0 s1 → HomeStands o v (seen_of s1) → Prefix (list_of s0) (seen_of s1)
+        → state_mark v ≡ mark_of s0 → HasLeft t s1 s2 v [] → NoFrame o t s2 y
     no_frame s0 s1 s2 v y holds took home front mark left =
         let seen = seen_as_was t s1 s2 v left in
         let l : list_of s2 ≡ list_of s0 = list_kept t s0 s1 s2 v [] took left in
@@ -133,16 +140,23 @@ module _ {D : Type 0} {g : Ghosts D} where
           mark = left.mark ∙ (mark ∙ holds.mark);
         }
 
-    pub frame_refused : (s0 s1 s2 : TwinSeat V J Deed) (v : State) (y : Store D g) → HoldsStore o t s0 y → TookState s0 s1 → HomeStands o v (seen_of s1) → Prefix (list_of s0) (seen_of s1) → state_mark v ≡ mark_of s0 → v.broken ≡ true → HasLeft t s1 s2 v [] → FrameRefused o t s2 y
+    pub frame_refused : (s0 s1 s2 : TwinSeat V J Deed) (v : State) (y : Store D g) → HoldsStore o t s0 y → TookState s0 s1 → HomeStands o v (seen_of s1) → Prefix (list_of s0) (seen_of s1)
+        → state_mark v ≡ mark_of s0 → v.broken ≡ true → HasLeft t s1 s2 v [] → FrameRefused o t s2 y
     frame_refused s0 s1 s2 v y holds took stands front mark broken left = record {
       as_was = no_frame s0 s1 s2 v y holds took stands front mark left;
       broken = ap (λ log. (world_at o log).broken) (seen_as_was t s1 s2 v left) ∙ (sym stands.stands.broken ∙ broken);
     }
 
-    pub frame_spared : (s0 s1 s2 : TwinSeat V J Deed) (v : State) (y : Store D g) (m : ℕ) → HoldsStore o t s0 y → TookState s0 s1 → HomeStands o v (seen_of s1) → Prefix (list_of s0) (seen_of s1) → state_mark v ≡ mark_of s0 → v.broken ≡ false → m ≤ v.flushed → v.flushed ≤ known_of s1 → HasLeft t s1 s2 v [] → FrameSpared o t s2 y m
+    pub frame_spared : (s0 s1 s2 : TwinSeat V J Deed) (v : State) (y : Store D g) (m : ℕ) → HoldsStore o t s0 y → TookState s0 s1 → HomeStands o v (seen_of s1) → Prefix (list_of s0) (seen_of s1)
+        → state_mark v ≡ mark_of s0 → v.broken ≡ false → m ≤ v.flushed → v.flushed ≤ known_of s1 → HasLeft t s1 s2 v [] → FrameSpared o t s2 y m
     frame_spared s0 s1 s2 v y m holds took stands front mark unbroken low firm left =
         let e : (world_at o (seen_of s2)).flushed ≡ v.flushed = ap (λ log. (world_at o log).flushed) (seen_as_was t s1 s2 v left) ∙ sym stands.stands.flushed in
-        record { as_was = no_frame s0 s1 s2 v y holds took stands front mark left; quiet = ap (λ log. (world_at o log).broken) (seen_as_was t s1 s2 v left) ∙ (sym stands.stands.broken ∙ unbroken); flushed = omega (arith, e, low); known = (let same = left.known in omega (arith, low, firm, same)) }
+        record {
+          as_was = no_frame s0 s1 s2 v y holds took stands front mark left;
+          quiet = ap (λ log. (world_at o log).broken) (seen_as_was t s1 s2 v left) ∙ (sym stands.stands.broken ∙ unbroken);
+          flushed = omega (arith, e, low);
+          known = (let same = left.known in omega (arith, low, firm, same));
+        }
 
     -- the frame has all steps that the seat has seen
     pub frame_steps : (s : TwinSeat V J Deed) (y : Store D g) (f : Frame) → FrameBegun o t s y f → f.steps ≡ length (seen_of s)
@@ -157,7 +171,8 @@ module _ {D : Type 0} {g : Ghosts D} where
         let e = is.loaded.steps in
         omega (arith, a, b, h, d, e, firm)
 
-    pub is_written : (s s' : TwinSeat V J Deed) (old new : Store D g) (f : Frame) → FrameBegun o t s old f → IsSeatOf t s' → IsFree s' → seen_of s' ≡ seen_of s → store.firm_of new ≡ f.steps → store.firm_of new ≤ known_of s' → IsWritten o t s' f.steps f.count
+    pub is_written : (s s' : TwinSeat V J Deed) (old new : Store D g) (f : Frame) → FrameBegun o t s old f → IsSeatOf t s' → IsFree s' → seen_of s' ≡ seen_of s → store.firm_of new ≡ f.steps
+        → store.firm_of new ≤ known_of s' → IsWritten o t s' f.steps f.count
     is_written s s' old new f is twin free seen firm known =
         let w = world_at o (seen_of s) in
         record {
@@ -167,7 +182,8 @@ module _ {D : Type 0} {g : Ghosts D} where
           known = omega (arith, firm, known);
         }
 
-    pub written_known : (s s' s'' : TwinSeat V J Deed) (old new : Store D g) (f : Frame) → FrameBegun o t s old f → store.firm_of new ≡ f.steps → store.firm_of new ≤ known_of s' → known_of s' ≤ known_of s'' → length (seen_of s) ≤ known_of s''
+    pub written_known : (s s' s'' : TwinSeat V J Deed) (old new : Store D g) (f : Frame) → FrameBegun o t s old f → store.firm_of new ≡ f.steps → store.firm_of new ≤ known_of s'
+        → known_of s' ≤ known_of s'' → length (seen_of s) ≤ known_of s''
     written_known s s' s'' old new f is firm known more = let n = frame_steps s old f is in omega (arith, n, firm, known, more)
 
     -- its mark is the journal's once it is written
@@ -177,21 +193,25 @@ module _ {D : Type 0} {g : Ghosts D} where
         whole_mark new (sym stands.broken ∙ is.loaded.unbroken) ∙ (mark ∙ sym is.mark)
 
     -- the store after the fault was told
-    pub failed_stands : (s s' : TwinSeat V J Deed) (old torn new : Store D g) (f : Frame) (steps k : ℕ) → FrameBegun o t s old f → Tears old torn f → NotesFault torn new steps → steps ≡ length (seen_of s') → Adds o k (seen_of s) (seen_of s') Broken → IsBrokenAt o (seen_of s')
+    pub failed_stands : (s s' : TwinSeat V J Deed) (old torn new : Store D g) (f : Frame) (steps k : ℕ) → FrameBegun o t s old f → Tears old torn f → NotesFault torn new steps
+        → steps ≡ length (seen_of s') → Adds o k (seen_of s) (seen_of s') Broken → IsBrokenAt o (seen_of s')
         → StoreStands o.at new (world_at o (seen_of s'))
     failed_stands s s' old torn new f steps k is tears notes count added broken =
-        notes o.at (world_at o (seen_of s)) (world_at o (seen_of s')) (tears o.at (world_at o (list_of s)) (world_at o (seen_of s)) is.loaded).1 (prefix_follows o (seen_of s) (seen_of s') (added_prefix k (seen_of s) (seen_of s') Broken added) broken.owned) broken.sound broken.broken
+        notes o.at (world_at o (seen_of s)) (world_at o (seen_of s')) (tears o.at (world_at o (list_of s)) (world_at o (seen_of s)) is.loaded).1
+        (prefix_follows o (seen_of s) (seen_of s') (added_prefix k (seen_of s) (seen_of s') Broken added) broken.owned) broken.sound broken.broken
         (count ∙ sym (steps_of o (seen_of s')))
       where
         added_prefix : (k : ℕ) (one two : List Deed) (step : Step) → Adds o k one two step → Prefix one two
         added_prefix k one two step did = prefix_then one (one ++ did.between) two (did.between, refl) (deeds k did.bytes did.steps, did.seen)
 
     -- and its mark
-    pub told_mark : (s s' : TwinSeat V J Deed) (new : Store D g) (mark : ℕ × ℕ) → StoreStands o.at new (world_at o (seen_of s')) → IsBrokenAt o (seen_of s') → HasToldFault s s' → marked true mark ≡ marked true (mark_of s) → store.mark_of new ≡ mark → store_mark new ≡ mark_of s'
+    pub told_mark : (s s' : TwinSeat V J Deed) (new : Store D g) (mark : ℕ × ℕ) → StoreStands o.at new (world_at o (seen_of s')) → IsBrokenAt o (seen_of s') → HasToldFault s s'
+        → marked true mark ≡ marked true (mark_of s) → store.mark_of new ≡ mark → store_mark new ≡ mark_of s'
     told_mark s s' new mark is broken told was same = broken_mark new mark (sym is.broken ∙ broken.broken) same ∙ (was ∙ sym told.mark)
 
     -- once it is written, its numbers are those of all that was written
-    pub written_within : (s : TwinSeat V J Deed) (old new : Store D g) (f : Frame) → FrameBegun o t s old f → Writes old new f → store.mark_of new ≡ (f.count, f.length) → firm_in new ≡ f.steps → WithinStore o new (seen_of s)
+    pub written_within : (s : TwinSeat V J Deed) (old new : Store D g) (f : Frame) → FrameBegun o t s old f → Writes old new f → store.mark_of new ≡ (f.count, f.length) → firm_in new ≡ f.steps
+        → WithinStore o new (seen_of s)
     written_within s old new f is writes mark firm =
         let u = world_at o (seen_of s) in
         let whole = (writes o.at (world_at o (list_of s)) u is.loaded).whole is.loaded.unbroken in
@@ -204,7 +224,8 @@ module _ {D : Type 0} {g : Ghosts D} where
         }
 
     -- by what was written before, as long as it is that of a store no shorter: behind the frame that was begun no line found no room in it
-    still_measured : (s : TwinSeat V J Deed) (old : Store D g) (f : Frame) (rest : List Deed) (least : ℕ) → FrameBegun o t s old f → AreOwned o.hosts (seen_of s ++ rest) → old.length ≤ least → AreMeasured o f.count f.length (seen_of s ++ rest) → AreMeasured o old.count least (seen_of s ++ rest)
+    still_measured : (s : TwinSeat V J Deed) (old : Store D g) (f : Frame) (rest : List Deed) (least : ℕ) → FrameBegun o t s old f → AreOwned o.hosts (seen_of s ++ rest) → old.length ≤ least
+        → AreMeasured o f.count f.length (seen_of s ++ rest) → AreMeasured o old.count least (seen_of s ++ rest)
     still_measured s old f rest least is owned long all =
         let first = start the_core o.boot o.list in
         let w = world_at o (list_of s) in
@@ -220,7 +241,8 @@ module _ {D : Type 0} {g : Ghosts D} where
         (omega (arith, count)) (within_behind f.count (f.length + 5) o.boot first (seen_of s) rest all))
 
     -- and where it failed, and that is told, those of the frames that were written before and of this one stand side by side
-    pub failed_within : (s s' : TwinSeat V J Deed) (old new : Store D g) (f : Frame) (k : ℕ) → FrameBegun o t s old f → firm_in new ≡ firm_in old → length_in old ≤ length_in new → store.mark_of new ≡ (f.count, f.length) → Adds o k (seen_of s) (seen_of s') Broken → IsMeasuredBy o (mark_of s) (seen_of s')
+    pub failed_within : (s s' : TwinSeat V J Deed) (old new : Store D g) (f : Frame) (k : ℕ) → FrameBegun o t s old f → firm_in new ≡ firm_in old → length_in old ≤ length_in new
+        → store.mark_of new ≡ (f.count, f.length) → Adds o k (seen_of s) (seen_of s') Broken → IsMeasuredBy o (mark_of s) (seen_of s')
         → WithinStore o new (seen_of s')
     failed_within s s' old new f k is firm grows mark added told =
         let w = world_at o (list_of s) in
@@ -231,19 +253,25 @@ module _ {D : Type 0} {g : Ghosts D} where
         let long = whole.length_is in
         let early : AreMeasured o old.count (length_in new) (seen_of s') =
         subst (λ (l : List Deed). AreMeasured o old.count (length_in new) l) (sym grown.1)
-        (still_measured s old f grown.0 (length_in new) is (subst (AreOwned o.hosts) grown.1 added.owned) (omega (arith, long, grows)) (subst (λ (l : List Deed). AreMeasured o f.count f.length l) grown.1 full)) in
-        let made = firm_made w (world_at o (seen_of s')) (firm_in new) is.loaded.stands.sound (prefix_follows o (list_of s) (seen_of s') (prefix_then (list_of s) (seen_of s) (seen_of s') is.front grown) added.owned)
+        (still_measured s old f grown.0 (length_in new) is (subst (AreOwned o.hosts) grown.1 added.owned) (omega (arith, long, grows))
+        (subst (λ (l : List Deed). AreMeasured o f.count f.length l) grown.1 full)) in
+        let made = firm_made w (world_at o (seen_of s')) (firm_in new) is.loaded.stands.sound
+        (prefix_follows o (list_of s) (seen_of s') (prefix_then (list_of s) (seen_of s) (seen_of s') is.front grown) added.owned)
         (firm ∙ (whole.firm ∙ is.loaded.stands.steps)) in
         record {
           firm = measured_as o old.count (length_in new) (ends (firm_in new) (world_at o (seen_of s')).made) (length_in new) (seen_of s') (whole.count ∙ sym made) refl early;
           begun = measured_as o f.count f.length new.count new.length (seen_of s') (sym (ap (λ p. p.0) mark)) (sym (ap (λ p. p.1) mark)) full;
         }
 
-    pub failed_front : (s s' : TwinSeat V J Deed) (old : Store D g) (f : Frame) (k : ℕ) → FrameBegun o t s old f → list_of s' ≡ list_of s → Adds o k (seen_of s) (seen_of s') Broken → Prefix (list_of s') (seen_of s')
-    failed_front s s' old f k is l added = subst (λ (log : List Deed). Prefix log (seen_of s')) (sym l) (prefix_then (list_of s) (seen_of s) (seen_of s') is.front (prefix_then (seen_of s) (seen_of s ++ added.between) (seen_of s') (added.between, refl) (deeds k added.bytes added.steps, added.seen)))
+    pub failed_front : (s s' : TwinSeat V J Deed) (old : Store D g) (f : Frame) (k : ℕ) → FrameBegun o t s old f → list_of s' ≡ list_of s → Adds o k (seen_of s) (seen_of s') Broken
+        → Prefix (list_of s') (seen_of s')
+    failed_front s s' old f k is l added = subst (λ (log : List Deed). Prefix log (seen_of s')) (sym l)
+        (prefix_then (list_of s) (seen_of s) (seen_of s') is.front (prefix_then (seen_of s) (seen_of s ++ added.between) (seen_of s') (added.between, refl)
+        (deeds k added.bytes added.steps, added.seen)))
 
 -- where the first m steps have been looked at before, the state stands for the world after the Flush of them
-pub settled : (o : Origin) (v now : State) (m count : ℕ) (seen log : List Deed) → HomeStands o v log → Prefix seen log → m ≡ length seen → ends m (world_at o seen).made ≡ count → Settles v now m count → Stands now (run the_core o.boot (world_at o log) (Flush m ∷ []))
+pub settled : (o : Origin) (v now : State) (m count : ℕ) (seen log : List Deed) → HomeStands o v log → Prefix seen log → m ≡ length seen → ends m (world_at o seen).made ≡ count
+    → Settles v now m count → Stands now (run the_core o.boot (world_at o log) (Flush m ∷ []))
 settled o v now m count seen log is front at few settles =
     let w = world_at o seen in
     let u = world_at o log in

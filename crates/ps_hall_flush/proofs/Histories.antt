@@ -60,7 +60,8 @@ flushes_front : (o : Origin) (k : ℕ) (old new : List Deed) → Flushes o k old
 flushes_front o k old new f = prefix_then old f.found new (f.passed.between, f.passed.is) (all_front o k (length old) f.found new f.flush)
 
 -- what was flushed is read
-pub history_by : (o : Origin) (k k1 known : ℕ) (Tells : Type 0) (old mid new : List Deed) (entries : List Entry) → k1 ≡ k → Flushes o k old mid → length old ≤ known → Passes o k1 mid new → ReadOf o Tells known new entries → HasHistory o k Tells old new entries
+pub history_by : (o : Origin) (k k1 known : ℕ) (Tells : Type 0) (old mid new : List Deed) (entries : List Entry) → k1 ≡ k → Flushes o k old mid → length old ≤ known → Passes o k1 mid new
+    → ReadOf o Tells known new entries → HasHistory o k Tells old new entries
 history_by o k k1 known Tells old mid new entries same flush high passed read =
     let front = prefix_then old mid new (flushes_front o k old mid flush) (passed.between, passed.is) in
     let enough : length old ≤ length read.front = (let e = read.enough in omega (arith, high, e)) in
@@ -91,14 +92,17 @@ module _ {D : Type 0} {g : Ghosts D} {V J : Type 0} (o : Origin) (t : Twin V J D
   torn_by s y torn is whole fails = ⊎_elim (λ b. absurd (false≢true (sym (is.stands.broken ∙ whole) ∙ b.0))) (λ r. r.2) (fails o.at (world_at o (list_of s)) is.stands)
 
   pub told_front : (s s' : TwinSeat V J Deed) (y : Store D g) (k : ℕ) → NoFrame o t s y → list_of s' ≡ list_of s → Adds o k (seen_of s) (seen_of s') Broken → Prefix (list_of s') (seen_of s')
-  told_front s s' y k is same added = subst (λ (l : List Deed). Prefix l (seen_of s')) (sym same) (prefix_then (list_of s) (seen_of s) (seen_of s') is.front (adds_front o k (seen_of s) (seen_of s') Broken added))
+  told_front s s' y k is same added = subst (λ (l : List Deed). Prefix l (seen_of s')) (sym same)
+      (prefix_then (list_of s) (seen_of s) (seen_of s') is.front (adds_front o k (seen_of s) (seen_of s') Broken added))
 
   -- the store after a fault of a read was told
-  pub told_stands : (s s' : TwinSeat V J Deed) (y torn new : Store D g) (steps k : ℕ) → NoFrame o t s y → is_some (broken_in y) ≡ false → NotReadOf y torn NotStored → NotesFault torn new steps → steps ≡ length (seen_of s') → Adds o k (seen_of s) (seen_of s') Broken → IsBrokenAt o (seen_of s')
+  pub told_stands : (s s' : TwinSeat V J Deed) (y torn new : Store D g) (steps k : ℕ) → NoFrame o t s y → is_some (broken_in y) ≡ false → NotReadOf y torn NotStored → NotesFault torn new steps
+      → steps ≡ length (seen_of s') → Adds o k (seen_of s) (seen_of s') Broken → IsBrokenAt o (seen_of s')
       → StoreStands o.at new (world_at o (seen_of s'))
   told_stands s s' y torn new steps k is whole fails notes count added broken =
       notes o.at (world_at o (list_of s)) (world_at o (seen_of s')) (torn_by s y torn is whole fails)
-      (prefix_follows o (list_of s) (seen_of s') (prefix_then (list_of s) (seen_of s) (seen_of s') is.front (adds_front o k (seen_of s) (seen_of s') Broken added)) broken.owned) broken.sound broken.broken
+      (prefix_follows o (list_of s) (seen_of s') (prefix_then (list_of s) (seen_of s) (seen_of s') is.front (adds_front o k (seen_of s) (seen_of s') Broken added)) broken.owned) broken.sound
+      broken.broken
       (count ∙ sym (steps_of o (seen_of s')))
 
   -- a store that was read is measured as before
@@ -111,7 +115,8 @@ module _ {D : Type 0} {g : Ghosts D} {V J : Type 0} (o : Origin) (t : Twin V J D
       }
 
   -- and one that wasn't, by all that was seen once that is told
-  pub told_within : (s s' : TwinSeat V J Deed) (y new : Store D g) (k : ℕ) → NoFrame o t s y → is_some (broken_in y) ≡ false → firm_of new ≡ firm_of y → length_in new ≡ length_in y → mark_of new ≡ mark_of y → Adds o k (seen_of s) (seen_of s') Broken → IsMeasuredBy o (seat_mark s) (seen_of s')
+  pub told_within : (s s' : TwinSeat V J Deed) (y new : Store D g) (k : ℕ) → NoFrame o t s y → is_some (broken_in y) ≡ false → firm_of new ≡ firm_of y → length_in new ≡ length_in y
+      → mark_of new ≡ mark_of y → Adds o k (seen_of s) (seen_of s') Broken → IsMeasuredBy o (seat_mark s) (seen_of s')
       → WithinStore o new (seen_of s')
   told_within s s' y new k is unbroken firm long mark added told =
       let w = world_at o (list_of s) in
@@ -134,15 +139,19 @@ was_told o k old found new passed same broken = record { found = found; passed =
 
 -- what comes of it, by the answer
 module _ {V J : Type 0} (o : Origin) (Tells : Type 0) where
-  pub read_owned : (old new : TwinSeat V J Deed) (r : Result (Vec Entry) EntriesRefusal) → IfOk r (λ v. SeatRead o Tells old new v.items) → IfErr r (SeatNotRead o old new) → AreOwned o.hosts (seen_of new)
+  pub read_owned : (old new : TwinSeat V J Deed) (r : Result (Vec Entry) EntriesRefusal) → IfOk r (λ v. SeatRead o Tells old new v.items) → IfErr r (SeatNotRead o old new)
+      → AreOwned o.hosts (seen_of new)
   read_owned old new (Ok v) ok err = ok.passed.owned
   read_owned old new (Err Memory) ok err = err.owned
   read_owned old new (Err NotStored) ok err = fault_owned o (number_of old) err.found (seen_of new) err.passed.owned err.fault
 
-  pub history_ok : (old mid new : TwinSeat V J Deed) (r : Result (Vec Entry) EntriesRefusal) → number_of mid ≡ number_of old → SeatFlushes o old mid → length (seen_of old) ≤ known_of mid → IfOk r (λ v. SeatRead o Tells mid new v.items) → IfOk r (λ v. SeatHistory o Tells old new v.items)
-  history_ok old mid new (Ok v) same flush high ok = history_by o (number_of old) (number_of mid) (known_of mid) Tells (seen_of old) (seen_of mid) (seen_of new) v.items same flush high ok.passed ok.read
+  pub history_ok : (old mid new : TwinSeat V J Deed) (r : Result (Vec Entry) EntriesRefusal) → number_of mid ≡ number_of old → SeatFlushes o old mid → length (seen_of old) ≤ known_of mid
+      → IfOk r (λ v. SeatRead o Tells mid new v.items) → IfOk r (λ v. SeatHistory o Tells old new v.items)
+  history_ok old mid new (Ok v) same flush high ok = history_by o (number_of old) (number_of mid) (known_of mid) Tells (seen_of old) (seen_of mid) (seen_of new) v.items same flush high ok.passed
+      ok.read
   history_ok old mid new (Err e) same flush high ok = tt
 
-  pub history_err : (old mid new : TwinSeat V J Deed) (r : Result (Vec Entry) EntriesRefusal) → number_of mid ≡ number_of old → SeatFlushes o old mid → IfErr r (SeatNotRead o mid new) → IfErr r (SeatNoHistory o old new)
+  pub history_err : (old mid new : TwinSeat V J Deed) (r : Result (Vec Entry) EntriesRefusal) → number_of mid ≡ number_of old → SeatFlushes o old mid → IfErr r (SeatNotRead o mid new)
+      → IfErr r (SeatNoHistory o old new)
   history_err old mid new (Ok v) same flush err = tt
   history_err old mid new (Err e) same flush err = inr (seen_of mid, flush, subst (λ (k : ℕ). NotRead o k (seen_of mid) (seen_of new) e) same err)

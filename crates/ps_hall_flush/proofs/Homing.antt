@@ -42,11 +42,13 @@ pub home_few : (o : Origin) (v : State) (log : List Deed) → HomeStands o v log
 home_few o v log is few = let s = home_steps o v log is in omega (arith, s, few)
 
 -- the row of a host that is served
-pub home_row : (o : Origin) (v : State) (log : List Deed) (at : ℕ) (host : List ℕ) → HomeStands o v log → slice_get o.hosts at ≡ Some host → (row : HostRow) × (slice_get v.rows.items at ≡ Some row) × (row.host ≡ host)
+pub home_row : (o : Origin) (v : State) (log : List Deed) (at : ℕ) (host : List ℕ) → HomeStands o v log → slice_get o.hosts at ≡ Some host
+    → (row : HostRow) × (slice_get v.rows.items at ≡ Some row) × (row.host ≡ host)
 home_row o v log at host is here = named v.rows.items at host (ap (λ hs. slice_get hs at) is.hosts ∙ here)
 
 -- and each row there is that
-pub home_host : (o : Origin) (v : State) (log : List Deed) (at : ℕ) (host : List ℕ) (row : HostRow) → HomeStands o v log → slice_get o.hosts at ≡ Some host → slice_get v.rows.items at ≡ Some row → row.host ≡ host
+pub home_host : (o : Origin) (v : State) (log : List Deed) (at : ℕ) (host : List ℕ) (row : HostRow) → HomeStands o v log → slice_get o.hosts at ≡ Some host → slice_get v.rows.items at ≡ Some row
+    → row.host ≡ host
 home_host o v log at host row is here was =
     let r = home_row o v log at host is here in
     ap (λ x. host_or row x) (sym was ∙ r.1) ∙ r.2
@@ -69,10 +71,12 @@ home_differ o v log is i j g a b =
 
 waits_on : (v now : State) (E more : List Entry) → BatchStands v.batch v.count E → BatchStands now.batch now.count (E ++ more) → now.count ≡ v.count → entries_of now.batch ≡ entries_of v.batch ++ more
 waits_on v now E more b c same =
-    let cut = same_cut b.begun c.begun (entries_of v.batch ++ more) (entries_of now.batch) (sym (assoc b.begun (entries_of v.batch) more) ∙ (ap (λ l. l ++ more) (sym b.all) ∙ c.all)) (b.size ∙ (sym same ∙ sym c.size)) in
+    let cut = same_cut b.begun c.begun (entries_of v.batch ++ more) (entries_of now.batch) (sym (assoc b.begun (entries_of v.batch) more) ∙ (ap (λ l. l ++ more) (sym b.all) ∙ c.all))
+    (b.size ∙ (sym same ∙ sym c.size)) in
     sym cut.1
 
-pub bytes_on : (boot : List ℕ) (v now : State) (w : World) (steps : List Step) → Stands v w → Stands now (run the_core boot w steps) → AreCalm steps → now.count ≡ v.count → now.length ≡ v.length → bytes_in v ≤ bytes_in now
+pub bytes_on : (boot : List ℕ) (v now : State) (w : World) (steps : List Step) → Stands v w → Stands now (run the_core boot w steps) → AreCalm steps → now.count ≡ v.count → now.length ≡ v.length
+    → bytes_in v ≤ bytes_in now
 bytes_on boot v now w steps is then_is calm count long =
     let f = run_follows the_core boot w steps calm in
     let b : BatchStands now.batch now.count (w.entries ++ f.more) = subst (BatchStands now.batch now.count) f.entries then_is.batch in
@@ -91,8 +95,10 @@ bytes_given v now none longer = bytes_over v.batch now.batch v.length now.length
 -- ---- a call on the state
 
 -- after which it stands for these steps more
-pub home_on : (o : Origin) (v now : State) (log : List Deed) (by bytes : ℕ) (steps : List Step) → HomeStands o v log → names now.rows.items ≡ names v.rows.items → now.limits ≡ v.limits → bytes_in v ≤ bytes_in now → AreMeasured o now.count now.length log → AreOwned o.hosts (deeds by bytes steps)
-    → HadNoRoom o.limits.changes (bytes_in now) o.boot (world_at o log) (deeds by bytes steps) → AllFoundWithin now.count (now.length + 5) o.boot (world_at o log) (deeds by bytes steps) → Stands now (run the_core o.boot (world_at o log) steps)
+pub home_on : (o : Origin) (v now : State) (log : List Deed) (by bytes : ℕ) (steps : List Step) → HomeStands o v log → names now.rows.items ≡ names v.rows.items → now.limits ≡ v.limits
+    → bytes_in v ≤ bytes_in now → AreMeasured o now.count now.length log → AreOwned o.hosts (deeds by bytes steps)
+    → HadNoRoom o.limits.changes (bytes_in now) o.boot (world_at o log) (deeds by bytes steps) → AllFoundWithin now.count (now.length + 5) o.boot (world_at o log) (deeds by bytes steps)
+    → Stands now (run the_core o.boot (world_at o log) steps)
     → HomeStands o now (log ++ deeds by bytes steps)
 home_on o v now log by bytes steps is hosts limits grows begun owned room within stands = record {
   lawful = is.lawful;
@@ -100,12 +106,14 @@ home_on o v now log by bytes steps is hosts limits grows begun owned room within
   hosts = hosts ∙ is.hosts;
   limits = limits ∙ is.limits;
   owned = owned_both o.hosts log (deeds by bytes steps) is.owned owned;
-  full = room_both o.limits.changes (bytes_in now) o.boot (start the_core o.boot o.list) log (deeds by bytes steps) (room_more o.limits.changes (bytes_in v) (bytes_in now) o.boot (start the_core o.boot o.list) log grows is.full) room;
+  full = room_both o.limits.changes (bytes_in now) o.boot (start the_core o.boot o.list) log (deeds by bytes steps)
+      (room_more o.limits.changes (bytes_in v) (bytes_in now) o.boot (start the_core o.boot o.list) log grows is.full) room;
   begun = within_both now.count (now.length + 5) o.boot (start the_core o.boot o.list) log (deeds by bytes steps) begun within;
   stands = subst (Stands now) (sym (world_more o log by bytes steps)) stands;
 }
 
-pub home_as_was : (o : Origin) (v now : State) (log : List Deed) → HomeStands o v log → names now.rows.items ≡ names v.rows.items → now.limits ≡ v.limits → bytes_in v ≤ bytes_in now → AreMeasured o now.count now.length log → Goes v now [] → HomeStands o now (log ++ [])
+pub home_as_was : (o : Origin) (v now : State) (log : List Deed) → HomeStands o v log → names now.rows.items ≡ names v.rows.items → now.limits ≡ v.limits → bytes_in v ≤ bytes_in now
+    → AreMeasured o now.count now.length log → Goes v now [] → HomeStands o now (log ++ [])
 home_as_was o v now log is hosts limits grows begun goes = home_on o v now log 0 0 [] is hosts limits grows begun tt tt tt (goes o.boot is.named (world_at o log) is.stands)
 
 -- where the numbers of the frames are as they were
@@ -124,8 +132,10 @@ Rooms o w now by steps = AllFindNoRoom o.limits.changes (bytes_in now) now.count
 
 module _ {V J : Type 0} where
   -- the state may be given back, with steps of the seat's own
-  pub may_note : (o : Origin) (t : Twin V J Deed) (s : TwinSeat V J Deed) (v now : State) (steps : List Step) → IsSeatOf t s → HasState s → HomeStands o v (seen_of s) → names now.rows.items ≡ names v.rows.items → now.limits ≡ v.limits → now.count ≡ v.count → now.length ≡ v.length
-      → now.flushed ≤ known_of s → HoldsJournal s ⊎ (state_mark now ≡ mark_of s) → AreOwned o.hosts (deeds (number_of s) (bytes_in now) steps) → (bytes_in v ≤ bytes_in now → Rooms o (world_at o (seen_of s)) now (number_of s) steps) → length steps < 2 ^ 63
+  pub may_note : (o : Origin) (t : Twin V J Deed) (s : TwinSeat V J Deed) (v now : State) (steps : List Step) → IsSeatOf t s → HasState s → HomeStands o v (seen_of s)
+      → names now.rows.items ≡ names v.rows.items → now.limits ≡ v.limits → now.count ≡ v.count → now.length ≡ v.length
+      → now.flushed ≤ known_of s → HoldsJournal s ⊎ (state_mark now ≡ mark_of s) → AreOwned o.hosts (deeds (number_of s) (bytes_in now) steps)
+      → (bytes_in v ≤ bytes_in now → Rooms o (world_at o (seen_of s)) now (number_of s) steps) → length steps < 2 ^ 63
       → Stands now (run the_core o.boot (world_at o (seen_of s)) steps) → MayNote o t s now (deeds (number_of s) (bytes_in now) steps) (deeds (number_of s) (bytes_in now) steps)
   may_note o t s v now steps twin held is hosts limits count long firm mark owned room few stands =
       let grows = bytes_on o.boot v now (world_at o (seen_of s)) steps is.stands stands (calm_of o.hosts (number_of s) (bytes_in now) steps owned) count long in
@@ -143,15 +153,19 @@ module _ {V J : Type 0} where
       }
 
   -- the same by what a call keeps that tells of no fault
-  pub notes : (o : Origin) (t : Twin V J Deed) (s : TwinSeat V J Deed) (v now : State) (steps : List Step) → IsSeatOf t s → HasState s → HomeStands o v (seen_of s) → v.flushed ≤ known_of s → mark_of s ≡ state_mark v → KeepsNumbers v now → AreQuiet steps
-      → AreOwned o.hosts (deeds (number_of s) (bytes_in now) steps) → (bytes_in v ≤ bytes_in now → Rooms o (world_at o (seen_of s)) now (number_of s) steps) → length steps < 2 ^ 63 → Stands now (run the_core o.boot (world_at o (seen_of s)) steps)
+  pub notes : (o : Origin) (t : Twin V J Deed) (s : TwinSeat V J Deed) (v now : State) (steps : List Step) → IsSeatOf t s → HasState s → HomeStands o v (seen_of s) → v.flushed ≤ known_of s
+      → mark_of s ≡ state_mark v → KeepsNumbers v now → AreQuiet steps
+      → AreOwned o.hosts (deeds (number_of s) (bytes_in now) steps) → (bytes_in v ≤ bytes_in now → Rooms o (world_at o (seen_of s)) now (number_of s) steps) → length steps < 2 ^ 63
+      → Stands now (run the_core o.boot (world_at o (seen_of s)) steps)
       → MayNote o t s now (deeds (number_of s) (bytes_in now) steps) (deeds (number_of s) (bytes_in now) steps)
   notes o t s v now steps twin held is firm mark kept quiet owned room few stands =
       let same = stays_quiet o.boot v now (world_at o (seen_of s)) steps quiet is.stands stands in
-      may_note o t s v now steps twin held is kept.hosts kept.limits kept.count kept.length_same (let f = kept.flushed in omega (arith, f, firm)) (inr (kept_mark v now kept same ∙ sym mark)) owned room few stands
+      may_note o t s v now steps twin held is kept.hosts kept.limits kept.count kept.length_same (let f = kept.flushed in omega (arith, f, firm)) (inr (kept_mark v now kept same ∙ sym mark)) owned
+      room few stands
 
   -- with no step
-  pub notes_none : (o : Origin) (t : Twin V J Deed) (s : TwinSeat V J Deed) (v now : State) → IsSeatOf t s → HasState s → HomeStands o v (seen_of s) → names now.rows.items ≡ names v.rows.items → now.limits ≡ v.limits → bytes_in v ≤ bytes_in now → AreMeasured o now.count now.length (seen_of s) → now.flushed ≡ v.flushed → v.flushed ≤ known_of s
+  pub notes_none : (o : Origin) (t : Twin V J Deed) (s : TwinSeat V J Deed) (v now : State) → IsSeatOf t s → HasState s → HomeStands o v (seen_of s) → names now.rows.items ≡ names v.rows.items
+      → now.limits ≡ v.limits → bytes_in v ≤ bytes_in now → AreMeasured o now.count now.length (seen_of s) → now.flushed ≡ v.flushed → v.flushed ≤ known_of s
       → HoldsJournal s ⊎ (state_mark now ≡ mark_of s) → Goes v now [] → MayNote o t s now [] []
   notes_none o t s v now twin held is hosts limits grows begun flushed firm mark goes = record {
     same = refl;
@@ -167,8 +181,10 @@ module _ {V J : Type 0} where
   -- ---- what the pass has seen
 
   -- a call in one holding, by its steps
-  pub did_by : (o : Origin) (old mid new : TwinSeat V J Deed) (v now : State) (steps : List Step) (done : World → List Step → Type 0) → number_of mid ≡ number_of old → Later maker_of (number_of old) (seen_of old) (seen_of mid) → HomeStands o v (seen_of mid)
-      → AreOwned o.hosts (deeds (number_of mid) (bytes_in now) steps) → seen_of new ≡ seen_of mid ++ deeds (number_of mid) (bytes_in now) steps → done (world_at o (seen_of mid)) steps → Does o (number_of old) (seen_of old) (seen_of new) done
+  pub did_by : (o : Origin) (old mid new : TwinSeat V J Deed) (v now : State) (steps : List Step) (done : World → List Step → Type 0) → number_of mid ≡ number_of old
+      → Later maker_of (number_of old) (seen_of old) (seen_of mid) → HomeStands o v (seen_of mid)
+      → AreOwned o.hosts (deeds (number_of mid) (bytes_in now) steps) → seen_of new ≡ seen_of mid ++ deeds (number_of mid) (bytes_in now) steps → done (world_at o (seen_of mid)) steps
+      → Does o (number_of old) (seen_of old) (seen_of new) done
   did_by o old mid new v now steps done number later is owned seen does = record {
     between = later.0;
     none = none_of (number_of old) later.0 later.2;
@@ -180,7 +196,8 @@ module _ {V J : Type 0} where
   }
 
   -- and where it adds none
-  pub passed_by : (o : Origin) (old mid new : TwinSeat V J Deed) → Later maker_of (number_of old) (seen_of old) (seen_of mid) → AreOwned o.hosts (seen_of mid) → seen_of new ≡ seen_of mid → Passes o (number_of old) (seen_of old) (seen_of new)
+  pub passed_by : (o : Origin) (old mid new : TwinSeat V J Deed) → Later maker_of (number_of old) (seen_of old) (seen_of mid) → AreOwned o.hosts (seen_of mid) → seen_of new ≡ seen_of mid
+      → Passes o (number_of old) (seen_of old) (seen_of new)
   passed_by o old mid new later owned seen = record {
     between = later.0;
     none = none_of (number_of old) later.0 later.2;
@@ -189,7 +206,8 @@ module _ {V J : Type 0} where
   }
 
 -- a fault that is told
-pub broken_home : (o : Origin) (v now : State) (log : List Deed) (by : ℕ) → HomeStands o v log → KeepsNumbers v now → Goes v now (Broken ∷ []) → HomeStands o now (log ++ deeds by (bytes_in now) (Broken ∷ []))
+pub broken_home : (o : Origin) (v now : State) (log : List Deed) (by : ℕ) → HomeStands o v log → KeepsNumbers v now → Goes v now (Broken ∷ [])
+    → HomeStands o now (log ++ deeds by (bytes_in now) (Broken ∷ []))
 broken_home o v now log by is kept goes =
     let stands = goes o.boot is.named (world_at o log) is.stands in
     home_on o v now log by (bytes_in now) (Broken ∷ []) is kept.hosts kept.limits (bytes_on o.boot v now (world_at o log) (Broken ∷ []) is.stands stands (tt, tt) kept.count kept.length_same)

@@ -16,4 +16,5 @@ archive_lasts κ b d p q =
     let one = alone κ d q in
     let journal = alone κ ((d ++ []) ++ (d ++ [])) (both κ (d ++ []) (d ++ []) one one) in
     both κ (b ++ (d ++ [])) (((d ++ []) ++ (((d ++ []) ++ (d ++ [])) ++ [])) ++ (((b ++ []) ++ []) ++ [])) (both κ b (d ++ []) p one)
-    (both κ ((d ++ []) ++ (((d ++ []) ++ (d ++ [])) ++ [])) (((b ++ []) ++ []) ++ []) (both κ (d ++ []) (((d ++ []) ++ (d ++ [])) ++ []) one journal) (alone κ ((b ++ []) ++ []) (alone κ (b ++ []) (alone κ b p))))
+    (both κ ((d ++ []) ++ (((d ++ []) ++ (d ++ [])) ++ [])) (((b ++ []) ++ []) ++ []) (both κ (d ++ []) (((d ++ []) ++ (d ++ [])) ++ []) one journal)
+    (alone κ ((b ++ []) ++ []) (alone κ (b ++ []) (alone κ b p))))

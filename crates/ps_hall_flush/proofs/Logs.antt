@@ -75,7 +75,8 @@ calm_of hosts by bytes steps owned = subst AreCalm (steps_deeds by bytes steps) 
 pub prefix_follows : (o : Origin) (l log : List Deed) → Prefix l log → AreOwned o.hosts log → Follows (world_at o l) (world_at o log)
 prefix_follows o l log more owned =
     let rest : AreOwned o.hosts more.0 = owned_behind o.hosts l more.0 (subst (AreOwned o.hosts) more.1 owned) in
-    subst (λ (v : World). Follows (world_at o l) v) (sym (ap (λ g. world_at o g) more.1 ∙ world_both o l more.0)) (run_follows the_core o.boot (world_at o l) (steps_in more.0) (calm o.hosts more.0 rest))
+    subst (λ (v : World). Follows (world_at o l) v) (sym (ap (λ g. world_at o g) more.1 ∙ world_both o l more.0))
+    (run_follows the_core o.boot (world_at o l) (steps_in more.0) (calm o.hosts more.0 rest))
 
 pub prefix_then : (one two three : List Deed) → Prefix one two → Prefix two three → Prefix one three
 prefix_then one two three a b = (a.0 ++ b.0, b.1 ∙ (ap (λ l. l ++ b.0) a.1 ∙ assoc one a.0 b.0))
@@ -97,7 +98,8 @@ pub room_more : (limit upto more : ℕ) (boot : List ℕ) (w : World) (log : Lis
 room_more limit upto more boot w [] le h = tt
 room_more limit upto more boot w (d ∷ log) le h = (((let a = h.0.0 in omega (arith, a, le)), h.0.1), room_more limit upto more boot (happens the_core boot w d.step) log le h.1)
 
-pub room_both : (limit upto : ℕ) (boot : List ℕ) (w : World) (one two : List Deed) → HadNoRoom limit upto boot w one → HadNoRoom limit upto boot (run the_core boot w (steps_in one)) two → HadNoRoom limit upto boot w (one ++ two)
+pub room_both : (limit upto : ℕ) (boot : List ℕ) (w : World) (one two : List Deed) → HadNoRoom limit upto boot w one → HadNoRoom limit upto boot (run the_core boot w (steps_in one)) two
+    → HadNoRoom limit upto boot w (one ++ two)
 room_both limit upto boot w [] two a b = b
 room_both limit upto boot w (d ∷ one) two a b = (a.0, room_both limit upto boot (happens the_core boot w d.step) one two a.1 b)
 

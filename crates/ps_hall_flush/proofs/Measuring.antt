@@ -26,7 +26,8 @@ use Rattle.ps_hall_flush.specs.Origin.{Origin}
 
 -- ---- one deed
 
-within_step : (c1 u1 c2 u2 bytes : ℕ) (w : World) (s : Step) → (w.broken ≡ false → (length w.entries ≤ c1 → bytes ≤ u1) → length w.entries ≤ c2 → bytes ≤ u2) → FoundWithin c1 u1 bytes w s → FoundWithin c2 u2 bytes w s
+within_step : (c1 u1 c2 u2 bytes : ℕ) (w : World) (s : Step) → (w.broken ≡ false → (length w.entries ≤ c1 → bytes ≤ u1) → length w.entries ≤ c2 → bytes ≤ u2) → FoundWithin c1 u1 bytes w s
+    → FoundWithin c2 u2 bytes w s
 within_step c1 u1 c2 u2 bytes w (Arrive g arrival true) go is = (is.0, λ le. go is.0 is.1 le)
 within_step c1 u1 c2 u2 bytes w (Arrive g arrival false) go is = tt
 within_step c1 u1 c2 u2 bytes w (Flush m) go is = tt
@@ -55,7 +56,8 @@ lacks_step limit bytes few count upto found w (Crash m) less more room within = 
 
 -- ---- a list of deeds
 
-pub within_both : (count upto : ℕ) (boot : List ℕ) (w : World) (one two : List Deed) → AllFoundWithin count upto boot w one → AllFoundWithin count upto boot (run the_core boot w (steps_in one)) two → AllFoundWithin count upto boot w (one ++ two)
+pub within_both : (count upto : ℕ) (boot : List ℕ) (w : World) (one two : List Deed) → AllFoundWithin count upto boot w one → AllFoundWithin count upto boot (run the_core boot w (steps_in one)) two
+    → AllFoundWithin count upto boot w (one ++ two)
 within_both count upto boot w [] two a b = b
 within_both count upto boot w (d ∷ one) two a b = (a.0, within_both count upto boot (happens the_core boot w d.step) one two a.1 b)
 
@@ -63,7 +65,8 @@ pub within_front : (count upto : ℕ) (boot : List ℕ) (w : World) (one two : L
 within_front count upto boot w [] two h = tt
 within_front count upto boot w (d ∷ one) two h = (h.0, within_front count upto boot (happens the_core boot w d.step) one two h.1)
 
-pub within_behind : (count upto : ℕ) (boot : List ℕ) (w : World) (one two : List Deed) → AllFoundWithin count upto boot w (one ++ two) → AllFoundWithin count upto boot (run the_core boot w (steps_in one)) two
+pub within_behind : (count upto : ℕ) (boot : List ℕ) (w : World) (one two : List Deed) → AllFoundWithin count upto boot w (one ++ two)
+    → AllFoundWithin count upto boot (run the_core boot w (steps_in one)) two
 within_behind count upto boot w [] two h = h
 within_behind count upto boot w (d ∷ one) two h = within_behind count upto boot (happens the_core boot w d.step) one two h.1
 
@@ -73,13 +76,15 @@ within_more count upto more boot w (d ∷ log) le h =
     (within_step count upto count more d.bytes w d.step (λ quiet old few. let b = old few in omega (arith, b, le)) h.0, within_more count upto more boot (happens the_core boot w d.step) log le h.1)
 
 -- by how long the store was at most
-pub within_all : (limit upto c1 u1 c2 u2 : ℕ) (boot : List ℕ) (w : World) (log : List Deed) → upto ≤ u2 → HadNoRoom limit upto boot w log → AllFoundWithin c1 u1 boot w log → AllFoundWithin c2 u2 boot w log
+pub within_all : (limit upto c1 u1 c2 u2 : ℕ) (boot : List ℕ) (w : World) (log : List Deed) → upto ≤ u2 → HadNoRoom limit upto boot w log → AllFoundWithin c1 u1 boot w log
+    → AllFoundWithin c2 u2 boot w log
 within_all limit upto c1 u1 c2 u2 boot w [] le had h = tt
 within_all limit upto c1 u1 c2 u2 boot w (d ∷ log) le had h =
     (within_step c1 u1 c2 u2 d.bytes w d.step (λ quiet old few. let b = had.0.0 in omega (arith, b, le)) h.0, within_all limit upto c1 u1 c2 u2 boot (happens the_core boot w d.step) log le had.1 h.1)
 
 -- behind so many entries
-pub within_late : (count upto few less : ℕ) (boot : List ℕ) (w : World) (log : List Deed) → AreCalm (steps_in log) → few ≤ count → (few ≡ count → upto ≤ less) → count ≤ length w.entries → AllFoundWithin count upto boot w log → AllFoundWithin few less boot w log
+pub within_late : (count upto few less : ℕ) (boot : List ℕ) (w : World) (log : List Deed) → AreCalm (steps_in log) → few ≤ count → (few ≡ count → upto ≤ less) → count ≤ length w.entries
+    → AllFoundWithin count upto boot w log → AllFoundWithin few less boot w log
 within_late count upto few less boot w [] calm low same long h = tt
 within_late count upto few less boot w (d ∷ log) calm low same long h =
     let on = one_follows the_core boot w d.step calm.0 in
@@ -96,7 +101,8 @@ within_broken c1 u1 c2 u2 boot w (d ∷ log) calm broken h = (
   within_broken c1 u1 c2 u2 boot (happens the_core boot w d.step) log calm.1 ((one_follows the_core boot w d.step calm.0).broken broken) h.1,
 )
 
-lacks_all : (limit bytes few count upto most : ℕ) (boot : List ℕ) (w : World) (log : List Deed) → few ≤ count → upto ≤ bytes → HadNoRoom limit most boot w log → AllFoundWithin count upto boot w log → AllLackRoom limit bytes few boot w log
+lacks_all : (limit bytes few count upto most : ℕ) (boot : List ℕ) (w : World) (log : List Deed) → few ≤ count → upto ≤ bytes → HadNoRoom limit most boot w log → AllFoundWithin count upto boot w log
+    → AllLackRoom limit bytes few boot w log
 lacks_all limit bytes few count upto most boot w [] less more had h = tt
 lacks_all limit bytes few count upto most boot w (d ∷ log) less more had h =
     (lacks_step limit bytes few count upto d.bytes w d.step less more had.0.1 h.0, lacks_all limit bytes few count upto most boot (happens the_core boot w d.step) log less more had.1 h.1)
@@ -107,7 +113,8 @@ measured_as o a b c d log p q m = subst (λ (n : ℕ). AreMeasured o n d log) p 
 -- ---- what is left of a store
 
 module _ {D : Type 0} {g : Ghosts D} where
-  pub each_lacks : (o : Origin) (y : Store D g) (w : World) (log : List Deed) (most : ℕ) → LeavesSized y w → HadNoRoom o.limits.changes most o.boot (start the_core o.boot o.list) log → AreMeasured o (ends (firm_of y) w.made) (length_in y) log → AreMeasured o y.count y.length log
+  pub each_lacks : (o : Origin) (y : Store D g) (w : World) (log : List Deed) (most : ℕ) → LeavesSized y w → HadNoRoom o.limits.changes most o.boot (start the_core o.boot o.list) log
+      → AreMeasured o (ends (firm_of y) w.made) (length_in y) log → AreMeasured o y.count y.length log
       → EachLacksRoom o (g.synced (disk_in y)) (g.written (disk_in y)) log
   each_lacks o y w log most sizes had firm begun c may n has E spells =
       let first = start the_core o.boot o.list in
@@ -137,11 +144,14 @@ had_step limit count begun bytes w (Ended g role) is = (tt, tt)
 had_step limit count begun bytes w Broken is = (tt, tt)
 had_step limit count begun bytes w (Crash m) is = (tt, tt)
 
-pub rooms_had : (limit upto count begun bytes : ℕ) (boot : List ℕ) (w : World) (by : ℕ) (steps : List Step) → AllFindNoRoom limit upto count begun bytes boot w steps → HadNoRoom limit upto boot w (deeds by bytes steps)
+pub rooms_had : (limit upto count begun bytes : ℕ) (boot : List ℕ) (w : World) (by : ℕ) (steps : List Step) → AllFindNoRoom limit upto count begun bytes boot w steps
+    → HadNoRoom limit upto boot w (deeds by bytes steps)
 rooms_had limit upto count begun bytes boot w by [] h = tt
-rooms_had limit upto count begun bytes boot w by (s ∷ ss) h = ((h.0.0, (had_step limit count begun bytes w s h.0.1).0), rooms_had limit upto count begun bytes boot (happens the_core boot w s) by ss h.1)
+rooms_had limit upto count begun bytes boot w by (s ∷ ss) h =
+    ((h.0.0, (had_step limit count begun bytes w s h.0.1).0), rooms_had limit upto count begun bytes boot (happens the_core boot w s) by ss h.1)
 
-pub rooms_within : (limit upto count begun bytes : ℕ) (boot : List ℕ) (w : World) (by : ℕ) (steps : List Step) → AllFindNoRoom limit upto count begun bytes boot w steps → AllFoundWithin count begun boot w (deeds by bytes steps)
+pub rooms_within : (limit upto count begun bytes : ℕ) (boot : List ℕ) (w : World) (by : ℕ) (steps : List Step) → AllFindNoRoom limit upto count begun bytes boot w steps
+    → AllFoundWithin count begun boot w (deeds by bytes steps)
 rooms_within limit upto count begun bytes boot w by [] h = tt
 rooms_within limit upto count begun bytes boot w by (s ∷ ss) h = ((had_step limit count begun bytes w s h.0.1).1, rooms_within limit upto count begun bytes boot (happens the_core boot w s) by ss h.1)
 
@@ -150,10 +160,12 @@ no_bytes [] le = refl
 no_bytes (e ∷ es) le = absurd (omega (arith, le))
 
 -- a line that is told so at a place that the frames have that were begun finds none that wait
-pub early : (boot : List ℕ) (now : State) (w : World) (host : List ℕ) (arrival : Arrival) → Stands now (run the_core boot w (Arrive host arrival true ∷ [])) → length w.entries ≤ now.count → bytes_in now ≤ now.length + 5
+pub early : (boot : List ℕ) (now : State) (w : World) (host : List ℕ) (arrival : Arrival) → Stands now (run the_core boot w (Arrive host arrival true ∷ [])) → length w.entries ≤ now.count
+    → bytes_in now ≤ now.length + 5
 early boot now w host arrival stands few =
     let b : BatchStands now.batch now.count (more_entries w.entries (the_core.entry w.entries host ((w.hosts host).line + 1) arrival true)) = stands.batch in
-    let same : more_entries w.entries (the_core.entry w.entries host ((w.hosts host).line + 1) arrival true) ≡ w.entries = ap (λ x. more_entries w.entries x) (the-laws.full_none w.entries host ((w.hosts host).line + 1) arrival) in
+    let same : more_entries w.entries (the_core.entry w.entries host ((w.hosts host).line + 1) arrival true) ≡ w.entries = ap (λ x. more_entries w.entries x)
+    (the-laws.full_none w.entries host ((w.hosts host).line + 1) arrival) in
     let all = ap length (sym same ∙ b.all) ∙ length-append b.begun (entries_of now.batch) in
     let size = b.size in
     let none = no_bytes (entries_of now.batch) (omega (arith, all, size, few)) in

@@ -37,7 +37,8 @@ took_broken w h None = refl
 took_broken w h (Some s) = either (nat_le s.step w.flushed) w (record w { hosts = at_host h (λ part. record part { taken = part.taken + 1 }) w.hosts }) w refl refl
 
 emits_broken : (w : World) (a : Jid) (f : Flight) (n : Option Notice) → (emits w a f n).broken ≡ w.broken
-emits_broken w a Nothing (Some n) = either (nat_lt n.place (durable w)) w (record w { addresses = at_address a (λ part. record part { sent = part.sent ++ n ∷ []; flight = Unrecorded }) w.addresses }) w refl refl
+emits_broken w a Nothing (Some n) = either (nat_lt n.place (durable w)) w (record w { addresses = at_address a (λ part. record part { sent = part.sent ++ n ∷ []; flight = Unrecorded }) w.addresses })
+    w refl refl
 emits_broken w a Nothing None = refl
 emits_broken w a Unrecorded n = refl
 emits_broken w a (Recorded t) n = refl

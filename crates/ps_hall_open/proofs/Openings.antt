@@ -81,8 +81,10 @@ all_durable service some E each =
     omega (arith, most, least, size)
 
 -- what a crash leaves while a store is opened
-since_opened : {D : Type 0} (g : Ghosts D) (at : OpenedAt) (disk new : D) (service : List ℕ) (E : List Entry) → at.start ≡ g.moment disk → at.synced ≡ g.synced disk → at.written ≡ g.written disk → at.moment ≡ g.moment new
-    → OpenLeaves g.moment g.left_since g.synced g.written E (Boot service) disk new → (g.written disk ≡ [] → Fronts g.moment g.left_since g.synced g.written disk new) → SinceStart g at new (start the_core service E)
+since_opened : {D : Type 0} (g : Ghosts D) (at : OpenedAt) (disk new : D) (service : List ℕ) (E : List Entry) → at.start ≡ g.moment disk → at.synced ≡ g.synced disk → at.written ≡ g.written disk
+    → at.moment ≡ g.moment new
+    → OpenLeaves g.moment g.left_since g.synced g.written E (Boot service) disk new → (g.written disk ≡ [] → Fronts g.moment g.left_since g.synced g.written disk new)
+    → SinceStart g at new (start the_core service E)
 since_opened {D} g at disk new service E begun synced written moment moments fronts =
     let w = start the_core service E in
     let more = length-append E (Boot service ∷ []) in
@@ -126,7 +128,8 @@ module _ {D : Type 0} {g : Ghosts D} (journal : Journal D g) (r : Rebuilt) (rows
           few = omega (arith, number, more, few);
         }
 
-    state_stands : (hosts : List (List ℕ)) → AreHosts hosts → AreFreshRows hosts rows → limits.changes ≤ 2 ^ 30 → limits.whole ≤ 2 ^ 30 → length_of journal ≤ limits.whole → Stands v (start the_core service E)
+    state_stands : (hosts : List (List ℕ)) → AreHosts hosts → AreFreshRows hosts rows → limits.changes ≤ 2 ^ 30 → limits.whole ≤ 2 ^ 30 → length_of journal ≤ limits.whole
+        → Stands v (start the_core service E)
     state_stands hosts are fresh changes whole room = record {
       sound = start_sound service some E restored.each;
       state = made.service ∙ restored.state;
@@ -137,14 +140,17 @@ module _ {D : Type 0} {g : Ghosts D} (journal : Journal D g) (r : Rebuilt) (rows
       batch = batch_stands;
       within = within changes whole room;
       rows = subst (λ (l : List HostRow). RowsStand l (λ k. fresh_host)) (sym made.rows_are) (rows_stand hosts rows are fresh);
-      hands = subst (λ (l : List Jid). HandsStand v.rows.items 0 l (λ k. fresh_address)) (sym (made.held ∙ restored.held)) (subst (λ (l : List HostRow). HandsStand l 0 [] (λ k. fresh_address)) (sym made.rows_are) (hands_stand hosts rows fresh));
+      hands = subst (λ (l : List Jid). HandsStand v.rows.items 0 l (λ k. fresh_address)) (sym (made.held ∙ restored.held))
+          (subst (λ (l : List HostRow). HandsStand l 0 [] (λ k. fresh_address)) (sym made.rows_are) (hands_stand hosts rows fresh));
       queues = subst (λ (q : List Notice). QueuesStand q (E ++ Boot service ∷ [])) (sym made.queues) restored.queues;
     }
 
-    store_stands : (at : OpenedAt) → BeganFrom at journal (start the_core service E) → broken_of journal ≡ None → (g.tells → spelled (g.seen (disk_of journal)) (E ++ Boot service ∷ [])) → (g.tells → LeavesList (g.synced (disk_of journal)) (g.written (disk_of journal)) (E ++ Boot service ∷ []))
+    store_stands : (at : OpenedAt) → BeganFrom at journal (start the_core service E) → broken_of journal ≡ None → (g.tells → spelled (g.seen (disk_of journal)) (E ++ Boot service ∷ []))
+        → (g.tells → LeavesList (g.synced (disk_of journal)) (g.written (disk_of journal)) (E ++ Boot service ∷ []))
         → StoreStands at y (start the_core service E)
     store_stands at began unbroken seen lasts =
-        made.stands at (start the_core service E) (record { sound = start_sound service some E restored.each; steps = refl; unbroken = refl; whole = unbroken; seen = seen; lasts = lasts }) counted began
+        made.stands at (start the_core service E) (record { sound = start_sound service some E restored.each; steps = refl; unbroken = refl; whole = unbroken; seen = seen; lasts = lasts }) counted
+        began
 
   long_same : (at : OpenedAt) (w : World) → StoreStands at y w → w.broken ≡ false → length_in y ≡ length_of journal
   long_same at w is unbroken = sym (is.whole unbroken).length_is ∙ (ap (λ (p : ℕ × ℕ). p.1) made.mark ∙ made.length_is)
@@ -154,7 +160,8 @@ module _ {D : Type 0} {g : Ghosts D} (journal : Journal D g) (r : Rebuilt) (rows
   at_with disk long = record { moment = g.moment (disk_in y); faults = g.faults (disk_in y); bytes = long; start = g.moment disk; seen = g.seen disk; synced = g.synced disk; written = g.written disk }
 
   began_with : (disk : D) (service : List ℕ) (E : List Entry) → (g.tells → IsShortIfUnbegun (g.seen disk) → OpenLeaves g.moment g.left_since g.synced g.written E (Boot service) disk (disk_of journal))
-      → (g.tells → g.written disk ≡ [] → IsShortIfUnbegun (g.seen disk) → Fronts g.moment g.left_since g.synced g.written disk (disk_of journal)) → (long : ℕ) → long ≡ length_of journal → BeganFrom (at_with disk long) journal (start the_core service E)
+      → (g.tells → g.written disk ≡ [] → IsShortIfUnbegun (g.seen disk) → Fronts g.moment g.left_since g.synced g.written disk (disk_of journal)) → (long : ℕ) → long ≡ length_of journal
+      → BeganFrom (at_with disk long) journal (start the_core service E)
   began_with disk service E moments fronts long same = record {
     moment = ap g.moment made.disk;
     faults = ap g.faults made.disk;
@@ -164,9 +171,12 @@ module _ {D : Type 0} {g : Ghosts D} (journal : Journal D g) (r : Rebuilt) (rows
 
   -- a store that was opened
   pub opens : (disk : D) (service : List ℕ) (hosts : List (List ℕ)) (E : List Entry) (len : ℕ) → service ≢ [] → AreHosts hosts → AreFreshRows hosts rows → IsRestored E (Boot service) r
-      → limits.changes ≤ 2 ^ 30 → limits.whole ≤ 2 ^ 30 → (g.tells → IsStore (g.seen disk) E) → (g.tells → HasLength (g.seen disk) len) → length_of journal ≡ len + frame_of (Boot service) → length_of journal ≤ limits.whole
-      → broken_of journal ≡ None → (g.tells → spelled (g.seen (disk_of journal)) (E ++ Boot service ∷ [])) → (g.tells → LeavesList (g.synced (disk_of journal)) (g.written (disk_of journal)) (E ++ Boot service ∷ []))
-      → (g.tells → IsShortIfUnbegun (g.seen disk) → OpenLeaves g.moment g.left_since g.synced g.written E (Boot service) disk (disk_of journal)) → (g.tells → g.written disk ≡ [] → IsShortIfUnbegun (g.seen disk) → Fronts g.moment g.left_since g.synced g.written disk (disk_of journal))
+      → limits.changes ≤ 2 ^ 30 → limits.whole ≤ 2 ^ 30 → (g.tells → IsStore (g.seen disk) E) → (g.tells → HasLength (g.seen disk) len) → length_of journal ≡ len + frame_of (Boot service)
+      → length_of journal ≤ limits.whole
+      → broken_of journal ≡ None → (g.tells → spelled (g.seen (disk_of journal)) (E ++ Boot service ∷ []))
+      → (g.tells → LeavesList (g.synced (disk_of journal)) (g.written (disk_of journal)) (E ++ Boot service ∷ []))
+      → (g.tells → IsShortIfUnbegun (g.seen disk) → OpenLeaves g.moment g.left_since g.synced g.written E (Boot service) disk (disk_of journal))
+      → (g.tells → g.written disk ≡ [] → IsShortIfUnbegun (g.seen disk) → Fronts g.moment g.left_since g.synced g.written disk (disk_of journal))
       → IsOpen disk service hosts limits E v y
   opens disk service hosts E len some are fresh restored changes whole store long size room unbroken seen lasts moments fronts =
       let began = began_with disk service E moments fronts in

@@ -34,7 +34,8 @@ few-handed : (E : List Entry) (a : Jid) → IsLawful the_core E → handed E a �
 few-handed E a is = subst (λ (r : List Entry). handed r a ≤ length (the_core.notices r a)) (take-whole (length E) E (omega arith)) (handed-few the_core the-laws (length E) E a is (omega arith))
 
 -- after an entry that hands nothing
-queues_plain : (E : List Entry) (old new : List Notice) (e : Entry) → IsLawful the_core E → QueuesStand old E → new ≡ old ++ notices_at (replay E) e → ((a : Jid) → handed (e ∷ []) a ≡ 0) → QueuesStand new (E ++ e ∷ [])
+queues_plain : (E : List Entry) (old new : List Notice) (e : Entry) → IsLawful the_core E → QueuesStand old E → new ≡ old ++ notices_at (replay E) e → ((a : Jid) → handed (e ∷ []) a ≡ 0)
+    → QueuesStand new (E ++ e ∷ [])
 queues_plain E old new e is stand more nothing a bare =
     let ns = notices_at (replay E) e in
     let h = handed-append E (e ∷ []) a in
@@ -44,7 +45,8 @@ queues_plain E old new e is stand more nothing a bare =
     ∙ ap (drop (handed E a)) (sym (notices-more E e a bare)) ∙ ap (λ k. drop k (the_core.notices (E ++ e ∷ []) a)) (sym same)
 
 -- the queue after a Handed of the address
-queue_handed : (E : List Entry) (old new : List Notice) (a b : Jid) (t : Bool) → a.resource ≡ [] → b.resource ≡ [] → same_bare a b ≡ t → QueuesStand old E → new ≡ without_first (is_to a) old → queue b new ≡ drop (handed (E ++ Handed a ∷ []) b) (the_core.notices (E ++ Handed a ∷ []) b)
+queue_handed : (E : List Entry) (old new : List Notice) (a b : Jid) (t : Bool) → a.resource ≡ [] → b.resource ≡ [] → same_bare a b ≡ t → QueuesStand old E → new ≡ without_first (is_to a) old
+    → queue b new ≡ drop (handed (E ++ Handed a ∷ []) b) (the_core.notices (E ++ Handed a ∷ []) b)
 queue_handed E old new a b true bare empty e is at =
     let same : a ≡ b = bare_same a b e bare empty in
     let h = handed-append E (Handed a ∷ []) b in
@@ -58,7 +60,8 @@ queue_handed E old new a b false bare empty e is at =
     ap (queue b) at ∙ others_stay a b old e ∙ is b empty ∙ ap (λ k. drop k (the_core.notices E b)) (sym same) ∙ ap (drop (handed (E ++ Handed a ∷ []) b)) (sym (none-made E a b empty))
 
 -- after an entry that was taken
-pub queues_taken : (E : List Entry) (old new : List Notice) (e : Entry) → IsLawful the_core E → IsEntry e → QueuesStand old E → new ≡ unhanded e (old ++ notices_at (replay E) e) → QueuesStand new (E ++ e ∷ [])
+pub queues_taken : (E : List Entry) (old new : List Notice) (e : Entry) → IsLawful the_core E → IsEntry e → QueuesStand old E → new ≡ unhanded e (old ++ notices_at (replay E) e)
+    → QueuesStand new (E ++ e ∷ [])
 queues_taken E old new (Boot service) is entry stand at = queues_plain E old new (Boot service) is stand at (λ a. refl)
 queues_taken E old new (Change host line moment t) is entry stand at = queues_plain E old new (Change host line moment t) is stand at (λ a. refl)
 queues_taken E old new (Handed to) is entry stand at =

@@ -32,7 +32,8 @@ rose_later before mid now le rose = omega (arith, le, rose)
 
 -- the journal wasn't opened
 module _ (tells : Type 0) (bytes service : List ℕ) (before now whole : ℕ) (taken : List Placed → Type 0) (each : (ps : List Placed) → taken ps → lawful (entries_in ps)) where
-  pub refused_journal : (why : JournalWhy) → (tells → IsWhyStopped taken is_refused bytes why) → (why ≡ journal.Store → Rose before now) → OpenNot tells bytes before now service whole (open_why (read_why why))
+  pub refused_journal : (why : JournalWhy) → (tells → IsWhyStopped taken is_refused bytes why) → (why ≡ journal.Store → Rose before now)
+      → OpenNot tells bytes before now service whole (open_why (read_why why))
   refused_journal (journal.Damaged at placed) stopped store = λ t. stopped_damaged taken each bytes at placed.items (stopped t)
   refused_journal journal.Store stopped store = store refl
   refused_journal journal.Memory stopped store = tt
@@ -50,21 +51,24 @@ damaged_stays old new journal.Store stays = tt
 damaged_stays old new journal.Memory stays = tt
 
 -- where the Boot wasn't taken they aren't damaged
-pub undamaged : {D : Type 0} {g : Ghosts D} (old new : Journal D g) (placed : List Placed) (boot : Entry) (whole : ℕ) (why : OpenWhy) (before after : List ℕ) → NotRestored old new placed boot whole why → StaysIfDamaged why before after
+pub undamaged : {D : Type 0} {g : Ghosts D} (old new : Journal D g) (placed : List Placed) (boot : Entry) (whole : ℕ) (why : OpenWhy) (before after : List ℕ)
+    → NotRestored old new placed boot whole why → StaysIfDamaged why before after
 undamaged old new placed boot whole (Damaged at) before after not = absurd not
 undamaged old new placed boot whole Store before after not = tt
 undamaged old new placed boot whole Full before after not = tt
 undamaged old new placed boot whole Memory before after not = tt
 
 -- why the Boot isn't taken behind the entries
-pub not_restored : {D : Type 0} {g : Ghosts D} (old new : Journal D g) (placed : List Placed) (boot : Entry) (whole : ℕ) (why : OpenWhy) → lawful (entries_in placed) → NotBegun old new boot whole why → NotRestored old new placed boot whole why
+pub not_restored : {D : Type 0} {g : Ghosts D} (old new : Journal D g) (placed : List Placed) (boot : Entry) (whole : ℕ) (why : OpenWhy) → lawful (entries_in placed) → NotBegun old new boot whole why
+    → NotRestored old new placed boot whole why
 not_restored old new placed boot whole (Damaged at) each not = not
 not_restored old new placed boot whole Store each not = not
 not_restored old new placed boot whole Full each not = (not, each)
 not_restored old new placed boot whole Memory each not = tt
 
 -- the Boot wasn't taken
-pub refused_restore : {D : Type 0} {g : Ghosts D} (old new : Journal D g) (disk now : D) (placed : List Placed) (boot : Entry) (service : List ℕ) (whole : ℕ) (why : OpenWhy) → now ≡ disk_of new → boot ≡ Boot service
+pub refused_restore : {D : Type 0} {g : Ghosts D} (old new : Journal D g) (disk now : D) (placed : List Placed) (boot : Entry) (service : List ℕ) (whole : ℕ) (why : OpenWhy) → now ≡ disk_of new
+    → boot ≡ Boot service
     → (g.tells → IsOpened (g.seen disk) placed) → (g.tells → HasLength (g.seen disk) (length_of old)) → g.faults disk ≤ g.faults (disk_of old) → NotRestored old new placed boot whole why
     → OpenNot g.tells (g.seen disk) (g.faults disk) (g.faults now) service whole why
 refused_restore {D} {g} old new disk now placed boot service whole (Damaged at) same is opened long later not = absurd not
@@ -85,7 +89,8 @@ journal_left synced written E boot c (inl may) = inl may
 journal_left synced written E boot c (inr short) = inr (inl short)
 
 -- what a crash leaves while the journal is opened and the Boot appended
-pub open_left : {D : Type 0} (g : Ghosts D) (disk mid new : D) (placed : List Placed) (boot : Entry) (E : List Entry) → spelled (g.seen disk) E → IsOpened (g.seen disk) placed → spelled (g.seen mid) (entries_in placed)
+pub open_left : {D : Type 0} (g : Ghosts D) (disk mid new : D) (placed : List Placed) (boot : Entry) (E : List Entry) → spelled (g.seen disk) E → IsOpened (g.seen disk) placed
+    → spelled (g.seen mid) (entries_in placed)
     → LeavesList (g.synced mid) (g.written mid) (entries_in placed)
     → LeavesOnly g.moment g.left_since disk mid (λ c. MayLeave (g.synced disk) (g.written disk) c ⊎ spelled c E)
     → ((F : List Entry) → spelled (g.seen mid) F → LeavesList (g.synced mid) (g.written mid) F → LeavesOnly g.moment g.left_since mid new (IsWithOrWithout F (boot ∷ [])))

@@ -119,13 +119,15 @@ all_few placed r is few =
     let size : r.service.state.count ≡ length placed = ap (λ (t : State). t.count) is.state ∙ (count-is (entries_in placed) ∙ length-map placed (λ (p : Placed). p.entry)) in
     omega (arith, size)
 
-pub restored_is : (placed : List Placed) (r now : Rebuilt) (boot : Entry) → IsReplayed (entries_in placed) r → length placed < 2 ^ 61 → IsBoot boot → now.queues ≡ r.queues → now.service.state ≡ after r.service.state boot
+pub restored_is : (placed : List Placed) (r now : Rebuilt) (boot : Entry) → IsReplayed (entries_in placed) r → length placed < 2 ^ 61 → IsBoot boot → now.queues ≡ r.queues
+    → now.service.state ≡ after r.service.state boot
     → IsRestored (entries_in placed) boot now
 restored_is placed r now boot is few named same next = record {
   each = is.each;
   few = (let size : length (entries_in placed) ≡ length placed = length-map placed (λ (p : Placed). p.entry) in omega (arith, size));
   state = next ∙ (ap (λ (t : State). after t boot) is.state ∙ sym (replay-snoc (entries_in placed) boot));
   queues = subst (λ (q : List Notice). QueuesStand q (entries_in placed ++ boot ∷ [])) (sym (ap (λ q. q.waiting) same))
-      (subst (λ (b : Entry). QueuesStand r.queues.waiting (entries_in placed ++ b ∷ [])) (sym named.1) (queues_boot (entries_in placed) r.queues.waiting named.0 (of-places (entries_in placed) is.each) is.queues));
+      (subst (λ (b : Entry). QueuesStand r.queues.waiting (entries_in placed ++ b ∷ [])) (sym named.1)
+      (queues_boot (entries_in placed) r.queues.waiting named.0 (of-places (entries_in placed) is.each) is.queues));
   held = ap (λ q. q.held) same ∙ is.held;
 }

@@ -52,7 +52,8 @@ row_few v at row is was few =
     let n = is.1.steps in
     omega (arith, l, f, n, few)
 
-pub lines_ok : (v : State) (at : ℕ) → IsStanding v → v.steps < 2 ^ 63 → ((row : HostRow) → slice_get v.rows.items at ≡ Some row → IsOpenRow v row) → (row : HostRow) → slice_get v.rows.items at ≡ Some row → (row.line < 2 ^ 63) × (vec_len row.waiting < vec_capacity row.waiting)
+pub lines_ok : (v : State) (at : ℕ) → IsStanding v → v.steps < 2 ^ 63 → ((row : HostRow) → slice_get v.rows.items at ≡ Some row → IsOpenRow v row) → (row : HostRow)
+    → slice_get v.rows.items at ≡ Some row → (row.line < 2 ^ 63) × (vec_len row.waiting < vec_capacity row.waiting)
 lines_ok v at is few opened row was = (row_few v at row is was few, (let r = (is.1.rows.each at row was).room in let f = (opened row was).few in omega (arith, r, f)))
 
 -- the State has room for an entry more
@@ -60,7 +61,8 @@ pub state_few : (v : State) → IsStanding v → v.service.state.count < 2 ^ 62
 state_few v is = let f = is.1.within.few in let r = is.1.within.fits in omega (arith, f, r)
 
 -- the entry of a line is accepted
-pub prepares_at : (v : State) (at : ℕ) (arrival : Arrival) (e : Entry) → at < length v.rows.items → IsStanding v → ((row : HostRow) → slice_get v.rows.items at ≡ Some row → Some e ≡ entry_of row.host v.service.state.book (row.line + 1) arrival false) → accepted v.service.state e ≡ true
+pub prepares_at : (v : State) (at : ℕ) (arrival : Arrival) (e : Entry) → at < length v.rows.items → IsStanding v
+    → ((row : HostRow) → slice_get v.rows.items at ≡ Some row → Some e ≡ entry_of row.host v.service.state.book (row.line + 1) arrival false) → accepted v.service.state e ≡ true
 prepares_at v at arrival e here is made =
     let t = there v.rows.items at here in
     let row = t.0 in
@@ -72,24 +74,28 @@ prepares_at v at arrival e here is made =
     ap (λ t. accepted t e) s.state ∙ (sym (core-accepted w.entries e) ∙ the-laws.change_ok w.entries h ((w.hosts h).line + 1) arrival false e s.sound.lawful s.sound.boot at_w low)
 
 -- and can be written
-pub sketch_ok : (v : State) (at : ℕ) (arrival : Arrival) (e : Entry) → at < length v.rows.items → IsStanding v → IsArrival arrival → ((row : HostRow) → slice_get v.rows.items at ≡ Some row → Some e ≡ entry_of row.host v.service.state.book (row.line + 1) arrival false) → IsSketch e
+pub sketch_ok : (v : State) (at : ℕ) (arrival : Arrival) (e : Entry) → at < length v.rows.items → IsStanding v → IsArrival arrival
+    → ((row : HostRow) → slice_get v.rows.items at ≡ Some row → Some e ≡ entry_of row.host v.service.state.book (row.line + 1) arrival false) → IsSketch e
 sketch_ok v at arrival e here is moment made =
     let t = there v.rows.items at here in
     made-sketch t.0.host v.service.state.book (t.0.line + 1) arrival false e (is.1.rows.each at t.0 t.1).name moment (sym (made t.0 t.1))
 
 -- where there is no room a line makes no entry
-pub full_entry : (v : State) (at : ℕ) (row : HostRow) (arrival : Arrival) → IsStanding v → slice_get v.rows.items at ≡ Some row → None ≡ entry_of row.host v.service.state.book (row.line + 1) arrival true
+pub full_entry : (v : State) (at : ℕ) (row : HostRow) (arrival : Arrival) → IsStanding v → slice_get v.rows.items at ≡ Some row
+    → None ≡ entry_of row.host v.service.state.book (row.line + 1) arrival true
 full_entry v at row arrival is was = sym (the-laws.full_none is.0.entries row.host ((is.0.hosts row.host).line + 1) arrival) ∙ entry_at v is.0 at row arrival true is.1 was
 
 pub gone_accepted : (v : State) (e : Entry) → IsStanding v → (host : List ℕ) × (e ≡ GoneEntry host) × IsHostName host → accepted v.service.state e ≡ true
 gone_accepted v e is kind =
     let w = is.0 in
-    ap (λ t. accepted t e) is.1.state ∙ (ap (λ x. accepted (replay w.entries) x) kind.1 ∙ (sym (core-accepted w.entries (GoneEntry kind.0)) ∙ the-laws.gone_ok w.entries kind.0 is.1.sound.lawful is.1.sound.boot))
+    ap (λ t. accepted t e) is.1.state ∙ (ap (λ x. accepted (replay w.entries) x) kind.1 ∙
+    (sym (core-accepted w.entries (GoneEntry kind.0)) ∙ the-laws.gone_ok w.entries kind.0 is.1.sound.lawful is.1.sound.boot))
 
 pub gone_sketch : (e : Entry) → (host : List ℕ) × (e ≡ GoneEntry host) × IsHostName host → IsSketch e
 gone_sketch e is = subst IsSketch (sym is.1) is.2
 
-pub gone_kind : (v : State) (at : ℕ) (e : Entry) → at < length v.rows.items → IsStanding v → ((row : HostRow) → slice_get v.rows.items at ≡ Some row → e ≡ GoneEntry row.host) → (host : List ℕ) × (e ≡ GoneEntry host) × IsHostName host
+pub gone_kind : (v : State) (at : ℕ) (e : Entry) → at < length v.rows.items → IsStanding v → ((row : HostRow) → slice_get v.rows.items at ≡ Some row → e ≡ GoneEntry row.host)
+    → (host : List ℕ) × (e ≡ GoneEntry host) × IsHostName host
 gone_kind v at e here is kind = let t = there v.rows.items at here in (t.0.host, kind t.0 t.1, (is.1.rows.each at t.0 t.1).name)
 
 -- ---- what `lay` says
@@ -104,7 +110,8 @@ open_in v w at row is was o = record {
   few = (let u = untaken_is v w at row is was in let f = o.few in omega (arith, u, f));
 }
 
-pub laid_ok : (old new : State) (at : ℕ) (row : HostRow) (arrival : Arrival) (r : Receipt) (full : Bool) (reply : Option (List ℕ)) (entry : Option Entry) → slice_get old.rows.items at ≡ Some row → IsOpenRow old row
+pub laid_ok : (old new : State) (at : ℕ) (row : HostRow) (arrival : Arrival) (r : Receipt) (full : Bool) (reply : Option (List ℕ)) (entry : Option Entry) → slice_get old.rows.items at ≡ Some row
+    → IsOpenRow old row
     → reply ≡ option_map print (reply_to row.host old.service.state.book (row.line + 1) arrival false) → entry ≡ entry_of row.host old.service.state.book (row.line + 1) arrival false
     → full ≡ lacks_room old.limits.changes old.length old.batch entry → r.place ≡ old.service.state.count → r.outcome ≡ outcome_of full reply entry
     → Goes old new (Arrive row.host arrival full ∷ []) → Laid old new row.host arrival r
@@ -126,7 +133,16 @@ pub no_memory : (old new : State) (at : ℕ) (row : HostRow) → slice_get old.r
 no_memory old new at row was o same w is = (open_in old w at row is was o, same_ok old new w same is)
 
 pub stays : (v : State) → StaysSame v v
-stays v = record { state = refl; queues = refl; held = refl; rows = refl; batch = refl; steps = refl; rest = record { count = refl; length_same = refl; broken = refl; flushed = refl; durable_same = refl; limits = refl } }
+stays v = record {
+  state = refl;
+  queues = refl;
+  held = refl;
+  rows = refl;
+  batch = refl;
+  steps = refl;
+  rest = record
+      { count = refl; length_same = refl; broken = refl; flushed = refl; durable_same = refl; limits = refl };
+}
 
 pub away_ok : (v : State) (at : ℕ) (row : HostRow) (why : ArriveRefusal) → slice_get v.rows.items at ≡ Some row → TurnedAway v row why → NotLaid v v row.host why
 away_ok v at row Closed was t w is = (sym (is.rows.each at row was).writer ∙ t, is)
@@ -143,7 +159,8 @@ lacks_is limit len batch e h = grind (arith, nat_tests)
 
 -- ---- what `next` says
 
-pub first_ok : (v : State) (w : World) (at : ℕ) (row : HostRow) (x : Waiting) (rest : List Waiting) (text : List ℕ) → Stands v w → slice_get v.rows.items at ≡ Some row → HasReply row v.flushed → row.waiting.items ≡ x ∷ rest → x.reply ≡ text → IsFirstReply w row.host text
+pub first_ok : (v : State) (w : World) (at : ℕ) (row : HostRow) (x : Waiting) (rest : List Waiting) (text : List ℕ) → Stands v w → slice_get v.rows.items at ≡ Some row → HasReply row v.flushed
+    → row.waiting.items ≡ x ∷ rest → x.reply ≡ text → IsFirstReply w row.host text
 first_ok v w at row x rest text is was has waits words =
     let d = drop_first (w.hosts row.host).taken (w.hosts row.host).said x rest (sym (is.rows.each at row was).waiting ∙ waits) in
     let same : has.reply ≡ x = (let e = sym has.waits ∙ waits in cc) in
@@ -162,14 +179,18 @@ none_waits (suc n) (t ∷ said) s flushed at none = none_waits n said s flushed 
 
 pub no_reply : (v : State) (w : World) (at : ℕ) (row : HostRow) → Stands v w → slice_get v.rows.items at ≡ Some row → HasNone row.waiting.items v.flushed → NoReply w row.host
 no_reply v w at row is was none s at_s =
-    none_waits (w.hosts row.host).taken (w.hosts row.host).said s w.flushed at_s (subst (λ (n : ℕ). HasNone (map waiting_of (drop (w.hosts row.host).taken (w.hosts row.host).said)) n) is.flushed (subst (λ (l : List Waiting). HasNone l v.flushed) (is.rows.each at row was).waiting none))
+    none_waits (w.hosts row.host).taken (w.hosts row.host).said s w.flushed at_s
+    (subst (λ (n : ℕ). HasNone (map waiting_of (drop (w.hosts row.host).taken (w.hosts row.host).said)) n) is.flushed
+    (subst (λ (l : List Waiting). HasNone l v.flushed) (is.rows.each at row was).waiting none))
 
 both_or : (a b c d : Bool) → a ≡ b → c ≡ d → (a || c) ≡ (b || d)
 both_or a b c d p q = ap (λ x. x || c) p ∙ ap (λ y. b || y) q
 
-reads_of : (rows : List HostRow) (w : World) → ((k : ℕ) (row : HostRow) → slice_get rows k ≡ Some row → row.reader_ended ≡ (w.hosts row.host).reader_ended) → list_any (λ (row : HostRow). not row.reader_ended) rows ≡ some_reads w (names rows)
+reads_of : (rows : List HostRow) (w : World) → ((k : ℕ) (row : HostRow) → slice_get rows k ≡ Some row → row.reader_ended ≡ (w.hosts row.host).reader_ended)
+    → list_any (λ (row : HostRow). not row.reader_ended) rows ≡ some_reads w (names rows)
 reads_of [] w each = refl
-reads_of (row ∷ rows) w each = both_or (not row.reader_ended) (not (w.hosts row.host).reader_ended) (list_any (λ (row : HostRow). not row.reader_ended) rows) (some_reads w (names rows)) (ap not (each 0 row refl)) (reads_of rows w (λ k r at. each (suc k) r at))
+reads_of (row ∷ rows) w each = both_or (not row.reader_ended) (not (w.hosts row.host).reader_ended) (list_any (λ (row : HostRow). not row.reader_ended) rows) (some_reads w (names rows))
+    (ap not (each 0 row refl)) (reads_of rows w (λ k r at. each (suc k) r at))
 
 pub reads_is : (v : State) (w : World) → Stands v w → list_any (λ (row : HostRow). not row.reader_ended) v.rows.items ≡ some_reads w (names v.rows.items)
 reads_is v w is = reads_of v.rows.items w (λ k row at. (is.rows.each k row at).reader)

@@ -38,8 +38,10 @@ pub record SameValues (v now : State) : Type 0 where
   pub limits : now.limits ≡ v.limits
 
 -- the hands stand where rows and queues are as before
-hands_as : (v now : State) (flushed : ℕ) (addresses : Jid → AddressPart) → now.rows ≡ v.rows → now.queues.held ≡ v.queues.held → HandsStand v.rows.items flushed v.queues.held addresses → HandsStand now.rows.items flushed now.queues.held addresses
-hands_as v now flushed addresses rows held is = subst (λ (l : List Jid). HandsStand now.rows.items flushed l addresses) (sym held) (subst (λ r. HandsStand r.items flushed v.queues.held addresses) (sym rows) is)
+hands_as : (v now : State) (flushed : ℕ) (addresses : Jid → AddressPart) → now.rows ≡ v.rows → now.queues.held ≡ v.queues.held → HandsStand v.rows.items flushed v.queues.held addresses
+    → HandsStand now.rows.items flushed now.queues.held addresses
+hands_as v now flushed addresses rows held is = subst (λ (l : List Jid). HandsStand now.rows.items flushed l addresses) (sym held)
+    (subst (λ r. HandsStand r.items flushed v.queues.held addresses) (sym rows) is)
 
 same_batch : (v now : State) (E : List Entry) → SameValues v now → BatchStands v.batch v.count E → BatchStands now.batch now.count E
 same_batch v now E same is = subst (λ (b : Option (List Entry)). BatchStands b now.count E) (sym same.batch) (subst (λ (n : ℕ). BatchStands v.batch n E) (sym same.count) is)
@@ -47,7 +49,8 @@ same_batch v now E same is = subst (λ (b : Option (List Entry)). BatchStands b 
 same_within : (v now : State) → SameValues v now → IsWithin v → IsWithin now
 same_within v now same is = within_same v now same.length_same same.batch same.limits (ap (λ s. s.count) same.state) is
 
-flushed_to : (service : List ℕ) → service ≢ [] → (v now : State) (w : World) (m count : ℕ) → Stands v w → w.flushed ≤ m → m ≤ w.steps → ends m w.made ≡ count → SameValues v now → now.steps ≡ v.steps + 1 → now.flushed ≡ m → now.durable ≡ count → now.broken ≡ v.broken
+flushed_to : (service : List ℕ) → service ≢ [] → (v now : State) (w : World) (m count : ℕ) → Stands v w → w.flushed ≤ m → m ≤ w.steps → ends m w.made ≡ count → SameValues v now
+    → now.steps ≡ v.steps + 1 → now.flushed ≡ m → now.durable ≡ count → now.broken ≡ v.broken
     → Stands now (happens the_core service w (Flush m))
 flushed_to service some v now w m count is low high few same steps flushed dur broken =
     let step : happens the_core service w (Flush m) ≡ counted (flushes w m) = ap (λ b. counted (if b then flushes w m else w)) (within_both w.flushed m w.steps low high) in
@@ -61,16 +64,19 @@ flushed_to service some v now w m count is low high few same steps flushed dur b
       batch = same_batch v now w.entries same is.batch;
       within = same_within v now same is.within;
       rows = subst (λ r. RowsStand r.items w.hosts) (sym same.rows) is.rows;
-      hands = hands_as v now m (λ k. record (w.addresses k) { flight = landed m (w.addresses k).flight }) same.rows same.held (hands_flushed v.rows.items w.flushed m v.queues.held w.addresses low is.hands);
+      hands = hands_as v now m (λ k. record (w.addresses k) { flight = landed m (w.addresses k).flight }) same.rows same.held
+          (hands_flushed v.rows.items w.flushed m v.queues.held w.addresses low is.hands);
       queues = λ a bare. ap (queue a) same.queues ∙ is.queues a bare;
     })
 
-pub settles_later : (service : List ℕ) → service ≢ [] → (v now : State) (w : World) (m count : ℕ) → Stands v w → m ≤ w.steps → ends m w.made ≡ count → v.flushed ≤ m → SameValues v now → now.steps ≡ v.steps + 1 → now.flushed ≡ m → now.durable ≡ count → now.broken ≡ v.broken
+pub settles_later : (service : List ℕ) → service ≢ [] → (v now : State) (w : World) (m count : ℕ) → Stands v w → m ≤ w.steps → ends m w.made ≡ count → v.flushed ≤ m → SameValues v now
+    → now.steps ≡ v.steps + 1 → now.flushed ≡ m → now.durable ≡ count → now.broken ≡ v.broken
     → Stands now (happens the_core service w (Flush m))
 settles_later service some v now w m count is high few low same steps flushed dur broken =
     flushed_to service some v now w m count is (let f = is.flushed in omega (arith, f, low)) high few same steps flushed dur broken
 
-pub settles_before : (service : List ℕ) → service ≢ [] → (v now : State) (w : World) (m : ℕ) → Stands v w → m < v.flushed → SameValues v now → now.steps ≡ v.steps + 1 → now.flushed ≡ v.flushed → now.durable ≡ v.durable → now.broken ≡ v.broken
+pub settles_before : (service : List ℕ) → service ≢ [] → (v now : State) (w : World) (m : ℕ) → Stands v w → m < v.flushed → SameValues v now → now.steps ≡ v.steps + 1 → now.flushed ≡ v.flushed
+    → now.durable ≡ v.durable → now.broken ≡ v.broken
     → Stands now (happens the_core service w (Flush m))
 settles_before service some v now w m is low same steps flushed dur broken =
     let under : m < w.flushed = (let f = is.flushed in omega (arith, f, low)) in
@@ -90,7 +96,8 @@ settles_before service some v now w m is low same steps flushed dur broken =
     })
 
 -- a frame failed
-pub fault_ok : (service : List ℕ) → service ≢ [] → (v now : State) (w : World) → Stands v w → SameValues v now → now.steps ≡ v.steps + 1 → now.flushed ≡ v.flushed → now.durable ≡ v.durable → now.broken ≡ true → Stands now (happens the_core service w Broken)
+pub fault_ok : (service : List ℕ) → service ≢ [] → (v now : State) (w : World) → Stands v w → SameValues v now → now.steps ≡ v.steps + 1 → now.flushed ≡ v.flushed → now.durable ≡ v.durable
+    → now.broken ≡ true → Stands now (happens the_core service w Broken)
 fault_ok service some v now w is same steps flushed dur broken = record {
   sound = happens_kept the_core the-laws service some w Broken is.sound;
   state = same.state ∙ is.state;
@@ -108,7 +115,17 @@ fault_ok service some v now w is same steps flushed dur broken = record {
 -- nothing that a world speaks of has changed
 pub same_ok : (v now : State) (w : World) → StaysSame v now → Stands v w → Stands now w
 same_ok v now w stays is =
-    let same : SameValues v now = record { state = stays.state; queues = stays.queues; held = stays.held; rows = stays.rows; batch = stays.batch; count = stays.rest.count; length_same = stays.rest.length_same; limits = stays.rest.limits } in
+    let same : SameValues v now = record {
+      state = stays.state;
+      queues = stays.queues;
+      held = stays.held;
+      rows = stays.rows;
+      batch = stays.batch;
+      count = stays.rest.count;
+      length_same =
+          stays.rest.length_same;
+      limits = stays.rest.limits;
+    } in
     record {
       sound = is.sound;
       state = stays.state ∙ is.state;
@@ -124,7 +141,8 @@ same_ok v now w stays is =
     }
 
 -- the entries that wait are given away
-pub over_ok : (v now : State) (w : World) → Stands v w → now.service.state ≡ v.service.state → now.queues ≡ v.queues → now.rows ≡ v.rows → now.batch ≡ None → now.count ≡ v.service.state.count → now.length ≡ v.length + bytes_of v.batch → now.limits ≡ v.limits → now.steps ≡ v.steps → now.flushed ≡ v.flushed
+pub over_ok : (v now : State) (w : World) → Stands v w → now.service.state ≡ v.service.state → now.queues ≡ v.queues → now.rows ≡ v.rows → now.batch ≡ None → now.count ≡ v.service.state.count
+    → now.length ≡ v.length + bytes_of v.batch → now.limits ≡ v.limits → now.steps ≡ v.steps → now.flushed ≡ v.flushed
     → now.durable ≡ v.durable → now.broken ≡ v.broken → Stands now w
 over_ok v now w is state queues rows batch count longer limits steps flushed dur broken =
     let none : bytes_of now.batch ≡ 0 = ap bytes_of batch in

@@ -73,7 +73,8 @@ pub not_landed : (step flushed : ℕ) → flushed < step → landed flushed (Rec
 not_landed step flushed l = ap (λ c. if c then Nothing else Recorded step) (no_le step flushed l)
 
 -- after a flush
-pub hands_flushed : (rows : List HostRow) (flushed m : ℕ) (held : List Jid) (addresses : Jid → AddressPart) → flushed ≤ m → HandsStand rows flushed held addresses → HandsStand rows m held (λ k. record (addresses k) { flight = landed m (addresses k).flight })
+pub hands_flushed : (rows : List HostRow) (flushed m : ℕ) (held : List Jid) (addresses : Jid → AddressPart) → flushed ≤ m → HandsStand rows flushed held addresses
+    → HandsStand rows m held (λ k. record (addresses k) { flight = landed m (addresses k).flight })
 hands_flushed rows flushed m held addresses low is k row got =
     let h = is k row got in
     record {
@@ -138,13 +139,19 @@ module _ (rows : List HostRow) (flushed : ℕ) (held : List Jid) (addresses : Ji
   one_row k r a got here same = apart k at r row got was (sym here ∙ (ap (λ (j : Jid). j.host) same ∙ of))
 
   pub hands_emit : landing_step row.landing ≤ flushed → ((p : AddressPart) → (f p).flight ≡ Unrecorded) → HandsStand rows flushed (held ++ to ∷ []) (at_address to f addresses)
-  hands_emit low does k r got = record { those = λ a here bare_a known. those_by a here bare_a known (same_jid a to) refl; others = λ a here free. others_by a here free (same_jid a to) refl; last = λ l e high. last_by l e high (same_jid l.to to) refl }
+  hands_emit low does k r got = record {
+    those = λ a here bare_a known. those_by a here bare_a known (same_jid a to) refl;
+    others = λ a here free. others_by a here free (same_jid a to) refl;
+    last = λ
+        l e high. last_by l e high (same_jid l.to to) refl;
+  }
     where
       those_by : (a : Jid) → a.host ≡ r.host → a.resource ≡ [] → is_known a (held ++ to ∷ []) ≡ true → (t : Bool) → same_jid a to ≡ t → (at_address to f addresses a).flight ≡ Unrecorded
       those_by a here bare_a known true e = subst (λ (j : Jid). (at_address to f addresses j).flight ≡ Unrecorded) (sym ((same_jid-Decides a to).0 e)) (at_this to f addresses ∙ does (addresses to))
       those_by a here bare_a known false e = at_other to a f addresses e ∙ (is k r got).those a here bare_a (front_known a to held (apart_bare a to bare_a empty e) known)
 
-      others_by : (a : Jid) → a.host ≡ r.host → (a.resource ≡ [] → is_known a (held ++ to ∷ []) ≡ false) → (t : Bool) → same_jid a to ≡ t → IsLanding flushed (landing_step r.landing) (at_address to f addresses a).flight
+      others_by : (a : Jid) → a.host ≡ r.host → (a.resource ≡ [] → is_known a (held ++ to ∷ []) ≡ false) → (t : Bool) → same_jid a to ≡ t
+          → IsLanding flushed (landing_step r.landing) (at_address to f addresses a).flight
       others_by a here free true e =
           let same = (same_jid-Decides a to).0 e in
           absurd (false≢true (sym (free (ap (λ (j : Jid). j.resource) same ∙ empty)) ∙ now_known a to held (bare_of_jid a to e)))
@@ -189,12 +196,16 @@ module _ (rows : List HostRow) (flushed : ℕ) (held : List Jid) (addresses : Ji
       step_is : landing_step now.landing ≡ t
       step_is = ap landing_step lands.landing
 
-      those_by : (x : HostRow) (j : ℕ) → slice_get rows j ≡ Some x → (a : Jid) → a.host ≡ x.host → a.resource ≡ [] → is_known a (without (same_bare to) held) ≡ true → (at_address to f addresses a).flight ≡ Unrecorded
+      those_by : (x : HostRow) (j : ℕ) → slice_get rows j ≡ Some x → (a : Jid) → a.host ≡ x.host → a.resource ≡ [] → is_known a (without (same_bare to) held) ≡ true
+          → (at_address to f addresses a).flight ≡ Unrecorded
       those_by x j old a here bare_a known = let left = those_left a bare_a known in at_other to a f addresses (apart_jid a to left.0) ∙ (is j x old).those a here bare_a left.1
 
-      own_others : (a : Jid) → a.host ≡ row.host → (a.resource ≡ [] → is_known a (without (same_bare to) held) ≡ false) → (s : Bool) → same_jid a to ≡ s → IsLanding flushed t (at_address to f addresses a).flight
-      own_others a here free true e = subst (λ (j : Jid). IsLanding flushed t (at_address to f addresses j).flight) (sym ((same_jid-Decides a to).0 e)) (subst (IsLanding flushed t) (sym (at_this to f addresses ∙ does (addresses to))) (high, omega arith))
-      own_others a here free false e = subst (IsLanding flushed t) (sym (at_other to a f addresses e)) (landing_later flushed (landing_step row.landing) steps t (addresses a).flight ((is at row was).others a here (free_left a e free)) (by a) late)
+      own_others : (a : Jid) → a.host ≡ row.host → (a.resource ≡ [] → is_known a (without (same_bare to) held) ≡ false) → (s : Bool) → same_jid a to ≡ s
+          → IsLanding flushed t (at_address to f addresses a).flight
+      own_others a here free true e = subst (λ (j : Jid). IsLanding flushed t (at_address to f addresses j).flight) (sym ((same_jid-Decides a to).0 e))
+          (subst (IsLanding flushed t) (sym (at_this to f addresses ∙ does (addresses to))) (high, omega arith))
+      own_others a here free false e = subst (IsLanding flushed t) (sym (at_other to a f addresses e))
+          (landing_later flushed (landing_step row.landing) steps t (addresses a).flight ((is at row was).others a here (free_left a e free)) (by a) late)
 
       own_last : (l : Landing) → now.landing ≡ Some l → IsFlying (at_address to f addresses) now.host l
       own_last l e =
@@ -208,11 +219,13 @@ module _ (rows : List HostRow) (flushed : ℕ) (held : List Jid) (addresses : Ji
         last = λ l e low. own_last l e;
       }
 
-      other_others : (x : HostRow) (j : ℕ) → slice_get rows j ≡ Some x → j ≢ at → (a : Jid) → a.host ≡ x.host → (a.resource ≡ [] → is_known a (without (same_bare to) held) ≡ false) → (s : Bool) → same_jid a to ≡ s → IsLanding flushed (landing_step x.landing) (at_address to f addresses a).flight
+      other_others : (x : HostRow) (j : ℕ) → slice_get rows j ≡ Some x → j ≢ at → (a : Jid) → a.host ≡ x.host → (a.resource ≡ [] → is_known a (without (same_bare to) held) ≡ false) → (s : Bool)
+          → same_jid a to ≡ s → IsLanding flushed (landing_step x.landing) (at_address to f addresses a).flight
       other_others x j old ne a here free true e = absurd (ne (one_row j x a old here ((same_jid-Decides a to).0 e)))
       other_others x j old ne a here free false e = subst (IsLanding flushed (landing_step x.landing)) (sym (at_other to a f addresses e)) ((is j x old).others a here (free_left a e free))
 
-      other_last : (x : HostRow) (j : ℕ) → slice_get rows j ≡ Some x → j ≢ at → (l : Landing) → x.landing ≡ Some l → flushed < l.step → (s : Bool) → same_jid l.to to ≡ s → IsFlying (at_address to f addresses) x.host l
+      other_last : (x : HostRow) (j : ℕ) → slice_get rows j ≡ Some x → j ≢ at → (l : Landing) → x.landing ≡ Some l → flushed < l.step → (s : Bool) → same_jid l.to to ≡ s
+          → IsFlying (at_address to f addresses) x.host l
       other_last x j old ne l e low true same = absurd (ne (one_row j x l.to old ((is j x old).last l e low).here ((same_jid-Decides l.to to).0 same)))
       other_last x j old ne l e low false same = let fly = (is j x old).last l e low in record { here = fly.here; flight = at_other to l.to f addresses same ∙ fly.flight }
 
@@ -237,7 +250,8 @@ held_of host (x ∷ xs) h = by (is_of host x) refl h (held_of host xs)
     or_late true b e = refl
     or_late false b e = e
 
-    by : (t : Bool) → is_of host x ≡ t → t || list_any (is_of host) xs ≡ true → (list_any (is_of host) xs ≡ true → (a : Jid) × (a.host ≡ host) × (a.resource ≡ []) × (is_known a xs ≡ true)) → (a : Jid) × (a.host ≡ host) × (a.resource ≡ []) × (is_known a (x ∷ xs) ≡ true)
+    by : (t : Bool) → is_of host x ≡ t → t || list_any (is_of host) xs ≡ true → (list_any (is_of host) xs ≡ true → (a : Jid) × (a.host ≡ host) × (a.resource ≡ []) × (is_known a xs ≡ true))
+        → (a : Jid) × (a.host ≡ host) × (a.resource ≡ []) × (is_known a (x ∷ xs) ≡ true)
     by true e m more = (bare x, sym ((bytes_eq-Decides host x.host).0 e), refl, ap (λ t. t || is_known (bare x) xs) (bare-back x (bare x) (to_its_bare x (bare x) refl)))
     by false e m more = let f = more m in (f.0, f.1, f.2, or_late (same_bare f.0 x) (is_known f.0 xs) f.3)
 
@@ -245,7 +259,8 @@ pub none_held : (host : List ℕ) (held : List Jid) (a : Jid) → list_any (is_o
 none_held host [] a h of = refl
 none_held host (x ∷ xs) a h of = by (is_of host x) (same_bare a x) refl refl h (none_held host xs a)
   where
-    by : (t u : Bool) → is_of host x ≡ t → same_bare a x ≡ u → t || list_any (is_of host) xs ≡ false → (list_any (is_of host) xs ≡ false → a.host ≡ host → is_known a xs ≡ false) → u || is_known a xs ≡ false
+    by : (t u : Bool) → is_of host x ≡ t → same_bare a x ≡ u → t || list_any (is_of host) xs ≡ false → (list_any (is_of host) xs ≡ false → a.host ≡ host → is_known a xs ≡ false)
+        → u || is_known a xs ≡ false
     by true u e g m more = absurd (false≢true (sym m))
     by false true e g m more = absurd (false≢true (sym e ∙ (bytes_eq-Decides host x.host).1 (sym of ∙ bare_host a x g)))
     by false false e g m more = more m of

@@ -82,7 +82,8 @@ pub at_other : (h k : List ℕ) (f : HostPart → HostPart) (hosts : List ℕ �
 at_other h k f hosts apart = host_other (bytes_eq k h) f (hosts k) (λ t. apart ((bytes_eq-Decides k h).0 t))
 
 -- a row after the change, and the row that stood there before
-pub host_at : (rows : List HostRow) (at : ℕ) (row now : HostRow) → slice_get rows at ≡ Some row → now.host ≡ row.host → (k : ℕ) (r : HostRow) → slice_get (slice_set rows at now) k ≡ Some r → (old : HostRow) × (slice_get rows k ≡ Some old) × (old.host ≡ r.host)
+pub host_at : (rows : List HostRow) (at : ℕ) (row now : HostRow) → slice_get rows at ≡ Some row → now.host ≡ row.host → (k : ℕ) (r : HostRow) → slice_get (slice_set rows at now) k ≡ Some r
+    → (old : HostRow) × (slice_get rows k ≡ Some old) × (old.host ≡ r.host)
 host_at rows at row now was same k r got =
     elim (cases_eq k at) [
       | inl e ↦ (
@@ -93,7 +94,8 @@ host_at rows at row now was same k r got =
     ]
 
 -- one row changes as its host's part does
-pub rows_set : (rows : List HostRow) (hosts : List ℕ → HostPart) (at : ℕ) (row now : HostRow) (f : HostPart → HostPart) → RowsStand rows hosts → slice_get rows at ≡ Some row → now.host ≡ row.host → RowStands now (f (hosts row.host)) → RowsStand (slice_set rows at now) (at_host row.host f hosts)
+pub rows_set : (rows : List HostRow) (hosts : List ℕ → HostPart) (at : ℕ) (row now : HostRow) (f : HostPart → HostPart) → RowsStand rows hosts → slice_get rows at ≡ Some row → now.host ≡ row.host
+    → RowStands now (f (hosts row.host)) → RowsStand (slice_set rows at now) (at_host row.host f hosts)
 rows_set rows hosts at row now f is was same one = record {
   each = λ k r got. elim (cases_eq k at) [
     | inl e ↦ (
@@ -113,7 +115,8 @@ rows_set rows hosts at row now f is was same one = record {
 }
 
 -- one row changes, and no host's part
-pub rows_keep : (rows : List HostRow) (hosts : List ℕ → HostPart) (at : ℕ) (row now : HostRow) → RowsStand rows hosts → slice_get rows at ≡ Some row → now.host ≡ row.host → RowStands now (hosts row.host) → RowsStand (slice_set rows at now) hosts
+pub rows_keep : (rows : List HostRow) (hosts : List ℕ → HostPart) (at : ℕ) (row now : HostRow) → RowsStand rows hosts → slice_get rows at ≡ Some row → now.host ≡ row.host
+    → RowStands now (hosts row.host) → RowsStand (slice_set rows at now) hosts
 rows_keep rows hosts at row now is was same one = record {
   each = λ k r got. elim (cases_eq k at) [
     | inl e ↦ (
@@ -129,7 +132,8 @@ rows_keep rows hosts at row now is was same one = record {
 }
 
 -- a row with the same landing
-hand_as : (flushed : ℕ) (held : List Jid) (addresses : Jid → AddressPart) (row now : HostRow) → now.host ≡ row.host → now.landing ≡ row.landing → HandStands flushed held addresses row → HandStands flushed held addresses now
+hand_as : (flushed : ℕ) (held : List Jid) (addresses : Jid → AddressPart) (row now : HostRow) → now.host ≡ row.host → now.landing ≡ row.landing → HandStands flushed held addresses row
+    → HandStands flushed held addresses now
 hand_as flushed held addresses row now same landing is = record {
   those = λ a here bare known. is.those a (here ∙ same) bare known;
   others = λ a here free. subst (λ (o : Option Landing). IsLanding flushed (landing_step o) (addresses a).flight) (sym landing) (is.others a (here ∙ same) free);
@@ -137,7 +141,8 @@ hand_as flushed held addresses row now same landing is = record {
 }
 
 -- the hands stand where one row changes that keeps its landing
-pub hands_set : (rows : List HostRow) (flushed : ℕ) (held : List Jid) (addresses : Jid → AddressPart) (at : ℕ) (row now : HostRow) → HandsStand rows flushed held addresses → slice_get rows at ≡ Some row → now.host ≡ row.host → now.landing ≡ row.landing
+pub hands_set : (rows : List HostRow) (flushed : ℕ) (held : List Jid) (addresses : Jid → AddressPart) (at : ℕ) (row now : HostRow) → HandsStand rows flushed held addresses
+    → slice_get rows at ≡ Some row → now.host ≡ row.host → now.landing ≡ row.landing
     → HandsStand (slice_set rows at now) flushed held addresses
 hands_set rows flushed held addresses at row now is was same landing k r got =
     elim (cases_eq k at) [
@@ -157,7 +162,8 @@ length-map [] = refl
 length-map (x ∷ xs) = ap suc (length-map xs)
 
 -- a row after a line, and its part
-pub row_says : (row now : HostRow) (part : HostPart) (arrival : Arrival) (full : Bool) (place upto step : ℕ) (reply : Option (List ℕ)) → RowStands row part → RowSays row now step reply → part.taken ≤ length part.said → RowStands now (answered (part.line + 1) arrival full place upto step reply part)
+pub row_says : (row now : HostRow) (part : HostPart) (arrival : Arrival) (full : Bool) (place upto step : ℕ) (reply : Option (List ℕ)) → RowStands row part → RowSays row now step reply
+    → part.taken ≤ length part.said → RowStands now (answered (part.line + 1) arrival full place upto step reply part)
 row_says row now part arrival full place upto step None is says fits = record {
   name = rw says.host is.name;
   line = says.line ∙ ap (λ n. n + 1) is.line;
@@ -171,18 +177,36 @@ row_says row now part arrival full place upto step (Some words) is says fits =
     record {
       name = rw says.host is.name;
       line = says.line ∙ ap (λ n. n + 1) is.line;
-      waiting = says.waiting ∙ (ap (λ r. r ++ waiting_of new ∷ []) is.waiting ∙ (sym (map-snoc (drop part.taken part.said) new) ∙ ap (λ r. map waiting_of r) (sym (drop-front part.taken part.said (new ∷ []) fits))));
+      waiting = says.waiting ∙ (ap (λ r. r ++ waiting_of new ∷ []) is.waiting ∙
+          (sym (map-snoc (drop part.taken part.said) new) ∙ ap (λ r. map waiting_of r) (sym (drop-front part.taken part.said (new ∷ []) fits))));
       reader = says.reader ∙ is.reader;
       writer = says.writer ∙ is.writer;
       room = (let a = says.room in let b = is.room in omega (arith, a, b));
     }
 
 pub row_ends : (role : Role) (row now : HostRow) (part : HostPart) → RowEnds role row now → RowStands row part → RowStands now (ends_role role part)
-row_ends Reader row now part e is = record { name = rw e.host is.name; line = e.line ∙ is.line; waiting = e.waiting ∙ is.waiting; reader = e.reader; writer = e.writer ∙ is.writer; room = (let a = e.room in let b = is.room in omega (arith, a, b)) }
-row_ends Writer row now part e is = record { name = rw e.host is.name; line = e.line ∙ is.line; waiting = e.waiting ∙ is.waiting; reader = e.reader ∙ is.reader; writer = e.writer; room = (let a = e.room in let b = is.room in omega (arith, a, b)) }
+row_ends Reader row now part e is = record {
+  name = rw e.host is.name;
+  line = e.line ∙ is.line;
+  waiting = e.waiting ∙ is.waiting;
+  reader = e.reader;
+  writer = e.writer ∙ is.writer;
+  room =
+      (let a = e.room in let b = is.room in omega (arith, a, b));
+}
+row_ends Writer row now part e is = record {
+  name = rw e.host is.name;
+  line = e.line ∙ is.line;
+  waiting = e.waiting ∙ is.waiting;
+  reader = e.reader ∙ is.reader;
+  writer = e.writer;
+  room =
+      (let a = e.room in let b = is.room in omega (arith, a, b));
+}
 
 -- what waits is what is not taken
-pub drop_first : (n : ℕ) (said : List Said) (x : Waiting) (rest : List Waiting) → map waiting_of (drop n said) ≡ x ∷ rest → (s : Said) × (slice_get said n ≡ Some s) × (waiting_of s ≡ x) × (map waiting_of (drop (suc n) said) ≡ rest)
+pub drop_first : (n : ℕ) (said : List Said) (x : Waiting) (rest : List Waiting) → map waiting_of (drop n said) ≡ x ∷ rest
+    → (s : Said) × (slice_get said n ≡ Some s) × (waiting_of s ≡ x) × (map waiting_of (drop (suc n) said) ≡ rest)
 drop_first zero [] x rest h = let none : ⊥ = cc in absurd none
 drop_first zero (s ∷ said) x rest h = let a : waiting_of s ≡ x = cc in let b : map waiting_of said ≡ rest = cc in (s, refl, a, b)
 drop_first (suc n) [] x rest h = let none : ⊥ = cc in absurd none

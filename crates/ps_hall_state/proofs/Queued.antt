@@ -1,5 +1,36 @@
 -- The queues after one more entry.
-use Rattle.std.proofs.Common.{◌≡◌, ℕ, suc, ◌+◌, ◌<◌, ◌≤◌, inl, inr, Bool, true, false, cond, List, [], ◌∷◌, ◌++◌, Option, Some, None, length, drop, filter, refl, ap, sym, ◌∙◌, subst, arith, append-nil, true≢false}
+use Rattle.std.proofs.Common.{
+  ◌≡◌,
+  ℕ,
+  suc,
+  ◌+◌,
+  ◌<◌,
+  ◌≤◌,
+  inl,
+  inr,
+  Bool,
+  true,
+  false,
+  cond,
+  List,
+  [],
+  ◌∷◌,
+  ◌++◌,
+  Option,
+  Some,
+  None,
+  length,
+  drop,
+  filter,
+  refl,
+  ap,
+  sym,
+  ◌∙◌,
+  subst,
+  arith,
+  append-nil,
+  true≢false,
+}
 use Rattle.std.specs.Prelude.{slice_get}
 use Rattle.std.proofs.lemmas.Bool.{cases_eq}
 use Rattle.std.proofs.lemmas.List.Elements.{filter-append}
@@ -27,7 +58,8 @@ use Rattle.ps_hall_state.proofs.OneRow.{drop-front}
 use Rattle.ps_model.proofs.TallyLaws.{same_bare-turned}
 
 -- what stays spare after one push
-pub spare-tail : (all : List Notice) (n : Notice) (rest : List Notice) (old new : Boxes) → all ≡ n ∷ rest → AreSpare all (length all) old → ((who : Jid) → spare_for who old ≤ spare_for who new + 1) → AreSpare rest (length rest) new
+pub spare-tail : (all : List Notice) (n : Notice) (rest : List Notice) (old new : Boxes) → all ≡ n ∷ rest → AreSpare all (length all) old → ((who : Jid) → spare_for who old ≤ spare_for who new + 1)
+    → AreSpare rest (length rest) new
 spare-tail all n rest old new split are kept k m got =
     let was = are (suc k) m (ap (λ ns. slice_get ns (suc k)) split ∙ got) in
     let size : length all ≡ suc (length rest) = ap length split in
@@ -64,14 +96,17 @@ core-notices E a = refl
 pub notices-more : (E : List Entry) (e : Entry) (a : Jid) → a.resource ≡ [] → the_core.notices (E ++ e ∷ []) a ≡ the_core.notices E a ++ queue a (notices_at (replay E) e)
 notices-more E e a bare =
     let ns = notices_at (replay E) e in
-    core-notices (E ++ e ∷ []) a ∙ notices-append E (e ∷ []) empty_state a ∙ ap (λ l. notices E a ++ l) (append-nil (to_address a ns) ∙ to-bare a ns bare) ∙ ap (λ l. l ++ queue a ns) (sym (core-notices E a))
+    core-notices (E ++ e ∷ []) a ∙ notices-append E (e ∷ []) empty_state a ∙ ap (λ l. notices E a ++ l) (append-nil (to_address a ns) ∙ to-bare a ns bare) ∙ ap (λ l. l ++ queue a ns)
+    (sym (core-notices E a))
 
 -- no more notices are handed than there are
 pub few-handed : (w : World) (a : Jid) → Sound the_core w → handed w.entries a ≤ length (the_core.notices w.entries a)
-few-handed w a is = subst (λ (r : List Entry). handed r a ≤ length (the_core.notices r a)) (take-whole (length w.entries) w.entries (omega arith)) (handed-few the_core the-laws (length w.entries) w.entries a is.lawful (omega arith))
+few-handed w a is = subst (λ (r : List Entry). handed r a ≤ length (the_core.notices r a)) (take-whole (length w.entries) w.entries (omega arith))
+    (handed-few the_core the-laws (length w.entries) w.entries a is.lawful (omega arith))
 
 -- after an entry that hands nothing
-pub queues_more : (w : World) (old new : List Notice) (e : Entry) → Sound the_core w → QueuesStand old w.entries → new ≡ old ++ notices_at (replay w.entries) e → ((a : Jid) → handed (e ∷ []) a ≡ 0) → QueuesStand new (w.entries ++ e ∷ [])
+pub queues_more : (w : World) (old new : List Notice) (e : Entry) → Sound the_core w → QueuesStand old w.entries → new ≡ old ++ notices_at (replay w.entries) e → ((a : Jid) → handed (e ∷ []) a ≡ 0)
+    → QueuesStand new (w.entries ++ e ∷ [])
 queues_more w old new e is stand more nothing a bare =
     let ns = notices_at (replay w.entries) e in
     let h = handed-append w.entries (e ∷ []) a in
@@ -81,7 +116,8 @@ queues_more w old new e is stand more nothing a bare =
     ∙ ap (drop (handed w.entries a)) (sym (notices-more w.entries e a bare)) ∙ ap (λ k. drop k (the_core.notices (w.entries ++ e ∷ []) a)) (sym same)
 
 -- after a line, which may make an entry
-pub queues_line : (w : World) (old new : List Notice) (h : List ℕ) (line : ℕ) (arrival : Arrival) (full : Bool) (more : Option Entry) → Sound the_core w → QueuesStand old w.entries → new ≡ old ++ notices_with (replay w.entries) more → the_core.entry w.entries h line arrival full ≡ more → QueuesStand new (more_entries w.entries more)
+pub queues_line : (w : World) (old new : List Notice) (h : List ℕ) (line : ℕ) (arrival : Arrival) (full : Bool) (more : Option Entry) → Sound the_core w → QueuesStand old w.entries
+    → new ≡ old ++ notices_with (replay w.entries) more → the_core.entry w.entries h line arrival full ≡ more → QueuesStand new (more_entries w.entries more)
 queues_line w old new h line arrival full None is stand same entry = λ a bare. ap (queue a) (same ∙ append-nil old) ∙ stand a bare
 queues_line w old new h line arrival full (Some e) is stand same entry =
     let change = the-laws.change w.entries h line arrival full e entry in

@@ -60,7 +60,8 @@ row-holds t =
     (either-holds (is_named (codes "ver") base.base_ns t) _ _ (search (some-holds))
     (either-holds (is_named (codes "made") base.base_ns t) _ _ (search (bind-holds, some-holds) depth 12)
     (either-holds (is_named (codes "counter") base.base_ns t) _ _ (search (mapped-holds))
-    (either-holds (is_named (codes "notice") base.base_ns t) _ _ (mapped-holds (jid_at (codes "jid") t) (λ to. base.notice to (tree_text t)) (λ to e. jid-is (attr_text (codes "jid") t) to e)) none-holds))))))))))
+    (either-holds (is_named (codes "notice") base.base_ns t) _ _ (mapped-holds (jid_at (codes "jid") t) (λ to. base.notice to (tree_text t)) (λ to e. jid-is (attr_text (codes "jid") t) to e))
+    none-holds))))))))))
 
 pub notice-address : (t : Tree) (to : Jid) (line : List ℕ) → row_of t ≡ Some (base.notice to line) → IsAddress to
 notice-address t to line e = (row-holds t).row (base.notice to line) e

@@ -51,7 +51,8 @@ low_ask t from target (Ok ask) low = low
 
 low_target : (service : List ℕ) (t : Tree) (from : Jid) (o : Option Jid) → levels t ≤ max_levels → IsLow (target_taken service t from o)
 low_target service t from None low = tt
-low_target service t from (Some target) low = low_if (is_served service target) (ask_taken t from target (ask_of service t from target)) (denied (head_of t from target) C25) (low_ask t from target (ask_of service t from target) low) tt
+low_target service t from (Some target) low = low_if (is_served service target) (ask_taken t from target (ask_of service t from target)) (denied (head_of t from target) C25)
+    (low_ask t from target (ask_of service t from target) low) tt
 
 low_sender : (host service : List ℕ) (t : Tree) (o : Option Jid) → levels t ≤ max_levels → IsLow (sender_taken host service t o)
 low_sender host service t None low = tt
@@ -84,7 +85,8 @@ record Drawn (host : List ℕ) (line : ℕ) (moment : Option ℕ) (e : Entry) : 
   is : Change host line moment tree ≡ e
   low : levels tree ≤ max_levels
 
-drawn_by : (kept : Bool) (o : Outcome) (host : List ℕ) (line : ℕ) (moment : Option ℕ) (t : Tree) (e : Entry) → levels t ≤ max_levels → outcome_entry kept (Change host line moment t) o ≡ Some e → Drawn host line moment e
+drawn_by : (kept : Bool) (o : Outcome) (host : List ℕ) (line : ℕ) (moment : Option ℕ) (t : Tree) (e : Entry) → levels t ≤ max_levels → outcome_entry kept (Change host line moment t) o ≡ Some e
+    → Drawn host line moment e
 drawn_by kept (outcome.denied why) host line moment t e low at = absurd (let none : None ≡ Some e = at in cc none)
 drawn_by true (outcome.accepted child) host line moment t e low at = record { tree = t; is = (let same : Some (Change host line moment t) ≡ Some e = at in cc same); low = low }
 drawn_by false (outcome.accepted child) host line moment t e low at = absurd (let none : None ≡ Some e = at in cc none)
@@ -96,7 +98,8 @@ drawn (denied head why) host book line moment full e low at = absurd (let none :
 drawn (asked t r) host book line moment full e low at = drawn_by (commits book r && not full) (check book r) host line moment t e low at
 
 -- an entry that a line makes is a Change of a tree that is not too deep
-pub made-sketch : (host : List ℕ) (book : Book) (line : ℕ) (arrival : Arrival) (full : Bool) (e : Entry) → IsHostName host → IsArrival arrival → entry_of host book line arrival full ≡ Some e → IsSketch e
+pub made-sketch : (host : List ℕ) (book : Book) (line : ℕ) (arrival : Arrival) (full : Bool) (e : Entry) → IsHostName host → IsArrival arrival → entry_of host book line arrival full ≡ Some e
+    → IsSketch e
 made-sketch host book line arrival full e name moment at =
     let d = drawn (taken host book.service arrival) host book line (moment_of arrival) full e (low_taken host book.service arrival) at in
     subst IsSketch d.is (name, moment, d.low)

@@ -50,7 +50,8 @@ within_same v now len batch limits count is =
     }
 
 -- an entry waits, for which there is room
-pub within_more : (v now : State) (e : Entry) → now.length ≡ v.length → now.batch ≡ Some (entries_of v.batch ++ e ∷ []) → now.limits ≡ v.limits → now.service.state.count ≡ v.service.state.count + 1 → v.length + bytes_with v.batch e ≤ 2 ^ 30 → IsWithin v → IsWithin now
+pub within_more : (v now : State) (e : Entry) → now.length ≡ v.length → now.batch ≡ Some (entries_of v.batch ++ e ∷ []) → now.limits ≡ v.limits → now.service.state.count ≡ v.service.state.count + 1
+    → v.length + bytes_with v.batch e ≤ 2 ^ 30 → IsWithin v → IsWithin now
 within_more v now e len batch limits count room is =
     let b : bytes_of now.batch ≡ bytes_with v.batch e = ap bytes_of batch in
     record {

@@ -30,7 +30,8 @@ yes_lt : (a b : ℕ) → a < b → nat_lt a b ≡ true
 yes_lt a b h = grind (arith, nat_tests)
 
 -- the first that passes a test is the first of those that pass it
-first_by : (test : Notice → Bool) (n : Notice) (ns : List Notice) (b : Bool) → find test ns ≡ slice_get (filter test ns) 0 → cond b (Some n) (find test ns) ≡ slice_get (cond b (n ∷ filter test ns) (filter test ns)) 0
+first_by : (test : Notice → Bool) (n : Notice) (ns : List Notice) (b : Bool) → find test ns ≡ slice_get (filter test ns) 0
+    → cond b (Some n) (find test ns) ≡ slice_get (cond b (n ∷ filter test ns) (filter test ns)) 0
 first_by test n ns true more = refl
 first_by test n ns false more = more
 
@@ -41,9 +42,11 @@ find-first test (n ∷ ns) = first_by test n ns (test n) (find-first test ns)
 -- the first notice of a bare address, in the state and in the world
 pub first-is : (v : State) (w : World) (a : Jid) → Stands v w → a.resource ≡ [] → slice_get (the_core.notices w.entries a) (handed w.entries a) ≡ find (is_to a) v.queues.waiting
 first-is v w a is bare =
-    sym (get-drop (handed w.entries a) 0 (handed w.entries a) (the_core.notices w.entries a) (omega arith)) ∙ ap (λ q. slice_get q 0) (sym (is.queues a bare)) ∙ sym (find-first (is_to a) v.queues.waiting)
+    sym (get-drop (handed w.entries a) 0 (handed w.entries a) (the_core.notices w.entries a) (omega arith)) ∙ ap (λ q. slice_get q 0) (sym (is.queues a bare)) ∙ sym
+    (find-first (is_to a) v.queues.waiting)
 
-shown-is : (v : State) (w : World) (host : List ℕ) (to : Jid) (line : List ℕ) → Stands v w → (s : IsShown v.queues.waiting v.queues.held host v.durable to line) → slice_get (the_core.notices w.entries to) (handed w.entries to) ≡ Some s.notice
+shown-is : (v : State) (w : World) (host : List ℕ) (to : Jid) (line : List ℕ) → Stands v w → (s : IsShown v.queues.waiting v.queues.held host v.durable to line)
+    → slice_get (the_core.notices w.entries to) (handed w.entries to) ≡ Some s.notice
 shown-is v w host to line is s = first-is v w to is s.bare ∙ s.first
 
 pub notice-is : (v : State) (w : World) (host : List ℕ) (to : Jid) (line : List ℕ) → Stands v w → IsShown v.queues.waiting v.queues.held host v.durable to line → IsFirstNotice w to line
@@ -55,12 +58,14 @@ notice-is v w host to line is s = record {
 }
 
 -- where what the writer recorded is flushed, nothing of an address that is not held is in flight
-pub idle-is : (v : State) (w : World) (at : ℕ) (row : HostRow) (a : Jid) → Stands v w → slice_get v.rows.items at ≡ Some row → HasLanded row v.flushed → a.host ≡ row.host → (a.resource ≡ [] → is_known a v.queues.held ≡ false) → (w.addresses a).flight ≡ Nothing
+pub idle-is : (v : State) (w : World) (at : ℕ) (row : HostRow) (a : Jid) → Stands v w → slice_get v.rows.items at ≡ Some row → HasLanded row v.flushed → a.host ≡ row.host
+    → (a.resource ≡ [] → is_known a v.queues.held ≡ false) → (w.addresses a).flight ≡ Nothing
 idle-is v w at row a is was landed of free =
     landing_none w.flushed (landing_step row.landing) (w.addresses a).flight (let f = is.flushed in omega (arith, f, landed)) ((is.hands at row was).others a of free)
 
 -- the first notice of an address of the host is taken in hand
-pub emit_ok : (v now : State) (at : ℕ) (row : HostRow) (to : Jid) (line : List ℕ) → slice_get v.rows.items at ≡ Some row → HasLanded row v.flushed → IsShown v.queues.waiting v.queues.held row.host v.durable to line → now.rows ≡ v.rows → now.queues.waiting ≡ v.queues.waiting
+pub emit_ok : (v now : State) (at : ℕ) (row : HostRow) (to : Jid) (line : List ℕ) → slice_get v.rows.items at ≡ Some row → HasLanded row v.flushed
+    → IsShown v.queues.waiting v.queues.held row.host v.durable to line → now.rows ≡ v.rows → now.queues.waiting ≡ v.queues.waiting
     → now.queues.held ≡ v.queues.held ++ to ∷ [] → now.service.state ≡ v.service.state → now.batch ≡ v.batch → KeepsRest v now → now.steps ≡ v.steps + 1 → Goes v now (Emit to ∷ [])
 emit_ok v now at row to line was landed s rows queues held state batch kept steps service some w is =
     let n = s.notice in
@@ -69,11 +74,14 @@ emit_ok v now at row to line was landed s rows queues held state batch kept step
     let next = shown-is v w row.host to line is s in
     let test : nat_lt n.place (durable w) ≡ true = yes_lt n.place (durable w) (let d = is.durable_is in let l = s.low in omega (arith, d, l)) in
     let goes : World = goes_on w None w.hosts (at_address to f w.addresses) in
-    let same : happens the_core service w (Emit to) ≡ goes = ap (λ g. counted (emits w to g (slice_get (the_core.notices w.entries to) (handed w.entries to)))) idle ∙ (ap (λ o. counted (emits w to Nothing o)) next ∙ ap (λ b. counted (if b then record w { addresses = at_address to f w.addresses } else w)) test) in
+    let same : happens the_core service w (Emit to) ≡ goes = ap (λ g. counted (emits w to g (slice_get (the_core.notices w.entries to) (handed w.entries to)))) idle ∙
+    (ap (λ o. counted (emits w to Nothing o)) next ∙ ap (λ b. counted (if b then record w { addresses = at_address to f w.addresses } else w)) test) in
     subst (Stands now) (sym same)
-    (step_ok v now w None w.hosts (at_address to f w.addresses) is (subst (Sound the_core) same (happens_kept the_core the-laws service some w (Emit to) is.sound)) state (batch_same v now state batch kept) kept steps
+    (step_ok v now w None w.hosts (at_address to f w.addresses) is (subst (Sound the_core) same (happens_kept the_core the-laws service some w (Emit to) is.sound)) state
+    (batch_same v now state batch kept) kept steps
     (subst (λ r. RowsStand r.items w.hosts) (sym rows) is.rows)
-    (subst (λ (l : List Jid). HandsStand now.rows.items w.flushed l (at_address to f w.addresses)) (sym held) (subst (λ r. HandsStand r.items w.flushed (v.queues.held ++ to ∷ []) (at_address to f w.addresses)) (sym rows)
+    (subst (λ (l : List Jid). HandsStand now.rows.items w.flushed l (at_address to f w.addresses)) (sym held)
+    (subst (λ r. HandsStand r.items w.flushed (v.queues.held ++ to ∷ []) (at_address to f w.addresses)) (sym rows)
     (hands_emit v.rows.items w.flushed v.queues.held w.addresses at row to f is.hands is.rows.apart was s.here s.bare (let g = is.flushed in omega (arith, g, landed)) (λ p. refl))))
     (λ a empty. ap (queue a) queues ∙ is.queues a empty))
 
@@ -99,7 +107,8 @@ core-full : (E : List Entry) (a : Jid) (x : ℕ) (resource : List ℕ) → a.res
 unfolding the_core
 core-full E a x resource full = of-full E empty_state a x resource full
 
-none_first : (v : State) (w : World) (host : List ℕ) (a : Jid) (n : Notice) → Stands v w → NoneReady host v.durable v.queues.waiting v.queues.held → a.host ≡ host → slice_get (the_core.notices w.entries a) (handed w.entries a) ≡ Some n → a.resource ≡ [] → is_known a v.queues.held ≡ false → durable w ≤ n.place
+none_first : (v : State) (w : World) (host : List ℕ) (a : Jid) (n : Notice) → Stands v w → NoneReady host v.durable v.queues.waiting v.queues.held → a.host ≡ host
+    → slice_get (the_core.notices w.entries a) (handed w.entries a) ≡ Some n → a.resource ≡ [] → is_known a v.queues.held ≡ false → durable w ≤ n.place
 none_first v w host a n is none of got empty free =
     let here : find (is_to a) v.queues.waiting ≡ Some n = sym (first-is v w a is empty) ∙ got in
     let d = is.durable_is in
@@ -124,7 +133,8 @@ in_flight v w at row is was holds =
     (one.0, one.1, flying-not (w.addresses one.0).flight ((is.hands at row was).those one.0 one.1 one.2 one.3))
 
 -- or none
-pub none_in_flight : (v : State) (w : World) (at : ℕ) (row : HostRow) → Stands v w → slice_get v.rows.items at ≡ Some row → HasLanded row v.flushed → list_any (is_of row.host) v.queues.held ≡ false → NoneInFlight w row.host
+pub none_in_flight : (v : State) (w : World) (at : ℕ) (row : HostRow) → Stands v w → slice_get v.rows.items at ≡ Some row → HasLanded row v.flushed → list_any (is_of row.host) v.queues.held ≡ false
+    → NoneInFlight w row.host
 none_in_flight v w at row is was landed holds a of = idle-is v w at row a is was landed of (λ empty. none_held row.host v.queues.held a holds of)
 
 -- what was recorded last isn't flushed

@@ -67,7 +67,8 @@ none_landed : (row : HostRow) (l : Landing) → row.landing ≡ None → row.lan
 none_landed row l none some = let e : None ≡ Some l = sym none ∙ some in cc e
 
 module _ (v : State) (state : v.service.state ≡ after empty_state (Boot name)) (fresh : AreFresh v.rows.items) where
-  pub opened_stands : v.queues.waiting ≡ [] → v.queues.held ≡ [] → v.batch ≡ None → v.count ≡ 1 → v.length ≡ 31 → v.broken ≡ false → v.steps ≡ 0 → v.flushed ≡ 0 → v.durable ≡ 1 → v.limits.changes ≤ 2 ^ 30 → v.limits.whole ≤ 2 ^ 30 → IsStanding v
+  pub opened_stands : v.queues.waiting ≡ [] → v.queues.held ≡ [] → v.batch ≡ None → v.count ≡ 1 → v.length ≡ 31 → v.broken ≡ false → v.steps ≡ 0 → v.flushed ≡ 0 → v.durable ≡ 1
+      → v.limits.changes ≤ 2 ^ 30 → v.limits.whole ≤ 2 ^ 30 → IsStanding v
   opened_stands queues held batch count size broken steps flushed durable changes whole =
       let w = start the_core name [] in
       let row = fresh.0 in

@@ -27,7 +27,8 @@ front_either E es F m n c is same l (inr long) =
     front_whole F n c (let k = ap length is in let a = length-append E es in omega (arith, k, a, same, l)) (subst (λ (k : List Entry). spelled c k) (sym is) long)
 
 -- a front of entries, where bytes that spell these, or these and more, may be left
-pub front_of_two : (synced : List ℕ) (written : List (ℕ × ℕ)) (E es front behind : List Entry) (c d : List ℕ) → front ++ behind ≡ E → spelled c front → IsWithOrWithout E es d → MayLeave synced written d → IsFrontOfLeft synced written c
+pub front_of_two : (synced : List ℕ) (written : List (ℕ × ℕ)) (E es front behind : List Entry) (c d : List ℕ) → front ++ behind ≡ E → spelled c front → IsWithOrWithout E es d
+    → MayLeave synced written d → IsFrontOfLeft synced written c
 front_of_two synced written E es front behind c d all is (inl short) may = record {
   front = front;
   behind = behind;

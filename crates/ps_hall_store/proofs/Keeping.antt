@@ -28,7 +28,8 @@ ends-within m w sizes = let e = ends-le m w.made in omega (arith, e, sizes)
 
 module _ {D : Type 0} (g : Ghosts D) (at : OpenedAt) where
   -- the journal was opened at that moment, and a crash leaves all entries
-  pub kept_opened : OnlyNow g → (disk : D) (firm : ℕ) (w : World) → length w.made ≡ length w.entries → w.opened ≤ length w.entries → at.moment ≡ g.moment disk → LeavesList (g.synced disk) (g.written disk) w.entries → (IsShortIfUnbegun at.seen → SinceStart g at disk w) → EntriesAreKept g at disk firm w
+  pub kept_opened : OnlyNow g → (disk : D) (firm : ℕ) (w : World) → length w.made ≡ length w.entries → w.opened ≤ length w.entries → at.moment ≡ g.moment disk
+      → LeavesList (g.synced disk) (g.written disk) w.entries → (IsShortIfUnbegun at.seen → SinceStart g at disk w) → EntriesAreKept g at disk firm w
   kept_opened only disk firm w sizes opened moment lasts since_start =
       let here : (c : List ℕ) → g.left_since disk at.moment c → MayLeave (g.synced disk) (g.written disk) c = λ c left. only disk c (subst (λ (t : ℕ). g.left_since disk t c) moment left) in
       record {
@@ -59,17 +60,27 @@ module _ {D : Type 0} (g : Ghosts D) (at : OpenedAt) where
   }
 
   -- a crash leaves all entries, so more steps are firm
-  pub kept_all : (disk : D) (firm more : ℕ) (w : World) → length w.made ≡ length w.entries → LeavesList (g.synced disk) (g.written disk) w.entries → EntriesAreKept g at disk firm w → EntriesAreKept g at disk more w
-  kept_all disk firm more w sizes lasts is = record { later = is.later; now = λ c may. front_whole w.entries (ends more w.made) c (ends-within more w sizes) (lasts c may); since = is.since; fronts = is.fronts; since_start = is.since_start }
+  pub kept_all : (disk : D) (firm more : ℕ) (w : World) → length w.made ≡ length w.entries → LeavesList (g.synced disk) (g.written disk) w.entries → EntriesAreKept g at disk firm w
+      → EntriesAreKept g at disk more w
+  kept_all disk firm more w sizes lasts is = record {
+    later = is.later;
+    now = λ c may. front_whole w.entries (ends more w.made) c (ends-within more w sizes) (lasts c may);
+    since = is.since;
+    fronts =
+        is.fronts;
+    since_start = is.since_start;
+  }
 
   -- the store was read
-  pub kept_read : CountsNow g → (old new : D) (firm : ℕ) (w : World) → g.synced new ≡ g.synced old → g.written new ≡ g.written old → LeavesOnly g.moment g.left_since old new (MayLeave (g.synced old) (g.written old)) → EntriesAreKept g at old firm w → EntriesAreKept g at new firm w
+  pub kept_read : CountsNow g → (old new : D) (firm : ℕ) (w : World) → g.synced new ≡ g.synced old → g.written new ≡ g.written old
+      → LeavesOnly g.moment g.left_since old new (MayLeave (g.synced old) (g.written old)) → EntriesAreKept g at old firm w → EntriesAreKept g at new firm w
   kept_read counts old new firm w synced written moments is =
       let back : (c : List ℕ) → MayLeave (g.synced new) (g.written new) c → MayLeave (g.synced old) (g.written old) c = λ c may.
       subst (λ (s : List ℕ). MayLeave s (g.written old) c) synced (subst (λ (x : List (ℕ × ℕ)). MayLeave (g.synced new) x c) written may) in
       let forth : (c : List ℕ) → IsFrontOfLeft (g.synced old) (g.written old) c → IsFrontOfLeft (g.synced new) (g.written new) c = λ c f.
       subst (λ (s : List ℕ). IsFrontOfLeft s (g.written new) c) (sym synced) (subst (λ (x : List (ℕ × ℕ)). IsFrontOfLeft (g.synced old) x c) (sym written) f) in
-      let earlier : (t : ℕ) (c : List ℕ) → t ≤ g.moment old → g.left_since new t c → g.left_since old t c = λ t c le left. elim (moments.before t c le left) [ inl was ↦ was | inr may ↦ counts old t c le may ] in
+      let earlier : (t : ℕ) (c : List ℕ) → t ≤ g.moment old → g.left_since new t c
+      → g.left_since old t c = λ t c le left. elim (moments.before t c le left) [ inl was ↦ was | inr may ↦ counts old t c le may ] in
       let before : (c : List ℕ) → g.left_since new at.moment c → g.left_since old at.moment c = λ c left. earlier at.moment c is.later left in
       record {
         later = (let a = is.later in let b = moments.later in omega (arith, a, b));
@@ -86,7 +97,8 @@ module _ {D : Type 0} (g : Ghosts D) (at : OpenedAt) where
             });
       }
 
-  module _ (seen_left : SeenLeft g) (counts : CountsNow g) (old new : D) (E es : List Entry) (lasts : LeavesList (g.synced old) (g.written old) E) (moments : LeavesOnly g.moment g.left_since old new (IsWithOrWithout E es))
+  module _ (seen_left : SeenLeft g) (counts : CountsNow g) (old new : D) (E es : List Entry) (lasts : LeavesList (g.synced old) (g.written old) E)
+      (moments : LeavesOnly g.moment g.left_since old new (IsWithOrWithout E es))
       (fronts : LeavesOnly g.moment g.left_since old new (IsFrontOfLeft (g.synced new) (g.written new))) where
     -- what might be left before is a front of what may be left now
     past : (c : List ℕ) → IsFrontOfLeft (g.synced old) (g.written old) c → IsFrontOfLeft (g.synced new) (g.written new) c
@@ -127,7 +139,8 @@ module _ {D : Type 0} (g : Ghosts D) (at : OpenedAt) where
         }
 
     -- it failed
-    pub kept_torn : (firm : ℕ) (w v : World) → w.entries ≡ E → length w.made ≡ length w.entries → w.opened ≤ length w.entries → v.entries ≡ w.entries ++ es → Follows w v → firm ≤ w.steps → EntriesAreKept g at old firm w → EntriesAreKept g at new firm v
+    pub kept_torn : (firm : ℕ) (w v : World) → w.entries ≡ E → length w.made ≡ length w.entries → w.opened ≤ length w.entries → v.entries ≡ w.entries ++ es → Follows w v → firm ≤ w.steps
+        → EntriesAreKept g at old firm w → EntriesAreKept g at new firm v
     kept_torn firm w v is_list sizes opened entries on low is =
         kept_then firm firm w v is_list opened entries on.opened
         (λ c may. front_either w.entries es v.entries (ends firm w.made) (ends firm v.made) c entries (on.ends_same firm low) (ends-within firm w sizes)
@@ -135,5 +148,7 @@ module _ {D : Type 0} (g : Ghosts D) (at : OpenedAt) where
         is
 
     -- it was written
-    pub kept_written : (firm more : ℕ) (w v : World) → w.entries ≡ E → w.opened ≤ length w.entries → length v.made ≡ length v.entries → v.entries ≡ w.entries ++ es → v.opened ≡ w.opened → LeavesList (g.synced new) (g.written new) v.entries → EntriesAreKept g at old firm w → EntriesAreKept g at new more v
-    kept_written firm more w v is_list opened sizes entries same all is = kept_then firm more w v is_list opened entries same (λ c may. front_whole v.entries (ends more v.made) c (ends-within more v sizes) (all c may)) is
+    pub kept_written : (firm more : ℕ) (w v : World) → w.entries ≡ E → w.opened ≤ length w.entries → length v.made ≡ length v.entries → v.entries ≡ w.entries ++ es → v.opened ≡ w.opened
+        → LeavesList (g.synced new) (g.written new) v.entries → EntriesAreKept g at old firm w → EntriesAreKept g at new more v
+    kept_written firm more w v is_list opened sizes entries same all is = kept_then firm more w v is_list opened entries same
+        (λ c may. front_whole v.entries (ends more v.made) c (ends-within more v sizes) (all c may)) is

@@ -19,7 +19,8 @@ use Rattle.ps_hall_store.specs.Stand.{LeavesSized, disk_in, firm_of, length_in}
 use Rattle.ps_hall_store.specs.declared.store.Store.{Store}
 
 -- a crash leaves this list and no other, with at least so many bytes
-pub all_sized : (synced : List ℕ) (written : List (ℕ × ℕ)) (E : List Entry) (few fewer many more least : ℕ) → LeavesList synced written E → LeavesAtLeast synced written least → many ≡ length E → more ≡ least
+pub all_sized : (synced : List ℕ) (written : List (ℕ × ℕ)) (E : List Entry) (few fewer many more least : ℕ) → LeavesList synced written E → LeavesAtLeast synced written least → many ≡ length E
+    → more ≡ least
     → (c : List ℕ) → MayLeave synced written c → IsSized few fewer many more c
 all_sized synced written E few fewer many more least lasts floor count long c may n has F spells =
     let same = ap length (one_list c F E spells (lasts c may)) in
@@ -27,7 +28,8 @@ all_sized synced written E few fewer many more least lasts floor count long c ma
     inr (omega (arith, same, count), omega (arith, low, long))
 
 -- it leaves the entries before, or those and the new ones in a frame more
-pub either_sized : (E es : List Entry) (len few fewer many more : ℕ) (c : List ℕ) → IsLongWithOrWithout E es len c → length E ≤ few → length E + length es ≤ many → more ≤ len + 5 + length (body es) → ((n : ℕ) → HasLength c n → fewer ≤ n)
+pub either_sized : (E es : List Entry) (len few fewer many more : ℕ) (c : List ℕ) → IsLongWithOrWithout E es len c → length E ≤ few → length E + length es ≤ many → more ≤ len + 5 + length (body es)
+    → ((n : ℕ) → HasLength c n → fewer ≤ n)
     → IsSized few fewer many more c
 either_sized E es len few fewer many more c (inl without) low high long floor n has F spells =
     let same = ap length (one_list c F E spells without.0) in
@@ -39,9 +41,11 @@ either_sized E es len few fewer many more c (inr with) low high long floor n has
     inr (omega (arith, same, both, high), omega (arith, is, long))
 
 -- the same with other numbers
-pub sized_on : (few fewer many more few1 fewer1 many1 more1 : ℕ) (c : List ℕ) → few ≤ few1 → fewer1 ≤ fewer → many ≤ many1 → more1 ≤ more → IsSized few fewer many more c → IsSized few1 fewer1 many1 more1 c
+pub sized_on : (few fewer many more few1 fewer1 many1 more1 : ℕ) (c : List ℕ) → few ≤ few1 → fewer1 ≤ fewer → many ≤ many1 → more1 ≤ more → IsSized few fewer many more c
+    → IsSized few1 fewer1 many1 more1 c
 sized_on few fewer many more few1 fewer1 many1 more1 c a b d e is n has F spells =
-    ⊎_elim (λ p. inl ((let x = p.0 in omega (arith, x, a)), (let y = p.1 in omega (arith, y, b)))) (λ p. inr ((let x = p.0 in omega (arith, x, d)), (let y = p.1 in omega (arith, y, e)))) (is n has F spells)
+    ⊎_elim (λ p. inl ((let x = p.0 in omega (arith, x, a)), (let y = p.1 in omega (arith, y, b)))) (λ p. inr ((let x = p.0 in omega (arith, x, d)), (let y = p.1 in omega (arith, y, e))))
+    (is n has F spells)
 
 -- of two lengths that are one, it has at least that
 pub sized_least : (few fewer many more : ℕ) (c : List ℕ) → more ≡ fewer → IsSized few fewer many more c → (n : ℕ) → HasLength c n → (E : List Entry) → spelled c E → fewer ≤ n
@@ -54,7 +58,8 @@ firm_made w v firm sound on is =
 
 module _ {D : Type 0} {g : Ghosts D} where
   -- of a disk on which the same may be left
-  pub sizes_on : (old new : Store D g) (w v : World) → ((c : List ℕ) → MayLeave (g.synced (disk_in new)) (g.written (disk_in new)) c → MayLeave (g.synced (disk_in old)) (g.written (disk_in old)) c) → ends (firm_of new) v.made ≡ ends (firm_of old) w.made
+  pub sizes_on : (old new : Store D g) (w v : World) → ((c : List ℕ) → MayLeave (g.synced (disk_in new)) (g.written (disk_in new)) c → MayLeave (g.synced (disk_in old)) (g.written (disk_in old)) c)
+      → ends (firm_of new) v.made ≡ ends (firm_of old) w.made
       → length_in new ≡ length_in old → new.count ≡ old.count → new.length ≡ old.length → LeavesSized old w → LeavesSized new v
   sizes_on old new w v back firm len count long is c may =
       sized_on (ends (firm_of old) w.made) (length_in old) old.count old.length (ends (firm_of new) v.made) (length_in new) new.count new.length c

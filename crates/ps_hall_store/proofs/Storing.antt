@@ -50,7 +50,8 @@ rose_or before now (inr rose) none = rose
 
 module _ {D : Type 0} {g : Ghosts D} where
   pub opened_ok : OnlyNow g → (journal : Journal D g) (count len : ℕ) (at : OpenedAt) (w : World) → IsOpened journal w → count ≡ length w.entries → BeganFrom at journal w → len ≡ length_of journal
-      → (g.tells → LeavesAtLeast (g.synced (disk_of journal)) (g.written (disk_of journal)) (length_of journal)) → (let y : Store D g = record { journal = journal; count = count; length = len; steps = 0; firm = 0 } in StoreStands at y w)
+      → (g.tells → LeavesAtLeast (g.synced (disk_of journal)) (g.written (disk_of journal)) (length_of journal))
+      → (let y : Store D g = record { journal = journal; count = count; length = len; steps = 0; firm = 0 } in StoreStands at y w)
   opened_ok only journal count len at w is counted began long floor = record {
     sound = is.sound;
     steps = sym is.steps;
@@ -61,7 +62,8 @@ module _ {D : Type 0} {g : Ghosts D} where
     faults = (let f = began.faults in omega (arith, f));
     grows = (let b = began.bytes in omega (arith, b));
     kept = λ tells. kept_opened g at only (disk_of journal) 0 w is.sound.sizes (opened-within w is.sound) began.moment (is.lasts tells) (began.since_start tells);
-    sizes = λ tells. all_sized (g.synced (disk_of journal)) (g.written (disk_of journal)) w.entries (ends 0 w.made) (length_of journal) count len (length_of journal) (is.lasts tells) (floor tells) counted long;
+    sizes = λ tells. all_sized (g.synced (disk_of journal)) (g.written (disk_of journal)) w.entries (ends 0 w.made) (length_of journal) count len (length_of journal) (is.lasts tells) (floor tells)
+        counted long;
   }
 
   -- what the frame lacks is whole before it
@@ -86,11 +88,13 @@ module _ {D : Type 0} {g : Ghosts D} where
       let low : old.firm ≤ w.steps = (let a = is.stands.firm in let b = is.stands.steps in omega (arith, a, b)) in
       let lasts : (tells : g.tells) → LeavesList (g.synced (disk_in old)) (g.written (disk_in old)) v.entries = λ tells c may. subst (λ (l : List Entry). spelled c l) same (whole.lasts tells c may) in
       let grown = ap (λ x. length_of x) journal in
-      let same_long : new.length ≡ length_in new = (let a = is.length_is in let b : bytes_of frame.batch ≡ 0 = ap (λ o. bytes_of o) none in let d = whole.length_is in omega (arith, long, a, b, d, grown)) in
+      let same_long : new.length ≡ length_in new = (let a = is.length_is in let b : bytes_of frame.batch ≡ 0 = ap (λ o. bytes_of o) none in let d = whole.length_is in omega
+      (arith, long, a, b, d, grown)) in
       let floor : (tells : g.tells) → LeavesAtLeast (g.synced (disk_in old)) (g.written (disk_in old)) (length_in old) = λ tells c may n has.
       sized_least (ends old.firm w.made) (length_in old) old.count old.length c whole.length_is (is.stands.sizes tells c may) n has w.entries (whole.lasts tells c may) in
       let sized : (tells : g.tells) → (c : List ℕ) → MayLeave (g.synced (disk_in old)) (g.written (disk_in old)) c → IsSized (ends new.firm v.made) (length_in new) new.count new.length c = λ tells.
-      all_sized (g.synced (disk_in old)) (g.written (disk_in old)) v.entries (ends new.firm v.made) (length_in new) new.count new.length (length_in old) (lasts tells) (floor tells) (count ∙ is.count) (same_long ∙ grown) in
+      all_sized (g.synced (disk_in old)) (g.written (disk_in old)) v.entries (ends new.firm v.made) (length_in new) new.count new.length (length_in old) (lasts tells) (floor tells) (count ∙ is.count)
+      (same_long ∙ grown) in
       record {
         sound = is.sound;
         steps = steps ∙ is.steps;
@@ -107,14 +111,18 @@ module _ {D : Type 0} {g : Ghosts D} where
         fault = λ b. absurd (false≢true (sym is.unbroken ∙ b));
         faults = subst (λ (j : Journal D g). at.faults ≤ g.faults (disk_of j)) (sym journal) is.stands.faults;
         grows = subst (λ (j : Journal D g). at.bytes ≤ length_of j) (sym journal) is.stands.grows;
-        kept = λ tells. subst (λ (j : Journal D g). EntriesAreKept g at (disk_of j) new.firm v) (sym journal) (kept_all g at (disk_in old) old.firm new.firm v is.sound.sizes (lasts tells) (kept_on g at (disk_in old) old.firm w v is.follows low (is.stands.kept tells)));
+        kept = λ tells. subst (λ (j : Journal D g). EntriesAreKept g at (disk_of j) new.firm v) (sym journal)
+            (kept_all g at (disk_in old) old.firm new.firm v is.sound.sizes (lasts tells) (kept_on g at (disk_in old) old.firm w v is.follows low (is.stands.kept tells)));
         sizes = λ tells c may. sized tells c (subst (λ (j : Journal D g). MayLeave (g.synced (disk_of j)) (g.written (disk_of j)) c) journal may);
       }
 
-  module _ (seen_left : SeenLeft g) (counts : CountsNow g) (at : OpenedAt) (old new : Store D g) (frame : Frame) (es : List Entry) (batch : frame.batch ≡ Some es) (w v : World) (is : Loaded at old frame w v)
+  module _ (seen_left : SeenLeft g) (counts : CountsNow g) (at : OpenedAt) (old new : Store D g) (frame : Frame) (es : List Entry) (batch : frame.batch ≡ Some es) (w v : World)
+      (is : Loaded at old frame w v)
       (moments : g.tells → broken_in old ≡ None → (E : List Entry) → spelled (g.seen (disk_in old)) E → LeavesOnly g.moment g.left_since (disk_in old) (disk_in new) (IsWithOrWithout E es))
-      (fronts : g.tells → broken_in old ≡ None → (E : List Entry) → spelled (g.seen (disk_in old)) E → LeavesOnly g.moment g.left_since (disk_in old) (disk_in new) (IsFrontOfLeft (g.synced (disk_in new)) (g.written (disk_in new))))
-      (later : g.faults (disk_in old) ≤ g.faults (disk_in new)) (longer : length_in old ≤ length_in new) (floor : g.tells → LeavesAtLeast (g.synced (disk_in new)) (g.written (disk_in new)) (length_in new)) where
+      (fronts : g.tells → broken_in old ≡ None → (E : List Entry) → spelled (g.seen (disk_in old)) E
+      → LeavesOnly g.moment g.left_since (disk_in old) (disk_in new) (IsFrontOfLeft (g.synced (disk_in new)) (g.written (disk_in new))))
+      (later : g.faults (disk_in old) ≤ g.faults (disk_in new)) (longer : length_in old ≤ length_in new)
+      (floor : g.tells → LeavesAtLeast (g.synced (disk_in new)) (g.written (disk_in new)) (length_in new)) where
     entries_are : v.entries ≡ w.entries ++ es
     entries_are = is.entries ∙ ap (λ b. w.entries ++ entries_of b) batch
 
@@ -125,8 +133,10 @@ module _ {D : Type 0} {g : Ghosts D} where
         → new.count ≡ frame.count → new.length ≡ frame.length → new.steps ≡ frame.steps → new.firm ≡ frame.steps → StoreStands at new v
     written_ok still grown spells lasts count long steps firm =
         let whole = whole_before at old frame w v is in
-        let all : (tells : g.tells) → LeavesList (g.synced (disk_in new)) (g.written (disk_in new)) v.entries = λ tells c may. subst (λ (l : List Entry). spelled c l) (sym entries_are) (lasts tells w.entries (whole.seen tells) c may) in
-        let same_long : new.length ≡ length_in new = (let a = is.length_is in let b : bytes_of frame.batch ≡ 5 + length (body es) = ap (λ o. bytes_of o) batch in let d = whole.length_is in omega (arith, long, a, b, d, grown)) in
+        let all : (tells : g.tells) → LeavesList (g.synced (disk_in new)) (g.written (disk_in new)) v.entries = λ tells c may. subst (λ (l : List Entry). spelled c l) (sym entries_are)
+        (lasts tells w.entries (whole.seen tells) c may) in
+        let same_long : new.length ≡ length_in new = (let a = is.length_is in let b : bytes_of frame.batch ≡ 5 + length (body es) = ap (λ o. bytes_of o) batch in let d = whole.length_is in omega
+        (arith, long, a, b, d, grown)) in
         record {
           sound = is.sound;
           steps = steps ∙ is.steps;
@@ -143,19 +153,23 @@ module _ {D : Type 0} {g : Ghosts D} where
           fault = λ b. absurd (false≢true (sym is.unbroken ∙ b));
           faults = (let a = is.stands.faults in omega (arith, a, later));
           grows = (let a = is.stands.grows in omega (arith, a, longer));
-          kept = λ tells. kept_written g at seen_left counts (disk_in old) (disk_in new) w.entries es (whole.lasts tells) (moments tells whole.unbroken w.entries (whole.seen tells)) (fronts tells whole.unbroken w.entries (whole.seen tells))
+          kept = λ tells. kept_written g at seen_left counts (disk_in old) (disk_in new) w.entries es (whole.lasts tells) (moments tells whole.unbroken w.entries (whole.seen tells))
+              (fronts tells whole.unbroken w.entries (whole.seen tells))
               old.firm new.firm w v refl (opened-within w is.stands.sound) is.sound.sizes entries_are is.follows.opened (all tells) (is.stands.kept tells);
-          sizes = λ tells. all_sized (g.synced (disk_in new)) (g.written (disk_in new)) v.entries (ends new.firm v.made) (length_in new) new.count new.length (length_in new) (all tells) (floor tells) (count ∙ is.count) same_long;
+          sizes = λ tells. all_sized (g.synced (disk_in new)) (g.written (disk_in new)) v.entries (ends new.firm v.made) (length_in new) new.count new.length (length_in new) (all tells) (floor tells)
+              (count ∙ is.count) same_long;
         }
 
     -- it failed
-    pub torn_ok : (fault : ℕ) → broken_in new ≡ Some fault → Rose (g.faults (disk_in old)) (g.faults (disk_in new)) → (g.tells → broken_in old ≡ None → (E : List Entry) → spelled (g.seen (disk_in old)) E → IsTornBy old.journal E es new.journal)
+    pub torn_ok : (fault : ℕ) → broken_in new ≡ Some fault → Rose (g.faults (disk_in old)) (g.faults (disk_in new))
+        → (g.tells → broken_in old ≡ None → (E : List Entry) → spelled (g.seen (disk_in old)) E → IsTornBy old.journal E es new.journal)
         → new.count ≡ frame.count → new.length ≡ frame.length → new.firm ≡ old.firm → IsTorn at new v
     torn_ok fault failed rose torn count long firm =
         let whole = whole_before at old frame w v is in
         let made : ends new.firm v.made ≡ length w.entries = firm_made w v new.firm is.stands.sound is.follows (firm ∙ (whole.firm ∙ is.stands.steps)) in
         let all : new.count ≡ length w.entries + length es = count ∙ (is.count ∙ (ap length entries_are ∙ length-append w.entries es)) in
-        let grown : new.length ≡ length_in old + 5 + length (body es) = (let a = is.length_is in let b : bytes_of frame.batch ≡ 5 + length (body es) = ap (λ o. bytes_of o) batch in let d = whole.length_is in omega (arith, long, a, b, d)) in
+        let grown : new.length ≡ length_in old + 5 + length (body es) =
+        (let a = is.length_is in let b : bytes_of frame.batch ≡ 5 + length (body es) = ap (λ o. bytes_of o) batch in let d = whole.length_is in omega (arith, long, a, b, d)) in
         let low : old.firm ≤ w.steps = (let a = is.stands.firm in let b = is.stands.steps in omega (arith, a, b)) in
         record {
           firm = (let s = is.follows.steps in omega (arith, low, s, firm));
@@ -164,14 +178,16 @@ module _ {D : Type 0} {g : Ghosts D} where
           faults = (let a = is.stands.faults in omega (arith, a, later));
           grows = (let a = is.stands.grows in omega (arith, a, longer));
           kept = λ tells. subst (λ (n : ℕ). EntriesAreKept g at (disk_in new) n v) (sym firm)
-              (kept_torn g at seen_left counts (disk_in old) (disk_in new) w.entries es (whole.lasts tells) (moments tells whole.unbroken w.entries (whole.seen tells)) (fronts tells whole.unbroken w.entries (whole.seen tells))
+              (kept_torn g at seen_left counts (disk_in old) (disk_in new) w.entries es (whole.lasts tells) (moments tells whole.unbroken w.entries (whole.seen tells))
+              (fronts tells whole.unbroken w.entries (whole.seen tells))
               old.firm w v refl is.stands.sound.sizes (opened-within w is.stands.sound) entries_are is.follows low (is.stands.kept tells));
           sizes = λ tells c may. either_sized w.entries es (length_in old) (ends new.firm v.made) (length_in new) new.count new.length c (torn tells whole.unbroken w.entries (whole.seen tells) c may)
               (omega (arith, made)) (omega (arith, all)) (omega (arith, grown)) (floor tells c may);
         }
 
   -- the fault is told by a step
-  pub noted_ok : (at : OpenedAt) (old new : Store D g) (v u : World) (steps : ℕ) → IsTorn at old v → Follows v u → Sound the_core u → u.broken ≡ true → steps ≡ u.steps → new.journal ≡ old.journal → new.firm ≡ old.firm → new.steps ≡ steps → new.count ≡ old.count → new.length ≡ old.length → StoreStands at new u
+  pub noted_ok : (at : OpenedAt) (old new : Store D g) (v u : World) (steps : ℕ) → IsTorn at old v → Follows v u → Sound the_core u → u.broken ≡ true → steps ≡ u.steps → new.journal ≡ old.journal
+      → new.firm ≡ old.firm → new.steps ≡ steps → new.count ≡ old.count → new.length ≡ old.length → StoreStands at new u
   noted_ok at old new v u steps is on sound broken told journal firm is_steps count long = record {
     sound = sound;
     steps = is_steps ∙ told;
@@ -181,8 +197,10 @@ module _ {D : Type 0} {g : Ghosts D} where
     fault = λ b. subst (λ (j : Journal D g). Rose at.faults (g.faults (disk_of j))) (sym journal) is.fault;
     faults = subst (λ (j : Journal D g). at.faults ≤ g.faults (disk_of j)) (sym journal) is.faults;
     grows = subst (λ (j : Journal D g). at.bytes ≤ length_of j) (sym journal) is.grows;
-    kept = λ tells. subst (λ (j : Journal D g). EntriesAreKept g at (disk_of j) new.firm u) (sym journal) (subst (λ (n : ℕ). EntriesAreKept g at (disk_in old) n u) (sym firm) (kept_on g at (disk_in old) old.firm v u on is.firm (is.kept tells)));
-    sizes = λ tells. sizes_on old new v u (λ c may. subst (λ (j : Journal D g). MayLeave (g.synced (disk_of j)) (g.written (disk_of j)) c) journal may) (ap (λ n. ends n u.made) firm ∙ on.ends_same old.firm is.firm)
+    kept = λ tells. subst (λ (j : Journal D g). EntriesAreKept g at (disk_of j) new.firm u) (sym journal)
+        (subst (λ (n : ℕ). EntriesAreKept g at (disk_in old) n u) (sym firm) (kept_on g at (disk_in old) old.firm v u on is.firm (is.kept tells)));
+    sizes = λ tells. sizes_on old new v u (λ c may. subst (λ (j : Journal D g). MayLeave (g.synced (disk_of j)) (g.written (disk_of j)) c) journal may)
+        (ap (λ n. ends n u.made) firm ∙ on.ends_same old.firm is.firm)
         (ap (λ j. length_of j) journal) count long (is.sizes tells);
   }
 
@@ -211,7 +229,8 @@ module _ {D : Type 0} {g : Ghosts D} where
           record {
             unbroken = broken ∙ was.unbroken;
             seen = λ tells. subst (λ (l : List ℕ). spelled l w.entries) (sym seen) (was.seen tells);
-            lasts = λ tells. subst (λ (s : List ℕ). LeavesList s (g.written (disk_in new)) w.entries) (sym synced) (subst (λ (x : List (ℕ × ℕ)). LeavesList (g.synced (disk_in old)) x w.entries) (sym written) (was.lasts tells));
+            lasts = λ tells. subst (λ (s : List ℕ). LeavesList s (g.written (disk_in new)) w.entries) (sym synced)
+                (subst (λ (x : List (ℕ × ℕ)). LeavesList (g.synced (disk_in old)) x w.entries) (sym written) (was.lasts tells));
             firm = firm ∙ (was.firm ∙ sym steps);
             count = count ∙ was.count;
             length_is = length_same ∙ (was.length_is ∙ sym long);

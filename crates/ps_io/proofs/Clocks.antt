@@ -10,7 +10,8 @@ told_length : (answers : List ℕ) (calls : ℕ) → length (told_by answers cal
 told_length answers zero = refl
 told_length answers (suc calls) = omega (arith, length-append (told_by answers calls) (slice_get answers calls ∷ []), told_length answers calls)
 
-told_at : (answers : List ℕ) (calls next : ℕ) (one : Option ℕ) (b : Bool) → nat_lt (length (told_by answers calls)) (2 ^ 64 - 1) ≡ b → slice_get answers calls ≡ one → next ≡ min (calls + 1) (2 ^ 64 - 1) → calls ≤ 2 ^ 64 - 1 → told_by answers next ≡ (if b then told_by answers calls ++ one ∷ [] else told_by answers calls)
+told_at : (answers : List ℕ) (calls next : ℕ) (one : Option ℕ) (b : Bool) → nat_lt (length (told_by answers calls)) (2 ^ 64 - 1) ≡ b → slice_get answers calls ≡ one
+    → next ≡ min (calls + 1) (2 ^ 64 - 1) → calls ≤ 2 ^ 64 - 1 → told_by answers next ≡ (if b then told_by answers calls ++ one ∷ [] else told_by answers calls)
 told_at answers calls next one true is got rises within =
     let n = told_length answers calls in
     let e : next ≡ suc calls = grind (arith, nat_tests) in
@@ -21,5 +22,6 @@ told_at answers calls next one false is got rises within =
     ap (told_by answers) e
 
 -- one call more adds its answer
-pub told_next : (answers : List ℕ) (calls next : ℕ) (one : Option ℕ) → slice_get answers calls ≡ one → next ≡ min (calls + 1) (2 ^ 64 - 1) → calls ≤ 2 ^ 64 - 1 → told_by answers next ≡ noted (told_by answers calls) one
+pub told_next : (answers : List ℕ) (calls next : ℕ) (one : Option ℕ) → slice_get answers calls ≡ one → next ≡ min (calls + 1) (2 ^ 64 - 1) → calls ≤ 2 ^ 64 - 1
+    → told_by answers next ≡ noted (told_by answers calls) one
 told_next answers calls next one got rises within = told_at answers calls next one (nat_lt (length (told_by answers calls)) (2 ^ 64 - 1)) refl got rises within

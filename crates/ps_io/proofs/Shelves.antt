@@ -70,7 +70,8 @@ pub at_none : {T : Type 0} (slots : List (Slot T)) (name : List ℕ) → None �
 at_none slots name is = ap (λ (o : Option (Slot _)). option_map (λ s. s.held) o) (nowhere _ slots (no_place _ slots is))
 
 -- a name that stands somewhere has a place
-pub has_place : {T : Type 0} (slots : List (Slot T)) (name : List ℕ) (held : Option T) (place : Option ℕ) → at slots name ≡ Some held → place ≡ position (λ slot. bytes_eq slot.name name) slots → IsSome place
+pub has_place : {T : Type 0} (slots : List (Slot T)) (name : List ℕ) (held : Option T) (place : Option ℕ) → at slots name ≡ Some held → place ≡ position (λ slot. bytes_eq slot.name name) slots
+    → IsSome place
 has_place slots name held None stands is = absurd (cc (stands, at_none slots name is))
 has_place slots name held (Some place) stands is = search rules
 

@@ -34,7 +34,22 @@ use Rattle.ps_model.specs.Events.{events_by}
 use Rattle.ps_model.specs.Words.{roster_of}
 use Rattle.ps_book_laws.proofs.Keys.{each-both}
 use Rattle.ps_mirror_laws.specs.Laws.{Stands, TellsAll}
-use Rattle.ps_mirror_laws.proofs.OtherKinds.{answer-stay, configured_by-far, created-stay, made-other, publish-far, question-other, retract-far, retract-other, roster-stay, rows-other, subscribe-other, subscribed-stay, told-other, wanted-other}
+use Rattle.ps_mirror_laws.proofs.OtherKinds.{
+  answer-stay,
+  configured_by-far,
+  created-stay,
+  made-other,
+  publish-far,
+  question-other,
+  retract-far,
+  retract-other,
+  roster-stay,
+  rows-other,
+  subscribe-other,
+  subscribed-stay,
+  told-other,
+  wanted-other,
+}
 use Rattle.ps_mirror_laws.proofs.Own.{Outcome, configured-own, delete-own, plain, publish-own, purge-own, retract-own}
 use Rattle.ps_mirror_laws.proofs.Shown.{but-all}
 use Rattle.ps_mirror_laws.proofs.Silent.{IsOther, Place}

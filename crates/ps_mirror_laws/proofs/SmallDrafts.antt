@@ -1,5 +1,35 @@
 -- Each stanza that tells of an event is short, or says nothing of a node's items.
-use Rattle.std.proofs.Common.{◌≡◌, ℕ, ◌+◌, ◌*◌, ◌<◌, ◌≤◌, ◌^◌, ◌⊎◌, inl, inr, Bool, true, false, cond, ◌&&◌, List, [], ◌∷◌, length, reverse, Option, Some, None, option_map, refl, sym, subst, ◌∙◌, arith}
+use Rattle.std.proofs.Common.{
+  ◌≡◌,
+  ℕ,
+  ◌+◌,
+  ◌*◌,
+  ◌<◌,
+  ◌≤◌,
+  ◌^◌,
+  ◌⊎◌,
+  inl,
+  inr,
+  Bool,
+  true,
+  false,
+  cond,
+  ◌&&◌,
+  List,
+  [],
+  ◌∷◌,
+  length,
+  reverse,
+  Option,
+  Some,
+  None,
+  option_map,
+  refl,
+  sym,
+  subst,
+  ◌∙◌,
+  arith,
+}
 use Rattle.std.specs.Prelude.{codes, find, nat_le}
 use Rattle.std.specs.List.{AllByRecursion as Each}
 use Rattle.std.proofs.lemmas.Bool.{and_parts, leb-true}
@@ -28,7 +58,26 @@ use Rattle.ps_model.specs.Book.{Book}
 use Rattle.ps_model.specs.Due.{About, about_new, about_node, always, delivered, delivers, items_inside, may_pass, may_read, node_message, node_notice, one_way, told_about}
 use Rattle.ps_model.specs.Given.{given, to_one}
 use Rattle.ps_model.specs.Last.{is_leaf, last_notice, sends_last}
-use Rattle.ps_model.specs.NoticeTrees.{approval_form, associate_tree, delay_nodes, event_nodes, header_nodes, headers, item_nodes, items_tree, kind_attr, message, named_tree, notice_id, one, only, payload_nodes, retract_tree, told_tree, with_id}
+use Rattle.ps_model.specs.NoticeTrees.{
+  approval_form,
+  associate_tree,
+  delay_nodes,
+  event_nodes,
+  header_nodes,
+  headers,
+  item_nodes,
+  items_tree,
+  kind_attr,
+  message,
+  named_tree,
+  notice_id,
+  one,
+  only,
+  payload_nodes,
+  retract_tree,
+  told_tree,
+  with_id,
+}
 use Rattle.ps_model.specs.Stamp.{stamp}
 use Rattle.ps_model.specs.Ways.{Way, NoWay, OwnRow, Through, is_interested}
 use Rattle.ps_book_laws.proofs.Keys.{each-push}
@@ -36,7 +85,22 @@ use Rattle.ps_compact_laws.proofs.Drafts.{found-key, may-key}
 use Rattle.ps_compact_laws.proofs.Printable.{IsKeyText, IsPrintable, NodeIs}
 use Rattle.ps_mirror.specs.Copy.{said_of}
 use Rattle.ps_mirror_laws.proofs.Heard.{none-sent, said-message}
-use Rattle.ps_mirror_laws.proofs.Sizes.{WeighAttrs, WeighIn, Weighs, id-size, jid-size, more-attrs, no-attrs, weigh-branch, weigh-in-more, weigh-more, weigh-none, weigh-printed, weigh-tree, weigh-words}
+use Rattle.ps_mirror_laws.proofs.Sizes.{
+  WeighAttrs,
+  WeighIn,
+  Weighs,
+  id-size,
+  jid-size,
+  more-attrs,
+  no-attrs,
+  weigh-branch,
+  weigh-in-more,
+  weigh-more,
+  weigh-none,
+  weigh-printed,
+  weigh-tree,
+  weigh-words,
+}
 use Rattle.ps_mirror_laws.proofs.SmallKinds.{IsSmall, IsSmallPayload, SmallOr}
 
 -- the line is short whatever the number, or says nothing of items

@@ -1,5 +1,39 @@
 -- The notices of a whole list, and a copy that took them.
-use Rattle.std.proofs.Common.{◌≡◌, ◌⊎◌, inl, inr, ℕ, zero, suc, ◌+◌, ◌<◌, ◌≤◌, ◌^◌, Bool, true, false, cond, ◌&&◌, List, [], ◌∷◌, ◌++◌, length, filter, Option, Some, None, option_map, refl, sym, ap, subst, ◌∙◌, arith, not}
+use Rattle.std.proofs.Common.{
+  ◌≡◌,
+  ◌⊎◌,
+  inl,
+  inr,
+  ℕ,
+  zero,
+  suc,
+  ◌+◌,
+  ◌<◌,
+  ◌≤◌,
+  ◌^◌,
+  Bool,
+  true,
+  false,
+  cond,
+  ◌&&◌,
+  List,
+  [],
+  ◌∷◌,
+  ◌++◌,
+  length,
+  filter,
+  Option,
+  Some,
+  None,
+  option_map,
+  refl,
+  sym,
+  ap,
+  subst,
+  ◌∙◌,
+  arith,
+  not,
+}
 use Rattle.std.specs.Prelude.{Result, Ok, Err, bytes_eq, codes, nat_le, nat_lt, slice_get}
 use Rattle.std.specs.List.{AllByRecursion as Each}
 use Rattle.std.proofs.lemmas.Bool.{and_parts}

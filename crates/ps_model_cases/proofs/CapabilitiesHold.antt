@@ -27,7 +27,8 @@ pub ill-formed : is_ill_formed it.repeated_info ≡ true
 ill-formed = refl
 
 pub verified-holds : Holds it.verified it.verified_told
-unfolding same.same_jid same.same_bare same.same_node text.escape_byte fmt.digits str.is_utf8 str.chars utf8.encode json.value lex.punctuate lex.lex content.content b64.encode_symbols sha.sha1 sha.digest_bytes sha.hash_after sha.compress sha.rounds sha.schedule sha.first_words
+unfolding same.same_jid same.same_bare same.same_node text.escape_byte fmt.digits str.is_utf8 str.chars utf8.encode json.value lex.punctuate lex.lex content.content b64.encode_symbols sha.sha1
+    sha.digest_bytes sha.hash_after sha.compress sha.rounds sha.schedule sha.first_words
 verified-holds = record { replies = refl; entries = refl; notices = each-part it.verified it.verified_told refl }
 
 pub repeated-holds : Holds it.repeated it.repeated_told

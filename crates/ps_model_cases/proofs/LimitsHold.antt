@@ -74,7 +74,8 @@ contact-gone : (rosters : List RosterRow) → it.HasContacts rosters None 4096 �
 unfolding same.same_jid same.same_bare same.same_node fmt.digits
 contact-gone rosters is = refl
 
-subs-room : (subs : List SubRow) → it.HasSubs subs 65535 → check (record it.with_news { subs = subs }) subscription_request ≡ accepted (Some (pubsub (subscription bare_bob news (codes "subscribed") ∷ [])))
+subs-room : (subs : List SubRow) → it.HasSubs subs 65535 → check (record it.with_news { subs = subs }) subscription_request ≡ accepted
+    (Some (pubsub (subscription bare_bob news (codes "subscribed") ∷ [])))
 unfolding same.same_jid same.same_bare same.same_node fmt.digits
 subs-room subs is = rw is.none (rw is.count refl)
 
@@ -83,8 +84,13 @@ subs-room subs is = rw is.none (rw is.count refl)
 pub sub-limit : it.SubLimit
 unfolding same.same_jid same.same_bare same.same_node text.escape_byte fmt.digits str.is_utf8 str.chars utf8.encode json.value lex.punctuate lex.lex content.content
 sub-limit = record {
-  full = λ subs is. record { reply = reply-by (sent_by it.subscribing).tree subscription_request (record it.with_news { subs = subs }) (denied C23) (subs-full subs is); entry = rw (subs-full subs is) refl };
-  room = λ subs is. reply-by (sent_by it.subscribing).tree subscription_request (record it.with_news { subs = subs }) (accepted (Some (pubsub (subscription bare_bob news (codes "subscribed") ∷ [])))) (subs-room subs is);
+  full = λ subs is. record {
+    reply = reply-by (sent_by it.subscribing).tree subscription_request (record it.with_news { subs = subs }) (denied C23) (subs-full subs is);
+    entry = rw (subs-full subs is)
+        refl;
+  };
+  room = λ subs is. reply-by (sent_by it.subscribing).tree subscription_request (record it.with_news { subs = subs }) (accepted (Some (pubsub (subscription bare_bob news (codes "subscribed") ∷ []))))
+      (subs-room subs is);
 }
 
 pub node-limit : it.NodeLimit
@@ -97,7 +103,11 @@ node-limit = record {
 pub contact-limit : it.ContactLimit
 unfolding same.same_jid same.same_bare same.same_node text.escape_byte fmt.digits str.is_utf8 str.chars utf8.encode json.value lex.punctuate lex.lex content.content
 contact-limit = record {
-  full = λ rosters is. record { reply = reply-by (sent_by it.befriending).tree (friend (codes "both")) (record it.empty { rosters = rosters }) (denied C24) (contacts-full rosters is); entry = rw (contacts-full rosters is) refl };
+  full = λ rosters is. record {
+    reply = reply-by (sent_by it.befriending).tree (friend (codes "both")) (record it.empty { rosters = rosters }) (denied C24) (contacts-full rosters is);
+    entry = rw
+        (contacts-full rosters is) refl;
+  };
   room = λ rosters is. reply-by (sent_by it.befriending).tree (friend (codes "both")) (record it.empty { rosters = rosters }) (accepted None) (contacts-room rosters is);
   there = λ rosters row is. reply-by (sent_by it.befriending).tree (friend (codes "both")) (record it.empty { rosters = rosters }) (accepted None) (contact-there rosters row is);
   removed = λ rosters is. reply-by (sent_by it.removing).tree (friend (codes "remove")) (record it.empty { rosters = rosters }) (accepted None) (contact-gone rosters is);

@@ -18,5 +18,6 @@ unfolding same.same_jid same.same_bare same.same_node text.escape_byte fmt.digit
 first-lines = record { reply = refl; entry = refl; second_reply = refl; no_entry = refl }
 
 pub are-refused : it.Refusals
-unfolding same.same_jid same.same_bare same.same_node text.escape_byte fmt.digits str.is_utf8 str.chars utf8.encode json.value lex.punctuate lex.lex content.content word.word word.after_number read.number_of numeral.scan_numeral
+unfolding same.same_jid same.same_bare same.same_node text.escape_byte fmt.digits str.is_utf8 str.chars utf8.encode json.value lex.punctuate lex.lex content.content word.word word.after_number
+    read.number_of numeral.scan_numeral
 are-refused = refl

@@ -19,5 +19,6 @@ unfolding same.same_jid same.same_bare same.same_node text.escape_byte fmt.digit
 absent-holds = record { replies = refl; entries = refl; notices = each-part it.absent it.absent_told refl }
 
 pub known-holds : Holds it.known it.known_told
-unfolding same.same_jid same.same_bare same.same_node text.escape_byte fmt.digits str.is_utf8 str.chars utf8.encode json.value lex.punctuate lex.lex content.content b64.encode_symbols sha.sha1 sha.digest_bytes sha.hash_after sha.compress sha.rounds sha.schedule sha.first_words
+unfolding same.same_jid same.same_bare same.same_node text.escape_byte fmt.digits str.is_utf8 str.chars utf8.encode json.value lex.punctuate lex.lex content.content b64.encode_symbols sha.sha1
+    sha.digest_bytes sha.hash_after sha.compress sha.rounds sha.schedule sha.first_words
 known-holds = record { replies = refl; entries = refl; notices = each-part it.known it.known_told refl }

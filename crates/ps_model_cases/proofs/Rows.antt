@@ -39,7 +39,8 @@ unfolding same.same_jid same.same_bare same.same_node text.escape_byte fmt.digit
 base-links = refl
 
 pub base-contacts : compacted.is_settled compacted.with_contacts ≡ true
-unfolding same.same_jid same.same_bare same.same_node text.escape_byte fmt.digits str.is_utf8 str.chars utf8.encode json.value lex.punctuate lex.lex content.content b64.encode_symbols sha.sha1 sha.digest_bytes sha.hash_after sha.compress sha.rounds sha.schedule sha.first_words
+unfolding same.same_jid same.same_bare same.same_node text.escape_byte fmt.digits str.is_utf8 str.chars utf8.encode json.value lex.punctuate lex.lex content.content b64.encode_symbols sha.sha1
+    sha.digest_bytes sha.hash_after sha.compress sha.rounds sha.schedule sha.first_words
 base-contacts = refl
 
 pub base-accepted : compacted.is_base compacted.unhanded ≡ true
@@ -51,5 +52,6 @@ unfolding same.same_jid same.same_bare same.same_node text.escape_byte fmt.digit
 base-links-accepted = refl
 
 pub base-contacts-accepted : compacted.is_base compacted.with_contacts ≡ true
-unfolding same.same_jid same.same_bare same.same_node text.escape_byte fmt.digits str.is_utf8 str.chars utf8.encode json.value lex.punctuate lex.lex content.content b64.encode_symbols sha.sha1 sha.digest_bytes sha.hash_after sha.compress sha.rounds sha.schedule sha.first_words
+unfolding same.same_jid same.same_bare same.same_node text.escape_byte fmt.digits str.is_utf8 str.chars utf8.encode json.value lex.punctuate lex.lex content.content b64.encode_symbols sha.sha1
+    sha.digest_bytes sha.hash_after sha.compress sha.rounds sha.schedule sha.first_words
 base-contacts-accepted = refl

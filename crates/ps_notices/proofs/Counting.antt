@@ -23,7 +23,8 @@ numbering-begins place base here all left done none whole begun =
     record {
       now = base;
       made = λ who. (let z = zero_here who in let e : made_for who base ≡ made_for who base + made_for who here = omega arith in e);
-      few = λ who. (let z = zero_here who in let same : length left ≡ length all = ap (λ (l : List (Jid × Tree)). length l) whole in let e : made_for who here + length left ≤ length all = omega arith in e);
+      few = λ who. (let z = zero_here who in let same : length left ≡ length all = ap (λ (l : List (Jid × Tree)). length l) whole in let e : made_for who here + length left ≤ length all = omega arith
+          in e);
       order = ap (λ (ns : List Notice). ns ++ numbered place base left) begun ∙ ap (λ (l : List (Jid × Tree)). numbered place base l) whole;
     }
 
@@ -41,7 +42,8 @@ few-more who to here true e = let h = made-more who to 1 here e in omega arith
 few-more who to here false e = let h : made_for who (more_made to 1 here) ≡ made_for who here = made-kept who to _ _ here e in omega arith
 
 -- the next number is one of its type
-pub number-fits : (place : ℕ) (base here : List TallyRow) (all left rest : List (Jid × Tree)) (done : List Notice) (d : Jid × Tree) (who : Jid) → Numbering place base here all left done → left ≡ d ∷ rest
+pub number-fits : (place : ℕ) (base here : List TallyRow) (all left rest : List (Jid × Tree)) (done : List Notice) (d : Jid × Tree) (who : Jid) → Numbering place base here all left done
+    → left ≡ d ∷ rest
     → AreFew base → length all < 2 ^ 63 → made_for who base + made_for who here + 1 < 2 ^ 128
 number-fits place base here all left rest done d who is split few short =
     let less : made_for who here + length (d ∷ rest) ≤ length all = subst (λ (l : List (Jid × Tree)). made_for who here + length l ≤ length all) split (is.few who) in

@@ -37,7 +37,8 @@ insert-values d turn (e ∷ es) at = by (slice_cmp nat_cmp (jid_text d.0) e.0.0)
     texts o h = sym (ap (λ (t : List ℕ). slice_cmp nat_cmp (jid_text d.0) t) at.0.0) ∙ h
 
     by : (o : Ordering) → slice_cmp nat_cmp (jid_text d.0) e.0.0 ≡ o → values_of (insert_entry cmp es (jid_text d.0, turn) d) ≡ put_due d (values_of es)
-        → values_of (match_ordering (ordering_then o (nat_cmp turn e.0.1)) (((jid_text d.0, turn), d) ∷ e ∷ es) ((e.0, d) ∷ es) (e ∷ insert_entry cmp es (jid_text d.0, turn) d)) ≡ put_due d (values_of (e ∷ es))
+        → values_of (match_ordering (ordering_then o (nat_cmp turn e.0.1)) (((jid_text d.0, turn), d) ∷ e ∷ es) ((e.0, d) ∷ es) (e ∷ insert_entry cmp es (jid_text d.0, turn) d)) ≡ put_due d
+        (values_of (e ∷ es))
     by Less h more = rw (texts Less h) refl
     by Equal h more = rw (texts Equal h, less-by turn e.0.1 at.0.1) refl
     by Greater h more = rw (texts Greater h) (ap (λ (xs : List (Jid × Tree)). e.1 ∷ xs) more)

@@ -1,5 +1,38 @@
 -- What is kept true as notices come and go.
-use Rattle.std.proofs.Common.{◌≡◌, ◌⊎◌, inl, inr, ℕ, suc, ◌+◌, ◌<◌, ◌≤◌, Bool, true, false, cond, not, ◌&&◌, ◌||◌, List, [], ◌∷◌, ◌++◌, length, Option, Some, None, refl, ap, sym, ◌∙◌, subst, arith, true≢false, length-append}
+use Rattle.std.proofs.Common.{
+  ◌≡◌,
+  ◌⊎◌,
+  inl,
+  inr,
+  ℕ,
+  suc,
+  ◌+◌,
+  ◌<◌,
+  ◌≤◌,
+  Bool,
+  true,
+  false,
+  cond,
+  not,
+  ◌&&◌,
+  ◌||◌,
+  List,
+  [],
+  ◌∷◌,
+  ◌++◌,
+  length,
+  Option,
+  Some,
+  None,
+  refl,
+  ap,
+  sym,
+  ◌∙◌,
+  subst,
+  arith,
+  true≢false,
+  length-append,
+}
 use Rattle.std.specs.Prelude.{find, is_some, nat_le, nat_lt, option_copied}
 use denote.Ref.{Bor}
 use Rattle.std.specs.List.{list_any, list_all}
@@ -25,7 +58,8 @@ module _ {X : Type 0} where
   all_more p [] x h e = pair (p x) true e refl
   all_more p (y ∷ ys) x h e = let b = both (p y) (list_all p ys) h in pair (p y) (list_all p (ys ++ x ∷ [])) b.0 (all_more p ys x b.1 e)
 
-  without_by : (p test : X → Bool) (x : X) (xs : List X) (b : Bool) → p x ≡ true → list_all p xs ≡ true → list_all p (without_first test xs) ≡ true → list_all p (cond b xs (x ∷ without_first test xs)) ≡ true
+  without_by : (p test : X → Bool) (x : X) (xs : List X) (b : Bool) → p x ≡ true → list_all p xs ≡ true → list_all p (without_first test xs) ≡ true
+      → list_all p (cond b xs (x ∷ without_first test xs)) ≡ true
   without_by p test x xs true e h more = h
   without_by p test x xs false e h more = pair (p x) (list_all p (without_first test xs)) e more
 
@@ -99,7 +133,8 @@ pub others_known : (who other : Jid) → same_bare who other ≡ false → (addr
 others_known who other far [] = refl
 others_known who other far (x ∷ xs) = by (same_bare who x) (same_bare other x) refl refl (others_known who other far xs)
   where
-    by : (t u : Bool) → same_bare who x ≡ t → same_bare other x ≡ u → is_known other (without (same_bare who) xs) ≡ is_known other xs → is_known other (cond (not t) (x ∷ without (same_bare who) xs) (without (same_bare who) xs)) ≡ u || is_known other xs
+    by : (t u : Bool) → same_bare who x ≡ t → same_bare other x ≡ u → is_known other (without (same_bare who) xs) ≡ is_known other xs
+        → is_known other (cond (not t) (x ∷ without (same_bare who) xs) (without (same_bare who) xs)) ≡ u || is_known other xs
     by true true e f more = absurd (true≢false (sym (bare-on who x other e (bare-back other x f)) ∙ far))
     by true false e f more = more
     by false u e f more = (λ i. f i || more i)
@@ -123,7 +158,8 @@ one_less : (who : Jid) (addresses : List Jid) → is_known who addresses ≡ tru
 one_less who [] h = absurd (true≢false (sym h))
 one_less who (x ∷ xs) h = by (same_bare who x) (one_less who xs) h
   where
-    by : (t : Bool) → (is_known who xs ≡ true → length (without (same_bare who) xs) + 1 ≤ length xs) → t || is_known who xs ≡ true → length (cond (not t) (x ∷ without (same_bare who) xs) (without (same_bare who) xs)) + 1 ≤ suc (length xs)
+    by : (t : Bool) → (is_known who xs ≡ true → length (without (same_bare who) xs) + 1 ≤ length xs) → t || is_known who xs ≡ true
+        → length (cond (not t) (x ∷ without (same_bare who) xs) (without (same_bare who) xs)) + 1 ≤ suc (length xs)
     by true more m = let l = less_long who xs in omega (arith, l)
     by false more m = let l = more m in omega (arith, l)
 
@@ -131,7 +167,8 @@ all_left : (p : Jid → Bool) (who : Jid) (addresses : List Jid) → list_all p 
 all_left p who [] h = refl
 all_left p who (x ∷ xs) h = by (same_bare who x) (all_left p who xs) (both (p x) (list_all p xs) h)
   where
-    by : (t : Bool) → (list_all p xs ≡ true → list_all p (without (same_bare who) xs) ≡ true) → (p x ≡ true) × (list_all p xs ≡ true) → list_all p (cond (not t) (x ∷ without (same_bare who) xs) (without (same_bare who) xs)) ≡ true
+    by : (t : Bool) → (list_all p xs ≡ true → list_all p (without (same_bare who) xs) ≡ true) → (p x ≡ true) × (list_all p xs ≡ true)
+        → list_all p (cond (not t) (x ∷ without (same_bare who) xs) (without (same_bare who) xs)) ≡ true
     by true more b = more b.1
     by false more b = pair (p x) (list_all p (without (same_bare who) xs)) b.0 (more b.1)
 
@@ -189,10 +226,12 @@ forgotten_as free new held one who less far h = ap (λ l. has_box l held who) le
 
 -- ---- an address more, and one that is held or released
 
-pub address_more : (waiting : List Notice) (free new : Table Jid) (held : List Jid) (last : ℕ) (in_order : Bool) (one : Jid) → new.rows ≡ free.rows ++ one ∷ [] → length held ≤ new.spare → is_bare one ≡ true → is_known one held ≡ false
+pub address_more : (waiting : List Notice) (free new : Table Jid) (held : List Jid) (last : ℕ) (in_order : Bool) (one : Jid) → new.rows ≡ free.rows ++ one ∷ [] → length held ≤ new.spare
+    → is_bare one ≡ true → is_known one held ≡ false
     → QueuesAreKept waiting free held last in_order → QueuesAreKept waiting new held last in_order
 address_more waiting free new held last in_order one more room e far k = record {
-  known = subst (λ (l : List Jid). list_all (λ n. has_box l held n.to) waiting ≡ true) (sym more) (all_same_test (λ n. has_box free.rows held n.to) (λ n. has_box (free.rows ++ one ∷ []) held n.to) (λ n h. box_more free.rows held one n.to h) waiting k.known);
+  known = subst (λ (l : List Jid). list_all (λ n. has_box l held n.to) waiting ≡ true) (sym more)
+      (all_same_test (λ n. has_box free.rows held n.to) (λ n. has_box (free.rows ++ one ∷ []) held n.to) (λ n h. box_more free.rows held one n.to h) waiting k.known);
   bare = ap (list_all is_bare) more ∙ all_more is_bare free.rows one k.bare e;
   apart = ap (list_all (is_apart held)) more ∙ all_more (is_apart held) free.rows one k.apart (not_true (is_known one held) far);
   room = room;
@@ -206,12 +245,15 @@ apart_held held one (x ∷ xs) h = by (same_bare one x) refl (apart_held held on
     still : same_bare one x ≡ false → is_known x held ≡ false → is_known x (held ++ one ∷ []) ≡ false
     still e f = list_any-append (same_bare x) held (one ∷ []) ∙ (λ i. f i || (bare_apart one x e i || false))
 
-    by : (t : Bool) → same_bare one x ≡ t → (list_all (is_apart held) xs ≡ true → list_all (is_apart (held ++ one ∷ [])) (without (same_bare one) xs) ≡ true) → (is_apart held x ≡ true) × (list_all (is_apart held) xs ≡ true)
+    by : (t : Bool) → same_bare one x ≡ t → (list_all (is_apart held) xs ≡ true → list_all (is_apart (held ++ one ∷ [])) (without (same_bare one) xs) ≡ true)
+        → (is_apart held x ≡ true) × (list_all (is_apart held) xs ≡ true)
         → list_all (is_apart (held ++ one ∷ [])) (cond (not t) (x ∷ without (same_bare one) xs) (without (same_bare one) xs)) ≡ true
     by true e more b = more b.1
-    by false e more b = pair (is_apart (held ++ one ∷ []) x) (list_all (is_apart (held ++ one ∷ [])) (without (same_bare one) xs)) (not_true (is_known x (held ++ one ∷ [])) (still e (not_false (is_known x held) b.0))) (more b.1)
+    by false e more b = pair (is_apart (held ++ one ∷ []) x) (list_all (is_apart (held ++ one ∷ [])) (without (same_bare one) xs))
+        (not_true (is_known x (held ++ one ∷ [])) (still e (not_false (is_known x held) b.0))) (more b.1)
 
-pub one_held : (waiting : List Notice) (free new : Table Jid) (held now : List Jid) (last : ℕ) (in_order : Bool) (one : Jid) → new.rows ≡ without (same_bare one) free.rows → length held + 1 ≤ new.spare → now ≡ held ++ one ∷ []
+pub one_held : (waiting : List Notice) (free new : Table Jid) (held now : List Jid) (last : ℕ) (in_order : Bool) (one : Jid) → new.rows ≡ without (same_bare one) free.rows
+    → length held + 1 ≤ new.spare → now ≡ held ++ one ∷ []
     → QueuesAreKept waiting free held last in_order → QueuesAreKept waiting new now last in_order
 one_held waiting free new held now last in_order one less room more k = subst (λ (l : List Jid). QueuesAreKept waiting new l last in_order) (sym more) (record {
   known = subst (λ (l : List Jid). list_all (λ n. has_box l (held ++ one ∷ []) n.to) waiting ≡ true) (sym less)
@@ -226,10 +268,12 @@ apart_released : (held : List Jid) (one : Jid) (free : List Jid) → list_all (i
 apart_released held one [] h = refl
 apart_released held one (x ∷ xs) h =
     let b = both (is_apart held x) (list_all (is_apart held) xs) h in
-    pair (is_apart (without (same_bare one) held) x) (list_all (is_apart (without (same_bare one) held)) xs) (not_true (is_known x (without (same_bare one) held)) (less_known one x held (not_false (is_known x held) b.0))) (apart_released held one xs b.1)
+    pair (is_apart (without (same_bare one) held) x) (list_all (is_apart (without (same_bare one) held)) xs)
+    (not_true (is_known x (without (same_bare one) held)) (less_known one x held (not_false (is_known x held) b.0))) (apart_released held one xs b.1)
 
 -- while notices wait for it
-pub one_back : (waiting : List Notice) (free new : Table Jid) (held now : List Jid) (last : ℕ) (in_order : Bool) (one : Jid) → new.rows ≡ free.rows ++ one ∷ [] → free.spare ≤ new.spare + 1 → now ≡ without (same_bare one) held → is_bare one ≡ true → is_known one held ≡ true
+pub one_back : (waiting : List Notice) (free new : Table Jid) (held now : List Jid) (last : ℕ) (in_order : Bool) (one : Jid) → new.rows ≡ free.rows ++ one ∷ [] → free.spare ≤ new.spare + 1
+    → now ≡ without (same_bare one) held → is_bare one ≡ true → is_known one held ≡ true
     → QueuesAreKept waiting free held last in_order → QueuesAreKept waiting new now last in_order
 one_back waiting free new held now last in_order one more room less e here k = subst (λ (l : List Jid). QueuesAreKept waiting new l last in_order) (sym less) (record {
   known = subst (λ (l : List Jid). list_all (λ n. has_box l (without (same_bare one) held) n.to) waiting ≡ true) (sym more)
@@ -246,14 +290,17 @@ none_to : (one : Jid) (n : Notice) (ns : List Notice) (o : Option Notice) (t : B
 none_to one n ns o true e h = absurd (let no : Some n ≡ None = h in cc no)
 none_to one n ns o false e h = (refl, h)
 
-boxes_left : (free held : List Jid) (one : Jid) (waiting : List Notice) → find (is_to one) waiting ≡ None → list_all (λ n. has_box free held n.to) waiting ≡ true → list_all (λ n. has_box free (without (same_bare one) held) n.to) waiting ≡ true
+boxes_left : (free held : List Jid) (one : Jid) (waiting : List Notice) → find (is_to one) waiting ≡ None → list_all (λ n. has_box free held n.to) waiting ≡ true
+    → list_all (λ n. has_box free (without (same_bare one) held) n.to) waiting ≡ true
 boxes_left free held one [] none h = refl
 boxes_left free held one (n ∷ ns) none h =
     let b = both (has_box free held n.to) (list_all (λ m. has_box free held m.to) ns) h in
     let far = none_to one n ns (find (is_to one) ns) (same_bare one n.to) refl none in
-    pair (has_box free (without (same_bare one) held) n.to) (list_all (λ m. has_box free (without (same_bare one) held) m.to) ns) (box_released free held one n.to far.0 b.0) (boxes_left free held one ns far.1 b.1)
+    pair (has_box free (without (same_bare one) held) n.to) (list_all (λ m. has_box free (without (same_bare one) held) m.to) ns) (box_released free held one n.to far.0 b.0)
+    (boxes_left free held one ns far.1 b.1)
 
-pub one_gone : (waiting : List Notice) (free : Table Jid) (held now : List Jid) (last : ℕ) (in_order : Bool) (one : Jid) → now ≡ without (same_bare one) held → find (is_to one) waiting ≡ None → QueuesAreKept waiting free held last in_order → QueuesAreKept waiting free now last in_order
+pub one_gone : (waiting : List Notice) (free : Table Jid) (held now : List Jid) (last : ℕ) (in_order : Bool) (one : Jid) → now ≡ without (same_bare one) held → find (is_to one) waiting ≡ None
+    → QueuesAreKept waiting free held last in_order → QueuesAreKept waiting free now last in_order
 one_gone waiting free held now last in_order one less none k = subst (λ (l : List Jid). QueuesAreKept waiting free l last in_order) (sym less) (record {
   known = boxes_left free.rows held one waiting none k.known;
   bare = k.bare;
@@ -263,14 +310,17 @@ one_gone waiting free held now last in_order one less none k = subst (λ (l : Li
 })
 
 -- an address for which nothing waits is forgotten
-boxes_kept : (free held : List Jid) (one : Jid) (waiting : List Notice) → find (is_to one) waiting ≡ None → list_all (λ n. has_box free held n.to) waiting ≡ true → list_all (λ n. has_box (without (same_bare one) free) held n.to) waiting ≡ true
+boxes_kept : (free held : List Jid) (one : Jid) (waiting : List Notice) → find (is_to one) waiting ≡ None → list_all (λ n. has_box free held n.to) waiting ≡ true
+    → list_all (λ n. has_box (without (same_bare one) free) held n.to) waiting ≡ true
 boxes_kept free held one [] none h = refl
 boxes_kept free held one (n ∷ ns) none h =
     let b = both (has_box free held n.to) (list_all (λ m. has_box free held m.to) ns) h in
     let far = none_to one n ns (find (is_to one) ns) (same_bare one n.to) refl none in
-    pair (has_box (without (same_bare one) free) held n.to) (list_all (λ m. has_box (without (same_bare one) free) held m.to) ns) (ap (λ t. t || is_known n.to held) (others_known one n.to far.0 free) ∙ b.0) (boxes_kept free held one ns far.1 b.1)
+    pair (has_box (without (same_bare one) free) held n.to) (list_all (λ m. has_box (without (same_bare one) free) held m.to) ns)
+    (ap (λ t. t || is_known n.to held) (others_known one n.to far.0 free) ∙ b.0) (boxes_kept free held one ns far.1 b.1)
 
-pub one_forgotten : (waiting : List Notice) (free new : Table Jid) (held : List Jid) (last : ℕ) (in_order : Bool) (one : Jid) → new.rows ≡ without (same_bare one) free.rows → free.spare ≤ new.spare → find (is_to one) waiting ≡ None
+pub one_forgotten : (waiting : List Notice) (free new : Table Jid) (held : List Jid) (last : ℕ) (in_order : Bool) (one : Jid) → new.rows ≡ without (same_bare one) free.rows → free.spare ≤ new.spare
+    → find (is_to one) waiting ≡ None
     → QueuesAreKept waiting free held last in_order → QueuesAreKept waiting new held last in_order
 one_forgotten waiting free new held last in_order one less room none k = record {
   known = subst (λ (l : List Jid). list_all (λ n. has_box l held n.to) waiting ≡ true) (sym less) (boxes_kept free.rows held one waiting none k.known);
@@ -304,7 +354,8 @@ rises_more low (m ∷ ms) last n h r =
     let b = both (nat_le low m.place) (rises m.place ms last) r in
     pair (nat_le low m.place) (rises m.place (ms ++ n ∷ []) n.place) b.0 (rises_more m.place ms last n h b.1)
 
-order_more : (in_order : Bool) (waiting : List Notice) (last : ℕ) (n : Notice) → last ≤ n.place → not in_order || rises 0 waiting last ≡ true → not in_order || rises 0 (waiting ++ n ∷ []) n.place ≡ true
+order_more : (in_order : Bool) (waiting : List Notice) (last : ℕ) (n : Notice) → last ≤ n.place → not in_order || rises 0 waiting last ≡ true
+    → not in_order || rises 0 (waiting ++ n ∷ []) n.place ≡ true
 order_more true waiting last n h r = rises_more 0 waiting last n h r
 order_more false waiting last n h r = refl
 
@@ -331,7 +382,8 @@ rises_lower low lower (m ∷ ms) last h r =
     let b = both (nat_le low m.place) (rises m.place ms last) r in
     pair (nat_le lower m.place) (rises m.place ms last) (grind (arith, nat_tests)) b.1
 
-rises_by : (test : Notice → Bool) (low : ℕ) (m : Notice) (ms : List Notice) (last : ℕ) (b : Bool) → nat_le low m.place ≡ true → rises m.place ms last ≡ true → rises m.place (without_first test ms) last ≡ true
+rises_by : (test : Notice → Bool) (low : ℕ) (m : Notice) (ms : List Notice) (last : ℕ) (b : Bool) → nat_le low m.place ≡ true → rises m.place ms last ≡ true
+    → rises m.place (without_first test ms) last ≡ true
     → rises low (cond b ms (m ∷ without_first test ms)) last ≡ true
 rises_by test low m ms last true e r more = rises_lower m.place low ms last (grind (arith, nat_tests)) r
 rises_by test low m ms last false e r more = pair (nat_le low m.place) (rises m.place (without_first test ms) last) e more
@@ -342,11 +394,13 @@ rises_without test low (m ∷ ms) last r =
     let b = both (nat_le low m.place) (rises m.place ms last) r in
     rises_by test low m ms last (test m) b.0 b.1 (rises_without test m.place ms last b.1)
 
-order_without : (test : Notice → Bool) (in_order : Bool) (waiting : List Notice) (last : ℕ) → not in_order || rises 0 waiting last ≡ true → not in_order || rises 0 (without_first test waiting) last ≡ true
+order_without : (test : Notice → Bool) (in_order : Bool) (waiting : List Notice) (last : ℕ) → not in_order || rises 0 waiting last ≡ true
+    → not in_order || rises 0 (without_first test waiting) last ≡ true
 order_without test true waiting last r = rises_without test 0 waiting last r
 order_without test false waiting last r = refl
 
-pub notice_less : (test : Notice → Bool) (waiting : List Notice) (free : Table Jid) (held : List Jid) (last : ℕ) (in_order : Bool) → QueuesAreKept waiting free held last in_order → QueuesAreKept (without_first test waiting) free held last in_order
+pub notice_less : (test : Notice → Bool) (waiting : List Notice) (free : Table Jid) (held : List Jid) (last : ℕ) (in_order : Bool) → QueuesAreKept waiting free held last in_order
+    → QueuesAreKept (without_first test waiting) free held last in_order
 notice_less test waiting free held last in_order k = record {
   known = all_without (λ n. has_box free.rows held n.to) test waiting k.known;
   bare = k.bare;

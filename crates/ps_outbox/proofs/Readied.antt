@@ -27,7 +27,8 @@ pub found_passes : {X : Type 0} (p : X → Bool) (xs : List X) (y : X) → find 
 found_passes p [] y h = absurd (cc)
 found_passes p (x ∷ xs) y h = found_by p x y (find p xs) (p x) refl (found_passes p xs y) h
 
-found_all_by : {X : Type 0} (p q : X → Bool) (x y : X) (o : Option X) (b c : Bool) → p x ≡ c → q x ≡ b → (b && list_all q [] ≡ true) → (o ≡ Some y → q y ≡ true) → cond c (Some x) o ≡ Some y → q y ≡ true
+found_all_by : {X : Type 0} (p q : X → Bool) (x y : X) (o : Option X) (b c : Bool) → p x ≡ c → q x ≡ b → (b && list_all q [] ≡ true) → (o ≡ Some y → q y ≡ true) → cond c (Some x) o ≡ Some y
+    → q y ≡ true
 found_all_by p q x y o true true e d h more f = let same : x ≡ y = cc in ap q (sym same) ∙ d
 found_all_by p q x y o true false e d h more f = more f
 found_all_by p q x y o false c e d h more f = absurd (true≢false (sym h))
@@ -39,7 +40,8 @@ found_all p q (x ∷ xs) y a h =
     let b = both (q x) (list_all q xs) a in
     found_all_by p q x y (find p xs) (q x) (p x) refl refl (λ i. b.0 i && true) (found_all p q xs y b.1) h
 
-narrow_by : {X : Type 0} (p q : X → Bool) (x y : X) (o r : Option X) (b c : Bool) → p x ≡ b → q x ≡ c → (c ≡ true → b ≡ true) → q y ≡ true → (o ≡ Some y → r ≡ Some y) → cond b (Some x) o ≡ Some y → cond c (Some x) r ≡ Some y
+narrow_by : {X : Type 0} (p q : X → Bool) (x y : X) (o r : Option X) (b c : Bool) → p x ≡ b → q x ≡ c → (c ≡ true → b ≡ true) → q y ≡ true → (o ≡ Some y → r ≡ Some y) → cond b (Some x) o ≡ Some y
+    → cond c (Some x) r ≡ Some y
 narrow_by p q x y o r true true e d f t more h = h
 narrow_by p q x y o r true false e d f t more h = let same : x ≡ y = cc in absurd (true≢false (sym (ap q same ∙ t) ∙ d))
 narrow_by p q x y o r false true e d f t more h = absurd (true≢false (sym (f refl)))
@@ -83,7 +85,8 @@ later durable low q (m ∷ ms) last n h r f =
     let l : low ≤ m.place = grind (arith, nat_tests) in
     later_by durable low m n (find q ms) (q m) h l (λ g. later durable m.place q ms last n (omega arith) b.1 g) f
 
-after_by : (durable : ℕ) (p q : Notice → Bool) (m f n : Notice) (ms : List Notice) (last : ℕ) (b c : Bool) → p m ≡ b → q m ≡ c → (c ≡ true → b ≡ true) → rises m.place ms last ≡ true → durable ≤ f.place
+after_by : (durable : ℕ) (p q : Notice → Bool) (m f n : Notice) (ms : List Notice) (last : ℕ) (b c : Bool) → p m ≡ b → q m ≡ c → (c ≡ true → b ≡ true) → rises m.place ms last ≡ true
+    → durable ≤ f.place
     → (find p ms ≡ Some f → find q ms ≡ Some n → durable ≤ n.place) → cond b (Some m) (find p ms) ≡ Some f → cond c (Some m) (find q ms) ≡ Some n → durable ≤ n.place
 after_by durable p q m f n ms last true true e d i r h more x y = let same : f ≡ m = cc in let too : m ≡ n = cc in subst (λ (k : Notice). durable ≤ k.place) (same ∙ too) h
 after_by durable p q m f n ms last true false e d i r h more x y =
@@ -122,14 +125,16 @@ not_low durable f h = by (nat_lt f.place durable) refl h
     by false e h = grind (arith, nat_tests)
 
 -- the host's first notice isn't durable, or there is none
-pub none_durable : (host : List ℕ) (durable : ℕ) (waiting : List Notice) (free : Table Jid) (held : List Jid) (last : ℕ) (in_order : Bool) → in_order ≡ true → QueuesAreKept waiting free held last in_order
+pub none_durable : (host : List ℕ) (durable : ℕ) (waiting : List Notice) (free : Table Jid) (held : List Jid) (last : ℕ) (in_order : Bool) → in_order ≡ true
+    → QueuesAreKept waiting free held last in_order
     → is_some (shown durable (find (is_at host) waiting)) ≡ false → NoneReady host durable waiting held
 none_durable host durable waiting free held last in_order e k h = record { all = λ who here apart. by (find (is_at host) waiting) refl h who here }
   where
     by : (o : Option Notice) → find (is_at host) waiting ≡ o → is_some (shown durable o) ≡ false → (who : Jid) → who.host ≡ host → shown durable (find (is_to who) waiting) ≡ None
     by None f h who here = ap (shown durable) (none_narrow (is_at host) (is_to who) (at_host host who here) waiting f)
     by (Some n) f h who here =
-        none_shown durable (find (is_to who) waiting) (λ m g. after durable 0 (is_at host) (is_to who) (at_host host who here) waiting last n m (in_order_rises in_order waiting last e k.order) (not_low durable n h) f g)
+        none_shown durable (find (is_to who) waiting) (λ m g. after durable 0 (is_at host) (is_to who) (at_host host who here) waiting last n m (in_order_rises in_order waiting last e k.order)
+        (not_low durable n h) f g)
 
 -- ---- a walk through the addresses that are not held
 
@@ -158,7 +163,8 @@ none_is (Some n) h = absurd (true≢false h)
 
 -- an address of a list by a test, and another test that all of the list fail
 module _ (test : Jid → Bool) (p : Jid → Bool) (G : Type 0) (found : (a : Jid) → p a ≡ true → test a ≡ false → G) where
-  member_by : (a : Jid) (as_ : List Jid) (b t : Bool) → p a ≡ b → test a ≡ t → (find test as_ ≡ None → list_any p as_ ≡ true → G) → cond t (Some a) (find test as_) ≡ None → b || list_any p as_ ≡ true → G
+  member_by : (a : Jid) (as_ : List Jid) (b t : Bool) → p a ≡ b → test a ≡ t → (find test as_ ≡ None → list_any p as_ ≡ true → G) → cond t (Some a) (find test as_) ≡ None → b || list_any p as_ ≡ true
+      → G
   member_by a as_ b true e d more f h = absurd (let no : Some a ≡ None = f in cc no)
   member_by a as_ true false e d more f h = found a e d
   member_by a as_ false false e d more f h = more f h
@@ -206,7 +212,8 @@ known_by_spare true n h = refl
 known_by_spare false n h = absurd (omega arith)
 
 -- an answer that is a reference
-pub ready_some : (host : List ℕ) (durable : ℕ) (waiting : List Notice) (held : List Jid) (o : Option (Bor Jid)) (f : Option Jid) → option_copied o ≡ f → ((j : Jid) → f ≡ Some j → IsReady host durable j waiting held)
+pub ready_some : (host : List ℕ) (durable : ℕ) (waiting : List Notice) (held : List Jid) (o : Option (Bor Jid)) (f : Option Jid) → option_copied o ≡ f
+    → ((j : Jid) → f ≡ Some j → IsReady host durable j waiting held)
     → IfSome o (λ j. IsReady host durable j.now waiting held)
 ready_some host durable waiting held None f e h = tt
 ready_some host durable waiting held (Some j) f e h = h j.now (sym e)

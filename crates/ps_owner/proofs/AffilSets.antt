@@ -112,7 +112,8 @@ any-owner : (node : NodeKey) (xs : List AffilRow) → list_any is_owner_row (fil
 any-owner node [] = refl
 any-owner node (x ∷ xs) = any-step (is_affil_at node x) (is_owner_row x) x (filter (is_affil_at node) xs) (list_any (owns_at node) xs) refl (any-owner node xs)
 
-pub keeps-edit : (book : Book) (table : List AffilRow) (node : NodeKey) (rows : List AskRow) (edit : AffilEdit) → is_account node.service ≡ false → book.affils ≡ table → IsAffilEdit edit node rows table
+pub keeps-edit : (book : Book) (table : List AffilRow) (node : NodeKey) (rows : List AskRow) (edit : AffilEdit) → is_account node.service ≡ false → book.affils ≡ table
+    → IsAffilEdit edit node rows table
     → (list_any (owns_at node) edit.after.items || list_any (is_other_owner node edit.asked.rows) table) ≡ keeps_owner book node rows
 keeps-edit book table node rows edit other same is =
     let own = is_among node edit.asked.rows in

@@ -58,7 +58,8 @@ module _ {R : Type 0} (own p : R → Bool) where
 
 -- rows of which none is so are put and go
 module _ {R : Type 0} (test q : R → Bool) (outside : (x : R) → test x ≡ true → q x ≡ false) where
-  any-put-step : (b : Bool) (row x : R) (xs : List R) → test x ≡ b → q row ≡ false → list_any q (put_row test row xs) ≡ list_any q xs → list_any q (cond b (row ∷ xs) (x ∷ put_row test row xs)) ≡ (q x || list_any q xs)
+  any-put-step : (b : Bool) (row x : R) (xs : List R) → test x ≡ b → q row ≡ false → list_any q (put_row test row xs) ≡ list_any q xs
+      → list_any q (cond b (row ∷ xs) (x ∷ put_row test row xs)) ≡ (q x || list_any q xs)
   any-put-step true row x xs t h ih = let no = outside x t in rw (no, h) refl
   any-put-step false row x xs t h ih = ap (λ (b : Bool). q x || b) ih
 
@@ -66,7 +67,8 @@ module _ {R : Type 0} (test q : R → Bool) (outside : (x : R) → test x ≡ tr
   any-put row [] h = rw h refl
   any-put row (x ∷ xs) h = any-put-step (test x) row x xs refl h (any-put row xs h)
 
-  any-gone-step : (b : Bool) (x : R) (xs : List R) → test x ≡ b → list_any q (without test xs) ≡ list_any q xs → list_any q (cond (not b) (x ∷ without test xs) (without test xs)) ≡ (q x || list_any q xs)
+  any-gone-step : (b : Bool) (x : R) (xs : List R) → test x ≡ b → list_any q (without test xs) ≡ list_any q xs
+      → list_any q (cond (not b) (x ∷ without test xs) (without test xs)) ≡ (q x || list_any q xs)
   any-gone-step true x xs t ih = let no = outside x t in rw no ih
   any-gone-step false x xs t ih = ap (λ (b : Bool). q x || b) ih
 
@@ -74,7 +76,8 @@ module _ {R : Type 0} (test q : R → Bool) (outside : (x : R) → test x ≡ tr
   any-gone [] = refl
   any-gone (x ∷ xs) = any-gone-step (test x) x xs refl (any-gone xs)
 
-  count-put-step : (b : Bool) (row x : R) (xs : List R) → test x ≡ b → q row ≡ false → count_by q (put_row test row xs) ≡ count_by q xs → count_by q (cond b (row ∷ xs) (x ∷ put_row test row xs)) ≡ cond (q x) 1 0 + count_by q xs
+  count-put-step : (b : Bool) (row x : R) (xs : List R) → test x ≡ b → q row ≡ false → count_by q (put_row test row xs) ≡ count_by q xs
+      → count_by q (cond b (row ∷ xs) (x ∷ put_row test row xs)) ≡ cond (q x) 1 0 + count_by q xs
   count-put-step true row x xs t h ih = let no = outside x t in count_by-cons q row xs ∙ rw (no, h) refl
   count-put-step false row x xs t h ih = count_by-cons q x (put_row test row xs) ∙ ap (λ (n : ℕ). cond (q x) 1 0 + n) ih
 
@@ -82,7 +85,8 @@ module _ {R : Type 0} (test q : R → Bool) (outside : (x : R) → test x ≡ tr
   count-put row [] h = count_by-cons q row [] ∙ rw h refl
   count-put row (x ∷ xs) h = count-put-step (test x) row x xs refl h (count-put row xs h) ∙ sym (count_by-cons q x xs)
 
-  count-gone-step : (b : Bool) (x : R) (xs : List R) → test x ≡ b → count_by q (without test xs) ≡ count_by q xs → count_by q (cond (not b) (x ∷ without test xs) (without test xs)) ≡ cond (q x) 1 0 + count_by q xs
+  count-gone-step : (b : Bool) (x : R) (xs : List R) → test x ≡ b → count_by q (without test xs) ≡ count_by q xs
+      → count_by q (cond (not b) (x ∷ without test xs) (without test xs)) ≡ cond (q x) 1 0 + count_by q xs
   count-gone-step true x xs t ih = let no = outside x t in rw no (omega (arith, ih))
   count-gone-step false x xs t ih = count_by-cons q x (without test xs) ∙ ap (λ (n : ℕ). cond (q x) 1 0 + n) ih
 

@@ -31,7 +31,8 @@ module _ {R : Type 0} (own : R → Bool) where
 
   module _ (test : R → Bool) (inside : (x : R) → test x ≡ true → own x ≡ true) where
     module _ (row : R) (is-own : own row ≡ true) where
-      changed-put : (b : Bool) (x y : R) (xs ys : List R) → own x ≡ true → own y ≡ true → list_all own xs ≡ false → Grown own xs ys → Grown own xs (put_row test row ys) → Grown own (x ∷ xs) (cond b (row ∷ ys) (y ∷ put_row test row ys))
+      changed-put : (b : Bool) (x y : R) (xs ys : List R) → own x ≡ true → own y ≡ true → list_all own xs ≡ false → Grown own xs ys → Grown own xs (put_row test row ys)
+          → Grown own (x ∷ xs) (cond b (row ∷ ys) (y ∷ put_row test row ys))
       changed-put true x y xs ys p q n g more = changed x row xs ys p is-own n g
       changed-put false x y xs ys p q n g more = changed x y xs (put_row test row ys) p q n more
 
@@ -45,7 +46,8 @@ module _ {R : Type 0} (own : R → Bool) where
       grown-put _ _ (kept x xs ys p g) = kept-put (test x) x xs ys refl p (grown-put xs ys g)
       grown-put _ ys (gone x xs _ p n g) = gone x xs (put_row test row ys) p n (grown-put xs ys g)
 
-    changed-without : (b : Bool) (x y : R) (xs ys : List R) → own x ≡ true → own y ≡ true → list_all own xs ≡ false → Grown own xs (without test ys) → Grown own (x ∷ xs) (cond (not b) (y ∷ without test ys) (without test ys))
+    changed-without : (b : Bool) (x y : R) (xs ys : List R) → own x ≡ true → own y ≡ true → list_all own xs ≡ false → Grown own xs (without test ys)
+        → Grown own (x ∷ xs) (cond (not b) (y ∷ without test ys) (without test ys))
     changed-without true x y xs ys p q n more = gone x xs (without test ys) p n more
     changed-without false x y xs ys p q n more = changed x y xs (without test ys) p q n more
 

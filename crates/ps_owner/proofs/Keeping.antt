@@ -32,9 +32,11 @@ module _ {R : Type 0} (test : R → Bool) where
 
   -- all rows stay where not too many pass
   pub kept-same : (most : ℕ) (xs : List R) → (length (keep_newest test most xs) == length xs) ≡ nat_le (count_by test xs) most
-  kept-same most xs = same-length (nat_le (count_by test xs) most) most (count_by test xs) (length (keep_newest test most xs)) (length xs) refl (λ few. ap (λ (l : List R). length l) (keep_newest-all test most xs few)) (λ many. kept-less most xs many)
+  kept-same most xs = same-length (nat_le (count_by test xs) most) most (count_by test xs) (length (keep_newest test most xs)) (length xs) refl
+      (λ few. ap (λ (l : List R). length l) (keep_newest-all test most xs few)) (λ many. kept-less most xs many)
 
-  gone-step : (b : Bool) (x : R) (xs : List R) → length (without test xs) + count_by test xs ≡ length xs → length (cond (not b) (x ∷ without test xs) (without test xs)) + (cond b 1 0 + count_by test xs) ≡ suc (length xs)
+  gone-step : (b : Bool) (x : R) (xs : List R) → length (without test xs) + count_by test xs ≡ length xs
+      → length (cond (not b) (x ∷ without test xs) (without test xs)) + (cond b 1 0 + count_by test xs) ≡ suc (length xs)
   gone-step true x xs h = omega (arith, h)
   gone-step false x xs h = omega (arith, h)
 

@@ -119,4 +119,5 @@ few-edit edit node rows table most is =
     let sets = sets-asked own node rows (covered node rows edit.asked.rows is.asked) in
     let e = count-edited own (λ xs. subs_asked node rows xs) sets (is_sub_at node) table in
     let b = is.before in let a = is.after in
-    rw (b, a) (few-by _ _ (sub_count node (subs_asked node rows table)) (sub_count node table) (sub_count node (own_and_last own table)) (sub_count node (own_and_last own (subs_asked node rows table))) most e refl refl)
+    rw (b, a) (few-by _ _ (sub_count node (subs_asked node rows table)) (sub_count node table) (sub_count node (own_and_last own table))
+    (sub_count node (own_and_last own (subs_asked node rows table))) most e refl refl)

@@ -41,7 +41,8 @@ module _ (mine : NodeKey → Bool) (node : NodeKey) (own : mine node ≡ true) w
   node-made : (row : NodeRow) → row.key ≡ node → (rows : List NodeRow) → my_nodes mine (rows ++ row ∷ []) ≡ my_nodes mine rows ++ row ∷ []
   node-made row e rows = filter-more (λ (x : NodeRow). mine x.key) rows (row ∷ []) ∙ (let k : mine row.key ≡ true = ap mine e ∙ own in rw k refl)
 
-  affil-put : (who : Jid) (row : AffilRow) → row.node ≡ node → (rows : List AffilRow) → my_affils mine (put_row (is_affil_of node who) row rows) ≡ put_row (is_affil_of node who) row (my_affils mine rows)
+  affil-put : (who : Jid) (row : AffilRow) → row.node ≡ node → (rows : List AffilRow)
+      → my_affils mine (put_row (is_affil_of node who) row rows) ≡ put_row (is_affil_of node who) row (my_affils mine rows)
   affil-put who row e rows = seen-put (λ (x : AffilRow). mine x.node) (is_affil_of node who) (affil-row mine node true own who) row (ap mine e ∙ own) rows
 
   sub-put : (who : Jid) (row : SubRow) → row.node ≡ node → (rows : List SubRow) → my_subs mine (put_row (is_sub_of node who) row rows) ≡ put_row (is_sub_of node who) row (my_subs mine rows)
@@ -59,7 +60,8 @@ module _ (mine : NodeKey → Bool) (node : NodeKey) (own : mine node ≡ true) w
       ∙ ap (λ (xs : List ItemRow). keep_newest (is_item_at row.node) most (xs ++ timeless row ∷ []))
       (ap (map timeless) (gone-both keep (is_item_of row.node row.id) rows) ∙ sym (map-filter timeless (λ (x : ItemRow). not (is_item_of row.node row.id x)) (λ x. refl) (filter keep rows)))
 
-items-gone : (mine : NodeKey → Bool) (test : ItemRow → Bool) → ((x : ItemRow) → test (timeless x) ≡ test x) → (rows : List ItemRow) → my_items mine (without test rows) ≡ without test (my_items mine rows)
+items-gone : (mine : NodeKey → Bool) (test : ItemRow → Bool) → ((x : ItemRow) → test (timeless x) ≡ test x) → (rows : List ItemRow)
+    → my_items mine (without test rows) ≡ without test (my_items mine rows)
 items-gone mine test blind rows =
     let keep = λ (x : ItemRow). mine x.node in
     ap (map timeless) (gone-both keep test rows) ∙ sym (map-filter timeless (λ (x : ItemRow). not (test x)) (λ x. ap not (blind x)) (filter keep rows))
@@ -100,7 +102,11 @@ module _ (side : Bool) (name : List ℕ) (from : Jid) (id item : List ℕ) (payl
   module _ (own : is_mine side (key name) ≡ true) where
     pub changed-own : (kind : Kind) (m : Option ℕ) → is_accepted (check b (r kind)) ≡ true → part (is_mine side) (changed (r kind) m b) ≡ changed (r kind) None (part (is_mine side) b)
     changed-own Create m accepted =
-        rw (node-made (is_mine side) (key name) own (new_node (key name) from service_config) refl b.nodes, affil-put (is_mine side) (key name) own (bare from) (owner_row (key name) from) refl b.affils) refl
+        rw (
+          node-made (is_mine side) (key name) own (new_node (key name) from service_config) refl b.nodes,
+          affil-put (is_mine side) (key name) own (bare from) (owner_row (key name) from) refl
+              b.affils,
+        ) refl
     changed-own Publish m accepted =
         let p = published-to accepted in
         let q : node_at (key name) (my_nodes (is_mine side) b.nodes) ≡ Some (plain (key name) p.0) = node-same (is_mine side) (key name) own b.nodes ∙ p.1 in
@@ -133,9 +139,11 @@ module _ (side : Bool) (name : List ℕ) (from : Jid) (id item : List ℕ) (payl
         rw (p.1, item-far (is_mine side) (key name) far (item_row (key name) (105 ∷ item) from (payload ∷ []) m) refl 10 b.items) refl
     changed-far Subscribe m accepted =
         ap (part (is_mine side)) (subscribed-is b fits m)
-        ∙ rw (hidden-put (λ (x : SubRow). is_mine side x.node) (is_sub_of (key name) (bare from)) (sub-of-row (is_mine side) (key name) false far (bare from)) (sub_put (key name) (bare from) b.subs) far b.subs) refl
+        ∙ rw (hidden-put (λ (x : SubRow). is_mine side x.node) (is_sub_of (key name) (bare from)) (sub-of-row (is_mine side) (key name) false far (bare from)) (sub_put (key name) (bare from) b.subs)
+        far b.subs) refl
     changed-far Items m accepted = refl
-    changed-far Unsubscribe m accepted = rw (hidden-gone (λ (x : SubRow). is_mine side x.node) (is_sub_of (key name) (bare from)) (sub-of-row (is_mine side) (key name) false far (bare from)) b.subs) refl
+    changed-far Unsubscribe m accepted = rw (hidden-gone (λ (x : SubRow). is_mine side x.node) (is_sub_of (key name) (bare from)) (sub-of-row (is_mine side) (key name) false far (bare from)) b.subs)
+        refl
     changed-far Retract m accepted =
         rw (hidden-gone (λ (x : ItemRow). is_mine side x.node) (is_item_of (key name) (105 ∷ item)) (item-of-row (is_mine side) (key name) false far (105 ∷ item)) b.items) refl
     changed-far Delete m accepted =

@@ -67,7 +67,8 @@ module _ (side : Bool) (name : List ℕ) (own : is_mine side (key name) ≡ true
     publish-denial : first_denial (publish_steps (part (is_mine side) b) (r Publish) name (record { id = 105 ∷ item; payloads = payload ∷ [] } ∷ []) None)
         ≡ first_denial (publish_steps b (r Publish) name (record { id = 105 ∷ item; payloads = payload ∷ [] } ∷ []) None)
     publish-denial =
-        ap (λ (o : Option NodeRow). first_denial (publish_by o (part (is_mine side) b) (r Publish) name (record { id = 105 ∷ item; payloads = payload ∷ [] } ∷ []) None)) (node-same (is_mine side) (key name) own b.nodes)
+        ap (λ (o : Option NodeRow). first_denial (publish_by o (part (is_mine side) b) (r Publish) name (record { id = 105 ∷ item; payloads = payload ∷ [] } ∷ []) None))
+        (node-same (is_mine side) (key name) own b.nodes)
         ∙ by (node_at (key name) b.nodes) (found-plain (key name) b.nodes fits.nodes)
       where
         by : (o : Option NodeRow) → IsPlain (key name) o
@@ -82,7 +83,8 @@ module _ (side : Bool) (name : List ℕ) (own : is_mine side (key name) ≡ true
     check-same Subscribe =
         rw (subscribe-same from, node-same (is_mine side) (key name) own b.nodes, sub-same (is_mine side) (key name) own (bare from) b.subs, subs-count (is_mine side) (key name) own b.subs) refl
     check-same Items =
-        rw (read-same from, node-same (is_mine side) (key name) own b.nodes, items-same (is_mine side) (key name) own b.items, map-blind timeless row_tree (λ row. refl) (items_of (key name) b.items)) refl
+        rw (read-same from, node-same (is_mine side) (key name) own b.nodes, items-same (is_mine side) (key name) own b.items, map-blind timeless row_tree (λ row. refl) (items_of (key name) b.items))
+        refl
     check-same Unsubscribe = rw (node-same (is_mine side) (key name) own b.nodes, sub-same (is_mine side) (key name) own (bare from) b.subs) refl
     check-same Retract = rw (node-same (is_mine side) (key name) own b.nodes, affil-same (is_mine side) (key name) own from b.affils, item-same (is_mine side) (key name) own (105 ∷ item) b.items) refl
     check-same Delete = rw (node-same (is_mine side) (key name) own b.nodes, affil-same (is_mine side) (key name) own from b.affils) refl

@@ -102,14 +102,16 @@ state-is b fits r node who = by (node_at node b.nodes) (found-plain node b.nodes
 abbrev pub sub_put : NodeKey → Jid → List SubRow → SubRow
 sub_put node who rows = record { node = node; who = who; state = sub.Subscribed; options = options_in (sub_row node who rows) }
 
-sub-news : (node : NodeKey) (who : Jid) (rows : List SubRow) → same_subs (put_row (is_sub_of node who) (sub_put node who rows) rows) rows ≡ news (is_sub_of node who) row.eq-value.it (sub_put node who rows) (sub_row node who rows)
+sub-news : (node : NodeKey) (who : Jid) (rows : List SubRow)
+    → same_subs (put_row (is_sub_of node who) (sub_put node who rows) rows) rows ≡ news (is_sub_of node who) row.eq-value.it (sub_put node who rows) (sub_row node who rows)
 sub-news node who rows = put-same (is_sub_of node who) row.eq-value.it same_sub-itself (sub_put node who rows) rows
 
 module _ (side : Bool) (name : List ℕ) (own : is_mine side (key name) ≡ true) (b : Book) (fits : Fits b) (from : Jid) (id item : List ℕ) (payload : Tree) where
   abbrev r : Kind → Request
   r kind = record { from = from; target = (key name).service; id = id; ask = asks kind name from item payload }
 
-  subs-commit : (c : Book) → Fits c → commits c (r Subscribe) ≡ not (news (is_sub_of (key name) (bare from)) row.eq-value.it (sub_put (key name) (bare from) c.subs) (sub_row (key name) (bare from) c.subs))
+  subs-commit : (c : Book) → Fits c → commits c (r Subscribe) ≡ not
+      (news (is_sub_of (key name) (bare from)) row.eq-value.it (sub_put (key name) (bare from) c.subs) (sub_row (key name) (bare from) c.subs))
   subs-commit c fits = rw (state-is c fits (r Subscribe) (key name) (bare from)) (ap not (sub-news (key name) (bare from) c.subs))
 
   pub commits-same : (kind : Kind) → commits (part (is_mine side) b) (r kind) ≡ commits b (r kind)
@@ -117,7 +119,8 @@ module _ (side : Bool) (name : List ℕ) (own : is_mine side (key name) ≡ true
   commits-same Publish = refl
   commits-same Subscribe =
       subs-commit (part (is_mine side) b) (part-fits (is_mine side) b fits)
-      ∙ ap (λ (o : Option SubRow). not (news (is_sub_of (key name) (bare from)) row.eq-value.it (record { node = key name; who = bare from; state = sub.Subscribed; options = options_in o }) o)) (sub-same (is_mine side) (key name) own (bare from) b.subs)
+      ∙ ap (λ (o : Option SubRow). not (news (is_sub_of (key name) (bare from)) row.eq-value.it (record { node = key name; who = bare from; state = sub.Subscribed; options = options_in o }) o))
+      (sub-same (is_mine side) (key name) own (bare from) b.subs)
       ∙ sym (subs-commit b fits)
   commits-same Items = refl
   commits-same Unsubscribe = refl

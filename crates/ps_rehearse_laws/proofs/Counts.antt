@@ -34,7 +34,8 @@ pub noted-none : (side : Bool) (F : List Entry) (s : State) → length (changes_
 noted-none side [] s e = refl
 noted-none side (x ∷ F) s e = by (is_of side x) (let l = length-changes side x F in omega (arith, l, e)) (λ k. noted-none side F (after s x) k)
   where
-    by : (b : Bool) → cond b 1 0 + length (changes_of (host_of side) F) ≡ 0 → (length (changes_of (host_of side) F) ≡ 0 → noted side (after s x) F ≡ 0) → cond b (length (notices_at s x)) 0 + noted side (after s x) F ≡ 0
+    by : (b : Bool) → cond b 1 0 + length (changes_of (host_of side) F) ≡ 0 → (length (changes_of (host_of side) F) ≡ 0 → noted side (after s x) F ≡ 0)
+        → cond b (length (notices_at s x)) 0 + noted side (after s x) F ≡ 0
     by true h more = absurd (omega (arith, h))
     by false h more = let n = more (omega (arith, h)) in omega (arith, n)
 

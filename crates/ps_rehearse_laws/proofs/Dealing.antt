@@ -81,7 +81,8 @@ one-digit n low = decimal_digit n low
 
 sender-is : (side : Bool) (u : ℕ) → u < 4 → jid_of (who_text side u ++ codes "/r") ≡ Some (person side u (codes "r"))
 sender-is side u low =
-    rw (one-digit u (omega (arith, low))) (each-account (λ side u. jid_of (who_with side (digit u) ++ codes "/r") ≡ Some (person_with side (digit u) (codes "r"))) refl refl refl refl refl refl refl refl side u low)
+    rw (one-digit u (omega (arith, low))) (each-account (λ side u. jid_of (who_with side (digit u) ++ codes "/r") ≡ Some (person_with side (digit u) (codes "r"))) refl refl refl refl refl refl refl
+    refl side u low)
 
 whom-is : (side : Bool) (u : ℕ) → u < 4 → jid_of (who_text side u) ≡ Some (person side u [])
 whom-is side u low =
@@ -99,7 +100,8 @@ sender-short : (side : Bool) (u : ℕ) → u < 4
     → (nat_le (length (person side u (codes "r")).local) 1023 && nat_le (length (person side u (codes "r")).host) 1023 && nat_le (length (person side u (codes "r")).resource) 1023) ≡ true
 sender-short side u low =
     rw (one-digit u (omega (arith, low))) (each-account
-    (λ side u. (nat_le (length (person_with side (digit u) (codes "r")).local) 1023 && nat_le (length (person_with side (digit u) (codes "r")).host) 1023 && nat_le (length (person_with side (digit u) (codes "r")).resource) 1023) ≡ true)
+    (λ side u. (nat_le (length (person_with side (digit u) (codes "r")).local) 1023 && nat_le (length (person_with side (digit u) (codes "r")).host) 1023 && nat_le
+    (length (person_with side (digit u) (codes "r")).resource) 1023) ≡ true)
     refl refl refl refl refl refl refl refl side u low)
 
 pub account-is : (side : Bool) (u : ℕ) → u < 4 → IsAddress (person side u [])
@@ -176,7 +178,13 @@ module _ (v : ℕ) where
   made side ds = iq (dealt.sender_of (host_of side) v) ds (type_of (kind_of v)) (dealt.asked (kind_of v) (dealt.who_of (host_of side) v) (dealt.node_of (host_of side) v) v)
 
   abbrev asked_for : Bool → List ℕ → Request
-  asked_for side ds = record { from = person side (v / 64 % 4) (codes "r"); target = host_jid service; id = ds; ask = asks (kind_of v) (dealt.node_of (host_of side) v) (person side (v / 64 % 4) (codes "r")) (decimal (v % 5)) (dealt.entry v) }
+  asked_for side ds = record {
+    from = person side (v / 64 % 4) (codes "r");
+    target = host_jid service;
+    id = ds;
+    ask = asks (kind_of v) (dealt.node_of (host_of side) v)
+        (person side (v / 64 % 4) (codes "r")) (decimal (v % 5)) (dealt.entry v);
+  }
 
 tree-taken : (side : Bool) (v : ℕ) (ds : List ℕ) → 0 < length ds → tree_taken (host_of side) service (made v side ds) ≡ taken.asked (made v side ds) (asked_for v side ds)
 tree-taken side v [] some = absurd (omega (arith, some))
@@ -195,7 +203,8 @@ tree-taken false v (i ∷ is) some =
     taken-as (host_of false) 117 ((decimal u ++ codes "@" ++ host_of false) ++ codes "/r") (person false u (codes "r")) (sender-is false u low) refl
     117 (decimal u ++ codes "@" ++ host_of false) (whom-is false u low) (own-is false u) 98 (codes ".example" ++ codes "-" ++ decimal n) (node-short false n few) i is v (kind_of v)
 
-line-as-tree : (side : Bool) (v : ℕ) (ds : List ℕ) → 0 < length ds → IsUtf8 ds → IsUtf8 (decimal v) → IsUtf8 (decimal (v % 5)) → line_taken (host_of side) service (print (made v side ds)) ≡ tree_taken (host_of side) service (made v side ds)
+line-as-tree : (side : Bool) (v : ℕ) (ds : List ℕ) → 0 < length ds → IsUtf8 ds → IsUtf8 (decimal v) → IsUtf8 (decimal (v % 5))
+    → line_taken (host_of side) service (print (made v side ds)) ≡ tree_taken (host_of side) service (made v side ds)
 line-as-tree side v [] some ui uv ue = absurd (omega (arith, some))
 line-as-tree true v (i ∷ is) some ui uv ue =
     let u = v / 64 % 4 in
@@ -204,7 +213,8 @@ line-as-tree true v (i ∷ is) some ui uv ue =
     let few : n < 8 = omega arith in
     let who = IsUtf8-are_ascii (who_text true u) (who-ascii true u low) in
     line-taken 117 ((decimal u ++ codes "@" ++ host_of true) ++ codes "/r") (IsUtf8-append (who_text true u) (codes "/r") who (IsUtf8-are_ascii (codes "/r") refl))
-    117 (decimal u ++ codes "@" ++ host_of true) who 97 (codes ".example" ++ codes "-" ++ decimal n) (IsUtf8-are_ascii (node_text true n) (node-ascii true n few)) i is ui v uv ue (host_of true) (kind_of v)
+    117 (decimal u ++ codes "@" ++ host_of true) who 97 (codes ".example" ++ codes "-" ++ decimal n) (IsUtf8-are_ascii (node_text true n) (node-ascii true n few)) i is ui v uv ue (host_of true)
+    (kind_of v)
 line-as-tree false v (i ∷ is) some ui uv ue =
     let u = v / 64 % 4 in
     let low : u < 4 = omega arith in
@@ -212,12 +222,14 @@ line-as-tree false v (i ∷ is) some ui uv ue =
     let few : n < 8 = omega arith in
     let who = IsUtf8-are_ascii (who_text false u) (who-ascii false u low) in
     line-taken 117 ((decimal u ++ codes "@" ++ host_of false) ++ codes "/r") (IsUtf8-append (who_text false u) (codes "/r") who (IsUtf8-are_ascii (codes "/r") refl))
-    117 (decimal u ++ codes "@" ++ host_of false) who 98 (codes ".example" ++ codes "-" ++ decimal n) (IsUtf8-are_ascii (node_text false n) (node-ascii false n few)) i is ui v uv ue (host_of false) (kind_of v)
+    117 (decimal u ++ codes "@" ++ host_of false) who 98 (codes ".example" ++ codes "-" ++ decimal n) (IsUtf8-are_ascii (node_text false n) (node-ascii false n few)) i is ui v uv ue (host_of false)
+    (kind_of v)
 
 -- the tree of a stanza that is dealt is taken as its request, and so is its line
 pub deal-taken : (side : Bool) (k v : ℕ) → k < 2 ^ 64 → tree_taken (host_of side) service (stanza_of (host_of side) k v) ≡ taken.asked (stanza_of (host_of side) k v) (request (deal_of side k v))
 deal-taken side k v low = tree-taken side v (decimal k) (decimal_nonempty k low)
 
-pub deal-line : (side : Bool) (k v : ℕ) → k < 2 ^ 64 → v < 2 ^ 64 → line_taken (host_of side) service (print (stanza_of (host_of side) k v)) ≡ taken.asked (stanza_of (host_of side) k v) (request (deal_of side k v))
+pub deal-line : (side : Bool) (k v : ℕ) → k < 2 ^ 64 → v < 2 ^ 64
+    → line_taken (host_of side) service (print (stanza_of (host_of side) k v)) ≡ taken.asked (stanza_of (host_of side) k v) (request (deal_of side k v))
 deal-line side k v low few =
     line-as-tree side v (decimal k) (decimal_nonempty k low) (digits-text k low) (digits-text v few) (digits-text (v % 5) (omega (arith, few))) ∙ deal-taken side k v low

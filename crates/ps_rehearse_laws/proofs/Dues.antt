@@ -48,12 +48,14 @@ module _ (g : Jid → List Tree) where
   only-those [] = refl
   only-those (w ∷ ws) = by (g w) refl (only-those ws)
     where
-      by : (ts : List Tree) → g w ≡ ts → pairs g ws ≡ pairs g (filter (λ who. is_any (g who)) ws) → map (λ t. (w, t)) ts ++ pairs g ws ≡ pairs g (cond (is_any ts) (w ∷ filter (λ who. is_any (g who)) ws) (filter (λ who. is_any (g who)) ws))
+      by : (ts : List Tree) → g w ≡ ts → pairs g ws ≡ pairs g (filter (λ who. is_any (g who)) ws)
+          → map (λ t. (w, t)) ts ++ pairs g ws ≡ pairs g (cond (is_any ts) (w ∷ filter (λ who. is_any (g who)) ws) (filter (λ who. is_any (g who)) ws))
       by [] e more = more
       by (t ∷ ts) e more = rw e (ap (λ (ps : List (Jid × Tree)). map (λ t. (w, t)) (t ∷ ts) ++ ps) more)
 
   -- where whoever is given something is among both
-  pairs-sorted : (xs ys : List Jid) → Each IsAddress xs → Each IsAddress ys → ((j : Jid) → is_any (g j) ≡ true → In j xs) → ((j : Jid) → is_any (g j) ≡ true → In j ys) → pairs g (sorted xs) ≡ pairs g (sorted ys)
+  pairs-sorted : (xs ys : List Jid) → Each IsAddress xs → Each IsAddress ys → ((j : Jid) → is_any (g j) ≡ true → In j xs) → ((j : Jid) → is_any (g j) ≡ true → In j ys)
+      → pairs g (sorted xs) ≡ pairs g (sorted ys)
   pairs-sorted xs ys are are' f h = only-those (sorted xs) ∙ ap (pairs g) (narrowed (λ who. is_any (g who)) xs ys are are' f h) ∙ sym (only-those (sorted ys))
 
   pub pairs-none : ((who : Jid) → g who ≡ []) → (ws : List Jid) → pairs g ws ≡ []
@@ -105,12 +107,14 @@ module _ (side : Bool) (name : List ℕ) (own : is_mine side (key name) ≡ true
   known inside who d w e (Some config) = rw e refl
 
   either : (inside : NodeConfig → Tree) (who : Jid) (s : Bool) (o : Option NodeRow) → IsPlain (key name) o
-      → node_notice (part (is_mine side) c) (by_way inside (cond s OwnRow NoWay)) who (option_map (λ row. row.config) o) ≡ node_notice c (by_way inside (cond s OwnRow NoWay)) who (option_map (λ row. row.config) o)
+      → node_notice (part (is_mine side) c) (by_way inside (cond s OwnRow NoWay)) who (option_map (λ row. row.config) o) ≡ node_notice c (by_way inside (cond s OwnRow NoWay)) who
+      (option_map (λ row. row.config) o)
   either inside who s o (inl e) = rw e refl
   either inside who true o (inr p) = rw (p.1, read-same side name own c fits who) refl
   either inside who false o (inr p) = rw (p.1, read-same side name own c fits who) refl
 
-  told-same : (inside : NodeConfig → Tree) (who : Jid) → told_about (part (is_mine side) c) (about_node (part (is_mine side) c) true (key name) always inside) who ≡ told_about c (about_node c true (key name) always inside) who
+  told-same : (inside : NodeConfig → Tree) (who : Jid) → told_about (part (is_mine side) c) (about_node (part (is_mine side) c) true (key name) always inside) who ≡ told_about c
+      (about_node c true (key name) always inside) who
   told-same inside who =
       let p = part (is_mine side) c in
       let s = is_subscribed (sub_at (key name) who c.subs) in
@@ -137,7 +141,8 @@ module _ (side : Bool) (name : List ℕ) (own : is_mine side (key name) ≡ true
       let areY : Each IsGuest ys = subst (Each IsGuest) (sym (append-nothing (asked p (event.Items (key name) (Some (timeless row)))))) (asked-guests p (part-fits (is_mine side) c fits)) in
       pairs-sorted (one_due c row) xs ys (guests-are xs areX) (guests-are ys areY)
       (λ j h. let s = any-some (given c (event.Items (key name) (Some row)) j) h in
-      in-any j xs (subst (λ (ws : List Jid). list_any (same_jid j) ws ≡ true) (sym (append-nothing (asked c (event.Items (key name) (Some row))))) (is-among-asked c (event.Items (key name) (Some row)) j s.0 s.1)))
+      in-any j xs (subst (λ (ws : List Jid). list_any (same_jid j) ws ≡ true) (sym (append-nothing (asked c (event.Items (key name) (Some row)))))
+      (is-among-asked c (event.Items (key name) (Some row)) j s.0 s.1)))
       (λ j h. let s = any-some (given c (event.Items (key name) (Some row)) j) h in
       in-any j ys (subst (λ (ws : List Jid). list_any (same_jid j) ws ≡ true) (sym (append-nothing (asked p (event.Items (key name) (Some (timeless row))))))
       (is-among-asked p (event.Items (key name) (Some (timeless row))) j s.0 (item-given row j ∙ s.1))))

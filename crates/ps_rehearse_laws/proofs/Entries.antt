@@ -104,7 +104,8 @@ entry-fits seed s fits (Change host line m t) is ok =
     let ok2 = rw (is.2, is.3) at ok in
     rw (is.2, is.3) (subst Fits (sym (change-book seed k low s fits line m)) (deal-fits (deal_at seed k) (deal-at seed k) s.book fits m (change-makes seed k low s fits line m ok2)))
 
-pub entry-far : (seed : ℕ) (side : Bool) (s : State) → Fits s.book → (e : Entry) → IsDealt seed e → accepted s e ≡ true → is_of side e ≡ false → part (is_mine side) (after s e).book ≡ part (is_mine side) s.book
+pub entry-far : (seed : ℕ) (side : Bool) (s : State) → Fits s.book → (e : Entry) → IsDealt seed e → accepted s e ≡ true → is_of side e ≡ false
+    → part (is_mine side) (after s e).book ≡ part (is_mine side) s.book
 entry-far seed side s fits (Boot host) is ok far = absurd is
 entry-far seed side s fits (Base row) is ok far = absurd is
 entry-far seed side s fits (Handed to) is ok far = refl
@@ -114,7 +115,8 @@ entry-far seed side s fits (Change host line m t) is ok far =
     let low : k < 2 ^ 64 = is.1 in
     let ok2 = rw (is.2, is.3) at ok in
     let other : side ≡ not (side_at k) = other-side side (side_at k) (rw is.2 at far) in
-    rw (is.2, is.3, other) (ap (part (is_mine (not (side_at k)))) (change-book seed k low s fits line m) ∙ deal-far (deal_at seed k) (deal-at seed k) s.book fits m (change-makes seed k low s fits line m ok2))
+    rw (is.2, is.3, other) (ap (part (is_mine (not (side_at k)))) (change-book seed k low s fits line m) ∙ deal-far (deal_at seed k) (deal-at seed k) s.book fits m
+    (change-makes seed k low s fits line m ok2))
 
 -- what holds of what each deal gives holds of the notices of an entry
 module _ (seed : ℕ) (P : Jid × Tree → Type 0) (Q : Notice → Type 0) (numbers : (place number : ℕ) (to : Jid) (t : Tree) → P (to, t) → Q (notice_of place number (to, t)))

@@ -52,7 +52,8 @@ module _ (name : List ℕ) (from : Jid) (id item : List ℕ) (payload : Tree) wh
     where
       by : IsPlain (key name) (node_at (key name) b.nodes) → given b (event.Delete (key name)) who ≡ None
       by (inl e) = rw e refl
-      by (inr p) = ap (λ (o : Option NodeRow). node_notice b (about_node b false (key name) (λ config. config.notify_delete) (λ config. named_tree (codes "delete") (key name))) who (option_map (λ row. row.config) o)) p.1
+      by (inr p) = ap (λ (o : Option NodeRow). node_notice b (about_node b false (key name) (λ config. config.notify_delete) (λ config. named_tree (codes "delete") (key name))) who
+          (option_map (λ row. row.config) o)) p.1
           ∙ never (may_read b (key name) who) _ _ refl
 
   -- a subscription is sent no last item

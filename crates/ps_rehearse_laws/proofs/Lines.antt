@@ -131,17 +131,22 @@ module _ (seed : ℕ) (service : List ℕ) (F : List Entry) (are : Each (IsDealt
   abbrev E : List Entry
   E = Boot service ∷ F
 
-  module _ (guests : Each (λ (n : Notice). IsGuest n.to) (made_from empty_state (Boot service ∷ F))) (sent : Each IsSentLine (made_from empty_state (Boot service ∷ F))) (few : length (made_from empty_state (Boot service ∷ F)) < 10 ^ 64) where
+  module _ (guests : Each (λ (n : Notice). IsGuest n.to) (made_from empty_state (Boot service ∷ F))) (sent : Each IsSentLine (made_from empty_state (Boot service ∷ F)))
+      (few : length (made_from empty_state (Boot service ∷ F)) < 10 ^ 64) where
     owed-read : (a : Jid) → Each IsRead (notices (Boot service ∷ F) a)
     owed-read a =
         let all = made_from empty_state (Boot service ∷ F) in
         let is : notices (Boot service ∷ F) a ≡ of_bare a.resource (filter (λ (n : Notice). same_bare n.to a) all) = notices-made a (Boot service ∷ F) empty_state in
-        let short : length (notices (Boot service ∷ F) a) ≤ length all = (let l = ap (λ (ns : List Notice). length ns) is in let b = bare-few a.resource (filter (λ (n : Notice). same_bare n.to a) all) in let f = length-filter (λ (n : Notice). same_bare n.to a) all in omega (arith, l, b, f)) in
+        let short : length (notices (Boot service ∷ F) a) ≤ length all =
+        (let l = ap (λ (ns : List Notice). length ns) is in let b = bare-few a.resource (filter (λ (n : Notice). same_bare n.to a) all) in let f = length-filter (λ (n : Notice). same_bare n.to a)
+        all in omega (arith, l, b, f)) in
         read-all (notices (Boot service ∷ F) a)
         (subst (Each IsSentLine) (sym is) (bare-each IsSentLine a.resource (filter (λ (n : Notice). same_bare n.to a) all) (each-filter IsSentLine (λ (n : Notice). same_bare n.to a) all sent)))
-        (subst (Each (λ (n : Notice). IsGuest n.to)) (sym is) (bare-each (λ (n : Notice). IsGuest n.to) a.resource (filter (λ (n : Notice). same_bare n.to a) all) (each-filter (λ (n : Notice). IsGuest n.to) (λ (n : Notice). same_bare n.to a) all guests)))
+        (subst (Each (λ (n : Notice). IsGuest n.to)) (sym is) (bare-each (λ (n : Notice). IsGuest n.to) a.resource (filter (λ (n : Notice). same_bare n.to a) all)
+        (each-filter (λ (n : Notice). IsGuest n.to) (λ (n : Notice). same_bare n.to a) all guests)))
         (each-at (λ (n : Notice). n.number < 10 ^ 64) (notices (Boot service ∷ F) a) (λ k n e.
-        (let r = numbers-rise (Boot service ∷ F) a based k n e in let z = no-counter seed F are a in let w = slice_get_within (notices (Boot service ∷ F) a) k n e in omega (arith, r, z, w, short, few))))
+        (let r = numbers-rise (Boot service ∷ F) a based k n e in let z = no-counter seed F are a in let w = slice_get_within (notices (Boot service ∷ F) a) k n e in omega
+        (arith, r, z, w, short, few))))
 
     -- ---- the words of a host
 

@@ -24,7 +24,8 @@ module _ {R : Type 0} (f : R → R) (test : R → Bool) (blind : (x : R) → tes
   map-newest most [] = refl
   map-newest most (x ∷ xs) = rw (blind x, map-count xs) (by (test x && nat_le most (count_by test xs)) (map-newest most xs))
     where
-      by : (b : Bool) → keep_newest test most (map f xs) ≡ map f (keep_newest test most xs) → cond b (keep_newest test most (map f xs)) (f x ∷ keep_newest test most (map f xs)) ≡ map f (cond b (keep_newest test most xs) (x ∷ keep_newest test most xs))
+      by : (b : Bool) → keep_newest test most (map f xs) ≡ map f (keep_newest test most xs)
+          → cond b (keep_newest test most (map f xs)) (f x ∷ keep_newest test most (map f xs)) ≡ map f (cond b (keep_newest test most xs) (x ∷ keep_newest test most xs))
       by true more = more
       by false more = ap (λ r. f x ∷ r) more
 
@@ -107,7 +108,8 @@ module _ {R : Type 0} (P : R → Type 0) where
   count-kept test keep seen [] ps = refl
   count-kept test keep seen (x ∷ xs) ps = by (keep x) (test x) refl refl (count-kept test keep seen xs ps.1) ∙ sym (count_by-cons test x xs)
     where
-      by : (b t : Bool) → keep x ≡ b → test x ≡ t → count_by test (filter keep xs) ≡ count_by test xs → count_by test (cond b (x ∷ filter keep xs) (filter keep xs)) ≡ cond (test x) 1 0 + count_by test xs
+      by : (b t : Bool) → keep x ≡ b → test x ≡ t → count_by test (filter keep xs) ≡ count_by test xs
+          → count_by test (cond b (x ∷ filter keep xs) (filter keep xs)) ≡ cond (test x) 1 0 + count_by test xs
       by true t e is h = count_by-cons test x (filter keep xs) ∙ ap (λ n. cond (test x) 1 0 + n) h
       by false true e is h = absurd (true≢false (sym (seen x ps.0 is) ∙ e))
       by false false e is h = rw is (omega (arith, h))

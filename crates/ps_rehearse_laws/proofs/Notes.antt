@@ -130,7 +130,8 @@ at-host : (side : Bool) (xs : List Jid) → Each (λ (j : Jid). j.host ≡ host_
 at-host side [] = tt
 at-host side (x ∷ xs) = by (bytes_eq (host_of side) x.host) refl (at-host side xs)
   where
-    by : (b : Bool) → bytes_eq (host_of side) x.host ≡ b → Each (λ (j : Jid). j.host ≡ host_of side) (at_host side xs) → Each (λ (j : Jid). j.host ≡ host_of side) (cond b (x ∷ at_host side xs) (at_host side xs))
+    by : (b : Bool) → bytes_eq (host_of side) x.host ≡ b → Each (λ (j : Jid). j.host ≡ host_of side) (at_host side xs)
+        → Each (λ (j : Jid). j.host ≡ host_of side) (cond b (x ∷ at_host side xs) (at_host side xs))
     by true e more = (sym ((bytes_eq-Decides (host_of side) x.host).0 e), more)
     by false e more = more
 
@@ -138,11 +139,13 @@ sides-of : (ns : List Notice) → Each (λ (n : Notice). IsGuest n.to) ns → le
 sides-of [] are = refl
 sides-of (n ∷ ns) are =
     subst
-    (λ (h : List ℕ). length (cond (bytes_eq (host_of true) h) (n.to ∷ at_host true (tos ns)) (at_host true (tos ns))) + length (cond (bytes_eq (host_of false) h) (n.to ∷ at_host false (tos ns)) (at_host false (tos ns))) ≡ suc (length ns))
+    (λ (h : List ℕ). length (cond (bytes_eq (host_of true) h) (n.to ∷ at_host true (tos ns)) (at_host true (tos ns))) + length
+    (cond (bytes_eq (host_of false) h) (n.to ∷ at_host false (tos ns)) (at_host false (tos ns))) ≡ suc (length ns))
     (sym are.0.host) (by are.0.side (sides-of ns are.1))
   where
     by : (side : Bool) → length (at_host true (tos ns)) + length (at_host false (tos ns)) ≡ length ns
-        → length (cond (bytes_eq (host_of true) (host_of side)) (n.to ∷ at_host true (tos ns)) (at_host true (tos ns))) + length (cond (bytes_eq (host_of false) (host_of side)) (n.to ∷ at_host false (tos ns)) (at_host false (tos ns))) ≡ suc (length ns)
+        → length (cond (bytes_eq (host_of true) (host_of side)) (n.to ∷ at_host true (tos ns)) (at_host true (tos ns))) + length
+        (cond (bytes_eq (host_of false) (host_of side)) (n.to ∷ at_host false (tos ns)) (at_host false (tos ns))) ≡ suc (length ns)
     by true h = omega (arith, h)
     by false h = omega (arith, h)
 

@@ -96,8 +96,11 @@ module _ (name : List ℕ) (un : IsUtf8 name) (who : Jid) (address : IsAddress w
 
   sent-form : HasForm (with_id number (notice_tree name who row))
   sent-form = (
-    head (codes "message") client _ refl (λ e. cc e) refl
-        (lit (codes "from") refl, lit (codes "pubsub.example") refl, (lit (codes "id") refl, id-text, (lit (codes "to") refl, address-text who address, (lit (codes "type") refl, lit (codes "headline") refl, tt))))
+    head (codes "message") client _ refl (λ e. cc e) refl (
+      lit (codes "from") refl,
+      lit (codes "pubsub.example") refl,
+      (lit (codes "id") refl, id-text, (lit (codes "to") refl, address-text who address, (lit (codes "type") refl, lit (codes "headline") refl, tt))),
+    )
         ((refl, (refl, (refl, tt))), ((refl, (refl, tt)), ((refl, tt), (tt, tt)))),
     ((head (codes "event") event_ns [] refl (λ e. cc e) refl tt tt, (inside-form, tt)), tt),
   )
@@ -106,4 +109,5 @@ module _ (name : List ℕ) (un : IsUtf8 name) (who : Jid) (address : IsAddress w
   sent-low = let l = payload-low row.payload fits.low in omega (arith, l)
 
   pub sent-read : is_notice (print (with_id number (notice_tree name who row))) ≡ true
-  sent-read = rw (reads-line (print (with_id number (notice_tree name who row))) (with_id number (notice_tree name who row)) (print_reads (with_id number (notice_tree name who row)) (record { form = sent-form; shallow = sent-low }))) refl
+  sent-read = rw (reads-line (print (with_id number (notice_tree name who row))) (with_id number (notice_tree name who row))
+      (print_reads (with_id number (notice_tree name who row)) (record { form = sent-form; shallow = sent-low }))) refl

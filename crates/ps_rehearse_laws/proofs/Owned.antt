@@ -62,7 +62,8 @@ module _ (boot : List ℕ) (hosts : List (List ℕ)) where
   recorded w a (Recorded t) = adds-none hosts w.entries w.entries refl
   recorded w a Unrecorded = record { entry = Some (Handed a); list = refl; each = (tt, tt) }
 
-  arrived : (E : List Entry) (g : List ℕ) (line : ℕ) (o : Option Entry) → IsServed hosts g → ((e : Entry) → o ≡ Some e → (m : Option ℕ) × (t : Tree) × (e ≡ Change g line m t)) → Adds hosts E (more_entries E o)
+  arrived : (E : List Entry) (g : List ℕ) (line : ℕ) (o : Option Entry) → IsServed hosts g → ((e : Entry) → o ≡ Some e → (m : Option ℕ) × (t : Tree) × (e ≡ Change g line m t))
+      → Adds hosts E (more_entries E o)
   arrived E g line None served change = record { entry = None; list = more-is E None; each = tt }
   arrived E g line (Some e) served change = record { entry = Some e; list = more-is E (Some e); each = (let is = change e refl in rw is.2 served, tt) }
 

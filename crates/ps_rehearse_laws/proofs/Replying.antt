@@ -47,7 +47,11 @@ use Rattle.ps_model.proofs.Asked.{or-first, or-second}
 reply-tree : (id to : List ℕ) → IsUtf8 id → IsUtf8 to → (y : ℕ) (ys : List ℕ) → IsUtf8 (y ∷ ys) → (kids : List Tree) → HaveForm (holding kids) → nodes_levels (holding kids) ≤ 31
     → IsTree (stanza (codes "iq") (codes "pubsub.example") id to (y ∷ ys) kids)
 reply-tree [] to ui ut y ys uy kids have low = record {
-  form = (head (codes "iq") client _ refl (λ e. cc e) refl (lit (codes "from") refl, lit (codes "pubsub.example") refl, (lit (codes "to") refl, ut, (lit (codes "type") refl, uy, tt))) ((refl, (refl, tt)), ((refl, tt), (tt, tt))), have);
+  form = (
+    head (codes "iq") client _ refl (λ e. cc e) refl (lit (codes "from") refl, lit (codes "pubsub.example") refl, (lit (codes "to") refl, ut, (lit (codes "type") refl, uy, tt)))
+        ((refl, (refl, tt)), ((refl, tt), (tt, tt))),
+    have,
+  );
   shallow = omega (arith, low);
 }
 reply-tree (i ∷ id) to ui ut y ys uy kids have low = record {
@@ -77,11 +81,13 @@ module _ (id to : List ℕ) (ui : IsUtf8 id) (ut : IsUtf8 to) (kids : List Tree)
   error-line : line_tree (print error) ≡ Ok error
   error-line = reads-line (print error) error (print_reads error (reply-tree id to ui ut 101 (codes "rror") (lit (codes "error") refl) kids have low))
 
-result-typed : (id to : List ℕ) (kids : List Tree) → (is_iq (stanza (codes "iq") (codes "pubsub.example") id to (codes "result") kids) && has_type (codes "result") (stanza (codes "iq") (codes "pubsub.example") id to (codes "result") kids)) ≡ true
+result-typed : (id to : List ℕ) (kids : List Tree) → (is_iq (stanza (codes "iq") (codes "pubsub.example") id to (codes "result") kids) && has_type (codes "result")
+    (stanza (codes "iq") (codes "pubsub.example") id to (codes "result") kids)) ≡ true
 result-typed [] to kids = refl
 result-typed (i ∷ id) to kids = refl
 
-error-typed : (id to : List ℕ) (kids : List Tree) → (is_iq (stanza (codes "iq") (codes "pubsub.example") id to (codes "error") kids) && has_type (codes "error") (stanza (codes "iq") (codes "pubsub.example") id to (codes "error") kids)) ≡ true
+error-typed : (id to : List ℕ) (kids : List Tree) → (is_iq (stanza (codes "iq") (codes "pubsub.example") id to (codes "error") kids) && has_type (codes "error")
+    (stanza (codes "iq") (codes "pubsub.example") id to (codes "error") kids)) ≡ true
 error-typed [] to kids = refl
 error-typed (i ∷ id) to kids = refl
 
@@ -124,15 +130,36 @@ about-form name node un some uo kids have = (
 
 sub-form : (node : List ℕ) (x : ℕ) (who : List ℕ) (state : SubState) → IsUtf8 node → IsUtf8 (x ∷ who)
     → HasForm (tree (codes "subscription") pubsub_ns (attrs_with ((codes "jid", x ∷ who) ∷ (codes "node", node) ∷ (codes "subscription", sub_text state) ∷ [])) none)
-sub-form [] x who sub.Nothing un uw = (head (codes "subscription") pubsub_ns _ refl (λ e. cc e) refl (lit (codes "jid") refl, uw, (lit (codes "subscription") refl, lit (sub_text sub.Nothing) refl, tt)) ((refl, tt), (tt, tt)), tt)
-sub-form [] x who sub.Pending un uw = (head (codes "subscription") pubsub_ns _ refl (λ e. cc e) refl (lit (codes "jid") refl, uw, (lit (codes "subscription") refl, lit (sub_text sub.Pending) refl, tt)) ((refl, tt), (tt, tt)), tt)
-sub-form [] x who sub.Subscribed un uw = (head (codes "subscription") pubsub_ns _ refl (λ e. cc e) refl (lit (codes "jid") refl, uw, (lit (codes "subscription") refl, lit (sub_text sub.Subscribed) refl, tt)) ((refl, tt), (tt, tt)), tt)
-sub-form (n ∷ node) x who sub.Nothing un uw =
-    (head (codes "subscription") pubsub_ns _ refl (λ e. cc e) refl (lit (codes "jid") refl, uw, (lit (codes "node") refl, un, (lit (codes "subscription") refl, lit (sub_text sub.Nothing) refl, tt))) ((refl, (refl, tt)), ((refl, tt), (tt, tt))), tt)
-sub-form (n ∷ node) x who sub.Pending un uw =
-    (head (codes "subscription") pubsub_ns _ refl (λ e. cc e) refl (lit (codes "jid") refl, uw, (lit (codes "node") refl, un, (lit (codes "subscription") refl, lit (sub_text sub.Pending) refl, tt))) ((refl, (refl, tt)), ((refl, tt), (tt, tt))), tt)
-sub-form (n ∷ node) x who sub.Subscribed un uw =
-    (head (codes "subscription") pubsub_ns _ refl (λ e. cc e) refl (lit (codes "jid") refl, uw, (lit (codes "node") refl, un, (lit (codes "subscription") refl, lit (sub_text sub.Subscribed) refl, tt))) ((refl, (refl, tt)), ((refl, tt), (tt, tt))), tt)
+sub-form [] x who sub.Nothing un uw = (
+  head (codes "subscription") pubsub_ns _ refl (λ e. cc e) refl
+      (lit (codes "jid") refl, uw, (lit (codes "subscription") refl, lit (sub_text sub.Nothing) refl, tt)) ((refl, tt), (tt, tt)),
+  tt,
+)
+sub-form [] x who sub.Pending un uw = (
+  head (codes "subscription") pubsub_ns _ refl (λ e. cc e) refl
+      (lit (codes "jid") refl, uw, (lit (codes "subscription") refl, lit (sub_text sub.Pending) refl, tt)) ((refl, tt), (tt, tt)),
+  tt,
+)
+sub-form [] x who sub.Subscribed un uw = (
+  head (codes "subscription") pubsub_ns _ refl (λ e. cc e) refl
+      (lit (codes "jid") refl, uw, (lit (codes "subscription") refl, lit (sub_text sub.Subscribed) refl, tt)) ((refl, tt), (tt, tt)),
+  tt,
+)
+sub-form (n ∷ node) x who sub.Nothing un uw = (
+  head (codes "subscription") pubsub_ns _ refl (λ e. cc e) refl (lit (codes "jid") refl, uw, (lit (codes "node") refl, un, (lit (codes "subscription") refl, lit (sub_text sub.Nothing) refl, tt)))
+      ((refl, (refl, tt)), ((refl, tt), (tt, tt))),
+  tt,
+)
+sub-form (n ∷ node) x who sub.Pending un uw = (
+  head (codes "subscription") pubsub_ns _ refl (λ e. cc e) refl (lit (codes "jid") refl, uw, (lit (codes "node") refl, un, (lit (codes "subscription") refl, lit (sub_text sub.Pending) refl, tt)))
+      ((refl, (refl, tt)), ((refl, tt), (tt, tt))),
+  tt,
+)
+sub-form (n ∷ node) x who sub.Subscribed un uw = (
+  head (codes "subscription") pubsub_ns _ refl (λ e. cc e) refl
+      (lit (codes "jid") refl, uw, (lit (codes "node") refl, un, (lit (codes "subscription") refl, lit (sub_text sub.Subscribed) refl, tt))) ((refl, (refl, tt)), ((refl, tt), (tt, tt))),
+  tt,
+)
 
 -- ---- the replies
 
@@ -149,11 +176,13 @@ module _ (name : List ℕ) (un : IsUtf8 name) (from : Jid) (ut : IsUtf8 (jid_tex
 
   pub kids-form : (kind : Kind) → HaveForm (holding (kids_of kind))
   kids-form Create = tt
-  kids-form Publish = about-form (codes "publish") name refl (λ e. cc e) un (item_tree pubsub_ns (105 ∷ item) None ∷ []) (one-form (codes "item") pubsub_ns (codes "id") (105 ∷ item) refl (λ e. cc e) refl refl ue none tt, tt)
+  kids-form Publish = about-form (codes "publish") name refl (λ e. cc e) un (item_tree pubsub_ns (105 ∷ item) None ∷ [])
+      (one-form (codes "item") pubsub_ns (codes "id") (105 ∷ item) refl (λ e. cc e) refl refl ue none tt, tt)
   kids-form Subscribe =
       let s = new_state b (r Subscribe) (key name) (bare from) in
       rw whom (
-        bare-form (codes "pubsub") pubsub_ns refl (λ e. cc e) refl (branch (tree (codes "subscription") pubsub_ns (attrs_with ((codes "jid", x ∷ who) ∷ (codes "node", name) ∷ (codes "subscription", sub_text s) ∷ [])) none) none)
+        bare-form (codes "pubsub") pubsub_ns refl (λ e. cc e) refl (branch
+            (tree (codes "subscription") pubsub_ns (attrs_with ((codes "jid", x ∷ who) ∷ (codes "node", name) ∷ (codes "subscription", sub_text s) ∷ [])) none) none)
             (sub-form name x who s un uw, tt),
         tt,
       )
@@ -209,8 +238,10 @@ module _ (name : List ℕ) (un : IsUtf8 name) (from : Jid) (ut : IsUtf8 (jid_tex
     reply-told kind = by (first_denial (steps_of (asks kind name from item payload) b (r kind)))
       where
         by : (why : Option Condition)
-            → Each IsReplyText (cons_option (option_map print (outcome_reply (iq (f ∷ fs) ds (type_of kind) child) (r kind) false (outcome why (child_of (asks kind name from item payload) b (r kind))))) [])
+            → Each IsReplyText (cons_option (option_map print (outcome_reply (iq (f ∷ fs) ds (type_of kind) child) (r kind) false
+            (outcome why (child_of (asks kind name from item payload) b (r kind))))) [])
         by None = answered-told _ _ (result-told (attr_text (codes "id") (iq (f ∷ fs) ds (type_of kind) child)) (jid_text from) (id-text kind) ut (kids_of kind) (kids-form kind) (kids-low kind))
         by (Some why) =
-            answered-told _ _ (error-told (attr_text (codes "id") (iq (f ∷ fs) ds (type_of kind) child)) (jid_text from) (id-text kind) ut (error_tree client (feature_of (asks kind name from item payload)) why ∷ [])
+            answered-told _ _ (error-told (attr_text (codes "id") (iq (f ∷ fs) ds (type_of kind) child)) (jid_text from) (id-text kind) ut
+            (error_tree client (feature_of (asks kind name from item payload)) why ∷ [])
             (error-form (feature_of (asks kind name from item payload)) why (feature-text kind), tt) (let h = error-low (feature_of (asks kind name from item payload)) why in omega (arith, h)))

@@ -38,7 +38,8 @@ module _ (side : Bool) (name : List ℕ) (own : is_mine side (key name) ≡ true
   pairs-sent [] = tt
   pairs-sent (who ∷ ws) = by (given c (event.Items (key name) (Some row)) who) refl (pairs-sent ws)
     where
-      by : (o : Option Tree) → given c (event.Items (key name) (Some row)) who ≡ o → Each (λ p. IsSent p.0 p.1) (pairs one_due ws) → Each (λ p. IsSent p.0 p.1) (map (λ t. (who, t)) (cons_option o []) ++ pairs one_due ws)
+      by : (o : Option Tree) → given c (event.Items (key name) (Some row)) who ≡ o → Each (λ p. IsSent p.0 p.1) (pairs one_due ws)
+          → Each (λ p. IsSent p.0 p.1) (map (λ t. (who, t)) (cons_option o []) ++ pairs one_due ws)
       by None e more = more
       by (Some t) e more = (record { name = name; row = row; name_text = un; fits = fit; is = given-tree side name own c fits row who t e }, more)
 
@@ -57,7 +58,8 @@ pub record IsSentLine (n : Notice) : Type 0 where
 pub entry-sent : (seed : ℕ) (s : State) → Fits s.book → (e : Entry) → IsDealt seed e → accepted s e ≡ true → Each IsSentLine (notices_at s e)
 entry-sent seed = entry-each seed (λ p. IsSent p.0 p.1) IsSentLine (λ place number to t is. record { tree = t; sent = is; line = refl })
     (λ k b m fits makes. deal-each (deal_at seed k) (deal-at seed k) b fits (λ p. IsSent p.0 p.1) m
-    (λ c fc. item-sent (side_at k) (deal_at seed k).name (is-own (deal_at seed k) (deal-at seed k)) (name-text seed k) c fc (item_row (key (deal_at seed k).name) (105 ∷ (deal_at seed k).item) (deal_at seed k).from ((deal_at seed k).payload ∷ []) m) (row-fits seed k m) b) makes)
+    (λ c fc. item-sent (side_at k) (deal_at seed k).name (is-own (deal_at seed k) (deal-at seed k)) (name-text seed k) c fc
+    (item_row (key (deal_at seed k).name) (105 ∷ (deal_at seed k).item) (deal_at seed k).from ((deal_at seed k).payload ∷ []) m) (row-fits seed k m) b) makes)
 
 each-more : (xs ys : List Notice) → Each IsSentLine xs → Each IsSentLine ys → Each IsSentLine (xs ++ ys)
 each-more [] ys a b = b

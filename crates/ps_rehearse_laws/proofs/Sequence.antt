@@ -1,5 +1,35 @@
 -- Where the stanzas come one after the other, both hosts together come to what each comes to alone.
-use Rattle.std.proofs.Common.{◌≡◌, ℕ, zero, suc, ◌+◌, ◌<◌, ◌≤◌, ◌^◌, Bool, true, false, cond, not, List, [], ◌∷◌, ◌++◌, Option, Some, None, refl, sym, ap, ◌∙◌, subst, length, arith, length-append, append_assoc}
+use Rattle.std.proofs.Common.{
+  ◌≡◌,
+  ℕ,
+  zero,
+  suc,
+  ◌+◌,
+  ◌<◌,
+  ◌≤◌,
+  ◌^◌,
+  Bool,
+  true,
+  false,
+  cond,
+  not,
+  List,
+  [],
+  ◌∷◌,
+  ◌++◌,
+  Option,
+  Some,
+  None,
+  refl,
+  sym,
+  ap,
+  ◌∙◌,
+  subst,
+  length,
+  arith,
+  length-append,
+  append_assoc,
+}
 use Rattle.std.specs.Prelude.{count_by, option_map}
 use Rattle.std.specs.List.{cons_option}
 use Rattle.std.proofs.lemmas.List.{append-nil}
@@ -108,7 +138,8 @@ module _ (seed : ℕ) where
     replies-next test =
         let p = both-at (λ (t : Tally). count_by test t.replies) seed n (side_at n) refl in
         let before = is.replies test in
-        let more = ap (λ (o : Option (List ℕ)). count_by test (replies_before seed n ++ cons_option o [])) reply-is ∙ count-more test (replies_before seed n) (cons_option (reply_by seed n (tally (side_at n) seed n).book) []) in
+        let more = ap (λ (o : Option (List ℕ)). count_by test (replies_before seed n ++ cons_option o [])) reply-is ∙ count-more test (replies_before seed n)
+        (cons_option (reply_by seed n (tally (side_at n) seed n).book) []) in
         let own = count-more test (tally (side_at n) seed n).replies (cons_option (reply_by seed n (tally (side_at n) seed n).book) []) in
         let turn = p.0 in
         let old = p.1 in
@@ -136,7 +167,8 @@ module _ (seed : ℕ) where
       together-still = record {
         fits = subst (λ (L : List Entry). Fits (replay L).book) (sym list-still) is.fits;
         mine = by-sides (λ side. part (is_mine side) (replay (list_before seed (suc n))).book ≡ (tally side seed (suc n)).book)
-            (ap (λ (L : List Entry). part (is_mine (side_at n)) (replay L).book) list-still ∙ is.mine (side_at n) ∙ sym (one-still (tally (side_at n) seed n) refl) ∙ ap (λ (t : Tally). t.book) (sym (mine-at seed n (side_at n) refl).0))
+            (ap (λ (L : List Entry). part (is_mine (side_at n)) (replay L).book) list-still ∙ is.mine (side_at n) ∙ sym (one-still (tally (side_at n) seed n) refl) ∙ ap (λ (t : Tally). t.book)
+            (sym (mine-at seed n (side_at n) refl).0))
             (ap (λ (L : List Entry). part (is_mine (not (side_at n))) (replay L).book) list-still ∙ is.mine (not (side_at n)) ∙ ap (λ (t : Tally). t.book) (sym (mine-at seed n (side_at n) refl).1));
         commits =
             (let p = both-at (λ (t : Tally). t.commits) seed n (side_at n) refl in
@@ -205,7 +237,8 @@ module _ (seed : ℕ) where
         notices =
             (let p = both-at (λ (t : Tally). t.notices) seed n (side_at n) refl in
             let more = made_from (replay_from empty_state (list_before seed n)) (change ∷ []) in
-            let a = ap (λ (L : List Entry). length (made_from empty_state L)) list-grown ∙ ap (λ ns. length ns) (made-more (list_before seed n) (change ∷ []) empty_state) ∙ length-append (made_from empty_state (list_before seed n)) more in
+            let a = ap (λ (L : List Entry). length (made_from empty_state L)) list-grown ∙ ap (λ ns. length ns) (made-more (list_before seed n) (change ∷ []) empty_state) ∙ length-append
+            (made_from empty_state (list_before seed n)) more in
             let b = is.notices in
             let c : (one seed n (tally (side_at n) seed n)).notices ≡ (tally (side_at n) seed n).notices + length (gives (tally (side_at n) seed n).book (asked_at seed n) None) = rw some refl in
             let d : length more ≡ length (notices_at (replay (list_before seed n)) change) = ap (λ ns. length ns) (append-nil (notices_at (replay (list_before seed n)) change)) in

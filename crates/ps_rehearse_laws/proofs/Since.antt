@@ -62,7 +62,8 @@ outcome-made true x e (outcome.accepted child) h = cc h
 outcome-made false x e (outcome.accepted child) h = absurd (cc h)
 
 module _ (seed count : ℕ) (short : count < 2 ^ 64) (F : List Entry) (are : Each (IsOf two_hosts) F) where
-  made-by : (k n : ℕ) (m : Option ℕ) (b : Book) (full : Bool) (e : Entry) → k < count → b.service ≡ service → entry_of (host_of (side_at k)) b n (Line (text_at seed k) m) full ≡ Some e → Change (host_of (side_at k)) n m (tree_at seed k) ≡ e
+  made-by : (k n : ℕ) (m : Option ℕ) (b : Book) (full : Bool) (e : Entry) → k < count → b.service ≡ service → entry_of (host_of (side_at k)) b n (Line (text_at seed k) m) full ≡ Some e
+      → Change (host_of (side_at k)) n m (tree_at seed k) ≡ e
   made-by k n m b full e low same h =
       let read : line_taken (host_of (side_at k)) b.service (text_at seed k) ≡ taken.asked (tree_at seed k) (asked_at seed k) =
       ap (λ (x : List ℕ). line_taken (host_of (side_at k)) x (text_at seed k)) same ∙ ap (λ (x : List ℕ). line_taken (host_of (side_at k)) service x) (text-is seed k)
@@ -73,7 +74,8 @@ module _ (seed count : ℕ) (short : count < 2 ^ 64) (F : List Entry) (are : Eac
   turn-again : (side : Bool) (k : ℕ) → side_at k ≡ side → side_at (k + 2) ≡ side
   turn-again side k e = turn-two seed count short side k e
 
-  pub entries-dealt : (side : Bool) (cs : List Came) (n from k : ℕ) → 1 ≤ from → side_at k ≡ side → AreLines the_core (host_of side) (begun ++ F) n from cs → AreDealt seed count k cs → Each (IsDealt seed) (entries_of cs)
+  pub entries-dealt : (side : Bool) (cs : List Came) (n from k : ℕ) → 1 ≤ from → side_at k ≡ side → AreLines the_core (host_of side) (begun ++ F) n from cs → AreDealt seed count k cs
+      → Each (IsDealt seed) (entries_of cs)
   unfolding the_core
   entries-dealt side [] n from k low turn lines dealt = tt
   entries-dealt side (c ∷ cs) n from k low turn lines dealt =
@@ -112,8 +114,11 @@ each-dealt seed (Boot host ∷ F) are a b = absurd are.0
 each-dealt seed (Base row ∷ F) are a b = absurd are.0
 each-dealt seed (Handed to ∷ F) are a b = (tt, each-dealt seed F are.1 a b)
 each-dealt seed (Gone host ∷ F) are a b = (tt, each-dealt seed F are.1 a b)
-each-dealt seed (Change g line m t ∷ F) are a b =
-    (by are.0.0 are.0.1, each-dealt seed F are.1 (tail-of (IsDealt seed) (bytes_eq (host_name 0) g) (Change g line m t) (changes_of (host_name 0) F) a) (tail-of (IsDealt seed) (bytes_eq (host_name 1) g) (Change g line m t) (changes_of (host_name 1) F) b))
+each-dealt seed (Change g line m t ∷ F) are a b = (
+  by are.0.0 are.0.1,
+  each-dealt seed F are.1 (tail-of (IsDealt seed) (bytes_eq (host_name 0) g) (Change g line m t) (changes_of (host_name 0) F) a)
+      (tail-of (IsDealt seed) (bytes_eq (host_name 1) g) (Change g line m t) (changes_of (host_name 1) F) b),
+)
   where
     zeroth : g ≡ host_name 0 → IsDealt seed (Change g line m t)
     zeroth e = head-of (IsDealt seed) (bytes_eq (host_name 0) g) (Change g line m t) (changes_of (host_name 0) F) (ap (bytes_eq (host_name 0)) e ∙ itself (host_name 0)) a

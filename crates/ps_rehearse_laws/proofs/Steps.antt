@@ -43,7 +43,8 @@ module _ (side : Bool) (name : List ℕ) (own : is_mine side (key name) ≡ true
   abbrev row : Option ℕ → ItemRow
   row m = item_row (key name) (105 ∷ item) from (payload ∷ []) m
 
-  published-events : (x : Book) (creator : Jid) → node_at (key name) x.nodes ≡ Some (plain (key name) creator) → (m : Option ℕ) (c : Book) → events_of (r Publish) m x c ≡ event.Items (key name) (Some (row m)) ∷ []
+  published-events : (x : Book) (creator : Jid) → node_at (key name) x.nodes ≡ Some (plain (key name) creator) → (m : Option ℕ) (c : Book)
+      → events_of (r Publish) m x c ≡ event.Items (key name) (Some (row m)) ∷ []
   published-events x creator e m c = rw e refl
 
   -- the same to the same
@@ -92,7 +93,8 @@ module _ (side : Bool) (name : List ℕ) (own : is_mine side (key name) ≡ true
 
   none-few : (kind : Kind) → ((e : kind ≡ Publish) → ⊥) → (m : Option ℕ) → is_accepted (check b (r kind)) ≡ true → length (gives b (r kind) m) ≤ length b.subs
   none-few kind other m accepted =
-      let e = ap (λ (ps : List (Jid × Tree)). length ps) (none-due name from id item payload b fits kind other m (changed (r kind) m b) (changed-fits side name from id item payload b fits maker guest kind m accepted)) in
+      let e = ap (λ (ps : List (Jid × Tree)). length ps) (none-due name from id item payload b fits kind other m (changed (r kind) m b)
+      (changed-fits side name from id item payload b fits maker guest kind m accepted)) in
       omega (arith, e)
 
   -- no more than there are subscriptions

@@ -23,7 +23,8 @@ one-sorted k [] = tt
 one-sorted k (x ∷ v) = (tt, tt)
 
 -- with one attribute, or none where its value is empty
-pub one-form : (name ns k v : List ℕ) → are_ascii name ≡ true → name ≢ [] → are_ascii ns ≡ true → are_ascii k ≡ true → IsUtf8 v → (kids : Nodes) → HaveForm kids → HasForm (tree name ns (attrs_with ((k, v) ∷ [])) kids)
+pub one-form : (name ns k v : List ℕ) → are_ascii name ≡ true → name ≢ [] → are_ascii ns ≡ true → are_ascii k ≡ true → IsUtf8 v → (kids : Nodes) → HaveForm kids
+    → HasForm (tree name ns (attrs_with ((k, v) ∷ [])) kids)
 one-form name ns k v un some us uk uv kids have = (head name ns (attrs_with ((k, v) ∷ [])) un some us (one-text k v (lit k uk) uv) (one-sorted k v), have)
 
 -- without attributes

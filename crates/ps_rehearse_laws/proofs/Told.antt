@@ -70,7 +70,8 @@ each-with row fit most xs fits =
     each-newest (is_item_at row.node) most (without (is_item_of row.node row.id) xs ++ row ∷ [])
     (each-last ItemFits row fit (without (is_item_of row.node row.id) xs) (each-filter ItemFits (λ x. not (is_item_of row.node row.id x)) xs fits))
 
-module _ (name : List ℕ) (from : Jid) (id item : List ℕ) (payload : Tree) (fit : (m : Option ℕ) → ItemFits (item_row (key name) (105 ∷ item) from (payload ∷ []) m)) (b : Book) (fits : Each ItemFits b.items) where
+module _ (name : List ℕ) (from : Jid) (id item : List ℕ) (payload : Tree) (fit : (m : Option ℕ) → ItemFits (item_row (key name) (105 ∷ item) from (payload ∷ []) m)) (b : Book)
+    (fits : Each ItemFits b.items) where
   abbrev r : Kind → Request
   r kind = record { from = from; target = (key name).service; id = id; ask = asks kind name from item payload }
 
@@ -96,7 +97,8 @@ tally-items side seed zero = tt
 tally-items side seed (suc n) = by (is_turn side n) (tally-items side seed n)
   where
     made : (t : Tally) (b : Bool) → Each ItemFits t.book.items → Each ItemFits (cond b (changed (asked_at seed n) None t.book) t.book).items
-    made t true fits = items-after (deal_at seed n).name (deal_at seed n).from (deal_at seed n).id (deal_at seed n).item (deal_at seed n).payload (row-fits seed n) t.book fits (deal_at seed n).kind None
+    made t true fits = items-after (deal_at seed n).name (deal_at seed n).from (deal_at seed n).id (deal_at seed n).item (deal_at seed n).payload (row-fits seed n) t.book fits (deal_at seed n).kind
+        None
     made t false fits = fits
 
     by : (b : Bool) → Each ItemFits (tally side seed n).book.items → Each ItemFits (cond b (one seed n (tally side seed n)) (tally side seed n)).book.items
@@ -118,12 +120,14 @@ turn-told seed n low b fits =
     reply-told (deal_at seed n).name (name-text seed n) (deal_at seed n).from (address-text (person side u (codes "r")) (sender-address side u few))
     117 ((decimal u ++ 64 ∷ host_of side) ++ []) refl (address-text (person side u []) (account-is side u few))
     (decimal n) (decimal (v % 5)) (item-text seed n) (deal_at seed n).payload b fits
-    117 ((decimal u ++ codes "@" ++ host_of side) ++ codes "/r") (decimal n) (digits-text n low) (dealt.asked (kind_of v) (dealt.who_of (host_of side) v) (dealt.node_of (host_of side) v) v) (kind_of v)
+    117 ((decimal u ++ codes "@" ++ host_of side) ++ codes "/r") (decimal n) (digits-text n low) (dealt.asked (kind_of v) (dealt.who_of (host_of side) v) (dealt.node_of (host_of side) v) v)
+    (kind_of v)
 
 pub tally-told : (side : Bool) (seed n : ℕ) → n ≤ 2 ^ 64 → Each IsReplyText (tally side seed n).replies
 tally-told side seed zero low = tt
 tally-told side seed (suc n) low = by (is_turn side n) (tally-told side seed n (omega (arith, low)))
   where
     by : (b : Bool) → Each IsReplyText (tally side seed n).replies → Each IsReplyText (cond b (one seed n (tally side seed n)) (tally side seed n)).replies
-    by true more = each-more (tally side seed n).replies (cons_option (reply_by seed n (tally side seed n).book) []) more (turn-told seed n (omega (arith, low)) (tally side seed n).book (tally-items side seed n))
+    by true more = each-more (tally side seed n).replies (cons_option (reply_by seed n (tally side seed n).book) []) more
+        (turn-told seed n (omega (arith, low)) (tally side seed n).book (tally-items side seed n))
     by false more = more

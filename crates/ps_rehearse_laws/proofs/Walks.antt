@@ -1,5 +1,37 @@
 -- Along any list of a rehearsal the lines of a host come to what its stanzas come to alone.
-use Rattle.std.proofs.Common.{◌≡◌, ◌≢◌, ℕ, suc, ◌+◌, ◌<◌, ◌≤◌, ◌^◌, Bool, true, false, cond, not, List, [], ◌∷◌, ◌++◌, Option, Some, None, refl, sym, ap, ◌∙◌, subst, length, drop, take, arith, length-append, append_assoc}
+use Rattle.std.proofs.Common.{
+  ◌≡◌,
+  ◌≢◌,
+  ℕ,
+  suc,
+  ◌+◌,
+  ◌<◌,
+  ◌≤◌,
+  ◌^◌,
+  Bool,
+  true,
+  false,
+  cond,
+  not,
+  List,
+  [],
+  ◌∷◌,
+  ◌++◌,
+  Option,
+  Some,
+  None,
+  refl,
+  sym,
+  ap,
+  ◌∙◌,
+  subst,
+  length,
+  drop,
+  take,
+  arith,
+  length-append,
+  append_assoc,
+}
 use Rattle.std.specs.Prelude.{◌==◌, option_map, slice_get}
 use Rattle.std.specs.List.{cons_option}
 use Rattle.std.proofs.lemmas.Bool.{eqb-true}
@@ -182,7 +214,13 @@ module _ (seed count : ℕ) (short : count < 2 ^ 64) (side : Bool) where
           by true e = absurd (cc e)
           by false e = refl
 
-      still : tally side seed (k + 2) ≡ record { book = B; commits = (tally side seed k).commits; notices = (tally side seed k).notices; replies = (tally side seed k).replies ++ cons_option c.reply [] }
+      still : tally side seed (k + 2) ≡ record {
+        book = B;
+        commits = (tally side seed k).commits;
+        notices = (tally side seed k).notices;
+        replies = (tally side seed k).replies ++ cons_option c.reply
+            [];
+      }
       still =
           let z : (m : ℕ) → m + 0 ≡ m = λ m. omega arith in
           two k st.turn ∙ rw (makes-not, reply-is, z (tally side seed k).commits, z (tally side seed k).notices) refl
@@ -267,7 +305,8 @@ module _ (seed count : ℕ) (short : count < 2 ^ 64) (side : Bool) where
         ∙ ap (λ (b : Book). length (gives b (asked_at seed k) None)) part-at
 
     own-entry : is_of side e ≡ true
-    own-entry = ap (is_of side) (sym makes-is.1) ∙ ap (λ (b : Bool). is_of side (Change (host_of b) n m (tree_at seed k))) st.turn ∙ is-change side n (Change (host_of side) n m (tree_at seed k)) (m, tree_at seed k, refl)
+    own-entry = ap (is_of side) (sym makes-is.1) ∙ ap (λ (b : Bool). is_of side (Change (host_of b) n m (tree_at seed k))) st.turn ∙ is-change side n (Change (host_of side) n m (tree_at seed k))
+        (m, tree_at seed k, refl)
 
     next-made : Stands (P ++ e ∷ []) F (n + 1) (k + 2) cs
     next-made = record {
@@ -275,7 +314,8 @@ module _ (seed count : ℕ) (short : count < 2 ^ 64) (side : Bool) where
           (let z : c.place + size c.entry ≡ length (P ++ e ∷ []) = (let o = one-more P e in rw some (omega (arith, here, o))) in
           subst (λ (E : List Entry). AreLines the_core (host_of side) E (n + 1) (length (P ++ e ∷ [])) cs) (sym (append_assoc P (e ∷ []) F)) (rw z at st.lines.2));
       dealt = st.dealt.3;
-      few = (let a = length-changes side e F in let b = st.few ∙ ap (λ (o : Option Entry). length (onto o (entries_of cs))) some in let d = ap (λ (t : Bool). (let q : ℕ = cond t 1 0 in q)) own-entry in omega (arith, a, b, d));
+      few = (let a = length-changes side e F in let b = st.few ∙ ap (λ (o : Option Entry). length (onto o (entries_of cs))) some in let d = ap (λ (t : Bool). (let q : ℕ = cond t 1 0 in q)) own-entry
+          in omega (arith, a, b, d));
       turn = turn-two k st.turn;
       near = (let l = st.dealt.0 in omega (arith, l));
       fits = subst (λ (s : State). Fits s.book) (sym (replay-last P e)) (entry-fits seed (replay P) st.fits e st.sound.1 st.sound.0);
@@ -286,7 +326,8 @@ module _ (seed count : ℕ) (short : count < 2 ^ 64) (side : Bool) where
     ends-made : Ends (replay (P ++ e ∷ [])) F (k + 2) cs → Ends (replay P) (e ∷ F) k (c ∷ cs)
     ends-made is =
         let here-noted : cond (is_of side e) (length (notices_at (replay P) e)) 0 ≡ length (gives (tally side seed k).book (asked_at seed k) None) = rw own-entry notes-here in
-        let more = is.notices ∙ ap (λ (t : Tally). t.notices + noted side (replay (P ++ e ∷ [])) F) moved ∙ ap (λ (s : State). ((tally side seed k).notices + length (gives (tally side seed k).book (asked_at seed k) None)) + noted side s F) (replay-last P e) in
+        let more = is.notices ∙ ap (λ (t : Tally). t.notices + noted side (replay (P ++ e ∷ [])) F) moved ∙ ap
+        (λ (s : State). ((tally side seed k).notices + length (gives (tally side seed k).book (asked_at seed k) None)) + noted side s F) (replay-last P e) in
         let two-more = is.commits ∙ ap (λ (t : Tally). t.commits + length (entries_of cs)) moved in
         let by-line : length (entries_of (c ∷ cs)) ≡ suc (length (entries_of cs)) = ap (λ (o : Option Entry). length (onto o (entries_of cs))) some in
         record {

@@ -261,6 +261,7 @@ module _ (seed count : ℕ) (short : count < 2 ^ 64) (w : World) (cs ds : List C
   same-numbers =
       let e : numbers (length cs + length ds) (count_by is_change w.entries) (count_by (is_of_type (codes "result")) (lines_of ws) + count_by (is_of_type (codes "result")) (lines_of vs))
       (count_by (is_of_type (codes "error")) (lines_of ws) + count_by (is_of_type (codes "error")) (lines_of vs)) (count_by is_notice (lines_of ws) + count_by is_notice (lines_of vs))
-      ≡ numbers count (count_by is_change (list_before seed count)) (count_by (is_of_type (codes "result")) (replies_before seed count)) (count_by (is_of_type (codes "error")) (replies_before seed count))
+      ≡ numbers count (count_by is_change (list_before seed count)) (count_by (is_of_type (codes "result")) (replies_before seed count))
+      (count_by (is_of_type (codes "error")) (replies_before seed count))
       (length (made_from empty_state (list_before seed count))) = rw (stanzas-same, commits-same, typed-same (codes "result"), typed-same (codes "error"), messages-same) refl in
       e

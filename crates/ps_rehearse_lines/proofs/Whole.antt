@@ -1,5 +1,34 @@
 -- The lines of what was written, one after the other.
-use Rattle.std.proofs.Common.{◌≡◌, ℕ, suc, ◌+◌, ◌^◌, ◌<◌, ◌≤◌, Bool, true, false, cond, List, [], ◌∷◌, ◌++◌, length, take, drop, get_or, refl, sym, ap, subst, ◌∙◌, arith, add-one, add-zero, append_assoc}
+use Rattle.std.proofs.Common.{
+  ◌≡◌,
+  ℕ,
+  suc,
+  ◌+◌,
+  ◌^◌,
+  ◌<◌,
+  ◌≤◌,
+  Bool,
+  true,
+  false,
+  cond,
+  List,
+  [],
+  ◌∷◌,
+  ◌++◌,
+  length,
+  take,
+  drop,
+  get_or,
+  refl,
+  sym,
+  ap,
+  subst,
+  ◌∙◌,
+  arith,
+  add-one,
+  add-zero,
+  append_assoc,
+}
 use Rattle.std.specs.Prelude.{Err, ◌==◌}
 use Rattle.std.proofs.Math.Seq.{drop-cons}
 use Rattle.std.proofs.lemmas.List.{length-drop, take-append-drop, take_all}
@@ -103,7 +132,13 @@ so-far-next all rest i old new low here none line so =
     let e = ap (how_many is_error) cut in
     let n = ap (how_many is_notice) cut in
     let l = length-drop (i + 1) rest in
-    record { left = omega (arith, l, so.left); results = omega (arith, r, line.results, so.results); errors = omega (arith, e, line.errors, so.errors); notices = omega (arith, n, line.notices, so.notices) }
+    record {
+      left = omega (arith, l, so.left);
+      results = omega (arith, r, line.results, so.results);
+      errors = omega (arith, e, line.errors, so.errors);
+      notices = omega
+          (arith, n, line.notices, so.notices);
+    }
 
 pub so-far-all : (all rest : List ℕ) (c : Counts) → NoNewline rest → SoFar all rest c → AreCounts (whole_lines all) c
 so-far-all all rest c none so =

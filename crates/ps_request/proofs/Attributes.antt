@@ -40,7 +40,8 @@ with-own : (name value : List ℕ) (attrs : List Attr) → value_of name (with_a
 with-own name value [] = rw (same name) refl
 with-own name value (a ∷ rest) = own-step name value a rest (slice_cmp nat_cmp name a.name) refl (with-own name value rest)
 
-other-step : (name other value : List ℕ) (a : Attr) (rest : List Attr) (o : Ordering) → bytes_eq other name ≡ false → slice_cmp nat_cmp other a.name ≡ o → value_of name (with_attr other value rest) ≡ value_of name rest
+other-step : (name other value : List ℕ) (a : Attr) (rest : List Attr) (o : Ordering) → bytes_eq other name ≡ false → slice_cmp nat_cmp other a.name ≡ o
+    → value_of name (with_attr other value rest) ≡ value_of name rest
     → value_of name (match_ordering o (attr other value ∷ a ∷ rest) (attr other value ∷ rest) (a ∷ with_attr other value rest)) ≡ value_of name (a ∷ rest)
 other-step name other value a rest Less h e more = rw h refl
 other-step name other value a rest Equal h e more = let gone : bytes_eq a.name name ≡ false = subst (λ x. bytes_eq x name ≡ false) (exact_bytes other a.name e) h in rw (h, gone) refl
@@ -76,7 +77,8 @@ pair-step name other (x ∷ value) attrs text h = by (bytes_eq other name) refl
     by : (b : Bool) → bytes_eq other name ≡ b → unwrap_or (value_of name (with_attr other (x ∷ value) attrs)) [] ≡ cond b (x ∷ value) text
     by true e =
         let is = (bytes_eq-Decides other name).0 e in
-        let own : value_of name (with_attr other (x ∷ value) attrs) ≡ Some (x ∷ value) = subst (λ n. value_of n (with_attr other (x ∷ value) attrs) ≡ Some (x ∷ value)) is (with-own other (x ∷ value) attrs) in
+        let own : value_of name (with_attr other (x ∷ value) attrs) ≡ Some (x ∷ value) = subst (λ n. value_of n (with_attr other (x ∷ value) attrs) ≡ Some (x ∷ value)) is
+        (with-own other (x ∷ value) attrs) in
         ap (λ (o : Option (List ℕ)). unwrap_or o []) own
     by false e = ap (λ (o : Option (List ℕ)). unwrap_or o []) (with-other name other (x ∷ value) attrs e) ∙ h
 

@@ -1,5 +1,35 @@
 -- The parts of a written request read as what they were written of.
-use Rattle.std.proofs.Common.{◌≡◌, ◌⊎◌, inl, inr, ℕ, Bool, true, false, cond, not, ◌&&◌, ◌||◌, List, [], ◌∷◌, length, map, filter, Option, Some, None, refl, ap, ap₂, sym, subst, ◌∙◌, append-nil, arith}
+use Rattle.std.proofs.Common.{
+  ◌≡◌,
+  ◌⊎◌,
+  inl,
+  inr,
+  ℕ,
+  Bool,
+  true,
+  false,
+  cond,
+  not,
+  ◌&&◌,
+  ◌||◌,
+  List,
+  [],
+  ◌∷◌,
+  length,
+  map,
+  filter,
+  Option,
+  Some,
+  None,
+  refl,
+  ap,
+  ap₂,
+  sym,
+  subst,
+  ◌∙◌,
+  append-nil,
+  arith,
+}
 use Rattle.std.specs.Prelude.{codes, ◌==◌, option_and_then}
 use Rattle.std.specs.Str.{bytes_eq}
 use Rattle.std.proofs.lemmas.Bool.{and_parts}
@@ -32,7 +62,29 @@ use Rattle.ps_model.specs.SpelledParts.{IsIq, IsQuery, IsPubsub}
 use Rattle.ps_model.specs.Stanza.{jid_of, host_jid, target_by, target_of, is_stanza, is_iq, is_asking, is_answering, is_whole_iq, is_message, is_presence, has_type, type_of}
 use Rattle.ps_model.proofs.Spelling.{spells-jid}
 use Rattle.ps_model.proofs.Splits.{jid-spelled, both-true, same-text}
-use Rattle.ps_request.specs.Written.{is_senders_account, to_text, stanza_name, stanza_type, head_pairs, in_pubsub, node_part, jid_part, form_trees, form_part, item_tree, id_tree, flag_text, row_tree, group_tree, contact_tree, caps_trees, approval_form, stanza_kids, written_as, written}
+use Rattle.ps_request.specs.Written.{
+  is_senders_account,
+  to_text,
+  stanza_name,
+  stanza_type,
+  head_pairs,
+  in_pubsub,
+  node_part,
+  jid_part,
+  form_trees,
+  form_part,
+  item_tree,
+  id_tree,
+  flag_text,
+  row_tree,
+  group_tree,
+  contact_tree,
+  caps_trees,
+  approval_form,
+  stanza_kids,
+  written_as,
+  written,
+}
 use Rattle.ps_request.proofs.Attributes.{same, pick-none, value-is}
 use Rattle.ps_request.proofs.Lowered.{spelled-address, print-spells, bare-address}
 
@@ -47,7 +99,8 @@ pub children-made : {X : Type 0} (f : X → Tree) (name ns : List ℕ) → ((x :
 children-made f name ns h [] = refl
 children-made f name ns h (x ∷ xs) = rw (h x) (ap (λ (l : List Tree). f x ∷ l) (children-made f name ns h xs))
 
-named-step : (name ns : List ℕ) (u : Tree) (found : Option Tree) (t : Tree) (b : Bool) → is_named name ns u ≡ b → (found ≡ Some t → is_named name ns t ≡ true) → cond b (Some u) found ≡ Some t → is_named name ns t ≡ true
+named-step : (name ns : List ℕ) (u : Tree) (found : Option Tree) (t : Tree) (b : Bool) → is_named name ns u ≡ b → (found ≡ Some t → is_named name ns t ≡ true) → cond b (Some u) found ≡ Some t
+    → is_named name ns t ≡ true
 named-step name ns u found t true e more h = let is : u ≡ t = cc in subst (λ x. is_named name ns x ≡ true) is e
 named-step name ns u found t false e more h = more h
 
@@ -126,7 +179,8 @@ made-item id payloads = record { id = id; payloads = payloads }
 item-again : (item : AskItem) → item_in (item_tree item) ≡ item
 unfolding made-item
 item-again item =
-    let both : made-item (id_in (item_tree item)) (trees_in (holding item.payloads)) ≡ made-item item.id item.payloads = ap₂ made-item (value-is (codes "id") (codes "item") pubsub_ns ((codes "id", item.id) ∷ []) item.payloads ∙ pick-none item.id) (trees-holding item.payloads) in
+    let both : made-item (id_in (item_tree item)) (trees_in (holding item.payloads)) ≡ made-item item.id item.payloads = ap₂ made-item
+    (value-is (codes "id") (codes "item") pubsub_ns ((codes "id", item.id) ∷ []) item.payloads ∙ pick-none item.id) (trees-holding item.payloads) in
     both
 
 pub items-again : (items : List AskItem) → map item_in (map item_tree items) ≡ items
@@ -172,7 +226,8 @@ caps-whole : (hash node ver : List ℕ) (caps : Caps) → caps_by hash node ver 
 caps-whole [] node ver caps h = absurd (cc)
 caps-whole (x ∷ hash) [] ver caps h = absurd (cc)
 caps-whole (x ∷ hash) (y ∷ node) [] caps h = absurd (cc)
-caps-whole (x ∷ hash) (y ∷ node) (z ∷ ver) caps h = let is : record { hash = x ∷ hash; node = y ∷ node; ver = z ∷ ver } ≡ caps = cc in subst (λ (c : Caps). caps_by c.hash c.node c.ver ≡ Some c) is refl
+caps-whole (x ∷ hash) (y ∷ node) (z ∷ ver) caps h = let is : record { hash = x ∷ hash; node = y ∷ node; ver = z ∷ ver } ≡ caps = cc in subst (λ (c : Caps). caps_by c.hash c.node c.ver ≡ Some c) is
+    refl
 
 pub caps-again : (found : Option Tree) (caps : Option Caps) → option_and_then caps_of found ≡ caps → option_and_then caps_of (child_at (codes "c") caps_ns (holding (caps_trees caps))) ≡ caps
 caps-again found None h = refl
@@ -186,7 +241,8 @@ caps-again (Some c) (Some caps) h =
 
 -- ---- a presence for the service
 
-pub for-service : (resource own : Bool) (to : List ℕ) (r : Request) → target_by to r.from ≡ Some r.target → (resource && ((length to == 0) || own)) ≡ true → (resource && ((length (to_text r) == 0) || own)) ≡ true
+pub for-service : (resource own : Bool) (to : List ℕ) (r : Request) → target_by to r.from ≡ Some r.target → (resource && ((length to == 0) || own)) ≡ true
+    → (resource && ((length (to_text r) == 0) || own)) ≡ true
 for-service false own to r t h = absurd (cc)
 for-service true own [] r t h =
     let is : bare r.from ≡ r.target = cc in

@@ -33,10 +33,52 @@ use Rattle.ps_model.proofs.AskedStanza.{taken-spelled}
 use Rattle.ps_model.proofs.Spelling.{spells-jid}
 use Rattle.ps_model.proofs.SpellingKinds.{spelled-taken}
 use Rattle.ps_model.proofs.Splits.{jid-spelled, both-true, same-text}
-use Rattle.ps_request.specs.Written.{is_senders_account, to_text, stanza_name, stanza_type, head_pairs, in_pubsub, node_part, jid_part, form_trees, form_part, item_tree, id_tree, flag_text, row_tree, group_tree, contact_tree, caps_trees, approval_form, stanza_kids, written_as, written, IsTakenWhereOneIs}
+use Rattle.ps_request.specs.Written.{
+  is_senders_account,
+  to_text,
+  stanza_name,
+  stanza_type,
+  head_pairs,
+  in_pubsub,
+  node_part,
+  jid_part,
+  form_trees,
+  form_part,
+  item_tree,
+  id_tree,
+  flag_text,
+  row_tree,
+  group_tree,
+  contact_tree,
+  caps_trees,
+  approval_form,
+  stanza_kids,
+  written_as,
+  written,
+  IsTakenWhereOneIs,
+}
 use Rattle.ps_request.proofs.Attributes.{same, pick-none, value-is}
 use Rattle.ps_request.proofs.Lowered.{spelled-address, print-spells, bare-address}
-use Rattle.ps_request.proofs.Remade.{IsForm, trees-holding, children-made, child-named, form-in-named, form-after-named, form-in-again, form-after-again, target-address, target-again, items-again, ids-again, flag-again, groups-again, affil-rows, sub-rows, caps-again, for-service}
+use Rattle.ps_request.proofs.Remade.{
+  IsForm,
+  trees-holding,
+  children-made,
+  child-named,
+  form-in-named,
+  form-after-named,
+  form-in-again,
+  form-after-again,
+  target-address,
+  target-again,
+  items-again,
+  ids-again,
+  flag-again,
+  groups-again,
+  affil-rows,
+  sub-rows,
+  caps-again,
+  for-service,
+}
 
 module _ (host service : List ℕ) (other : Tree) (r : Request) (s : SpellsRequest host service other r) where
   -- ---- what is the same for each kind
@@ -65,11 +107,13 @@ module _ (host service : List ℕ) (other : Tree) (r : Request) (s : SpellsReque
   iq-is : (a : Ask) (type : List ℕ) → stanza_name a ≡ codes "iq" → stanza_type a ≡ type → IsIq type (written_as a r)
   iq-is a type n t = record { name_is = n; ns_is = refl; type_is = type-is a ∙ t }
 
-  query-is : (a : Ask) (type name ns : List ℕ) (child : Tree) → stanza_name a ≡ codes "iq" → stanza_type a ≡ type → stanza_kids a ≡ child ∷ [] → name_of child ≡ name → ns_of child ≡ ns → IsQuery type name ns (written_as a r) child
+  query-is : (a : Ask) (type name ns : List ℕ) (child : Tree) → stanza_name a ≡ codes "iq" → stanza_type a ≡ type → stanza_kids a ≡ child ∷ [] → name_of child ≡ name → ns_of child ≡ ns
+      → IsQuery type name ns (written_as a r) child
   query-is a type name ns child n t k c d = record { iq = iq-is a type n t; only = kids-are a ∙ k; name_is = c; ns_is = d }
 
   -- the first part in `pubsub`
-  part-is : (a : Ask) (type ns name : List ℕ) (part : Tree) (rest : List Tree) → stanza_name a ≡ codes "iq" → stanza_type a ≡ type → stanza_kids a ≡ in_pubsub ns (part ∷ rest) → name_of part ≡ name → ns_of part ≡ ns → IsPubsub type ns name (written_as a r) part (holding rest)
+  part-is : (a : Ask) (type ns name : List ℕ) (part : Tree) (rest : List Tree) → stanza_name a ≡ codes "iq" → stanza_type a ≡ type → stanza_kids a ≡ in_pubsub ns (part ∷ rest) → name_of part ≡ name
+      → ns_of part ≡ ns → IsPubsub type ns name (written_as a r) part (holding rest)
   part-is a type ns name part rest n t k c d = record {
     child = element (codes "pubsub") ns [] (part ∷ rest);
     query = query-is a type (codes "pubsub") ns (element (codes "pubsub") ns [] (part ∷ rest)) n t k refl refl;
@@ -130,45 +174,120 @@ module _ (host service : List ℕ) (other : Tree) (r : Request) (s : SpellsReque
         notify_is = ap is_true (value-is (codes "notify") (codes "retract") pubsub_ns ps (map id_tree ids) ∙ pick-none (flag_text notify)) ∙ flag-again notify;
       }
   again (ask.Purge node) h =
-      let part = node_part (codes "purge") owner_ns node [] in
-      (part, record { rest = holding []; pubsub = part-is (ask.Purge node) (codes "set") owner_ns (codes "purge") part [] refl refl refl refl refl; named = h.1.named; node_is = node-is (codes "purge") owner_ns node [] })
+      let part = node_part (codes "purge") owner_ns node [] in (
+        part,
+        record {
+          rest = holding [];
+          pubsub = part-is (ask.Purge node) (codes "set") owner_ns (codes "purge") part [] refl refl refl refl refl;
+          named = h.1.named;
+          node_is = node-is
+              (codes "purge") owner_ns node [];
+        },
+      )
   again (ask.Delete node) h =
-      let part = node_part (codes "delete") owner_ns node [] in
-      (part, record { rest = holding []; pubsub = part-is (ask.Delete node) (codes "set") owner_ns (codes "delete") part [] refl refl refl refl refl; named = h.1.named; node_is = node-is (codes "delete") owner_ns node [] })
+      let part = node_part (codes "delete") owner_ns node [] in (
+        part,
+        record {
+          rest = holding [];
+          pubsub = part-is (ask.Delete node) (codes "set") owner_ns (codes "delete") part [] refl refl refl refl refl;
+          named = h.1.named;
+          node_is = node-is
+              (codes "delete") owner_ns node [];
+        },
+      )
   again (ask.ConfigGet node) h =
-      let part = node_part (codes "configure") owner_ns node [] in
-      (part, record { rest = holding []; pubsub = part-is (ask.ConfigGet node) (codes "get") owner_ns (codes "configure") part [] refl refl refl refl refl; named = h.1.named; node_is = node-is (codes "configure") owner_ns node [] })
+      let part = node_part (codes "configure") owner_ns node [] in (
+        part,
+        record {
+          rest = holding [];
+          pubsub = part-is (ask.ConfigGet node) (codes "get") owner_ns (codes "configure") part [] refl refl refl refl refl;
+          named = h.1.named;
+          node_is = node-is
+              (codes "configure") owner_ns node [];
+        },
+      )
   again (ask.ConfigSet node form) h =
-      let part = node_part (codes "configure") owner_ns node (form_trees form) in
-      (part, record { rest = holding []; pubsub = part-is (ask.ConfigSet node form) (codes "set") owner_ns (codes "configure") part [] refl refl refl refl refl; named = h.1.named; node_is = node-is (codes "configure") owner_ns node (form_trees form) }, form-in-again form (form-in-named h.0 form h.2))
+      let part = node_part (codes "configure") owner_ns node (form_trees form) in (
+        part,
+        record {
+          rest = holding [];
+          pubsub = part-is (ask.ConfigSet node form) (codes "set") owner_ns (codes "configure") part [] refl refl refl refl refl;
+          named = h.1.named;
+          node_is = node-is
+              (codes "configure") owner_ns node (form_trees form);
+        },
+        form-in-again form (form-in-named h.0 form h.2),
+      )
   again (ask.AffilsGet node) h =
-      let part = node_part (codes "affiliations") owner_ns node [] in
-      (part, record { rest = holding []; pubsub = part-is (ask.AffilsGet node) (codes "get") owner_ns (codes "affiliations") part [] refl refl refl refl refl; named = h.1.named; node_is = node-is (codes "affiliations") owner_ns node [] })
+      let part = node_part (codes "affiliations") owner_ns node [] in (
+        part,
+        record {
+          rest = holding [];
+          pubsub = part-is (ask.AffilsGet node) (codes "get") owner_ns (codes "affiliations") part [] refl refl refl refl refl;
+          named = h.1.named;
+          node_is = node-is
+              (codes "affiliations") owner_ns node [];
+        },
+      )
   again (ask.AffilsSet node rows) h =
       let kids = map (row_tree (codes "affiliation")) rows in
       let part = node_part (codes "affiliations") owner_ns node kids in
       let own = children-made (row_tree (codes "affiliation")) (codes "affiliation") owner_ns (λ x. refl) rows in (
         part,
-        record { rest = holding []; pubsub = part-is (ask.AffilsSet node rows) (codes "set") owner_ns (codes "affiliations") part [] refl refl refl refl refl; named = h.1.named; node_is = node-is (codes "affiliations") owner_ns node kids },
+        record {
+          rest = holding [];
+          pubsub = part-is (ask.AffilsSet node rows) (codes "set") owner_ns (codes "affiliations") part [] refl refl refl refl refl;
+          named = h.1.named;
+          node_is = node-is
+              (codes "affiliations") owner_ns node kids;
+        },
         subst (λ ts. AreRows (codes "affiliation") ts rows) (sym own) (affil-rows (children_of (codes "affiliation") owner_ns h.0) rows h.2),
       )
   again (ask.SubsGet node) h =
-      let part = node_part (codes "subscriptions") owner_ns node [] in
-      (part, record { rest = holding []; pubsub = part-is (ask.SubsGet node) (codes "get") owner_ns (codes "subscriptions") part [] refl refl refl refl refl; named = h.1.named; node_is = node-is (codes "subscriptions") owner_ns node [] })
+      let part = node_part (codes "subscriptions") owner_ns node [] in (
+        part,
+        record {
+          rest = holding [];
+          pubsub = part-is (ask.SubsGet node) (codes "get") owner_ns (codes "subscriptions") part [] refl refl refl refl refl;
+          named = h.1.named;
+          node_is = node-is
+              (codes "subscriptions") owner_ns node [];
+        },
+      )
   again (ask.SubsSet node rows) h =
       let kids = map (row_tree (codes "subscription")) rows in
       let part = node_part (codes "subscriptions") owner_ns node kids in
       let own = children-made (row_tree (codes "subscription")) (codes "subscription") owner_ns (λ x. refl) rows in (
         part,
-        record { rest = holding []; pubsub = part-is (ask.SubsSet node rows) (codes "set") owner_ns (codes "subscriptions") part [] refl refl refl refl refl; named = h.1.named; node_is = node-is (codes "subscriptions") owner_ns node kids },
+        record {
+          rest = holding [];
+          pubsub = part-is (ask.SubsSet node rows) (codes "set") owner_ns (codes "subscriptions") part [] refl refl refl refl refl;
+          named = h.1.named;
+          node_is = node-is
+              (codes "subscriptions") owner_ns node kids;
+        },
         subst (λ ts. AreRows (codes "subscription") ts rows) (sym own) (sub-rows (children_of (codes "subscription") owner_ns h.0) rows h.2),
       )
   again (ask.MyAffils node) h =
       let part = node_part (codes "affiliations") pubsub_ns node [] in
-      record { part = part; rest = holding []; pubsub = part-is (ask.MyAffils node) (codes "get") pubsub_ns (codes "affiliations") part [] refl refl refl refl refl; short = h.short; node_is = node-is (codes "affiliations") pubsub_ns node [] }
+      record {
+        part = part;
+        rest = holding [];
+        pubsub = part-is (ask.MyAffils node) (codes "get") pubsub_ns (codes "affiliations") part [] refl refl refl refl refl;
+        short = h.short;
+        node_is = node-is
+            (codes "affiliations") pubsub_ns node [];
+      }
   again (ask.MySubs node) h =
       let part = node_part (codes "subscriptions") pubsub_ns node [] in
-      record { part = part; rest = holding []; pubsub = part-is (ask.MySubs node) (codes "get") pubsub_ns (codes "subscriptions") part [] refl refl refl refl refl; short = h.short; node_is = node-is (codes "subscriptions") pubsub_ns node [] }
+      record {
+        part = part;
+        rest = holding [];
+        pubsub = part-is (ask.MySubs node) (codes "get") pubsub_ns (codes "subscriptions") part [] refl refl refl refl refl;
+        short = h.short;
+        node_is = node-is
+            (codes "subscriptions") pubsub_ns node [];
+      }
   again (ask.Subscribe node who form) h =
       let part = jid_part (codes "subscribe") node who [] in (
         part,
@@ -235,10 +354,22 @@ module _ (host service : List ℕ) (other : Tree) (r : Request) (s : SpellsReque
       }
   again (ask.InfoGet node) h =
       let query = node_part (codes "query") info_ns node [] in
-      record { query = query; iq = query-is (ask.InfoGet node) (codes "get") (codes "query") info_ns query refl refl refl refl refl; short = h.short; node_is = node-is (codes "query") info_ns node [] }
+      record {
+        query = query;
+        iq = query-is (ask.InfoGet node) (codes "get") (codes "query") info_ns query refl refl refl refl refl;
+        short = h.short;
+        node_is = node-is (codes "query") info_ns node
+            [];
+      }
   again (ask.NodesGet node) h =
       let query = node_part (codes "query") items_ns node [] in
-      record { query = query; iq = query-is (ask.NodesGet node) (codes "get") (codes "query") items_ns query refl refl refl refl refl; short = h.short; node_is = node-is (codes "query") items_ns node [] }
+      record {
+        query = query;
+        iq = query-is (ask.NodesGet node) (codes "get") (codes "query") items_ns query refl refl refl refl refl;
+        short = h.short;
+        node_is = node-is (codes "query") items_ns node
+            [];
+      }
   again (ask.RosterSet wanted) h =
       let ps = (codes "jid", jid_text wanted.jid) ∷ (codes "subscription", wanted.subscription) ∷ [] in
       let groups = map group_tree wanted.groups in
@@ -305,32 +436,43 @@ module _ (host service : List ℕ) (other : Tree) (r : Request) (s : SpellsReque
   abbrev shaped : List ℕ → List Tree → Bool
   shaped type kids = ((bytes_eq type (codes "get") || bytes_eq type (codes "set")) && (length kids == 1)) || (bytes_eq type (codes "result") || bytes_eq type (codes "error"))
 
-  iq-shape : (a : Ask) (type : List ℕ) (kids : List Tree) → stanza_name a ≡ codes "iq" → stanza_type a ≡ type → stanza_kids a ≡ kids → shaped type kids ≡ true → name_of other ≡ codes "iq" → ns_of other ≡ client → is_stanza (written_as a r) ≡ true
+  iq-shape : (a : Ask) (type : List ℕ) (kids : List Tree) → stanza_name a ≡ codes "iq" → stanza_type a ≡ type → stanza_kids a ≡ kids → shaped type kids ≡ true → name_of other ≡ codes "iq"
+      → ns_of other ≡ client → is_stanza (written_as a r) ≡ true
   iq-shape a type kids n t k e o d =
-      whole (is_iq (written_as a r)) (not (length (id_in (written_as a r)) == 0)) (shaped (type_of (written_as a r)) (trees_of (written_as a r))) (is_message (written_as a r)) (is_presence (written_as a r))
+      whole (is_iq (written_as a r)) (not (length (id_in (written_as a r)) == 0)) (shaped (type_of (written_as a r)) (trees_of (written_as a r))) (is_message (written_as a r))
+      (is_presence (written_as a r))
       (ap (λ (name : List ℕ). bytes_eq name (codes "iq") && bytes_eq client client) n)
       (ap (λ (id : List ℕ). not (length id == 0)) (id-is a) ∙ has-id o d)
       (ap₂ shaped (type-is a ∙ t) (kids-are a ∙ k) ∙ e)
 
   stanza-is : (a : Ask) → IsAsk service other r.from r.target a → is_stanza (written_as a r) ≡ true
   stanza-is (ask.Create node form) h = iq-shape (ask.Create node form) (codes "set") (stanza_kids (ask.Create node form)) refl refl refl refl h.pubsub.query.iq.name_is h.pubsub.query.iq.ns_is
-  stanza-is (ask.Publish node items options) h = iq-shape (ask.Publish node items options) (codes "set") (stanza_kids (ask.Publish node items options)) refl refl refl refl h.pubsub.query.iq.name_is h.pubsub.query.iq.ns_is
-  stanza-is (ask.Retract node ids notify) h = iq-shape (ask.Retract node ids notify) (codes "set") (stanza_kids (ask.Retract node ids notify)) refl refl refl refl h.pubsub.query.iq.name_is h.pubsub.query.iq.ns_is
+  stanza-is (ask.Publish node items options) h = iq-shape (ask.Publish node items options) (codes "set") (stanza_kids (ask.Publish node items options)) refl refl refl refl h.pubsub.query.iq.name_is
+      h.pubsub.query.iq.ns_is
+  stanza-is (ask.Retract node ids notify) h = iq-shape (ask.Retract node ids notify) (codes "set") (stanza_kids (ask.Retract node ids notify)) refl refl refl refl h.pubsub.query.iq.name_is
+      h.pubsub.query.iq.ns_is
   stanza-is (ask.Purge node) h = iq-shape (ask.Purge node) (codes "set") (stanza_kids (ask.Purge node)) refl refl refl refl h.1.pubsub.query.iq.name_is h.1.pubsub.query.iq.ns_is
   stanza-is (ask.Delete node) h = iq-shape (ask.Delete node) (codes "set") (stanza_kids (ask.Delete node)) refl refl refl refl h.1.pubsub.query.iq.name_is h.1.pubsub.query.iq.ns_is
   stanza-is (ask.ConfigGet node) h = iq-shape (ask.ConfigGet node) (codes "get") (stanza_kids (ask.ConfigGet node)) refl refl refl refl h.1.pubsub.query.iq.name_is h.1.pubsub.query.iq.ns_is
-  stanza-is (ask.ConfigSet node form) h = iq-shape (ask.ConfigSet node form) (codes "set") (stanza_kids (ask.ConfigSet node form)) refl refl refl refl h.1.pubsub.query.iq.name_is h.1.pubsub.query.iq.ns_is
+  stanza-is (ask.ConfigSet node form) h = iq-shape (ask.ConfigSet node form) (codes "set") (stanza_kids (ask.ConfigSet node form)) refl refl refl refl h.1.pubsub.query.iq.name_is
+      h.1.pubsub.query.iq.ns_is
   stanza-is (ask.AffilsGet node) h = iq-shape (ask.AffilsGet node) (codes "get") (stanza_kids (ask.AffilsGet node)) refl refl refl refl h.1.pubsub.query.iq.name_is h.1.pubsub.query.iq.ns_is
-  stanza-is (ask.AffilsSet node rows) h = iq-shape (ask.AffilsSet node rows) (codes "set") (stanza_kids (ask.AffilsSet node rows)) refl refl refl refl h.1.pubsub.query.iq.name_is h.1.pubsub.query.iq.ns_is
+  stanza-is (ask.AffilsSet node rows) h = iq-shape (ask.AffilsSet node rows) (codes "set") (stanza_kids (ask.AffilsSet node rows)) refl refl refl refl h.1.pubsub.query.iq.name_is
+      h.1.pubsub.query.iq.ns_is
   stanza-is (ask.SubsGet node) h = iq-shape (ask.SubsGet node) (codes "get") (stanza_kids (ask.SubsGet node)) refl refl refl refl h.1.pubsub.query.iq.name_is h.1.pubsub.query.iq.ns_is
   stanza-is (ask.SubsSet node rows) h = iq-shape (ask.SubsSet node rows) (codes "set") (stanza_kids (ask.SubsSet node rows)) refl refl refl refl h.1.pubsub.query.iq.name_is h.1.pubsub.query.iq.ns_is
   stanza-is (ask.MyAffils node) h = iq-shape (ask.MyAffils node) (codes "get") (stanza_kids (ask.MyAffils node)) refl refl refl refl h.pubsub.query.iq.name_is h.pubsub.query.iq.ns_is
   stanza-is (ask.MySubs node) h = iq-shape (ask.MySubs node) (codes "get") (stanza_kids (ask.MySubs node)) refl refl refl refl h.pubsub.query.iq.name_is h.pubsub.query.iq.ns_is
-  stanza-is (ask.Subscribe node who form) h = iq-shape (ask.Subscribe node who form) (codes "set") (stanza_kids (ask.Subscribe node who form)) refl refl refl refl h.2.pubsub.query.iq.name_is h.2.pubsub.query.iq.ns_is
-  stanza-is (ask.Unsubscribe node who subid) h = iq-shape (ask.Unsubscribe node who subid) (codes "set") (stanza_kids (ask.Unsubscribe node who subid)) refl refl refl refl h.2.pubsub.query.iq.name_is h.2.pubsub.query.iq.ns_is
-  stanza-is (ask.OptionsGet node who) h = iq-shape (ask.OptionsGet node who) (codes "get") (stanza_kids (ask.OptionsGet node who)) refl refl refl refl h.2.pubsub.query.iq.name_is h.2.pubsub.query.iq.ns_is
-  stanza-is (ask.OptionsSet node who form) h = iq-shape (ask.OptionsSet node who form) (codes "set") (stanza_kids (ask.OptionsSet node who form)) refl refl refl refl h.2.pubsub.query.iq.name_is h.2.pubsub.query.iq.ns_is
-  stanza-is (ask.ItemsGet node max ids) h = iq-shape (ask.ItemsGet node max ids) (codes "get") (stanza_kids (ask.ItemsGet node max ids)) refl refl refl refl h.pubsub.query.iq.name_is h.pubsub.query.iq.ns_is
+  stanza-is (ask.Subscribe node who form) h = iq-shape (ask.Subscribe node who form) (codes "set") (stanza_kids (ask.Subscribe node who form)) refl refl refl refl h.2.pubsub.query.iq.name_is
+      h.2.pubsub.query.iq.ns_is
+  stanza-is (ask.Unsubscribe node who subid) h = iq-shape (ask.Unsubscribe node who subid) (codes "set") (stanza_kids (ask.Unsubscribe node who subid)) refl refl refl refl h.2.pubsub.query.iq.name_is
+      h.2.pubsub.query.iq.ns_is
+  stanza-is (ask.OptionsGet node who) h = iq-shape (ask.OptionsGet node who) (codes "get") (stanza_kids (ask.OptionsGet node who)) refl refl refl refl h.2.pubsub.query.iq.name_is
+      h.2.pubsub.query.iq.ns_is
+  stanza-is (ask.OptionsSet node who form) h = iq-shape (ask.OptionsSet node who form) (codes "set") (stanza_kids (ask.OptionsSet node who form)) refl refl refl refl h.2.pubsub.query.iq.name_is
+      h.2.pubsub.query.iq.ns_is
+  stanza-is (ask.ItemsGet node max ids) h = iq-shape (ask.ItemsGet node max ids) (codes "get") (stanza_kids (ask.ItemsGet node max ids)) refl refl refl refl h.pubsub.query.iq.name_is
+      h.pubsub.query.iq.ns_is
   stanza-is (ask.InfoGet node) h = iq-shape (ask.InfoGet node) (codes "get") (stanza_kids (ask.InfoGet node)) refl refl refl refl h.iq.iq.name_is h.iq.iq.ns_is
   stanza-is (ask.NodesGet node) h = iq-shape (ask.NodesGet node) (codes "get") (stanza_kids (ask.NodesGet node)) refl refl refl refl h.iq.iq.name_is h.iq.iq.ns_is
   stanza-is (ask.RosterSet item) h = iq-shape (ask.RosterSet item) (codes "set") (stanza_kids (ask.RosterSet item)) refl refl refl refl h.iq.iq.name_is h.iq.iq.ns_is

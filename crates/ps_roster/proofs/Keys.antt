@@ -16,7 +16,10 @@ pub of_account : (account : Jid) → AsksBy (λ row. is_contact_at account row) 
 of_account account seed = record { alike = λ row h. one_address seed account row.account h }
 
 pub contact_of : (account contact : Jid) → AsksBy (λ row. is_contact_of account contact row) (λ seed. roster_by seed Key) (λ seed. pair_digest seed account contact)
-contact_of account contact seed = record { alike = λ row h. (let p = both (same_bare account row.account) (same_bare contact row.contact) h in one_pair seed account row.account contact row.contact p.0 p.1) }
+contact_of account contact seed = record {
+  alike = λ row h. (let p = both (same_bare account row.account) (same_bare contact row.contact) h in one_pair seed account row.account contact row.contact
+      p.0 p.1);
+}
 
 -- with a contact all contacts of its account are of the account
 pub kin_of_account : (account : Jid) → AsksKin roster_kin (λ row. is_contact_at account row)

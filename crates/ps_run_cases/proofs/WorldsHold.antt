@@ -25,14 +25,36 @@ use Rattle.ps_model_cases.specs.AccessCases.{w}
 use Rattle.ps_model_cases.specs.Denials.{closed_node, forbidden}
 use Rattle.ps_model_cases.specs.NodeCases.{unnamed}
 use Rattle.ps_model_cases.specs.Case.{Holds, Sent, booted, line_of}
-use Rattle.ps_model_cases.specs.Words.{ann, alf, bare_bob, bare_cid, affiliate, affiliation, create, denied, done, field, get_items, gets, payload, publish, published, sent_by, service, sets, subscribe, subscribed}
+use Rattle.ps_model_cases.specs.Words.{
+  ann,
+  alf,
+  bare_bob,
+  bare_cid,
+  affiliate,
+  affiliation,
+  create,
+  denied,
+  done,
+  field,
+  get_items,
+  gets,
+  payload,
+  publish,
+  published,
+  sent_by,
+  service,
+  sets,
+  subscribe,
+  subscribed,
+}
 use Rattle.ps_run_cases.proofs.Likeness.{same-from, seen, shut}
 use Rattle.ps_run_cases.specs.WorldCases as it
 use Rattle.ps_run_cases.specs.Worlds.{AreAlike, AreTwoWorlds, arrives, goes, lefts, rights}
 
 -- ---- alf is denied the node
 
-alike : (why : Condition) (s t : State) → seen it.secret it.to_alf s ≡ seen it.secret it.to_alf t → read s.book it.closed it.to_alf ≡ Denied why → read t.book it.closed it.to_alf ≡ Denied why → SameBut it.secret it.to_alf s t
+alike : (why : Condition) (s t : State) → seen it.secret it.to_alf s ≡ seen it.secret it.to_alf t → read s.book it.closed it.to_alf ≡ Denied why → read t.book it.closed it.to_alf ≡ Denied why
+    → SameBut it.secret it.to_alf s t
 alike why s t e left right = same-from it.secret it.to_alf s t e (shut it.to_alf s.book it.closed why left) (shut it.to_alf t.book it.closed why right)
 
 -- ---- two lines for its items
@@ -117,10 +139,12 @@ abbrev items_right_2 : State
 items_right_2 = goes items_right_1 (it.finds_none 2 (codes "x"))
 
 abbrev items_left_3 : State
-items_left_3 = goes items_left_2 (done (sets ann 3 (affiliate w (affiliation bare_bob (codes "member") ∷ affiliation bare_cid (codes "publish-only") ∷ affiliation (codes "dot@b.example") (codes "outcast") ∷ []))) [])
+items_left_3 = goes items_left_2 (done (sets ann 3 (affiliate w
+    (affiliation bare_bob (codes "member") ∷ affiliation bare_cid (codes "publish-only") ∷ affiliation (codes "dot@b.example") (codes "outcast") ∷ []))) [])
 
 abbrev items_right_3 : State
-items_right_3 = goes items_right_2 (done (sets ann 3 (affiliate w (affiliation bare_bob (codes "member") ∷ affiliation bare_cid (codes "publish-only") ∷ affiliation (codes "dot@b.example") (codes "outcast") ∷ []))) [])
+items_right_3 = goes items_right_2 (done (sets ann 3 (affiliate w
+    (affiliation bare_bob (codes "member") ∷ affiliation bare_cid (codes "publish-only") ∷ affiliation (codes "dot@b.example") (codes "outcast") ∷ []))) [])
 
 abbrev items_left_4 : State
 items_left_4 = goes items_left_3 (denied (gets alf 1 (get_items w)) closed_node)

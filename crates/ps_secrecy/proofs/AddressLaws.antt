@@ -58,7 +58,9 @@ module _ (S : List NodeKey) (a : Jid) (core : Core) (service : List ℕ) (is : I
       let low : v.flushed ≤ v.flushed = omega arith in
       let l = fr.firsts v.flushed low in
       let e : length (core.notices (take (durable v) v.entries) a) ≡ length (core.notices (take (ends v.flushed w.made) w.entries) a) =
-      sym (length-map placeless (core.notices (take (durable v) v.entries) a)) ∙ ap (λ (ns : List Notice). length ns) (heard.hears (take (durable v) v.entries) ∙ l.hears ∙ sym (heard.hears (take (ends v.flushed w.made) w.entries))) ∙ length-map placeless (core.notices (take (ends v.flushed w.made) w.entries) a) in
+      sym (length-map placeless (core.notices (take (durable v) v.entries) a)) ∙ ap (λ (ns : List Notice). length ns)
+      (heard.hears (take (durable v) v.entries) ∙ l.hears ∙ sym (heard.hears (take (ends v.flushed w.made) w.entries))) ∙ length-map placeless
+      (core.notices (take (ends v.flushed w.made) w.entries) a) in
       e ∙ ap (λ m. length (core.notices (take (ends m w.made) w.entries) a)) fr.flushed
 
   next-same : (v w : World) → AlikeWorlds S a service v w → option_map placeless (next v a) ≡ option_map placeless (next w a)
@@ -84,14 +86,16 @@ module _ (S : List NodeKey) (a : Jid) (core : Core) (service : List ℕ) (is : I
       ((if d then record w { addresses = at_address a (λ part. record part { sent = part.sent ++ m ∷ []; flight = Unrecorded }) w.addresses } else w).addresses a)
   sends v w al n m e true true same = rw (itself a) (record {
     flight = refl;
-    sent = map-append placeless (v.addresses a).sent (n ∷ []) ∙ ap (λ (ns : List Notice). ns ++ placeless n ∷ []) al.sent ∙ ap (λ (x : Notice). map placeless (w.addresses a).sent ++ x ∷ []) e ∙ sym (map-append placeless (w.addresses a).sent (m ∷ []));
+    sent = map-append placeless (v.addresses a).sent (n ∷ []) ∙ ap (λ (ns : List Notice). ns ++ placeless n ∷ []) al.sent ∙ ap (λ (x : Notice). map placeless (w.addresses a).sent ++ x ∷ []) e ∙ sym
+        (map-append placeless (w.addresses a).sent (m ∷ []));
     earlier = al.earlier;
   })
   sends v w al n m e false false same = record { flight = al.flight; sent = al.sent; earlier = al.earlier }
   sends v w al n m e true false same = absurd (true≢false same)
   sends v w al n m e false true same = absurd (true≢false (sym same))
 
-  emit-parts : (v w : World) → AlikeWorlds S a service v w → (f : Flight) (o p : Option Notice) → next v a ≡ o → next w a ≡ p → option_map placeless o ≡ option_map placeless p → Parts ((emits v a f o).addresses a) ((emits w a f p).addresses a)
+  emit-parts : (v w : World) → AlikeWorlds S a service v w → (f : Flight) (o p : Option Notice) → next v a ≡ o → next w a ≡ p → option_map placeless o ≡ option_map placeless p
+      → Parts ((emits v a f o).addresses a) ((emits w a f p).addresses a)
   unfolding next
   emit-parts v w al Unrecorded o p eo ep e = record { flight = al.flight; sent = al.sent; earlier = al.earlier }
   emit-parts v w al (Recorded t) o p eo ep e = record { flight = al.flight; sent = al.sent; earlier = al.earlier }
@@ -102,14 +106,17 @@ module _ (S : List NodeKey) (a : Jid) (core : Core) (service : List ℕ) (is : I
       let l = now (AlikeRuns S a) v w al.hosts.fronts in
       let same : placeless n ≡ placeless m = cc in
       sends v w al n m same (nat_lt n.place (durable v)) (nat_lt m.place (durable w))
-      (heard.placed v.entries (handed v.entries a) (durable v) n eo ∙ ap (λ k. nat_lt k (length (core.notices (take (durable v) v.entries) a))) l.handed ∙ ap (nat_lt (handed w.entries a)) (same-length v w al)
+      (heard.placed v.entries (handed v.entries a) (durable v) n eo ∙ ap (λ k. nat_lt k (length (core.notices (take (durable v) v.entries) a))) l.handed ∙ ap (nat_lt (handed w.entries a))
+      (same-length v w al)
       ∙ sym (heard.placed w.entries (handed w.entries a) (durable w) m ep))
 
   -- ---- others stay idle
 
-  idle-at : (w : World) (b : Jid) → IsIdle a w → (c : Jid) → same_bare a c ≡ true → same_jid a c ≡ false → (d : Bool) → same_jid c b ≡ d → ((emits w b (w.addresses b).flight (next w b)).addresses c).flight ≡ Nothing
+  idle-at : (w : World) (b : Jid) → IsIdle a w → (c : Jid) → same_bare a c ≡ true → same_jid a c ≡ false → (d : Bool) → same_jid c b ≡ d
+      → ((emits w b (w.addresses b).flight (next w b)).addresses c).flight ≡ Nothing
   unfolding next
-  idle-at w b idle c like apart false e = ap (λ (part : AddressPart). part.flight) (emits-other w b c (w.addresses b).flight (slice_get (core.notices w.entries b) (handed w.entries b)) e) ∙ idle c like apart
+  idle-at w b idle c like apart false e = ap (λ (part : AddressPart). part.flight) (emits-other w b c (w.addresses b).flight (slice_get (core.notices w.entries b) (handed w.entries b)) e) ∙ idle c
+      like apart
   idle-at w b idle c like apart true e =
       let same : c ≡ b = (same_jid-Decides c b).0 e in
       let none : core.notices w.entries b ≡ [] = heard.others w.entries b (ap (same_bare a) (sym same) ∙ like) (ap (same_jid a) (sym same) ∙ apart) in
@@ -129,11 +136,13 @@ module _ (S : List NodeKey) (a : Jid) (core : Core) (service : List ℕ) (is : I
     idle_there = idle2;
   }
 
-  emit-by : (v w : World) (b : Jid) → AlikeWorlds S a service v w → (d : Bool) → same_jid a b ≡ d → Parts ((emits v b (v.addresses b).flight (next v b)).addresses a) ((emits w b (w.addresses b).flight (next w b)).addresses a)
+  emit-by : (v w : World) (b : Jid) → AlikeWorlds S a service v w → (d : Bool) → same_jid a b ≡ d
+      → Parts ((emits v b (v.addresses b).flight (next v b)).addresses a) ((emits w b (w.addresses b).flight (next w b)).addresses a)
   emit-by v w b al true e =
       let same : a ≡ b = (same_jid-Decides a b).0 e in
       subst (λ (c : Jid). Parts ((emits v c (v.addresses c).flight (next v c)).addresses a) ((emits w c (w.addresses c).flight (next w c)).addresses a)) same
-      (subst (λ (f : Flight). Parts ((emits v a (v.addresses a).flight (next v a)).addresses a) ((emits w a f (next w a)).addresses a)) al.flight (emit-parts v w al (v.addresses a).flight (next v a) (next w a) refl refl (next-same v w al)))
+      (subst (λ (f : Flight). Parts ((emits v a (v.addresses a).flight (next v a)).addresses a) ((emits w a f (next w a)).addresses a)) al.flight
+      (emit-parts v w al (v.addresses a).flight (next v a) (next w a) refl refl (next-same v w al)))
   emit-by v w b al false e =
       let p = emits-other v b a (v.addresses b).flight (next v b) e in
       let q = emits-other w b a (w.addresses b).flight (next w b) e in
@@ -145,7 +154,8 @@ module _ (S : List NodeKey) (a : Jid) (core : Core) (service : List ℕ) (is : I
 
   -- an Emit of any address
   pub emit-on : (v w : World) (b : Jid) → AlikeWorlds S a service v w
-      → AlikeWorlds S a service (counted (emits v b (v.addresses b).flight (slice_get (core.notices v.entries b) (handed v.entries b)))) (counted (emits w b (w.addresses b).flight (slice_get (core.notices w.entries b) (handed w.entries b))))
+      → AlikeWorlds S a service (counted (emits v b (v.addresses b).flight (slice_get (core.notices v.entries b) (handed v.entries b))))
+      (counted (emits w b (w.addresses b).flight (slice_get (core.notices w.entries b) (handed w.entries b))))
   unfolding next
   emit-on v w b al =
       let ev = emits-is v b (v.addresses b).flight (next v b) in
@@ -154,4 +164,5 @@ module _ (S : List NodeKey) (a : Jid) (core : Core) (service : List ℕ) (is : I
       let B = (emits w b (w.addresses b).flight (next w b)).addresses in
       subst (λ (x : World). AlikeWorlds S a service (counted x) (counted (emits w b (w.addresses b).flight (next w b)))) (sym ev)
       (subst (λ (y : World). AlikeWorlds S a service (counted (record v { addresses = A })) (counted y)) (sym ew)
-      (emit-form v w A B al (emit-by v w b al (same_jid a b) refl) (λ c like apart. idle-at v b al.idle c like apart (same_jid c b) refl) (λ c like apart. idle-at w b al.idle_there c like apart (same_jid c b) refl)))
+      (emit-form v w A B al (emit-by v w b al (same_jid a b) refl) (λ c like apart. idle-at v b al.idle c like apart (same_jid c b) refl)
+      (λ c like apart. idle-at w b al.idle_there c like apart (same_jid c b) refl)))

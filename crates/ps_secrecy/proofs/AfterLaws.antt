@@ -52,11 +52,13 @@ module _ (S : List NodeKey) (a : Jid) where
     last-same node to by = last-by node to by (is_in S node) refl
 
     item-by : (node : NodeKey) (who : Jid) (m : Option ℕ) (item : AskItem) (b : Bool) → is_in S node ≡ b
-        → event.Items node (cond b None (Some (item_row node (item_id item.id x node who) who item.payloads m))) ≡ event.Items node (cond b None (Some (item_row node (item_id item.id (twin x i c) node who) who item.payloads m)))
+        → event.Items node (cond b None (Some (item_row node (item_id item.id x node who) who item.payloads m))) ≡ event.Items node
+        (cond b None (Some (item_row node (item_id item.id (twin x i c) node who) who item.payloads m)))
     item-by node who m item true is = refl
     item-by node who m item false is = ap (λ id. event.Items node (Some (item_row node id who item.payloads m))) (id-same S a item.id node who x (twin x i c) (rw is refl) k)
 
-    item-same : (node : NodeKey) (who : Jid) (m : Option ℕ) (items : List AskItem) → blank S (event.Items node (item_asked node who m items x)) ≡ blank S (event.Items node (item_asked node who m items (twin x i c)))
+    item-same : (node : NodeKey) (who : Jid) (m : Option ℕ) (items : List AskItem)
+        → blank S (event.Items node (item_asked node who m items x)) ≡ blank S (event.Items node (item_asked node who m items (twin x i c)))
     item-same node who m [] = refl
     item-same node who m (item ∷ items) = item-by node who m item (is_in S node) refl
 

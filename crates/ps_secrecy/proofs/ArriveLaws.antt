@@ -83,7 +83,8 @@ module _ (S : List NodeKey) (a : Jid) where
       let y = taking.taken host t.book.service one in
       let e : x ≡ y = ap (λ (service : List ℕ). taking.taken host service one) h.service in
       let m = moment_of one in
-      subst (λ (z : Taken). LookAlike S a (added s (entry_in x host s.book line m)) (added t (entry_in z host t.book line2 m)) (notes s (entry_in x host s.book line m)) (notes t (entry_in z host t.book line2 m))) e
+      subst (λ (z : Taken). LookAlike S a (added s (entry_in x host s.book line m)) (added t (entry_in z host t.book line2 m)) (notes s (entry_in x host s.book line m))
+      (notes t (entry_in z host t.book line2 m))) e
       (one-line s t h host line line2 m x (λ u r is. (on-tree host s.book one u r is, on-tree host t.book one u r (sym e ∙ is))) shut
       (subst (λ (z : Taken). IsShutOut S a (added t (entry_in z host t.book line2 m)).book) (sym e) shut2))
 
@@ -123,7 +124,8 @@ module _ (S : List NodeKey) (a : Jid) where
       let f = Change host line2 (moment_of two) q.tree in
       let b : added s (line_entry s host line one) ≡ stepped s p.request e = ap (added s) (entry-is s host line one p.tree p.request p.is_taken) ∙ added-is s (makes_entry s.book p.request) e in
       let c : added t (line_entry t host line2 two) ≡ stepped t q.request f = ap (added t) (entry-is t host line2 two q.tree q.request q.is_taken) ∙ added-is t (makes_entry t.book q.request) f in
-      let k = pair-on S a s t h (moment_of one) (moment_of two) p.request q.request host host line line2 p.tree q.tree (on-tree host s.book one p.tree p.request p.is_taken) (on-tree host t.book two q.tree q.request q.is_taken)
+      let k = pair-on S a s t h (moment_of one) (moment_of two) p.request q.request host host line line2 p.tree q.tree (on-tree host s.book one p.tree p.request p.is_taken)
+      (on-tree host t.book two q.tree q.request q.is_taken)
       (touch-of s host one node p) (touch-of t host two node q) (subst (λ (w : State). IsShutOut S a w.book) b shut) (subst (λ (w : State). IsShutOut S a w.book) c shut2) in
       record {
         same = subst (λ (w : State). SameBut S a w (added t (line_entry t host line2 two))) (sym b) (subst (λ (w : State). SameBut S a (stepped s p.request e) w) (sym c) k.same);
@@ -135,4 +137,5 @@ module _ (S : List NodeKey) (a : Jid) where
 
   -- neither gets a reply that is to an address of a
   pub lines-reply : (s : State) (host : List ℕ) (node : NodeKey) (line : ℕ) (one : Arrival) → Touches S a s host one node → line_to a s host line one ≡ None
-  lines-reply s host node line one p = ap (λ (x : Taken). cond (is_from a x) (reply_in x s.book line) None) p.is_taken ∙ ap (λ (b : Bool). cond b (outcome_reply p.tree p.request false (check s.book p.request)) None) p.other
+  lines-reply s host node line one p = ap (λ (x : Taken). cond (is_from a x) (reply_in x s.book line) None) p.is_taken ∙ ap
+      (λ (b : Bool). cond b (outcome_reply p.tree p.request false (check s.book p.request)) None) p.other

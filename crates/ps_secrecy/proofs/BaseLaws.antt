@@ -111,12 +111,15 @@ module _ (S : List NodeKey) (a : Jid) where
   -- ---- in both
 
   item-more : (i j : List ItemRow) (r : ItemRow) → items_outside S i ≡ items_outside S j → items_outside S (i ++ r ∷ []) ≡ items_outside S (j ++ r ∷ [])
-  item-more i j r h = filter-more (λ (row : ItemRow). not (is_in S row.node)) i (r ∷ []) ∙ ap (λ rows. rows ++ items_outside S (r ∷ [])) h ∙ sym (filter-more (λ (row : ItemRow). not (is_in S row.node)) j (r ∷ []))
+  item-more i j r h = filter-more (λ (row : ItemRow). not (is_in S row.node)) i (r ∷ []) ∙ ap (λ rows. rows ++ items_outside S (r ∷ [])) h ∙ sym
+      (filter-more (λ (row : ItemRow). not (is_in S row.node)) j (r ∷ []))
 
   count-more : (i j : List CountRow) (r : CountRow) → counts_outside S a i ≡ counts_outside S a j → counts_outside S a (i ++ r ∷ []) ≡ counts_outside S a (j ++ r ∷ [])
-  count-more i j r h = filter-more (λ (row : CountRow). not (is_in S row.node && not (same_bare row.who a))) i (r ∷ []) ∙ ap (λ rows. rows ++ counts_outside S a (r ∷ [])) h ∙ sym (filter-more (λ (row : CountRow). not (is_in S row.node && not (same_bare row.who a))) j (r ∷ []))
+  count-more i j r h = filter-more (λ (row : CountRow). not (is_in S row.node && not (same_bare row.who a))) i (r ∷ []) ∙ ap (λ rows. rows ++ counts_outside S a (r ∷ [])) h ∙ sym
+      (filter-more (λ (row : CountRow). not (is_in S row.node && not (same_bare row.who a))) j (r ∷ []))
 
-  with-twin : (r : BaseRow) (x : Book) (i : List ItemRow) (c : List CountRow) → items_outside S x.items ≡ items_outside S i → counts_outside S a x.counts ≡ counts_outside S a c → Beside S a (book_with r x) (book_with r (twin x i c))
+  with-twin : (r : BaseRow) (x : Book) (i : List ItemRow) (c : List CountRow) → items_outside S x.items ≡ items_outside S i → counts_outside S a x.counts ≡ counts_outside S a c
+      → Beside S a (book_with r x) (book_with r (twin x i c))
   with-twin (item r) x i c h k = record { twins = refl; items = item-more x.items i r h; counts = k }
   with-twin (made r) x i c h k = record { twins = refl; items = h; counts = count-more x.counts c r k }
   with-twin (counter who n) x i c h k = record { twins = refl; items = h; counts = k }
@@ -129,7 +132,8 @@ module _ (S : List NodeKey) (a : Jid) where
   with-twin (ver r) x i c h k = record { twins = refl; items = h; counts = k }
 
   -- a row that isn't of one world alone is accepted in both or in none
-  item-accepted : (r : ItemRow) (x : Book) (i : List ItemRow) (c : List CountRow) (found : Option NodeConfig) → is_in S r.node ≡ false → items_outside S x.items ≡ items_outside S i → takes_item found r x ≡ takes_item found r (twin x i c)
+  item-accepted : (r : ItemRow) (x : Book) (i : List ItemRow) (c : List CountRow) (found : Option NodeConfig) → is_in S r.node ≡ false → items_outside S x.items ≡ items_outside S i
+      → takes_item found r x ≡ takes_item found r (twin x i c)
   item-accepted r x i c None is h = refl
   item-accepted r x i c (Some config) is h =
       let n : item_count r.node x.items ≡ item_count r.node i = sym (count-seen S r.node is x.items) ∙ ap (item_count r.node) h ∙ count-seen S r.node is i in
@@ -137,10 +141,13 @@ module _ (S : List NodeKey) (a : Jid) where
       rw (n, f) refl
 
   placed-even : (r : BaseRow) (s t : State) → SameBut S a s t → is_lone S a r ≡ false → has_place r s ≡ has_place r t
-  placed-even (item r) s t h is = by-twin S a (λ (b : Book). takes_item (config_at r.node s.book.nodes) r s.book ≡ takes_item (config_at r.node b.nodes) r b) s.book t.book (beside-of S a s t h) (λ i c hi hc. item-accepted r s.book i c (config_at r.node s.book.nodes) is hi)
+  placed-even (item r) s t h is = by-twin S a (λ (b : Book). takes_item (config_at r.node s.book.nodes) r s.book ≡ takes_item (config_at r.node b.nodes) r b) s.book t.book (beside-of S a s t h)
+      (λ i c hi hc. item-accepted r s.book i c (config_at r.node s.book.nodes) is hi)
   placed-even (made r) s t h is =
-      let f : find (is_count_of r.node r.who) s.book.counts ≡ find (is_count_of r.node r.who) t.book.counts = sym (count_row-seen S a r.node r.who is s.book.counts) ∙ ap (find (is_count_of r.node r.who)) h.counts ∙ count_row-seen S a r.node r.who is t.book.counts in
-      ap (λ (o : Option CountRow). stands r.node s.book.nodes && is_none o && is_number r.made) f ∙ ap (λ ns. stands r.node ns && is_none (find (is_count_of r.node r.who) t.book.counts) && is_number r.made) h.nodes
+      let f : find (is_count_of r.node r.who) s.book.counts ≡ find (is_count_of r.node r.who) t.book.counts = sym (count_row-seen S a r.node r.who is s.book.counts) ∙ ap
+      (find (is_count_of r.node r.who)) h.counts ∙ count_row-seen S a r.node r.who is t.book.counts in
+      ap (λ (o : Option CountRow). stands r.node s.book.nodes && is_none o && is_number r.made) f ∙ ap
+      (λ ns. stands r.node ns && is_none (find (is_count_of r.node r.who) t.book.counts) && is_number r.made) h.nodes
   placed-even (counter who n) s t h is =
       let e = turn who true (not-false (same_bare who a) is) in
       ap (λ m. is_bare who && is_number n && (m == 0)) (sym (made-like a who s.tallies e) ∙ h.made ∙ made-like a who t.tallies e)
@@ -148,8 +155,10 @@ module _ (S : List NodeKey) (a : Jid) where
       let e = turn to true (not-false (same_bare to a) is) in
       ap (λ m. is_notice_line to (m + 1) line (line_tree line)) (sym (made-like a to s.tallies e) ∙ h.made ∙ made-like a to t.tallies e)
   placed-even (node r) s t h is = by-twin S a (λ (b : Book). has_place (node r) s ≡ has_place (node r) (record t { book = b })) s.book t.book (beside-of S a s t h) (λ i c hi hc. refl)
-  placed-even (affiliation r) s t h is = by-twin S a (λ (b : Book). has_place (affiliation r) s ≡ has_place (affiliation r) (record t { book = b })) s.book t.book (beside-of S a s t h) (λ i c hi hc. refl)
-  placed-even (subscription r) s t h is = by-twin S a (λ (b : Book). has_place (subscription r) s ≡ has_place (subscription r) (record t { book = b })) s.book t.book (beside-of S a s t h) (λ i c hi hc. refl)
+  placed-even (affiliation r) s t h is = by-twin S a (λ (b : Book). has_place (affiliation r) s ≡ has_place (affiliation r) (record t { book = b })) s.book t.book (beside-of S a s t h)
+      (λ i c hi hc. refl)
+  placed-even (subscription r) s t h is = by-twin S a (λ (b : Book). has_place (subscription r) s ≡ has_place (subscription r) (record t { book = b })) s.book t.book (beside-of S a s t h)
+      (λ i c hi hc. refl)
   placed-even (link r) s t h is = by-twin S a (λ (b : Book). has_place (link r) s ≡ has_place (link r) (record t { book = b })) s.book t.book (beside-of S a s t h) (λ i c hi hc. refl)
   placed-even (contact r) s t h is = by-twin S a (λ (b : Book). has_place (contact r) s ≡ has_place (contact r) (record t { book = b })) s.book t.book (beside-of S a s t h) (λ i c hi hc. refl)
   placed-even (ver r) s t h is = by-twin S a (λ (b : Book). has_place (ver r) s ≡ has_place (ver r) (record t { book = b })) s.book t.book (beside-of S a s t h) (λ i c hi hc. refl)
@@ -202,17 +211,20 @@ module _ (S : List NodeKey) (a : Jid) where
   even-by s t h r is true false e shut shut2 = absurd (true≢false e)
   even-by s t h r is false true e shut shut2 = absurd (true≢false (sym e))
   even-by s t h r is true true e shut shut2 = record {
-    same = same-of S a (based s r) (based t r) (by-twin S a (λ (b : Book). Beside S a (book_with r s.book) (book_with r b)) s.book t.book (beside-of S a s t h) (λ i c hi hc. with-twin r s.book i c hi hc))
+    same = same-of S a (based s r) (based t r) (by-twin S a (λ (b : Book). Beside S a (book_with r s.book) (book_with r b)) s.book t.book (beside-of S a s t h)
+        (λ i c hi hc. with-twin r s.book i c hi hc))
         (both-made r s.tallies t.tallies is h.made) (both-handed r s.tallies t.tallies is h.handed) shut shut2;
     hear = both-heard r s.count t.count s.tallies t.tallies is h.made;
   }
 
-  base-by : (s t : State) → SameBut S a s t → (r : BaseRow) → IsShutOut S a (base_step s r).book → IsShutOut S a (base_step t r).book → (b : Bool) → is_lone S a r ≡ b → LookAlike S a (base_step s r) (base_step t r) (base_said s r) (base_said t r)
+  base-by : (s t : State) → SameBut S a s t → (r : BaseRow) → IsShutOut S a (base_step s r).book → IsShutOut S a (base_step t r).book → (b : Bool) → is_lone S a r ≡ b
+      → LookAlike S a (base_step s r) (base_step t r) (base_said s r) (base_said t r)
   base-by s t h r shut shut2 false is = even-by s t h r is (accepts_row r s) (accepts_row r t) (accepted-even r s t h is) shut shut2
   base-by s t h r shut shut2 true is =
       let l = lone-by s t h r is (accepts_row r s) shut in
       let k = lone-by t (base_step s r) (same-back S a (base_step s r) t l.same) r is (accepts_row r t) shut2 in
       record { same = same-back S a (base_step t r) (base_step s r) k.same; hear = l.hear ∙ sym k.hear }
 
-  pub base-on : (s t : State) → SameBut S a s t → (r : BaseRow) → IsShutOut S a (base_step s r).book → IsShutOut S a (base_step t r).book → LookAlike S a (base_step s r) (base_step t r) (base_said s r) (base_said t r)
+  pub base-on : (s t : State) → SameBut S a s t → (r : BaseRow) → IsShutOut S a (base_step s r).book → IsShutOut S a (base_step t r).book
+      → LookAlike S a (base_step s r) (base_step t r) (base_said s r) (base_said t r)
   base-on s t h r shut shut2 = base-by s t h r shut shut2 (is_lone S a r) refl

@@ -67,7 +67,8 @@ module _ (S : List NodeKey) (a : Jid) where
   made-same : (node : NodeKey) (who : Jid) (c d : List CountRow) → hides S a node who ≡ false → counts_outside S a c ≡ counts_outside S a d → made_at node who c ≡ made_at node who d
   made-same node who c d e h = sym (made-seen S a node who e c) ∙ ap (made_at node who) h ∙ made-seen S a node who e d
 
-  pub id-same : (id : List ℕ) (node : NodeKey) (who : Jid) (x y : Book) → hides S a node who ≡ false → counts_outside S a x.counts ≡ counts_outside S a y.counts → item_id id x node who ≡ item_id id y node who
+  pub id-same : (id : List ℕ) (node : NodeKey) (who : Jid) (x y : Book) → hides S a node who ≡ false → counts_outside S a x.counts ≡ counts_outside S a y.counts
+      → item_id id x node who ≡ item_id id y node who
   id-same [] node who x y e h = ap (λ n. auto_id (n + 1) who) (made-same node who x.counts y.counts e h)
   id-same (c ∷ id) node who x y e h = refl
 
@@ -84,12 +85,14 @@ module _ (S : List NodeKey) (a : Jid) where
       ∙ ap (counts_with (count_row node who (next_made y node who))) h
       ∙ sym (counts-seen S a node who e (next_made y node who) y.counts)
 
-  put-same : (persist : Bool) (node : NodeKey) (b : Bool) → is_in S node ≡ b → (who : Jid) (moment : Option ℕ) (item : AskItem) (most : ℕ) (x y : Book) → items_outside S x.items ≡ items_outside S y.items → counts_outside S a x.counts ≡ counts_outside S a y.counts
+  put-same : (persist : Bool) (node : NodeKey) (b : Bool) → is_in S node ≡ b → (who : Jid) (moment : Option ℕ) (item : AskItem) (most : ℕ) (x y : Book)
+      → items_outside S x.items ≡ items_outside S y.items → counts_outside S a x.counts ≡ counts_outside S a y.counts
       → items_outside S (cond persist (items_with (item_row node (item_id item.id x node who) who item.payloads moment) most x.items) x.items)
       ≡ items_outside S (cond persist (items_with (item_row node (item_id item.id y node who) who item.payloads moment) most y.items) y.items)
   put-same false node b e who moment item most x y h k = h
   put-same true node true e who moment item most x y h k =
-      with-hidden S (item_row node (item_id item.id x node who) who item.payloads moment) e most x.items ∙ h ∙ sym (with-hidden S (item_row node (item_id item.id y node who) who item.payloads moment) e most y.items)
+      with-hidden S (item_row node (item_id item.id x node who) who item.payloads moment) e most x.items ∙ h ∙ sym
+      (with-hidden S (item_row node (item_id item.id y node who) who item.payloads moment) e most y.items)
   put-same true node false e who moment item most x y h k =
       with-seen S (item_row node (item_id item.id x node who) who item.payloads moment) e most x.items
       ∙ ap (λ id. items_with (item_row node id who item.payloads moment) most (items_outside S x.items)) (id-same item.id node who x y (seen-one node who e) k)
@@ -100,7 +103,8 @@ module _ (S : List NodeKey) (a : Jid) where
     same : Beside S a x (twin x i c)
     same = record { twins = refl; items = h; counts = k }
 
-    published-twin : (node : NodeKey) (config : NodeConfig) (who : Jid) (moment : Option ℕ) (items : List AskItem) → Beside S a (published node config who moment items x) (published node config who moment items (twin x i c))
+    published-twin : (node : NodeKey) (config : NodeConfig) (who : Jid) (moment : Option ℕ) (items : List AskItem)
+        → Beside S a (published node config who moment items x) (published node config who moment items (twin x i c))
     published-twin node config who moment [] = same
     published-twin node config who moment (item ∷ items) = record {
       twins = refl;
@@ -110,7 +114,8 @@ module _ (S : List NodeKey) (a : Jid) where
 
     -- ---- configurations
 
-    under-same : (node : NodeKey) (config : NodeConfig) (persist b : Bool) → config.persist_items ≡ persist → is_in S node ≡ b → items_outside S (items_under node config x.items) ≡ items_outside S (items_under node config i)
+    under-same : (node : NodeKey) (config : NodeConfig) (persist b : Bool) → config.persist_items ≡ persist → is_in S node ≡ b
+        → items_outside S (items_under node config x.items) ≡ items_outside S (items_under node config i)
     under-same node config true true p e = rw p (kept-hidden S node e config.max_items x.items ∙ h ∙ sym (kept-hidden S node e config.max_items i))
     under-same node config true false p e = rw p (kept-seen S node e config.max_items x.items ∙ ap (items_kept node config.max_items) h ∙ sym (kept-seen S node e config.max_items i))
     under-same node config false b p e = rw p (without-both S node x.items ∙ ap (items_without node) h ∙ sym (without-both S node i))
@@ -146,7 +151,8 @@ module _ (S : List NodeKey) (a : Jid) where
 
     -- ---- subscriptions, rosters, answers
 
-    subscribed-twin : (given : Result SubOptions Condition) (node : NodeKey) (who : Jid) (s t : SubState) → s ≡ t → Beside S a (subscribed_by given node who s x) (subscribed_by given node who t (twin x i c))
+    subscribed-twin : (given : Result SubOptions Condition) (node : NodeKey) (who : Jid) (s t : SubState) → s ≡ t
+        → Beside S a (subscribed_by given node who s x) (subscribed_by given node who t (twin x i c))
     subscribed-twin (Err why) node who s t e = same
     subscribed-twin (Ok options) node who s t e = record { twins = ap (λ (st : SubState). twin (subscribed_by (Ok options) node who st x) i c) e; items = h; counts = k }
 
@@ -163,19 +169,22 @@ module _ (S : List NodeKey) (a : Jid) where
     answer-twin None who node info = same
     answer-twin (Some caps) who node info = usable-twin (is_usable caps node info) caps who info
 
-  published_new-twin : (given : Result NodeConfig Condition) (node : NodeKey) (who : Jid) (moment : Option ℕ) (items : List AskItem) (x : Book) (i : List ItemRow) (c : List CountRow) → items_outside S x.items ≡ items_outside S i → counts_outside S a x.counts ≡ counts_outside S a c
+  published_new-twin : (given : Result NodeConfig Condition) (node : NodeKey) (who : Jid) (moment : Option ℕ) (items : List AskItem) (x : Book) (i : List ItemRow) (c : List CountRow)
+      → items_outside S x.items ≡ items_outside S i → counts_outside S a x.counts ≡ counts_outside S a c
       → Beside S a (published_new given node who moment items x) (published_new given node who moment items (twin x i c))
   published_new-twin (Err why) node who moment items x i c h k = same x i c h k
   published_new-twin (Ok config) node who moment items x i c h k = published-twin (created node who config x) i c h k node config who moment items
 
-  published_by-twin : (found : Option NodeRow) (node : NodeKey) (who : Jid) (moment : Option ℕ) (items : List AskItem) (options : Option Tree) (x : Book) (i : List ItemRow) (c : List CountRow) → items_outside S x.items ≡ items_outside S i → counts_outside S a x.counts ≡ counts_outside S a c
+  published_by-twin : (found : Option NodeRow) (node : NodeKey) (who : Jid) (moment : Option ℕ) (items : List AskItem) (options : Option Tree) (x : Book) (i : List ItemRow) (c : List CountRow)
+      → items_outside S x.items ≡ items_outside S i → counts_outside S a x.counts ≡ counts_outside S a c
       → Beside S a (published_by found node who moment items options x) (published_by found node who moment items options (twin x i c))
   published_by-twin None node who moment items options x i c h k = published_new-twin (options_config options (default_config true)) node who moment items x i c h k
   published_by-twin (Some row) node who moment items options x i c h k = published-twin x i c h k node row.config who moment items
 
   -- ---- one request in both
 
-  pub changed-twin : (q : Ask) (r : Request) (moment : Option ℕ) (x : Book) (i : List ItemRow) (c : List CountRow) → items_outside S x.items ≡ items_outside S i → counts_outside S a x.counts ≡ counts_outside S a c
+  pub changed-twin : (q : Ask) (r : Request) (moment : Option ℕ) (x : Book) (i : List ItemRow) (c : List CountRow) → items_outside S x.items ≡ items_outside S i
+      → counts_outside S a x.counts ≡ counts_outside S a c
       → Beside S a (changed_by q r moment x) (changed_by q r moment (twin x i c))
   changed-twin (ask.Create node form) r moment x i c h k = created_by-twin x i c h k (new_config r.target form) (node_of r node) r.from
   changed-twin (ask.Publish node items options) r moment x i c h k = published_by-twin (node_at (node_of r node) x.nodes) (node_of r node) r.from moment items options x i c h k
@@ -195,7 +204,8 @@ module _ (S : List NodeKey) (a : Jid) where
       (ap (subscribe_state (sub_at (node_of r node) who x.subs)) (sym (subscribe-twin x i c (node_of r node) r.from)))
   changed-twin (ask.Unsubscribe node who subid) r moment x i c h k = record { twins = refl; items = h; counts = k }
   changed-twin (ask.OptionsGet node who) r moment x i c h k = same x i c h k
-  changed-twin (ask.OptionsSet node who form) r moment x i c h k = subscribed-twin x i c h k (sub_options form (base_options x (node_of r node) who)) (node_of r node) who (sub_at (node_of r node) who x.subs) (sub_at (node_of r node) who x.subs) refl
+  changed-twin (ask.OptionsSet node who form) r moment x i c h k = subscribed-twin x i c h k (sub_options form (base_options x (node_of r node) who)) (node_of r node) who
+      (sub_at (node_of r node) who x.subs) (sub_at (node_of r node) who x.subs) refl
   changed-twin (ask.ItemsGet node max ids) r moment x i c h k = same x i c h k
   changed-twin (ask.InfoGet node) r moment x i c h k = same x i c h k
   changed-twin (ask.NodesGet node) r moment x i c h k = same x i c h k
@@ -211,11 +221,13 @@ module _ (S : List NodeKey) (a : Jid) where
 
   -- ---- one request in one of them, for the items of a node of these
 
-  published-touches : (node : NodeKey) (config : NodeConfig) (who : Jid) (moment : Option ℕ) (items : List AskItem) (x : Book) → is_in S node ≡ true → same_bare who a ≡ false → Beside S a x (published node config who moment items x)
+  published-touches : (node : NodeKey) (config : NodeConfig) (who : Jid) (moment : Option ℕ) (items : List AskItem) (x : Book) → is_in S node ≡ true → same_bare who a ≡ false
+      → Beside S a x (published node config who moment items x)
   published-touches node config who moment [] x is other = beside-itself x
   published-touches node config who moment (item ∷ items) x is other = record { twins = refl; items = sym (put config.persist_items); counts = sym (count item.id) }
     where
-      put : (persist : Bool) → items_outside S (cond persist (items_with (item_row node (item_id item.id x node who) who item.payloads moment) config.max_items x.items) x.items) ≡ items_outside S x.items
+      put : (persist : Bool) → items_outside S (cond persist (items_with (item_row node (item_id item.id x node who) who item.payloads moment) config.max_items x.items) x.items) ≡ items_outside S
+          x.items
       put true = with-hidden S (item_row node (item_id item.id x node who) who item.payloads moment) is config.max_items x.items
       put false = refl
 
@@ -223,12 +235,14 @@ module _ (S : List NodeKey) (a : Jid) where
       count [] = counts-hidden S a node who (rw (is, other) refl) (next_made x node who) x.counts
       count (d ∷ id) = refl
 
-  published_by-touches : (found : Option NodeRow) (node : NodeKey) (who : Jid) (moment : Option ℕ) (items : List AskItem) (options : Option Tree) (x : Book) → is_some found ≡ true → is_in S node ≡ true → same_bare who a ≡ false
+  published_by-touches : (found : Option NodeRow) (node : NodeKey) (who : Jid) (moment : Option ℕ) (items : List AskItem) (options : Option Tree) (x : Book) → is_some found ≡ true
+      → is_in S node ≡ true → same_bare who a ≡ false
       → Beside S a x (published_by found node who moment items options x)
   published_by-touches None node who moment items options x there is other = absurd (true≢false (sym there))
   published_by-touches (Some row) node who moment items options x there is other = published-touches node row.config who moment items x is other
 
-  pub publish-touches : (r : Request) (node : List ℕ) (items : List AskItem) (options : Option Tree) (moment : Option ℕ) (x : Book) → stands (node_of r node) x.nodes ≡ true → is_in S (node_of r node) ≡ true → same_bare r.from a ≡ false
+  pub publish-touches : (r : Request) (node : List ℕ) (items : List AskItem) (options : Option Tree) (moment : Option ℕ) (x : Book) → stands (node_of r node) x.nodes ≡ true
+      → is_in S (node_of r node) ≡ true → same_bare r.from a ≡ false
       → Beside S a x (publish_change r node items options moment x)
   publish-touches r node items options moment x there is other = published_by-touches (node_at (node_of r node) x.nodes) (node_of r node) r.from moment items options x there is other
 

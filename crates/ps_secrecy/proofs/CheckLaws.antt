@@ -91,7 +91,8 @@ module _ (x : Book) (i : List ItemRow) (c : List CountRow) where
   made-twin (Err why) r = refl
   made-twin (Ok config) r = ap (λ d. first_denial (unless (not (is_collection config.node_type)) C14 ∷ d ∷ [])) (collection-twin r config.collection)
 
-  publish_by-twin : (found : Option NodeRow) (r : Request) (node : List ℕ) (items : List AskItem) (options : Option Tree) → publish_by found (twin x i c) r node items options ≡ publish_by found x r node items options
+  publish_by-twin : (found : Option NodeRow) (r : Request) (node : List ℕ) (items : List AskItem) (options : Option Tree)
+      → publish_by found (twin x i c) r node items options ≡ publish_by found x r node items options
   publish_by-twin None r node items options = rw (made-twin (options_config options (default_config true)) r) refl
   publish_by-twin (Some row) r node items options = rw (publish-twin x i c (node_of r node) r.from) refl
 
@@ -141,7 +142,8 @@ pub granted-read : (v : Verdict) → denied_by v ≡ None → (why : Condition) 
 granted-read v none why e P = absurd (true≢false (ap (λ (o : Option Condition). is_some o) (sym (ap denied_by e) ∙ none)))
 
 -- one who may take items away, may read
-pub retract-reads : (found : Option NodeRow) (book : Book) (node : NodeKey) (who : Jid) → is_some found ≡ true → (f : Affil) → affiliation book node who ≡ f → may_retract f ≡ true → is_granted (read_at found book node who) ≡ true
+pub retract-reads : (found : Option NodeRow) (book : Book) (node : NodeKey) (who : Jid) → is_some found ≡ true → (f : Affil) → affiliation book node who ≡ f → may_retract f ≡ true
+    → is_granted (read_at found book node who) ≡ true
 retract-reads None book node who there f e may = absurd (true≢false (sym there))
 retract-reads (Some row) book node who there affil.Owner e may = rw e refl
 retract-reads (Some row) book node who there affil.Publisher e may = rw e refl
@@ -150,7 +152,8 @@ retract-reads (Some row) book node who there affil.Member e may = absurd (true�
 retract-reads (Some row) book node who there affil.Outcast e may = absurd (true≢false (sym may))
 retract-reads (Some row) book node who there affil.Nothing e may = absurd (true≢false (sym may))
 
-found-step : {R : Type 0} → (test : R → Bool) (x row : R) (xs : List R) (b : Bool) → test x ≡ b → (find test xs ≡ Some row → test row ≡ true) → cond b (Some x) (find test xs) ≡ Some row → test row ≡ true
+found-step : {R : Type 0} → (test : R → Bool) (x row : R) (xs : List R) (b : Bool) → test x ≡ b → (find test xs ≡ Some row → test row ≡ true) → cond b (Some x) (find test xs) ≡ Some row
+    → test row ≡ true
 found-step test x row xs true e h is = let same : x ≡ row = cc in ap test (sym same) ∙ e
 found-step test x row xs false e h is = h is
 
@@ -159,7 +162,8 @@ pub found-passes : {R : Type 0} → (test : R → Bool) (row : R) (xs : List R) 
 found-passes test row [] is = absurd (true≢false (sym (ap (λ (o : Option _). is_some o) is)))
 found-passes test row (x ∷ xs) is = found-step test x row xs (test x) refl (found-passes test row xs) is
 
-module _ (S : List NodeKey) (a : Jid) (x : Book) (shut : IsShutOut S a x) (i : List ItemRow) (c : List CountRow) (h : items_outside S x.items ≡ items_outside S i) (k : counts_outside S a x.counts ≡ counts_outside S a c) where
+module _ (S : List NodeKey) (a : Jid) (x : Book) (shut : IsShutOut S a x) (i : List ItemRow) (c : List CountRow) (h : items_outside S x.items ≡ items_outside S i)
+    (k : counts_outside S a x.counts ≡ counts_outside S a c) where
   -- a node that the address may read is none of these
   open-by : (node : NodeKey) (who : Jid) → same_bare who a ≡ true → is_granted (read x node who) ≡ true → (b : Bool) → is_in S node ≡ b → is_in S node ≡ false
   open-by node who same may true is = let d = denied-to S a x shut node who same is in absurd (true≢false (sym may ∙ ap is_granted d.1))
@@ -190,18 +194,25 @@ module _ (S : List NodeKey) (a : Jid) (x : Book) (shut : IsShutOut S a x) (i : L
   step-same r node (id ∷ ids) is = ap (λ (o : Option ItemRow). unless (is_some o) C12) (sym (item_at-same (node_of r node) is id))
 
   retract-open : (r : Request) (node : List ℕ) (ids : List (List ℕ)) → same_bare r.from a ≡ true
-      → first_denial (stands_step x r node ∷ leaf_step x r node ∷ unless (may_retract (affiliation x (node_of r node) r.from)) C11 ∷ unless (nat_le 1 (length ids) && list_all has_length ids) C4 ∷ unless (nat_le (length ids) 1) C1 ∷ []) ≡ None
+      → first_denial (stands_step x r node ∷ leaf_step x r node ∷ unless (may_retract (affiliation x (node_of r node) r.from)) C11 ∷ unless (nat_le 1 (length ids) && list_all has_length ids) C4 ∷
+      unless (nat_le (length ids) 1) C1 ∷ []) ≡ None
       → is_in S (node_of r node) ≡ false
   retract-open r node ids same none =
-      let p = none-first (stands_step x r node) (leaf_step x r node ∷ unless (may_retract (affiliation x (node_of r node) r.from)) C11 ∷ unless (nat_le 1 (length ids) && list_all has_length ids) C4 ∷ unless (nat_le (length ids) 1) C1 ∷ []) none in
-      let q = none-first (leaf_step x r node) (unless (may_retract (affiliation x (node_of r node) r.from)) C11 ∷ unless (nat_le 1 (length ids) && list_all has_length ids) C4 ∷ unless (nat_le (length ids) 1) C1 ∷ []) p.1 in
-      let s = none-first (unless (may_retract (affiliation x (node_of r node) r.from)) C11) (unless (nat_le 1 (length ids) && list_all has_length ids) C4 ∷ unless (nat_le (length ids) 1) C1 ∷ []) q.1 in
+      let p = none-first (stands_step x r node) (leaf_step x r node ∷ unless (may_retract (affiliation x (node_of r node) r.from)) C11 ∷ unless (nat_le 1 (length ids) && list_all has_length ids) C4 ∷
+      unless (nat_le (length ids) 1) C1 ∷ []) none in
+      let q = none-first (leaf_step x r node) (unless (may_retract (affiliation x (node_of r node) r.from)) C11 ∷ unless (nat_le 1 (length ids) && list_all has_length ids) C4 ∷ unless
+      (nat_le (length ids) 1) C1 ∷ []) p.1 in
+      let s = none-first (unless (may_retract (affiliation x (node_of r node) r.from)) C11) (unless (nat_le 1 (length ids) && list_all has_length ids) C4 ∷ unless (nat_le (length ids) 1) C1 ∷ []) q.1
+      in
       opened (node_of r node) r.from same
-      (retract-reads (node_at (node_of r node) x.nodes) x (node_of r node) r.from (unless-none (stands (node_of r node) x.nodes) C12 p.0) (affiliation x (node_of r node) r.from) refl (unless-none (may_retract (affiliation x (node_of r node) r.from)) C11 s.0))
+      (retract-reads (node_at (node_of r node) x.nodes) x (node_of r node) r.from (unless-none (stands (node_of r node) x.nodes) C12 p.0) (affiliation x (node_of r node) r.from) refl
+      (unless-none (may_retract (affiliation x (node_of r node) r.from)) C11 s.0))
 
-  pub retract-denial : (r : Request) (node : List ℕ) (ids : List (List ℕ)) → same_bare r.from a ≡ true → first_denial (retract_steps (twin x i c) r node ids) ≡ first_denial (retract_steps x r node ids)
+  pub retract-denial : (r : Request) (node : List ℕ) (ids : List (List ℕ)) → same_bare r.from a ≡ true
+      → first_denial (retract_steps (twin x i c) r node ids) ≡ first_denial (retract_steps x r node ids)
   retract-denial r node ids same =
-      sym (late (stands_step x r node ∷ leaf_step x r node ∷ unless (may_retract (affiliation x (node_of r node) r.from)) C11 ∷ unless (nat_le 1 (length ids) && list_all has_length ids) C4 ∷ unless (nat_le (length ids) 1) C1 ∷ [])
+      sym (late (stands_step x r node ∷ leaf_step x r node ∷ unless (may_retract (affiliation x (node_of r node) r.from)) C11 ∷ unless (nat_le 1 (length ids) && list_all has_length ids) C4 ∷ unless
+      (nat_le (length ids) 1) C1 ∷ [])
       (retracted_step x r node ids) (retracted_step (twin x i c) r node ids) (λ none. step-same r node ids (retract-open r node ids same none)))
 
   -- ---- children
@@ -213,7 +224,8 @@ module _ (S : List NodeKey) (a : Jid) (x : Book) (shut : IsShutOut S a x) (i : L
       none true = refl
       none false = refl
 
-  published-same : (r : Request) (node : List ℕ) (items : List AskItem) → same_bare r.from a ≡ true → published_items (twin x i c) (node_of r node) r.from items ≡ published_items x (node_of r node) r.from items
+  published-same : (r : Request) (node : List ℕ) (items : List AskItem) → same_bare r.from a ≡ true
+      → published_items (twin x i c) (node_of r node) r.from items ≡ published_items x (node_of r node) r.from items
   published-same r node [] same = refl
   published-same r node (item ∷ items) same = rw (id-same S a item.id (node_of r node) r.from x (twin x i c) (own-hides (node_of r node) r.from same) k) refl
 
@@ -237,7 +249,8 @@ module _ (S : List NodeKey) (a : Jid) (x : Book) (shut : IsShutOut S a x) (i : L
   listed-same r row = rw (read-twin x i c row.key r.from) refl
 
   nodes-same : (r : Request) (node : List ℕ) → same_bare r.from a ≡ true → first_denial (nodes_get_steps x r node) ≡ None → nodes_child x r node ≡ nodes_child (twin x i c) r node
-  nodes-same r [] same none = ap (λ (test : NodeRow → Bool). element (codes "query") items_ns ((codes "node", []) ∷ []) (map (node_entry r.target) (filter test x.nodes))) (λ j row. listed-same r row j)
+  nodes-same r [] same none = ap (λ (test : NodeRow → Bool). element (codes "query") items_ns ((codes "node", []) ∷ []) (map (node_entry r.target) (filter test x.nodes)))
+      (λ j row. listed-same r row j)
   nodes-same r (n ∷ node) same none =
       let p = none-first (stands_step x r (n ∷ node)) (given_read_step x r (n ∷ node) ∷ []) none in
       let q = none-first (given_read_step x r (n ∷ node)) [] p.1 in
@@ -255,7 +268,8 @@ module _ (S : List NodeKey) (a : Jid) (x : Book) (shut : IsShutOut S a x) (i : L
   pub judged-by : (q : Ask) (r : Request) → same_bare r.from a ≡ true
       → outcome (first_denial (steps_of q (twin x i c) r)) (child_of q (twin x i c) r) ≡ outcome (first_denial (steps_of q x r)) (child_of q x r)
   judged-by (ask.Create node form) r same = plain (ask.Create node form) r refl (λ none. refl)
-  judged-by (ask.Publish node items options) r same = plain (ask.Publish node items options) r refl (λ none. ap (λ (ts : List Tree). Some (about pubsub_ns (codes "publish") node ts)) (sym (published-same r node items same)))
+  judged-by (ask.Publish node items options) r same = plain (ask.Publish node items options) r refl
+      (λ none. ap (λ (ts : List Tree). Some (about pubsub_ns (codes "publish") node ts)) (sym (published-same r node items same)))
   judged-by (ask.Retract node ids notify) r same = ap (λ (d : Option Condition). outcome d None) (retract-denial r node ids same)
   judged-by (ask.Purge node) r same = plain (ask.Purge node) r refl (λ none. refl)
   judged-by (ask.Delete node) r same = plain (ask.Delete node) r refl (λ none. refl)
@@ -286,9 +300,11 @@ module _ (S : List NodeKey) (a : Jid) (x : Book) (shut : IsShutOut S a x) (i : L
   judged-same r same = judged-by r.ask r same
 
   -- Retract of another node, whoever asks
-  pub retract-same : (r : Request) (node : List ℕ) (ids : List (List ℕ)) → is_in S (node_of r node) ≡ false → first_denial (retract_steps (twin x i c) r node ids) ≡ first_denial (retract_steps x r node ids)
+  pub retract-same : (r : Request) (node : List ℕ) (ids : List (List ℕ)) → is_in S (node_of r node) ≡ false
+      → first_denial (retract_steps (twin x i c) r node ids) ≡ first_denial (retract_steps x r node ids)
   retract-same r node ids is =
-      sym (late (stands_step x r node ∷ leaf_step x r node ∷ unless (may_retract (affiliation x (node_of r node) r.from)) C11 ∷ unless (nat_le 1 (length ids) && list_all has_length ids) C4 ∷ unless (nat_le (length ids) 1) C1 ∷ [])
+      sym (late (stands_step x r node ∷ leaf_step x r node ∷ unless (may_retract (affiliation x (node_of r node) r.from)) C11 ∷ unless (nat_le 1 (length ids) && list_all has_length ids) C4 ∷ unless
+      (nat_le (length ids) 1) C1 ∷ [])
       (retracted_step x r node ids) (retracted_step (twin x i c) r node ids) (λ none. step-same r node ids is))
 
   -- one who owns a node may read it
@@ -305,4 +321,5 @@ module _ (S : List NodeKey) (a : Jid) (x : Book) (shut : IsShutOut S a x) (i : L
       let p = none-first (stands_step x r node) (denied_by (own x (node_of r node) r.from) ∷ config_by (node_at (node_of r node) x.nodes) form ∷ []) none in
       let q = none-first (denied_by (own x (node_of r node) r.from)) (config_by (node_at (node_of r node) x.nodes) form ∷ []) p.1 in
       opened (node_of r node) r.from same
-      (retract-reads (node_at (node_of r node) x.nodes) x (node_of r node) r.from (unless-none (stands (node_of r node) x.nodes) C12 p.0) (affiliation x (node_of r node) r.from) refl (own-reads (affiliation x (node_of r node) r.from) q.0))
+      (retract-reads (node_at (node_of r node) x.nodes) x (node_of r node) r.from (unless-none (stands (node_of r node) x.nodes) C12 p.0) (affiliation x (node_of r node) r.from) refl
+      (own-reads (affiliation x (node_of r node) r.from) q.0))

@@ -68,7 +68,8 @@ module _ {R : Type 0} (test : R → Bool) where
   pub stays : (most : ℕ) (xs : List R) → (length (keep_newest test most xs) == length xs) ≡ nat_le (count_by test xs) most
   stays most xs = stays-by most xs (nat_le (count_by test xs) most) refl
 
-  zero-step : (x : R) (xs : List R) (b : Bool) → without test xs ≡ keep_newest test 0 xs → cond (not b) (x ∷ without test xs) (without test xs) ≡ cond (b && nat_le 0 (count_by test xs)) (keep_newest test 0 xs) (x ∷ keep_newest test 0 xs)
+  zero-step : (x : R) (xs : List R) (b : Bool) → without test xs ≡ keep_newest test 0 xs
+      → cond (not b) (x ∷ without test xs) (without test xs) ≡ cond (b && nat_le 0 (count_by test xs)) (keep_newest test 0 xs) (x ∷ keep_newest test 0 xs)
   zero-step x xs true h = rw (let z : nat_le 0 (count_by test xs) ≡ true = grind (arith, nat_tests) in z) h
   zero-step x xs false h = ap (λ r. x ∷ r) h
 
@@ -77,14 +78,16 @@ module _ {R : Type 0} (test : R → Bool) where
   without-zero [] = refl
   without-zero (x ∷ xs) = zero-step x xs (test x) (without-zero xs)
 
-module _ (S : List NodeKey) (a : Jid) (decides : (ms ns : List NodeRow) → same_nodes ms ns ≡ true → ms ≡ ns) (x : Book) (shut : IsShutOut S a x) (i : List ItemRow) (c : List CountRow) (h : items_outside S x.items ≡ items_outside S i) (k : counts_outside S a x.counts ≡ counts_outside S a c) where
+module _ (S : List NodeKey) (a : Jid) (decides : (ms ns : List NodeRow) → same_nodes ms ns ≡ true → ms ≡ ns) (x : Book) (shut : IsShutOut S a x) (i : List ItemRow) (c : List CountRow)
+    (h : items_outside S x.items ≡ items_outside S i) (k : counts_outside S a x.counts ≡ counts_outside S a c) where
   -- ---- ConfigSet
 
   count-same : (node : NodeKey) → is_in S node ≡ false → item_count node x.items ≡ item_count node i
   count-same node is = sym (count-seen S node is x.items) ∙ ap (item_count node) h ∙ count-seen S node is i
 
   under-length : (node : NodeKey) (config : NodeConfig) (persist : Bool) → is_in S node ≡ false
-      → (length (cond persist (items_kept node config.max_items x.items) (items_without node x.items)) == length x.items) ≡ (length (cond persist (items_kept node config.max_items i) (items_without node i)) == length i)
+      → (length (cond persist (items_kept node config.max_items x.items) (items_without node x.items)) == length x.items) ≡
+      (length (cond persist (items_kept node config.max_items i) (items_without node i)) == length i)
   under-length node config true is = stays (is_item_at node) config.max_items x.items ∙ ap (λ n. nat_le n config.max_items) (count-same node is) ∙ sym (stays (is_item_at node) config.max_items i)
   under-length node config false is =
       rw (without-zero (is_item_at node) x.items, without-zero (is_item_at node) i)
@@ -197,7 +200,8 @@ module _ (S : List NodeKey) (a : Jid) (decides : (ms ns : List NodeRow) → same
       under true = kept-hidden S node is config.max_items x.items
       under false = without-hidden S node is x.items
 
-  config_by-still : (found : Option NodeRow) (node : NodeKey) (form : Option Tree) → is_in S node ≡ true → same_nodes (configured_by found node form x).nodes x.nodes ≡ true → Beside S a x (configured_by found node form x)
+  config_by-still : (found : Option NodeRow) (node : NodeKey) (form : Option Tree) → is_in S node ≡ true → same_nodes (configured_by found node form x).nodes x.nodes ≡ true
+      → Beside S a x (configured_by found node form x)
   config_by-still None node form is same = beside-itself S a x
   config_by-still (Some row) node None is same = beside-itself S a x
   config_by-still (Some row) node (Some form) is same = given (config_given config_type row.config (form_of form)) same
@@ -278,7 +282,8 @@ module _ (S : List NodeKey) (a : Jid) (decides : (ms ns : List NodeRow) → same
 
   -- ---- an accepted request of one who is shut out commits in both or in none
 
-  pub commits-own : (q : Ask) (r : Request) → same_bare r.from a ≡ true → first_denial (steps_of q x r) ≡ None → commits_by q x (changed_by q r None x) ≡ commits_by q (twin x i c) (changed_by q r None (twin x i c))
+  pub commits-own : (q : Ask) (r : Request) → same_bare r.from a ≡ true → first_denial (steps_of q x r) ≡ None
+      → commits_by q x (changed_by q r None x) ≡ commits_by q (twin x i c) (changed_by q r None (twin x i c))
   commits-own (ask.Retract node ids notify) r same none = refl
   commits-own (ask.ConfigSet node form) r same none = commits-even (ask.ConfigSet node form) r (config-open S a x shut i c h k r node form same none)
   commits-own (ask.Create node form) r same none = commits-even (ask.Create node form) r refl

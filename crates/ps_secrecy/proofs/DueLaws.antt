@@ -204,13 +204,15 @@ module _ (S : List NodeKey) (a : Jid) (x z : Book) (shut : IsShutOut S a x) (shu
       flat-same a (λ who. due_of x z evs who) (λ who. []) (λ who same. due-none who same evs all) (sorted (asks x z evs))
       ∙ flat-nothing a (sorted (asks x z evs))
 
-  pub all-twin : (i j : List ItemRow) (c d : List CountRow) → items_outside S x.items ≡ items_outside S i → items_outside S z.items ≡ items_outside S j → (evs : List Event) → due_to a (all_due (twin x i c) (twin z j d) evs) ≡ due_to a (all_due x z evs)
+  pub all-twin : (i j : List ItemRow) (c d : List CountRow) → items_outside S x.items ≡ items_outside S i → items_outside S z.items ≡ items_outside S j → (evs : List Event)
+      → due_to a (all_due (twin x i c) (twin z j d) evs) ≡ due_to a (all_due x z evs)
   all-twin i j c d h l evs =
       flat-same a (λ who. due_of (twin x i c) (twin z j d) evs who) (λ who. due_of x z evs who) (λ who same. due-twin who same i j c d h l evs) (sorted (asks (twin x i c) (twin z j d) evs))
       ∙ ap (λ (ws : List Jid). due_to a (flat_map (λ who. map (λ t. (who, t)) (due_of x z evs who)) (sorted ws))) (asks-twin x z i j c d evs)
 
   -- in both worlds
-  pub all-same : (i j : List ItemRow) (c d : List CountRow) → items_outside S x.items ≡ items_outside S i → items_outside S z.items ≡ items_outside S j → (evs fvs : List Event) → map (blank S) evs ≡ map (blank S) fvs
+  pub all-same : (i j : List ItemRow) (c d : List CountRow) → items_outside S x.items ≡ items_outside S i → items_outside S z.items ≡ items_outside S j → (evs fvs : List Event)
+      → map (blank S) evs ≡ map (blank S) fvs
       → due_to a (all_due x z evs) ≡ due_to a (all_due (twin x i c) (twin z j d) fvs)
   all-same i j c d h l evs fvs e =
       sym (all-blank evs) ∙ ap (λ (bs : List Event). due_to a (all_due x z bs)) e ∙ all-blank fvs ∙ sym (all-twin i j c d h l fvs)

@@ -89,7 +89,8 @@ module _ (S : List NodeKey) (a : Jid) where
   all-but false = refl
 
   module _ (host : List ℕ) (line : ℕ) (m : Option ℕ) (u : Tree) where
-    change-accepted : (s : State) (o : Option Request) → request_on host s.book u ≡ o → is_booted s ≡ true → is_next_line host line s.lines ≡ true → accepted s (Change host line m u) ≡ request_accepted o s.book
+    change-accepted : (s : State) (o : Option Request) → request_on host s.book u ≡ o → is_booted s ≡ true → is_next_line host line s.lines ≡ true
+        → accepted s (Change host line m u) ≡ request_accepted o s.book
     change-accepted s o at booted next =
         ap₂ (λ (b : Bool) (q : Option Request). b && request_accepted q s.book && is_next_line host line s.lines) booted at
         ∙ ap (λ c. true && request_accepted o s.book && c) next ∙ all-but (request_accepted o s.book)
@@ -126,12 +127,14 @@ module _ (S : List NodeKey) (a : Jid) where
   with-row s o = record { book = book_based o s.book; count = s.count + 1; tallies = row_tallies o s.tallies; lines = s.lines }
 
   base-asked : (s t : State) → SameBut S a s t → (o : Option BaseRow) → IsShutOut S a (cond (row_accepted o s) (with-row s o) s).book → IsShutOut S a (cond (row_accepted o t) (with-row t o) t).book
-      → LookAlike S a (cond (row_accepted o s) (with-row s o) s) (cond (row_accepted o t) (with-row t o) t) (cond (row_accepted o s) (row_notices s.count s.tallies o) []) (cond (row_accepted o t) (row_notices t.count t.tallies o) [])
+      → LookAlike S a (cond (row_accepted o s) (with-row s o) s) (cond (row_accepted o t) (with-row t o) t) (cond (row_accepted o s) (row_notices s.count s.tallies o) [])
+      (cond (row_accepted o t) (row_notices t.count t.tallies o) [])
   unfolding with-row
   base-asked s t h None shut shut2 = record { same = h; hear = refl }
   base-asked s t h (Some r) shut shut2 = base-on S a s t h r shut shut2
 
-  base-by : (s t : State) → SameBut S a s t → (row : Tree) (b : Bool) → is_booted s ≡ b → Shut s (Base row) (accepted s (Base row)) → Shut t (Base row) (accepted t (Base row)) → After s t (Base row) (accepted s (Base row)) (accepted t (Base row))
+  base-by : (s t : State) → SameBut S a s t → (row : Tree) (b : Bool) → is_booted s ≡ b → Shut s (Base row) (accepted s (Base row)) → Shut t (Base row) (accepted t (Base row))
+      → After s t (Base row) (accepted s (Base row)) (accepted t (Base row))
   unfolding After Shut with-row
   base-by s t h row false booted shut shut2 =
       let o = row_of row in

@@ -39,7 +39,8 @@ off true true false s t shut = refl
 off true false m s t shut = refl
 off false q m s t shut = refl
 
-pub last-none : (book : Book) (node : NodeKey) (who : Jid) (by : Bool) (moment : Option ℕ) (config : Option NodeConfig) (item : Option ItemRow) → may_read book node who ≡ false → last_notice book node who by moment config item ≡ None
+pub last-none : (book : Book) (node : NodeKey) (who : Jid) (by : Bool) (moment : Option ℕ) (config : Option NodeConfig) (item : Option ItemRow) → may_read book node who ≡ false
+    → last_notice book node who by moment config item ≡ None
 last-none book node who by moment None item shut = refl
 last-none book node who by moment (Some config) None shut = refl
 last-none book node who by moment (Some config) (Some item) shut =
@@ -57,7 +58,8 @@ module _ (z : Book) (i : List ItemRow) (c : List CountRow) where
   notice-twin about who None = refl
   notice-twin about who (Some config) = rw (read-twin z i c about.node who, pass-twin who (about.way who)) refl
 
-  last-twin : (node : NodeKey) (who : Jid) (by : Bool) (moment : Option ℕ) (config : Option NodeConfig) (item : Option ItemRow) → last_notice (twin z i c) node who by moment config item ≡ last_notice z node who by moment config item
+  last-twin : (node : NodeKey) (who : Jid) (by : Bool) (moment : Option ℕ) (config : Option NodeConfig) (item : Option ItemRow)
+      → last_notice (twin z i c) node who by moment config item ≡ last_notice z node who by moment config item
   last-twin node who by moment None item = refl
   last-twin node who by moment (Some config) None = refl
   last-twin node who by moment (Some config) (Some item) = rw (read-twin z i c node who) refl
@@ -92,12 +94,15 @@ module _ (S : List NodeKey) (a : Jid) (z : Book) (shut : IsShutOut S a z) (who :
   pub given-hidden : (ev : Event) → is_hidden S ev ≡ true → given z ev who ≡ None
   given-hidden (event.Items node item) is = notice-none z (about_node z true node always (items_inside node item)) who (config_at node z.nodes) (may_read-none S a z shut node who same is)
   given-hidden (event.Retract node id) is = notice-none z (about_node z true node always (λ config. retract_tree node id)) who (config_at node z.nodes) (may_read-none S a z shut node who same is)
-  given-hidden (event.Purge node) is = notice-none z (about_node z true node always (λ config. named_tree (codes "purge") node)) who (config_at node z.nodes) (may_read-none S a z shut node who same is)
-  given-hidden (event.Configuration node) is = notice-none z (about_node z false node (λ config. config.notify_config) (λ config. named_tree (codes "configuration") node)) who (config_at node z.nodes) (may_read-none S a z shut node who same is)
+  given-hidden (event.Purge node) is = notice-none z (about_node z true node always (λ config. named_tree (codes "purge") node)) who (config_at node z.nodes)
+      (may_read-none S a z shut node who same is)
+  given-hidden (event.Configuration node) is = notice-none z (about_node z false node (λ config. config.notify_config) (λ config. named_tree (codes "configuration") node)) who
+      (config_at node z.nodes) (may_read-none S a z shut node who same is)
   given-hidden (event.Last node to by moment) is = hidden (same_jid to who) refl
     where
       hidden : (b : Bool) → same_jid to who ≡ b → (if b then last_notice z node to by moment (config_at node z.nodes) (last_item node z.items) else None) ≡ None
-      hidden true e = last-none z node to by moment (config_at node z.nodes) (last_item node z.items) (may_read-none S a z shut node to (ap (λ (w : Jid). same_bare w a) ((same_jid-Decides to who).0 e) ∙ same) is)
+      hidden true e = last-none z node to by moment (config_at node z.nodes) (last_item node z.items)
+          (may_read-none S a z shut node to (ap (λ (w : Jid). same_bare w a) ((same_jid-Decides to who).0 e) ∙ same) is)
       hidden false e = refl
   given-hidden (event.Delete node) is = absurd (true≢false (sym is))
   given-hidden (event.Associate node collection) is = absurd (true≢false (sym is))
@@ -110,7 +115,8 @@ module _ (S : List NodeKey) (a : Jid) (z : Book) (shut : IsShutOut S a z) (who :
   items-blank node item true is = given-hidden (event.Items node None) is ∙ sym (given-hidden (event.Items node item) is)
   items-blank node item false is = refl
 
-  moment-blank : (node : NodeKey) (to : Jid) (by : Bool) (moment : Option ℕ) (b : Bool) → is_in S node ≡ b → given z (event.Last node to by (cond b None moment)) who ≡ given z (event.Last node to by moment) who
+  moment-blank : (node : NodeKey) (to : Jid) (by : Bool) (moment : Option ℕ) (b : Bool) → is_in S node ≡ b
+      → given z (event.Last node to by (cond b None moment)) who ≡ given z (event.Last node to by moment) who
   moment-blank node to by moment true is = given-hidden (event.Last node to by None) is ∙ sym (given-hidden (event.Last node to by moment) is)
   moment-blank node to by moment false is = refl
 
@@ -131,9 +137,11 @@ module _ (S : List NodeKey) (a : Jid) (z : Book) (shut : IsShutOut S a z) (who :
     item-same node is = sym (last-seen S node is i) ∙ ap (last_item node) (sym h) ∙ last-seen S node is z.items
 
     lasts : (node : NodeKey) (to : Jid) (by : Bool) (moment : Option ℕ) (in-S mine : Bool) → is_in S node ≡ in-S → same_jid to who ≡ mine
-        → (if mine then last_notice (twin z i c) node to by moment (config_at node z.nodes) (last_item node i) else None) ≡ (if mine then last_notice z node to by moment (config_at node z.nodes) (last_item node z.items) else None)
+        → (if mine then last_notice (twin z i c) node to by moment (config_at node z.nodes) (last_item node i) else None) ≡
+        (if mine then last_notice z node to by moment (config_at node z.nodes) (last_item node z.items) else None)
     lasts node to by moment in-S false is e = refl
-    lasts node to by moment false true is e = ap (λ (o : Option ItemRow). last_notice (twin z i c) node to by moment (config_at node z.nodes) o) (item-same node is) ∙ last-twin z i c node to by moment (config_at node z.nodes) (last_item node z.items)
+    lasts node to by moment false true is e = ap (λ (o : Option ItemRow). last_notice (twin z i c) node to by moment (config_at node z.nodes) o) (item-same node is) ∙ last-twin z i c node to by
+        moment (config_at node z.nodes) (last_item node z.items)
     lasts node to by moment true true is e =
         let its = may_read-none S a z shut node to (ap (λ (w : Jid). same_bare w a) ((same_jid-Decides to who).0 e) ∙ same) is in
         last-twin z i c node to by moment (config_at node z.nodes) (last_item node i) ∙ last-none z node to by moment (config_at node z.nodes) (last_item node i) its
@@ -144,7 +152,8 @@ module _ (S : List NodeKey) (a : Jid) (z : Book) (shut : IsShutOut S a z) (who :
     given-twin (event.Retract node id) = notice-twin z i c (about_node z true node always (λ config. retract_tree node id)) who (config_at node z.nodes)
     given-twin (event.Purge node) = notice-twin z i c (about_node z true node always (λ config. named_tree (codes "purge") node)) who (config_at node z.nodes)
     given-twin (event.Delete node) = notice-twin z i c (about_node z false node (λ config. config.notify_delete) (λ config. named_tree (codes "delete") node)) who (config_at node z.nodes)
-    given-twin (event.Configuration node) = notice-twin z i c (about_node z false node (λ config. config.notify_config) (λ config. named_tree (codes "configuration") node)) who (config_at node z.nodes)
+    given-twin (event.Configuration node) = notice-twin z i c (about_node z false node (λ config. config.notify_config) (λ config. named_tree (codes "configuration") node)) who
+        (config_at node z.nodes)
     given-twin (event.Associate node collection) = notice-twin z i c (about_new z node collection) who (config_at collection z.nodes)
     given-twin (event.Approval node owner w) = refl
     given-twin (event.Told node w state) = refl

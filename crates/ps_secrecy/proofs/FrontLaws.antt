@@ -94,13 +94,15 @@ module _ (Like : List Entry → List Entry → Type 0) where
         let l = length-append (take (ends m w.made) w.made) ((w.steps + 1) ∷ []) in
         let k = length-append (take (ends m w.made) w.entries) (Boot boot ∷ []) in
         record {
-          by = by-snoc (w.steps + 1) (w.steps + 1) (take (ends m w.made) w.made) (omega arith) (by-take (w.steps + 1) (ends m w.made) w.made (by-more w.steps (w.steps + 1) w.made (omega arith) fits.by));
+          by = by-snoc (w.steps + 1) (w.steps + 1) (take (ends m w.made) w.made) (omega arith)
+              (by-take (w.steps + 1) (ends m w.made) w.made (by-more w.steps (w.steps + 1) w.made (omega arith) fits.by));
           sizes = omega (arith, s, l, k);
           flushed = omega arith;
         }
 
     -- a crash takes one of the fronts in both
-    pub crash-on : (v w : World) (m : ℕ) → Fronts Like v w → Like (first m v ++ Boot boot ∷ []) (first m w ++ Boot boot ∷ []) → Fronts Like (counted (crashes core boot v m)) (counted (crashes core boot w m))
+    pub crash-on : (v w : World) (m : ℕ) → Fronts Like v w → Like (first m v ++ Boot boot ∷ []) (first m w ++ Boot boot ∷ [])
+        → Fronts Like (counted (crashes core boot v m)) (counted (crashes core boot w m))
     crash-on v w m h new = record {
       steps = ap (λ n. n + 1) h.steps;
       flushed = ap (λ n. n + 1) h.steps;

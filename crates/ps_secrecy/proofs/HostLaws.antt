@@ -46,7 +46,8 @@ module _ (a : Jid) (service : List ℕ) (h : List ℕ) where
   heads : {X : Type 0} (x y : X) (xs ys : List X) → x ∷ xs ≡ y ∷ ys → (x ≡ y) × (xs ≡ ys)
   heads x y xs ys e = (cc e, cc e)
 
-  one-same : (s t : Said) (b c : Bool) → is_for a service h s ≡ b → is_for a service h t ≡ c → cond b (Some (gist s)) None ≡ cond c (Some (gist t)) None → (xs ys : List Said) → map gist xs ≡ map gist ys
+  one-same : (s t : Said) (b c : Bool) → is_for a service h s ≡ b → is_for a service h t ≡ c → cond b (Some (gist s)) None ≡ cond c (Some (gist t)) None → (xs ys : List Said)
+      → map gist xs ≡ map gist ys
       → map gist (cond b (s ∷ xs) xs) ≡ map gist (cond c (t ∷ ys) ys)
   one-same s t true true is is2 e xs ys more = let g : gist s ≡ gist t = cc e in ap₂ (λ (x : Said) (rest : List Said). x ∷ rest) g more
   one-same s t false false is is2 e xs ys more = more
@@ -59,10 +60,12 @@ module _ (a : Jid) (service : List ℕ) (h : List ℕ) where
   same-replies (s ∷ xs) [] e = absurd (cc e)
   same-replies (s ∷ xs) (t ∷ ys) e =
       let p = heads (seen a service h s) (seen a service h t) (map (seen a service h) xs) (map (seen a service h) ys) e in
-      one-same s t (is_for a service h s) (is_for a service h t) refl refl (ap (λ (z : ℕ × Option Said). z.1) p.0) (filter (is_for a service h) xs) (filter (is_for a service h) ys) (same-replies xs ys p.1)
+      one-same s t (is_for a service h s) (is_for a service h t) refl refl (ap (λ (z : ℕ × Option Said). z.1) p.0) (filter (is_for a service h) xs) (filter (is_for a service h) ys)
+      (same-replies xs ys p.1)
 
   -- those of steps up to one
-  kept-same : (keep : ℕ → Bool) (xs ys : List Said) → map (seen a service h) xs ≡ map (seen a service h) ys → map (seen a service h) (filter (λ s. keep s.step) xs) ≡ map (seen a service h) (filter (λ s. keep s.step) ys)
+  kept-same : (keep : ℕ → Bool) (xs ys : List Said) → map (seen a service h) xs ≡ map (seen a service h) ys
+      → map (seen a service h) (filter (λ s. keep s.step) xs) ≡ map (seen a service h) (filter (λ s. keep s.step) ys)
   kept-same keep [] [] e = refl
   kept-same keep [] (t ∷ ys) e = absurd (cc e)
   kept-same keep (s ∷ xs) [] e = absurd (cc e)
@@ -71,13 +74,15 @@ module _ (a : Jid) (service : List ℕ) (h : List ℕ) where
       by (keep s.step) (keep t.step) (ap (λ (z : ℕ × Option Said). keep z.0) p.0) p.0 (kept-same keep xs ys p.1)
     where
       by : (b c : Bool) → b ≡ c → seen a service h s ≡ seen a service h t → map (seen a service h) (filter (λ s. keep s.step) xs) ≡ map (seen a service h) (filter (λ s. keep s.step) ys)
-          → map (seen a service h) (cond b (s ∷ filter (λ s. keep s.step) xs) (filter (λ s. keep s.step) xs)) ≡ map (seen a service h) (cond c (t ∷ filter (λ s. keep s.step) ys) (filter (λ s. keep s.step) ys))
+          → map (seen a service h) (cond b (s ∷ filter (λ s. keep s.step) xs) (filter (λ s. keep s.step) xs)) ≡ map (seen a service h)
+          (cond c (t ∷ filter (λ s. keep s.step) ys) (filter (λ s. keep s.step) ys))
       by true true same first more = ap₂ (λ (z : ℕ × Option Said) (rest : List (ℕ × Option Said)). z ∷ rest) first more
       by false false same first more = more
       by true false same first more = absurd (true≢false same)
       by false true same first more = absurd (true≢false (sym same))
 
-  pub released-same : (keep : ℕ → Bool) (xs ys : List Said) → map (seen a service h) xs ≡ map (seen a service h) ys → replies_to a service h (filter (λ s. keep s.step) xs) ≡ replies_to a service h (filter (λ s. keep s.step) ys)
+  pub released-same : (keep : ℕ → Bool) (xs ys : List Said) → map (seen a service h) xs ≡ map (seen a service h) ys
+      → replies_to a service h (filter (λ s. keep s.step) xs) ≡ replies_to a service h (filter (λ s. keep s.step) ys)
   released-same keep xs ys e = same-replies (filter (λ s. keep s.step) xs) (filter (λ s. keep s.step) ys) (kept-same keep xs ys e)
 
 pub map-take : {X Y : Type 0} (f : X → Y) (n : ℕ) (xs : List X) → map f (take n xs) ≡ take n (map f xs)

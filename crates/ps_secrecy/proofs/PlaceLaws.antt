@@ -120,7 +120,8 @@ module _ (a : Jid) where
   placed (d ∷ E) s k zero n e = let q = not-before (d ∷ E) s k n e in record { low = λ l. absurd (omega (arith, q, l)); high = λ l. omega arith }
   placed (d ∷ E) s k (suc p) n e = by (λ j h. placed E (after s d) j p n h) (split (to_address a (notices_at s d)) (notices_from (after s d) E a) k n e)
     where
-      by : ((j : ℕ) → slice_get (notices_from (after s d) E a) j ≡ Some n → Placed E (after s d) j p n) → InBoth (to_address a (notices_at s d)) (notices_from (after s d) E a) k n → Placed (d ∷ E) s k (suc p) n
+      by : ((j : ℕ) → slice_get (notices_from (after s d) E a) j ≡ Some n → Placed E (after s d) j p n) → InBoth (to_address a (notices_at s d)) (notices_from (after s d) E a) k n
+          → Placed (d ∷ E) s k (suc p) n
       by later (inl q) =
           let at = at-get s.count (to_address a (notices_at s d)) (mine-at s d) k n q.1 in
           let l = q.0 in

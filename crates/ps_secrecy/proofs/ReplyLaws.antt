@@ -165,16 +165,19 @@ asked-some S a x y h host service u r spells = outcome-some u r (check x r) ∙ 
         ap (λ (b : Bool). cond (is_accepted (check x r)) (is_answered u && b) (is_answered u)) iq ∙ iq-some (is_accepted (check x r)) (is_answered u)
         ∙ sym (ap (λ (b : Bool). cond (is_accepted (check y r)) (is_answered u && b) (is_answered u)) iq ∙ iq-some (is_accepted (check y r)) (is_answered u))
     by false e =
-        ap (λ (b : Bool). cond b (is_answered u && is_iq u) (is_answered u)) (by-twin S a (λ (b : Book). is_accepted (check x r) ≡ is_accepted (check b r)) x y h (λ i c hi hc. accepted-twin x i c r e))
+        ap (λ (b : Bool). cond b (is_answered u && is_iq u) (is_answered u))
+        (by-twin S a (λ (b : Book). is_accepted (check x r) ≡ is_accepted (check b r)) x y h (λ i c hi hc. accepted-twin x i c r e))
 
-taken-some : (S : List NodeKey) (a : Jid) (x y : Book) → Beside S a x y → (host service : List ℕ) (line line2 : ℕ) (one : Arrival) (z : Taken) → taking.taken host service one ≡ z → is_some (reply_in z x line) ≡ is_some (reply_in z y line2)
+taken-some : (S : List NodeKey) (a : Jid) (x y : Book) → Beside S a x y → (host service : List ℕ) (line line2 : ℕ) (one : Arrival) (z : Taken) → taking.taken host service one ≡ z
+    → is_some (reply_in z x line) ≡ is_some (reply_in z y line2)
 taken-some S a x y h host service line line2 one taken.silent e = refl
 taken-some S a x y h host service line line2 one (taken.refused why) e = refl
 taken-some S a x y h host service line line2 one (taken.denied head why) e = refl
 taken-some S a x y h host service line line2 one (taken.asked u r) e = asked-some S a x y h host service u r (taken-spelled host service u u r (arrival-tree host service one u r e))
 
 -- one line in both
-pub line-some : (S : List NodeKey) (a : Jid) (s t : State) → SameBut S a s t → (host : List ℕ) (line line2 : ℕ) (one : Arrival) → is_some (line_reply s host line one) ≡ is_some (line_reply t host line2 one)
+pub line-some : (S : List NodeKey) (a : Jid) (s t : State) → SameBut S a s t → (host : List ℕ) (line line2 : ℕ) (one : Arrival)
+    → is_some (line_reply s host line one) ≡ is_some (line_reply t host line2 one)
 line-some S a s t h host line line2 one =
     taken-some S a s.book t.book (beside-of S a s t h) host s.book.service line line2 one (taking.taken host s.book.service one) refl
     ∙ ap (λ (service : List ℕ). is_some (reply_in (taking.taken host service one) t.book line2)) h.service

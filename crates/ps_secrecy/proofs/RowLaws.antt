@@ -58,7 +58,8 @@ module _ (S : List NodeKey) where
     items_of-seen rows = seen-part (λ (row : ItemRow). not (is_in S row.node)) (is_item_at node) (of-node node false is) rows
 
     pub last-seen : (rows : List ItemRow) → last_item node (items_outside S rows) ≡ last_item node rows
-    last-seen rows = ap (find (is_item_at node)) (sym (filter-reverse (λ (row : ItemRow). not (is_in S row.node)) rows)) ∙ seen-find (λ (row : ItemRow). not (is_in S row.node)) (is_item_at node) (of-node node false is) (reverse rows)
+    last-seen rows = ap (find (is_item_at node)) (sym (filter-reverse (λ (row : ItemRow). not (is_in S row.node)) rows)) ∙ seen-find (λ (row : ItemRow). not (is_in S row.node)) (is_item_at node)
+        (of-node node false is) (reverse rows)
 
   pub without-both : (node : NodeKey) (rows : List ItemRow) → items_outside S (items_without node rows) ≡ items_without node (items_outside S rows)
   without-both node rows = gone-both (λ (row : ItemRow). not (is_in S row.node)) (is_item_at node) rows
@@ -95,7 +96,8 @@ module _ (S : List NodeKey) (a : Jid) where
         bare-hides : (b : Bool) → hides S a node who ≡ b → hides S a node (bare who) ≡ b
         bare-hides b e = ap (λ c. is_in S node && not c) (sym (same_bare-like who (bare who) a ((same_bare-Decides who (bare who)).1 (refl, refl)))) ∙ e
 
-    pub counts-seen : hides S a node who ≡ false → (made : ℕ) (rows : List CountRow) → counts_outside S a (counts_with (count_row node who made) rows) ≡ counts_with (count_row node who made) (counts_outside S a rows)
+    pub counts-seen : hides S a node who ≡ false → (made : ℕ) (rows : List CountRow)
+        → counts_outside S a (counts_with (count_row node who made) rows) ≡ counts_with (count_row node who made) (counts_outside S a rows)
     counts-seen e made rows =
         seen-put (λ (row : CountRow). not (is_in S row.node && not (same_bare row.who a))) (is_count_of node (bare who)) (of-count node (bare who) false (bare-hides false e)) (count_row node who made)
         (of-count node who false e (count_row node who made) (its-own node who made)) rows
@@ -112,5 +114,6 @@ module _ (S : List NodeKey) (a : Jid) where
 pub count-seen : (S : List NodeKey) (node : NodeKey) → is_in S node ≡ false → (rows : List ItemRow) → item_count node (items_outside S rows) ≡ item_count node rows
 count-seen S node is rows = seen-count (λ (row : ItemRow). not (is_in S row.node)) (is_item_at node) (of-node S node false is) rows
 
-pub count_row-seen : (S : List NodeKey) (a : Jid) (node : NodeKey) (who : Jid) → hides S a node who ≡ false → (rows : List CountRow) → find (is_count_of node who) (counts_outside S a rows) ≡ find (is_count_of node who) rows
+pub count_row-seen : (S : List NodeKey) (a : Jid) (node : NodeKey) (who : Jid) → hides S a node who ≡ false → (rows : List CountRow)
+    → find (is_count_of node who) (counts_outside S a rows) ≡ find (is_count_of node who) rows
 count_row-seen S a node who e rows = seen-find (λ (row : CountRow). not (is_in S row.node && not (same_bare row.who a))) (is_count_of node who) (of-count S a node who false e) rows

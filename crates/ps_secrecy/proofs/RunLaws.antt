@@ -50,7 +50,8 @@ handed-on E (Some e) a = handed-append E (e ∷ []) a
 pub run-on : (S : List NodeKey) (a : Jid) (E F : List Entry) (o p : Option Entry) → AlikeRuns S a E F
     → Ends S a (replay_from empty_state E) (replay_from empty_state F) o p → hands o a ≡ hands p a → AlikeRuns S a (more_entries E o) (more_entries F p)
 run-on S a E F o p h ends hand = record {
-  state = subst (λ (s : State). SameBut S a s (replay_from empty_state (more_entries F p))) (sym (state-on E o)) (subst (λ (t : State). SameBut S a (added (replay_from empty_state E) o) t) (sym (state-on F p)) ends.same);
+  state = subst (λ (s : State). SameBut S a s (replay_from empty_state (more_entries F p))) (sym (state-on E o))
+      (subst (λ (t : State). SameBut S a (added (replay_from empty_state E) o) t) (sym (state-on F p)) ends.same);
   hears = hearing-on a E o
       ∙ ap (λ (ns : List Notice). ns ++ heard a (notes (replay_from empty_state E) o)) h.hears
       ∙ ap (λ (ns : List Notice). hearing a empty_state F ++ ns) ends.hear

@@ -48,14 +48,17 @@ ends-as S a s t o o2 p p2 e f law shut shut2 =
 
 pub line-secret : (S : List NodeKey) (a : Jid) (s t : State) → SameBut S a s t → (host : List ℕ) (line line2 : ℕ) (one : Arrival)
     → IsShutOut S a (added s (entry_of host s.book line one false)).book → IsShutOut S a (added t (entry_of host t.book line2 one false)).book
-    → LookAlike S a (added s (entry_of host s.book line one false)) (added t (entry_of host t.book line2 one false)) (notes s (entry_of host s.book line one false)) (notes t (entry_of host t.book line2 one false))
+    → LookAlike S a (added s (entry_of host s.book line one false)) (added t (entry_of host t.book line2 one false)) (notes s (entry_of host s.book line one false))
+    (notes t (entry_of host t.book line2 one false))
 line-secret S a s t h host line line2 one shut shut2 =
     ends-as S a s t (entry_of host s.book line one false) (line_entry s host line one) (entry_of host t.book line2 one false) (line_entry t host line2 one)
     (entries-are s host line one) (entries-are t host line2 one) (line-on S a s t h host line line2 one) shut shut2
 
-pub pair-secret : (S : List NodeKey) (a : Jid) (s t : State) → SameBut S a s t → (host : List ℕ) (node : NodeKey) (line line2 : ℕ) (one two : Arrival) → Touches S a s host one node → Touches S a t host two node
+pub pair-secret : (S : List NodeKey) (a : Jid) (s t : State) → SameBut S a s t → (host : List ℕ) (node : NodeKey) (line line2 : ℕ) (one two : Arrival) → Touches S a s host one node
+    → Touches S a t host two node
     → IsShutOut S a (added s (entry_of host s.book line one false)).book → IsShutOut S a (added t (entry_of host t.book line2 two false)).book
-    → LookAlike S a (added s (entry_of host s.book line one false)) (added t (entry_of host t.book line2 two false)) (notes s (entry_of host s.book line one false)) (notes t (entry_of host t.book line2 two false))
+    → LookAlike S a (added s (entry_of host s.book line one false)) (added t (entry_of host t.book line2 two false)) (notes s (entry_of host s.book line one false))
+    (notes t (entry_of host t.book line2 two false))
 pair-secret S a s t h host node line line2 one two p q shut shut2 =
     ends-as S a s t (entry_of host s.book line one false) (line_entry s host line one) (entry_of host t.book line2 two false) (line_entry t host line2 two)
     (entries-are s host line one) (entries-are t host line2 two) (lines-on S a s t h host node line line2 one two p q) shut shut2
@@ -73,12 +76,14 @@ gets : (S : List NodeKey) (a : Jid) (service : List ℕ) (core : Core) → IsCor
 gets S a service core is v w al = record {
   released = λ h. released-same a service h (λ n. nat_le n v.flushed) (v.hosts h).said (w.hosts h).said (al.hosts.said h)
       ∙ ap (λ m. replies_to a service h (filter (λ (s : Said). nat_le s.step m) (w.hosts h).said)) al.hosts.fronts.flushed;
-  taken = λ h. same-replies a service h (all_taken (v.hosts h)) (all_taken (w.hosts h)) (all-seen S a core service is h (v.hosts h) (w.hosts h) (al.hosts.earlier h) (al.hosts.said h) (al.hosts.taken h));
+  taken = λ h. same-replies a service h (all_taken (v.hosts h)) (all_taken (w.hosts h))
+      (all-seen S a core service is h (v.hosts h) (w.hosts h) (al.hosts.earlier h) (al.hosts.said h) (al.hosts.taken h));
   sent = al.sent;
   earlier = al.earlier;
 }
 
-pub run-secret : (core : Core) → AnswersAs core → (S : List NodeKey) (a : Jid) → a.resource ≡ [] → (service : List ℕ) (E : List Entry) (xs ys : List Step) → IsShutOut S a (replay (E ++ Boot service ∷ [])).book
+pub run-secret : (core : Core) → AnswersAs core → (S : List NodeKey) (a : Jid) → a.resource ≡ [] → (service : List ℕ) (E : List Entry) (xs ys : List Step)
+    → IsShutOut S a (replay (E ++ Boot service ∷ [])).book
     → ArePairs core service S a (start core service E) (start core service E) xs ys → AreDenied core service S a (start core service E) xs → AreDenied core service S a (start core service E) ys
     → GetsTheSame a service (run core service (start core service E) xs) (run core service (start core service E) ys)
 run-secret core answers S a bare service E xs ys shut pairs dx dy =
@@ -86,6 +91,7 @@ run-secret core answers S a bare service E xs ys shut pairs dx dy =
     gets S a service core is (run core service (start core service E) xs) (run core service (start core service E) ys)
     (whole-runs S a core service is (is-heard core answers a bare) E xs ys shut pairs dx dy)
 
-pub reply-secret : (S : List NodeKey) (a : Jid) (s t : State) → SameBut S a s t → (host : List ℕ) (line : ℕ) (one : Arrival) → reply_for a host s.book line one false ≡ reply_for a host t.book line one false
+pub reply-secret : (S : List NodeKey) (a : Jid) (s t : State) → SameBut S a s t → (host : List ℕ) (line : ℕ) (one : Arrival)
+    → reply_for a host s.book line one false ≡ reply_for a host t.book line one false
 reply-secret S a s t h host line one =
     for-is a s host line one ∙ reply-on S a s t h host line one ∙ sym (for-is a t host line one)

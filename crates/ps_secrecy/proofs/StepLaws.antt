@@ -44,12 +44,24 @@ module _ (S : List NodeKey) (a : Jid) where
 
   pub beside-of : (s t : State) → SameBut S a s t → Beside S a s.book t.book
   beside-of s t h = record {
-    twins = λ i. record { service = h.service i; nodes = h.nodes i; affils = h.affils i; subs = h.subs i; items = t.book.items; links = h.links i; rosters = h.rosters i; resources = h.resources i; vers = h.vers i; counts = t.book.counts };
+    twins = λ i. record {
+      service = h.service i;
+      nodes = h.nodes i;
+      affils = h.affils i;
+      subs = h.subs i;
+      items = t.book.items;
+      links = h.links i;
+      rosters = h.rosters i;
+      resources = h.resources i;
+      vers = h.vers i;
+      counts = t.book.counts;
+    };
     items = h.items;
     counts = h.counts;
   }
 
-  pub same-of : (s t : State) → Beside S a s.book t.book → made_for a s.tallies ≡ made_for a t.tallies → handed_to a s.tallies ≡ handed_to a t.tallies → IsShutOut S a s.book → IsShutOut S a t.book → SameBut S a s t
+  pub same-of : (s t : State) → Beside S a s.book t.book → made_for a s.tallies ≡ made_for a t.tallies → handed_to a s.tallies ≡ handed_to a t.tallies → IsShutOut S a s.book → IsShutOut S a t.book
+      → SameBut S a s t
   same-of s t h made handed shut there = record {
     service = ap (λ (b : Book). b.service) h.twins;
     nodes = ap (λ (b : Book). b.nodes) h.twins;
@@ -144,13 +156,15 @@ module _ (S : List NodeKey) (a : Jid) where
       → SameBut S a (after s (Boot service)) (after t (Boot service))
   boot-on s t service h shut shut2 =
       let b = beside-of s t h in
-      same-of (after s (Boot service)) (after t (Boot service)) (record { twins = ap (λ (x : Book). record x { service = service; resources = [] }) b.twins; items = b.items; counts = b.counts }) h.made h.handed shut shut2
+      same-of (after s (Boot service)) (after t (Boot service)) (record { twins = ap (λ (x : Book). record x { service = service; resources = [] }) b.twins; items = b.items; counts = b.counts })
+      h.made h.handed shut shut2
 
   pub gone-on : (s t : State) (host : List ℕ) → SameBut S a s t → IsShutOut S a (after s (Gone host)).book → IsShutOut S a (after t (Gone host)).book
       → SameBut S a (after s (Gone host)) (after t (Gone host))
   gone-on s t host h shut shut2 =
       let b = beside-of s t h in
-      same-of (after s (Gone host)) (after t (Gone host)) (record { twins = ap (λ (x : Book). record x { resources = resources_off host x.resources }) b.twins; items = b.items; counts = b.counts }) h.made h.handed shut shut2
+      same-of (after s (Gone host)) (after t (Gone host)) (record { twins = ap (λ (x : Book). record x { resources = resources_off host x.resources }) b.twins; items = b.items; counts = b.counts })
+      h.made h.handed shut shut2
 
   pub handed-on : (s t : State) (to : Jid) → SameBut S a s t → SameBut S a (after s (Handed to)) (after t (Handed to))
   handed-on s t to h =
@@ -216,7 +230,8 @@ module _ (S : List NodeKey) (a : Jid) where
   Touched : Ask → Request → Option ℕ → Book → Type 0
   Touched q r m x = Beside S a x (changed_by q r m x) × ((z : Book) → list_all (is_hidden S) (events_by q r m x z) ≡ true)
 
-  touched-by : (q : Ask) (r : Request) (m : Option ℕ) (x : Book) (name : List ℕ) → item_node q ≡ Some name → is_in S (node_of r name) ≡ true → stands (node_of r name) x.nodes ≡ true → same_bare r.from a ≡ false → Touched q r m x
+  touched-by : (q : Ask) (r : Request) (m : Option ℕ) (x : Book) (name : List ℕ) → item_node q ≡ Some name → is_in S (node_of r name) ≡ true → stands (node_of r name) x.nodes ≡ true
+      → same_bare r.from a ≡ false → Touched q r m x
   unfolding Touched
   touched-by (ask.Publish node items options) r m x name e is there other =
       let same : node ≡ name = cc in
@@ -267,7 +282,8 @@ module _ (S : List NodeKey) (a : Jid) where
   lone-by s t h m r host line u is stays hidden true shut = one-on s t h m r host line u is stays hidden shut
   lone-by s t h m r host line u is stays hidden false shut = record { same = h; hear = refl }
 
-  pair-by : (s t : State) → SameBut S a s t → (m n : Option ℕ) (r q : Request) (host host2 : List ℕ) (line line2 : ℕ) (u v : Tree) → request_on host s.book u ≡ Some r → request_on host2 t.book v ≡ Some q
+  pair-by : (s t : State) → SameBut S a s t → (m n : Option ℕ) (r q : Request) (host host2 : List ℕ) (line line2 : ℕ) (u v : Tree) → request_on host s.book u ≡ Some r
+      → request_on host2 t.book v ≡ Some q
       → Beside S a s.book (changed r m s.book) → list_all (is_hidden S) (events_of r m s.book (changed r m s.book)) ≡ true
       → Beside S a t.book (changed q n t.book) → list_all (is_hidden S) (events_of q n t.book (changed q n t.book)) ≡ true
       → IsShutOut S a (stepped s r (Change host line m u)).book → IsShutOut S a (stepped t q (Change host2 line2 n v)).book
@@ -278,7 +294,8 @@ module _ (S : List NodeKey) (a : Jid) where
       record { same = same-back (stepped t q (Change host2 line2 n v)) (stepped s r (Change host line m u)) k.same; hear = l.hear ∙ sym k.hear }
 
   -- two requests of others for the items of nodes of these
-  pub pair-on : (s t : State) → SameBut S a s t → (m n : Option ℕ) (r q : Request) (host host2 : List ℕ) (line line2 : ℕ) (u v : Tree) → request_on host s.book u ≡ Some r → request_on host2 t.book v ≡ Some q
+  pub pair-on : (s t : State) → SameBut S a s t → (m n : Option ℕ) (r q : Request) (host host2 : List ℕ) (line line2 : ℕ) (u v : Tree) → request_on host s.book u ≡ Some r
+      → request_on host2 t.book v ≡ Some q
       → Touch s.book r → Touch t.book q
       → IsShutOut S a (stepped s r (Change host line m u)).book → IsShutOut S a (stepped t q (Change host2 line2 n v)).book
       → LookAlike S a (stepped s r (Change host line m u)) (stepped t q (Change host2 line2 n v)) (said s r (Change host line m u)) (said t q (Change host2 line2 n v))
@@ -296,17 +313,21 @@ module _ (S : List NodeKey) (a : Jid) where
 
     turned : (r : Request) (x y : Book) → Beside S a x y → IsShutOut S a x → Turned r x y
     unfolding Turned
-    turned r x y h shut = by-twin S a (λ (b : Book). (makes_entry x r ≡ makes_entry b r) ⊎ ((is_quiet S r r.ask ≡ true) × ((m : Option ℕ) → Beside S a x (changed r m x)))) x y h (λ i c is ks. turns S a decides x shut i c is ks r)
+    turned r x y h shut = by-twin S a (λ (b : Book). (makes_entry x r ≡ makes_entry b r) ⊎ ((is_quiet S r r.ask ≡ true) × ((m : Option ℕ) → Beside S a x (changed r m x)))) x y h
+        (λ i c is ks. turns S a decides x shut i c is ks r)
 
-    even-by : (s t : State) → SameBut S a s t → (m : Option ℕ) (r : Request) (host host2 : List ℕ) (line line2 : ℕ) (u v : Tree) → request_on host s.book u ≡ Some r → request_on host2 t.book v ≡ Some r
+    even-by : (s t : State) → SameBut S a s t → (m : Option ℕ) (r : Request) (host host2 : List ℕ) (line line2 : ℕ) (u v : Tree) → request_on host s.book u ≡ Some r
+        → request_on host2 t.book v ≡ Some r
         → (b c : Bool) → b ≡ c → IsShutOut S a (cond b (after s (Change host line m u)) s).book → IsShutOut S a (cond c (after t (Change host2 line2 m v)) t).book
-        → LookAlike S a (cond b (after s (Change host line m u)) s) (cond c (after t (Change host2 line2 m v)) t) (cond b (notices_at s (Change host line m u)) []) (cond c (notices_at t (Change host2 line2 m v)) [])
+        → LookAlike S a (cond b (after s (Change host line m u)) s) (cond c (after t (Change host2 line2 m v)) t) (cond b (notices_at s (Change host line m u)) [])
+        (cond c (notices_at t (Change host2 line2 m v)) [])
     even-by s t h m r host host2 line line2 u v is is2 true true e shut shut2 = both-on s t h m (Some r) host host2 line line2 u v is is2 shut shut2
     even-by s t h m r host host2 line line2 u v is is2 false false e shut shut2 = record { same = h; hear = refl }
     even-by s t h m r host host2 line line2 u v is is2 true false e shut shut2 = absurd (true≢false e)
     even-by s t h m r host host2 line line2 u v is is2 false true e shut shut2 = absurd (true≢false (sym e))
 
-    change-by : (s t : State) → SameBut S a s t → (m : Option ℕ) (r : Request) (host host2 : List ℕ) (line line2 : ℕ) (u v : Tree) → request_on host s.book u ≡ Some r → request_on host2 t.book v ≡ Some r
+    change-by : (s t : State) → SameBut S a s t → (m : Option ℕ) (r : Request) (host host2 : List ℕ) (line line2 : ℕ) (u v : Tree) → request_on host s.book u ≡ Some r
+        → request_on host2 t.book v ≡ Some r
         → Turned r s.book t.book
         → IsShutOut S a (stepped s r (Change host line m u)).book → IsShutOut S a (stepped t r (Change host2 line2 m v)).book
         → LookAlike S a (stepped s r (Change host line m u)) (stepped t r (Change host2 line2 m v)) (said s r (Change host line m u)) (said t r (Change host2 line2 m v))
@@ -315,11 +336,14 @@ module _ (S : List NodeKey) (a : Jid) where
     change-by s t h m r host host2 line line2 u v is is2 (inr lone) shut shut2 =
         let b = beside-of s t h in
         let there : Beside S a t.book (changed r m t.book) =
-        beside-on S a t.book s.book (changed r m t.book) (beside-back S a s.book t.book b) (beside-on S a s.book (changed r m s.book) (changed r m t.book) (lone.1 m) (changed-beside S a r m s.book t.book b)) in
-        pair-by s t h m m r r host host2 line line2 u v is is2 (lone.1 m) (quiet-hidden r.ask r m s.book (changed r m s.book) lone.0) there (quiet-hidden r.ask r m t.book (changed r m t.book) lone.0) shut shut2
+        beside-on S a t.book s.book (changed r m t.book) (beside-back S a s.book t.book b)
+        (beside-on S a s.book (changed r m s.book) (changed r m t.book) (lone.1 m) (changed-beside S a r m s.book t.book b)) in
+        pair-by s t h m m r r host host2 line line2 u v is is2 (lone.1 m) (quiet-hidden r.ask r m s.book (changed r m s.book) lone.0) there (quiet-hidden r.ask r m t.book (changed r m t.book) lone.0)
+        shut shut2
 
     -- one request, whoever asks
-    pub change-on : (s t : State) → SameBut S a s t → (m : Option ℕ) (r : Request) (host host2 : List ℕ) (line line2 : ℕ) (u v : Tree) → request_on host s.book u ≡ Some r → request_on host2 t.book v ≡ Some r
+    pub change-on : (s t : State) → SameBut S a s t → (m : Option ℕ) (r : Request) (host host2 : List ℕ) (line line2 : ℕ) (u v : Tree) → request_on host s.book u ≡ Some r
+        → request_on host2 t.book v ≡ Some r
         → IsShutOut S a (stepped s r (Change host line m u)).book → IsShutOut S a (stepped t r (Change host2 line2 m v)).book
         → LookAlike S a (stepped s r (Change host line m u)) (stepped t r (Change host2 line2 m v)) (said s r (Change host line m u)) (said t r (Change host2 line2 m v))
     change-on s t h m r host host2 line line2 u v is is2 shut shut2 =

@@ -31,7 +31,11 @@ module _ (S : List NodeKey) (a : Jid) (core : Core) (service : List ℕ) (is : I
   begun-fits E = record { by = by-zeros (E ++ Boot service ∷ []); sizes = length-zeros (E ++ Boot service ∷ []); flushed = omega arith }
 
   run-itself : (E : List Entry) → IsShutOut S a (replay_from empty_state E).book → AlikeRuns S a E E
-  run-itself E shut = record { state = same-of S a (replay_from empty_state E) (replay_from empty_state E) (beside-itself S a (replay_from empty_state E).book) refl refl shut shut; hears = refl; handed = refl }
+  run-itself E shut = record {
+    state = same-of S a (replay_from empty_state E) (replay_from empty_state E) (beside-itself S a (replay_from empty_state E).book) refl refl shut shut;
+    hears = refl;
+    handed = refl;
+  }
 
   begun-alike : (E : List Entry) → IsShutOut S a (replay_from empty_state (E ++ Boot service ∷ [])).book → AlikeWorlds S a service (start core service E) (start core service E)
   begun-alike E shut = record {

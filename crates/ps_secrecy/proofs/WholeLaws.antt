@@ -91,7 +91,8 @@ module _ (S : List NodeKey) (a : Jid) (core : Core) (service : List ℕ) (is : I
     ends : Ends S a s t o p
     hand : hands o a ≡ hands p a
 
-  ends-by : (v w : World) → AlikeWorlds S a service v w → (b : Jid) (c d : Bool) → same_jid a b ≡ c → same_bare a b ≡ d → EndsSo (st v.entries) (st w.entries) (recorded (v.addresses b).flight b) (recorded (w.addresses b).flight b)
+  ends-by : (v w : World) → AlikeWorlds S a service v w → (b : Jid) (c d : Bool) → same_jid a b ≡ c → same_bare a b ≡ d
+      → EndsSo (st v.entries) (st w.entries) (recorded (v.addresses b).flight b) (recorded (w.addresses b).flight b)
   ends-by v w al b true d e like =
       let l = now (AlikeRuns S a) v w al.hosts.fronts in
       let same : a ≡ b = (same_jid-Decides a b).0 e in
@@ -119,7 +120,8 @@ module _ (S : List NodeKey) (a : Jid) (core : Core) (service : List ℕ) (is : I
       let s = al.hosts.fronts.steps in
       rw ((same_jid-Decides a a).1 refl) (record { flight = ap (λ n. Recorded (n + 1)) s; sent = al.sent; earlier = al.earlier })
 
-  record-by : (v w : World) (b : Jid) → AlikeWorlds S a service v w → (d : Bool) → same_jid a b ≡ d → Parts S a core service is heard ((records v b (v.addresses b).flight).addresses a) ((records w b (w.addresses b).flight).addresses a)
+  record-by : (v w : World) (b : Jid) → AlikeWorlds S a service v w → (d : Bool) → same_jid a b ≡ d
+      → Parts S a core service is heard ((records v b (v.addresses b).flight).addresses a) ((records w b (w.addresses b).flight).addresses a)
   record-by v w b al true e =
       let same : a ≡ b = (same_jid-Decides a b).0 e in
       subst (λ (c : Jid). Parts S a core service is heard ((records v c (v.addresses c).flight).addresses a) ((records w c (w.addresses c).flight).addresses a)) same
@@ -133,7 +135,8 @@ module _ (S : List NodeKey) (a : Jid) (core : Core) (service : List ℕ) (is : I
         earlier = ap (λ (part : AddressPart). map (map placeless) part.earlier) p ∙ al.earlier ∙ ap (λ (part : AddressPart). map (map placeless) part.earlier) (sym q);
       }
 
-  record-idle : (w : World) (b : Jid) → IsIdle a w → (c : Jid) → same_bare a c ≡ true → same_jid a c ≡ false → (d : Bool) → same_jid c b ≡ d → ((records w b (w.addresses b).flight).addresses c).flight ≡ Nothing
+  record-idle : (w : World) (b : Jid) → IsIdle a w → (c : Jid) → same_bare a c ≡ true → same_jid a c ≡ false → (d : Bool) → same_jid c b ≡ d
+      → ((records w b (w.addresses b).flight).addresses c).flight ≡ Nothing
   record-idle w b idle c like apart false e = ap (λ (part : AddressPart). part.flight) (records-other w b c (w.addresses b).flight e) ∙ idle c like apart
   record-idle w b idle c like apart true e =
       let same : c ≡ b = (same_jid-Decides c b).0 e in
@@ -230,7 +233,8 @@ module _ (S : List NodeKey) (a : Jid) (core : Core) (service : List ℕ) (is : I
       ∙ ap₂ (λ (xs : List (ℕ × Option Said)) (n : ℕ). slice_get xs n) (al.hosts.said h) (al.hosts.taken h)
       ∙ get-map (seen a service h) (w.hosts h).said (w.hosts h).taken
 
-  took-taken : (v w : World) (h : List ℕ) (o p : Option Said) → option_map (seen a service h) o ≡ option_map (seen a service h) p → v.flushed ≡ w.flushed → ((k : List ℕ) → (v.hosts k).taken ≡ (w.hosts k).taken)
+  took-taken : (v w : World) (h : List ℕ) (o p : Option Said) → option_map (seen a service h) o ≡ option_map (seen a service h) p → v.flushed ≡ w.flushed
+      → ((k : List ℕ) → (v.hosts k).taken ≡ (w.hosts k).taken)
       → (k : List ℕ) → ((took v h o).hosts k).taken ≡ ((took w h p).hosts k).taken
   took-taken v w h None None e flushed same k = same k
   took-taken v w h None (Some t) e flushed same k = absurd (cc e)
@@ -255,7 +259,8 @@ module _ (S : List NodeKey) (a : Jid) (core : Core) (service : List ℕ) (is : I
       by false true is = absurd (true≢false (sym is))
 
   still-form : (v w : World) (H G : List ℕ → HostPart) (b c : Bool) → AlikeWorlds S a service v w
-      → ((k : List ℕ) → (H k).line ≡ (v.hosts k).line) → ((k : List ℕ) → (H k).said ≡ (v.hosts k).said) → ((k : List ℕ) → (G k).line ≡ (w.hosts k).line) → ((k : List ℕ) → (G k).said ≡ (w.hosts k).said)
+      → ((k : List ℕ) → (H k).line ≡ (v.hosts k).line) → ((k : List ℕ) → (H k).said ≡ (v.hosts k).said) → ((k : List ℕ) → (G k).line ≡ (w.hosts k).line)
+      → ((k : List ℕ) → (G k).said ≡ (w.hosts k).said)
       → ((k : List ℕ) → (H k).taken ≡ (G k).taken) → ((k : List ℕ) → (H k).earlier ≡ (v.hosts k).earlier) → ((k : List ℕ) → (G k).earlier ≡ (w.hosts k).earlier)
       → AlikeWorlds S a service (counted (record v { hosts = H; broken = b })) (counted (record w { hosts = G; broken = c }))
   still-form v w H G b c al hl hs gl gs ts he ge = record {
@@ -267,11 +272,13 @@ module _ (S : List NodeKey) (a : Jid) (core : Core) (service : List ℕ) (is : I
     idle_there = al.idle_there;
   }
 
-  take-on : (v w : World) (h : List ℕ) (o p : Option Said) → option_map (seen a service h) o ≡ option_map (seen a service h) p → AlikeWorlds S a service v w → AlikeWorlds S a service (counted (took v h o)) (counted (took w h p))
+  take-on : (v w : World) (h : List ℕ) (o p : Option Said) → option_map (seen a service h) o ≡ option_map (seen a service h) p → AlikeWorlds S a service v w
+      → AlikeWorlds S a service (counted (took v h o)) (counted (took w h p))
   take-on v w h o p same al =
       subst (λ (x : World). AlikeWorlds S a service (counted x) (counted (took w h p))) (sym (took-is v h o))
       (subst (λ (y : World). AlikeWorlds S a service (counted (record v { hosts = (took v h o).hosts })) (counted y)) (sym (took-is w h p))
-      (still-form v w (took v h o).hosts (took w h p).hosts v.broken w.broken al (took-line v h o) (took-said v h o) (took-line w h p) (took-said w h p) (took-taken v w h o p same al.hosts.fronts.flushed al.hosts.taken) (took-earlier v h o) (took-earlier w h p)))
+      (still-form v w (took v h o).hosts (took w h p).hosts v.broken w.broken al (took-line v h o) (took-said v h o) (took-line w h p) (took-said w h p)
+      (took-taken v w h o p same al.hosts.fronts.flushed al.hosts.taken) (took-earlier v h o) (took-earlier w h p)))
 
   role-line : (role : Role) (p : HostPart) → (ends_role role p).line ≡ p.line
   role-line Reader p = refl
@@ -301,11 +308,13 @@ module _ (S : List NodeKey) (a : Jid) (core : Core) (service : List ℕ) (is : I
     idle_there = λ c like apart. ap (landed m) (al.idle_there c like apart);
   }
 
-  more-earlier : (p q : AddressPart) → map (map placeless) p.earlier ≡ map (map placeless) q.earlier → map placeless p.sent ≡ map placeless q.sent → map (map placeless) (p.earlier ++ p.sent ∷ []) ≡ map (map placeless) (q.earlier ++ q.sent ∷ [])
+  more-earlier : (p q : AddressPart) → map (map placeless) p.earlier ≡ map (map placeless) q.earlier → map placeless p.sent ≡ map placeless q.sent
+      → map (map placeless) (p.earlier ++ p.sent ∷ []) ≡ map (map placeless) (q.earlier ++ q.sent ∷ [])
   more-earlier p q earlier sent =
       map-append (map placeless) p.earlier (p.sent ∷ []) ∙ ap₂ (λ (xs : List (List Notice)) (ns : List Notice). xs ++ ns ∷ []) earlier sent ∙ sym (map-append (map placeless) q.earlier (q.sent ∷ []))
 
-  crash-to : (v w : World) (m : ℕ) → AlikeWorlds S a service v w → v.flushed ≤ m → IsShutOut S a (st (crashes core service v m).entries).book → IsShutOut S a (st (crashes core service w m).entries).book
+  crash-to : (v w : World) (m : ℕ) → AlikeWorlds S a service v w → v.flushed ≤ m → IsShutOut S a (st (crashes core service v m).entries).book
+      → IsShutOut S a (st (crashes core service w m).entries).book
       → AlikeWorlds S a service (counted (crashes core service v m)) (counted (crashes core service w m))
   crash-to v w m al low shut shut2 = record {
     hosts = crash-worlds S a core service is v w m al.hosts low shut shut2;
@@ -355,46 +364,54 @@ module _ (S : List NodeKey) (a : Jid) (core : Core) (service : List ℕ) (is : I
     idle_there = λ c like apart. ap (λ (A : Jid → AddressPart). (A c).flight) q ∙ al.idle_there c like apart;
   }
 
-  arrive-by : (v w : World) (h : List ℕ) (one : Arrival) (full : Bool) → full ≡ false → AlikeWorlds S a service v w → Denied (happens core service v (steps.Arrive h one full)) → Denied (happens core service w (steps.Arrive h one full))
+  arrive-by : (v w : World) (h : List ℕ) (one : Arrival) (full : Bool) → full ≡ false → AlikeWorlds S a service v w → Denied (happens core service v (steps.Arrive h one full))
+      → Denied (happens core service w (steps.Arrive h one full))
       → AlikeWorlds S a service (happens core service v (steps.Arrive h one full)) (happens core service w (steps.Arrive h one full))
   unfolding Denied
   arrive-by v w h one true room al shut shut2 = absurd (true≢false room)
   arrive-by v w h one false room al shut shut2 =
       with-hosts v w (happens core service v (steps.Arrive h one false)) (happens core service w (steps.Arrive h one false)) al (arrive-on S a core service is v w al.hosts h one shut shut2) refl refl
 
-  pair-by : (v w : World) (h : List ℕ) (node : NodeKey) (one two : Arrival) (full full2 : Bool) → full ≡ false → full2 ≡ false → AlikeWorlds S a service v w → Touches S a (st v.entries) h one node → Touches S a (st w.entries) h two node
+  pair-by : (v w : World) (h : List ℕ) (node : NodeKey) (one two : Arrival) (full full2 : Bool) → full ≡ false → full2 ≡ false → AlikeWorlds S a service v w → Touches S a (st v.entries) h one node
+      → Touches S a (st w.entries) h two node
       → Denied (happens core service v (steps.Arrive h one full)) → Denied (happens core service w (steps.Arrive h two full2))
       → AlikeWorlds S a service (happens core service v (steps.Arrive h one full)) (happens core service w (steps.Arrive h two full2))
   unfolding Denied
   pair-by v w h node one two true full2 room room2 al p q shut shut2 = absurd (true≢false room)
   pair-by v w h node one two false true room room2 al p q shut shut2 = absurd (true≢false room2)
   pair-by v w h node one two false false room room2 al p q shut shut2 =
-      with-hosts v w (happens core service v (steps.Arrive h one false)) (happens core service w (steps.Arrive h two false)) al (pair-arrives S a core service is v w al.hosts h node one two p q shut shut2) refl refl
+      with-hosts v w (happens core service v (steps.Arrive h one false)) (happens core service w (steps.Arrive h two false)) al
+      (pair-arrives S a core service is v w al.hosts h node one two p q shut shut2) refl refl
 
-  step-same : (v w : World) (x : Step) → IsRoomy x → AlikeWorlds S a service v w → Denied (happens core service v x) → Denied (happens core service w x) → AlikeWorlds S a service (happens core service v x) (happens core service w x)
+  step-same : (v w : World) (x : Step) → IsRoomy x → AlikeWorlds S a service v w → Denied (happens core service v x) → Denied (happens core service w x)
+      → AlikeWorlds S a service (happens core service v x) (happens core service w x)
   unfolding Denied
   step-same v w (steps.Arrive h one full) room al shut shut2 = arrive-by v w h one full room al shut shut2
   step-same v w (steps.Flush m) room al shut shut2 = flush-by v w m (nat_le v.flushed m && nat_le m v.steps) (nat_le w.flushed m && nat_le m w.steps) al (window v w m al) refl
   step-same v w (steps.Take h) room al shut shut2 = take-on v w h (slice_get (v.hosts h).said (v.hosts h).taken) (slice_get (w.hosts h).said (w.hosts h).taken) (next-seen v w h al) al
   step-same v w (steps.Emit b) room al shut shut2 = emit-on S a core service is heard v w b al
   step-same v w (steps.Record b) room al shut shut2 = record-on v w b al
-  step-same v w (steps.Gone h) room al shut shut2 = with-hosts v w (happens core service v (steps.Gone h)) (happens core service w (steps.Gone h)) al (gone-worlds S a core service is v w h al.hosts shut shut2) refl refl
+  step-same v w (steps.Gone h) room al shut shut2 = with-hosts v w (happens core service v (steps.Gone h)) (happens core service w (steps.Gone h)) al
+      (gone-worlds S a core service is v w h al.hosts shut shut2) refl refl
   step-same v w (steps.Ended h role) room al shut shut2 =
-      still-form v w (at_host h (ends_role role) v.hosts) (at_host h (ends_role role) w.hosts) v.broken w.broken al (part-line (ends_role role) (role-line role) v.hosts h) (part-said (ends_role role) (role-said role) v.hosts h)
+      still-form v w (at_host h (ends_role role) v.hosts) (at_host h (ends_role role) w.hosts) v.broken w.broken al (part-line (ends_role role) (role-line role) v.hosts h)
+      (part-said (ends_role role) (role-said role) v.hosts h)
       (part-line (ends_role role) (role-line role) w.hosts h) (part-said (ends_role role) (role-said role) w.hosts h)
       (λ k. part-taken (ends_role role) (role-taken role) v.hosts h k ∙ al.hosts.taken k ∙ sym (part-taken (ends_role role) (role-taken role) w.hosts h k))
       (part-earlier (ends_role role) (role-earlier role) v.hosts h) (part-earlier (ends_role role) (role-earlier role) w.hosts h)
   step-same v w steps.Broken room al shut shut2 = still-form v w v.hosts w.hosts true true al (λ k. refl) (λ k. refl) (λ k. refl) (λ k. refl) al.hosts.taken (λ k. refl) (λ k. refl)
   step-same v w (steps.Crash m) room al shut shut2 = crash-by v w m (nat_le v.flushed m && nat_le m v.steps) (nat_le w.flushed m && nat_le m w.steps) al (window v w m al) refl shut shut2
 
-  step-pair : (v w : World) (x y : Step) → IsPair S a (st v.entries) (st w.entries) x y → IsRoomy x → IsRoomy y → AlikeWorlds S a service v w → Denied (happens core service v x) → Denied (happens core service w y)
+  step-pair : (v w : World) (x y : Step) → IsPair S a (st v.entries) (st w.entries) x y → IsRoomy x → IsRoomy y → AlikeWorlds S a service v w → Denied (happens core service v x)
+      → Denied (happens core service w y)
       → AlikeWorlds S a service (happens core service v x) (happens core service w y)
   unfolding Denied
   step-pair v w x y (inl same) rx ry al shut shut2 =
       subst (λ (z : Step). Denied (happens core service w z) → AlikeWorlds S a service (happens core service v x) (happens core service w z)) same (λ d. step-same v w x rx al shut d) shut2
   step-pair v w x y (inr t) rx ry al shut shut2 =
       subst (λ (p : Step). Denied (happens core service v p) → AlikeWorlds S a service (happens core service v p) (happens core service w y)) (sym t.is_one)
-      (λ d. subst (λ (q : Step). Denied (happens core service w q) → AlikeWorlds S a service (happens core service v (steps.Arrive t.host t.one t.one_full)) (happens core service w q)) (sym t.is_other)
+      (λ d. subst (λ (q : Step). Denied (happens core service w q) → AlikeWorlds S a service (happens core service v (steps.Arrive t.host t.one t.one_full)) (happens core service w q))
+      (sym t.is_other)
       (λ e. pair-by v w t.host t.node t.one t.other t.one_full t.other_full (subst IsRoomy t.is_one rx) (subst IsRoomy t.is_other ry) al t.touches t.touches_there d e) shut2) shut
 
   -- ---- lists of steps

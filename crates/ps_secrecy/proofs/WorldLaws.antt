@@ -43,7 +43,8 @@ fits-as : (w : World) (H : List ℕ → HostPart) (A : Jid → AddressPart) (b :
 fits-as w H A b fits = record { by = fits.by; sizes = fits.sizes; flushed = fits.flushed }
 
 module _ (Like : List Entry → List Entry → Type 0) where
-  pub fronts-as : (v w : World) (H G : List ℕ → HostPart) (A B : Jid → AddressPart) (b c : Bool) → Fronts Like v w → Fronts Like (record v { hosts = H; addresses = A; broken = b }) (record w { hosts = G; addresses = B; broken = c })
+  pub fronts-as : (v w : World) (H G : List ℕ → HostPart) (A B : Jid → AddressPart) (b c : Bool) → Fronts Like v w
+      → Fronts Like (record v { hosts = H; addresses = A; broken = b }) (record w { hosts = G; addresses = B; broken = c })
   fronts-as v w H G A B b c h = record { steps = h.steps; flushed = h.flushed; fits = fits-as v H A b h.fits; fits_there = fits-as w G B c h.fits_there; firsts = h.firsts }
 
 -- ---- a line keeps the service, and hands nothing
@@ -141,7 +142,8 @@ module _ (S : List NodeKey) (a : Jid) (core : Core) (service : List ℕ) (is : I
       let n = (v.hosts h).line + 1 in
       let m = (w.hosts h).line + 1 in
       let l = now (AlikeRuns S a) v w al.fronts in
-      said-on a service h (v.hosts h) (w.hosts h) n m one one place place2 upto upto2 (v.steps + 1) (w.steps + 1) (reply-by v h n one) (reply-by w h m one) (al.said h) (ap (λ k. k + 1) al.fronts.steps)
+      said-on a service h (v.hosts h) (w.hosts h) n m one one place place2 upto upto2 (v.steps + 1) (w.steps + 1) (reply-by v h n one) (reply-by w h m one) (al.said h)
+      (ap (λ k. k + 1) al.fronts.steps)
       (replied v h n one ∙ line-some S a (st v.entries) (st w.entries) l.state h n m one ∙ sym (replied w h m one))
       (is_from a (taking.taken h service one)) refl refl
       (λ from x y e f.
@@ -158,7 +160,8 @@ module _ (S : List NodeKey) (a : Jid) (core : Core) (service : List ℕ) (is : I
   lines-by v w al h f g same k true = same (v.hosts k) (w.hosts k)
   lines-by v w al h f g same k false = al.lines k
 
-  said-by : (v w : World) → AlikeHosts S a service v w → (h : List ℕ) (f g : HostPart → HostPart) → map (seen a service h) (f (v.hosts h)).said ≡ map (seen a service h) (g (w.hosts h)).said → (k : List ℕ) (b : Bool) → bytes_eq k h ≡ b
+  said-by : (v w : World) → AlikeHosts S a service v w → (h : List ℕ) (f g : HostPart → HostPart) → map (seen a service h) (f (v.hosts h)).said ≡ map (seen a service h) (g (w.hosts h)).said
+      → (k : List ℕ) (b : Bool) → bytes_eq k h ≡ b
       → map (seen a service k) (if b then f (v.hosts k) else v.hosts k).said ≡ map (seen a service k) (if b then g (w.hosts k) else w.hosts k).said
   said-by v w al h f g same k true e = subst (λ (x : List ℕ). map (seen a service x) (f (v.hosts x)).said ≡ map (seen a service x) (g (w.hosts x)).said) (sym ((bytes_eq-Decides k h).0 e)) same
   said-by v w al h f g same k false e = al.said k
@@ -184,11 +187,14 @@ module _ (S : List NodeKey) (a : Jid) (core : Core) (service : List ℕ) (is : I
       let fv = answered nv one false (length v.entries) (length (with_entry v (made-by v h one)).entries) (v.steps + 1) (reply-by v h nv one) in
       let fw = answered nw one false (length w.entries) (length (with_entry w (made-by w h one)).entries) (w.steps + 1) (reply-by w h nw one) in
       record {
-        fronts = fronts-as (AlikeRuns S a) (counted (with_entry v (made-by v h one))) (counted (with_entry w (made-by w h one))) (at_host h fv v.hosts) (at_host h fw w.hosts) v.addresses w.addresses v.broken w.broken (fronts-on v w al h one one ends);
+        fronts = fronts-as (AlikeRuns S a) (counted (with_entry v (made-by v h one))) (counted (with_entry w (made-by w h one))) (at_host h fv v.hosts) (at_host h fw w.hosts) v.addresses w.addresses
+            v.broken w.broken (fronts-on v w al h one one ends);
         lines = λ k. lines-by v w al h fv fw (λ p q. line-is nv one false _ _ _ _ p ∙ ap (λ n. n + 1) (al.lines h) ∙ sym (line-is nw one false _ _ _ _ q)) k (bytes_eq k h);
-        said = λ k. said-by v w al h fv fw (at-line v w al h one (length v.entries) (length (with_entry v (made-by v h one)).entries) (length w.entries) (length (with_entry w (made-by w h one)).entries)) k (bytes_eq k h) refl;
+        said = λ k. said-by v w al h fv fw (at-line v w al h one (length v.entries) (length (with_entry v (made-by v h one)).entries) (length w.entries)
+            (length (with_entry w (made-by w h one)).entries)) k (bytes_eq k h) refl;
         taken = λ k. taken-by fv (taken-is nv one false _ _ _ _) (v.hosts k) (bytes_eq k h) ∙ al.taken k ∙ sym (taken-by fw (taken-is nw one false _ _ _ _) (w.hosts k) (bytes_eq k h));
-        earlier = λ k. ap (map (seen a service k)) (earlier-by fv (earlier-is nv one false _ _ _ _) (v.hosts k) (bytes_eq k h)) ∙ al.earlier k ∙ ap (map (seen a service k)) (sym (earlier-by fw (earlier-is nw one false _ _ _ _) (w.hosts k) (bytes_eq k h)));
+        earlier = λ k. ap (map (seen a service k)) (earlier-by fv (earlier-is nv one false _ _ _ _) (v.hosts k) (bytes_eq k h)) ∙ al.earlier k ∙ ap (map (seen a service k))
+            (sym (earlier-by fw (earlier-is nw one false _ _ _ _) (w.hosts k) (bytes_eq k h)));
         served = served-on v w al h one;
       }
 
@@ -210,34 +216,41 @@ module _ (S : List NodeKey) (a : Jid) (core : Core) (service : List ℕ) (is : I
       let fv = answered nv one false (length v.entries) (length (with_entry v (made-by v h one)).entries) (v.steps + 1) (reply-by v h nv one) in
       let fw = answered nw two false (length w.entries) (length (with_entry w (made-by w h two)).entries) (w.steps + 1) (reply-by w h nw two) in
       record {
-        fronts = fronts-as (AlikeRuns S a) (counted (with_entry v (made-by v h one))) (counted (with_entry w (made-by w h two))) (at_host h fv v.hosts) (at_host h fw w.hosts) v.addresses w.addresses v.broken w.broken (fronts-on v w al h one two ends);
+        fronts = fronts-as (AlikeRuns S a) (counted (with_entry v (made-by v h one))) (counted (with_entry w (made-by w h two))) (at_host h fv v.hosts) (at_host h fw w.hosts) v.addresses w.addresses
+            v.broken w.broken (fronts-on v w al h one two ends);
         lines = λ k. lines-by v w al h fv fw (λ x y. line-is nv one false _ _ _ _ x ∙ ap (λ n. n + 1) (al.lines h) ∙ sym (line-is nw two false _ _ _ _ y)) k (bytes_eq k h);
         said = λ k. said-by v w al h fv fw
-            (said-on a service h (v.hosts h) (w.hosts h) nv nw one two (length v.entries) (length w.entries) (length (with_entry v (made-by v h one)).entries) (length (with_entry w (made-by w h two)).entries) (v.steps + 1) (w.steps + 1)
+            (said-on a service h (v.hosts h) (w.hosts h) nv nw one two (length v.entries) (length w.entries) (length (with_entry v (made-by v h one)).entries)
+            (length (with_entry w (made-by w h two)).entries) (v.steps + 1) (w.steps + 1)
             (reply-by v h nv one) (reply-by w h nw two) (al.said h) (ap (λ n. n + 1) al.fronts.steps)
             (replied v h nv one ∙ touch-some S a (st v.entries) h nv one node p ∙ sym (replied w h nw two ∙ touch-some S a (st w.entries) h nw two node q))
             false (not-from v h one node al.served p) (not-from w h two node (sym l.state.service ∙ al.served) q) (λ yes. absurd (true≢false (sym yes)))) k (bytes_eq k h) refl;
         taken = λ k. taken-by fv (taken-is nv one false _ _ _ _) (v.hosts k) (bytes_eq k h) ∙ al.taken k ∙ sym (taken-by fw (taken-is nw two false _ _ _ _) (w.hosts k) (bytes_eq k h));
-        earlier = λ k. ap (map (seen a service k)) (earlier-by fv (earlier-is nv one false _ _ _ _) (v.hosts k) (bytes_eq k h)) ∙ al.earlier k ∙ ap (map (seen a service k)) (sym (earlier-by fw (earlier-is nw two false _ _ _ _) (w.hosts k) (bytes_eq k h)));
+        earlier = λ k. ap (map (seen a service k)) (earlier-by fv (earlier-is nv one false _ _ _ _) (v.hosts k) (bytes_eq k h)) ∙ al.earlier k ∙ ap (map (seen a service k))
+            (sym (earlier-by fw (earlier-is nw two false _ _ _ _) (w.hosts k) (bytes_eq k h)));
         served = served-on v w al h one;
       }
 
   -- ---- a crash
 
-  boot-ends : (E F : List Entry) → AlikeRuns S a E F → IsShutOut S a (st (E ++ Boot service ∷ [])).book → IsShutOut S a (st (F ++ Boot service ∷ [])).book → AlikeRuns S a (E ++ Boot service ∷ []) (F ++ Boot service ∷ [])
+  boot-ends : (E F : List Entry) → AlikeRuns S a E F → IsShutOut S a (st (E ++ Boot service ∷ [])).book → IsShutOut S a (st (F ++ Boot service ∷ [])).book
+      → AlikeRuns S a (E ++ Boot service ∷ []) (F ++ Boot service ∷ [])
   boot-ends E F h shut shut2 =
       let b = subst (λ (s : State). IsShutOut S a s.book) (state-on E (Some (Boot service))) shut in
       let c = subst (λ (s : State). IsShutOut S a s.book) (state-on F (Some (Boot service))) shut2 in
       run-on S a E F (Some (Boot service)) (Some (Boot service)) h (record { same = boot-on S a (st E) (st F) service h.state b c; hear = refl }) refl
 
   -- all replies that were taken
-  pub all-seen : (k : List ℕ) (p q : HostPart) → map (seen a service k) p.earlier ≡ map (seen a service k) q.earlier → map (seen a service k) p.said ≡ map (seen a service k) q.said → p.taken ≡ q.taken → map (seen a service k) (all_taken p) ≡ map (seen a service k) (all_taken q)
+  pub all-seen : (k : List ℕ) (p q : HostPart) → map (seen a service k) p.earlier ≡ map (seen a service k) q.earlier → map (seen a service k) p.said ≡ map (seen a service k) q.said
+      → p.taken ≡ q.taken → map (seen a service k) (all_taken p) ≡ map (seen a service k) (all_taken q)
   all-seen k p q earlier said taken =
       map-append (seen a service k) p.earlier (take p.taken p.said)
-      ∙ ap₂ (λ (xs ys : List (ℕ × Option Said)). xs ++ ys) earlier (map-take (seen a service k) p.taken p.said ∙ ap₂ (λ (n : ℕ) (xs : List (ℕ × Option Said)). take n xs) taken said ∙ sym (map-take (seen a service k) q.taken q.said))
+      ∙ ap₂ (λ (xs ys : List (ℕ × Option Said)). xs ++ ys) earlier
+      (map-take (seen a service k) p.taken p.said ∙ ap₂ (λ (n : ℕ) (xs : List (ℕ × Option Said)). take n xs) taken said ∙ sym (map-take (seen a service k) q.taken q.said))
       ∙ sym (map-append (seen a service k) q.earlier (take q.taken q.said))
 
-  pub crash-worlds : (v w : World) (m : ℕ) → AlikeHosts S a service v w → v.flushed ≤ m → IsShutOut S a (st (first m v ++ Boot service ∷ [])).book → IsShutOut S a (st (first m w ++ Boot service ∷ [])).book
+  pub crash-worlds : (v w : World) (m : ℕ) → AlikeHosts S a service v w → v.flushed ≤ m → IsShutOut S a (st (first m v ++ Boot service ∷ [])).book
+      → IsShutOut S a (st (first m w ++ Boot service ∷ [])).book
       → AlikeHosts S a service (counted (crashes core service v m)) (counted (crashes core service w m))
   crash-worlds v w m al low shut shut2 = record {
     fronts = crash-on (AlikeRuns S a) core service v w m al.fronts (boot-ends (first m v) (first m w) (al.fronts.firsts m low) shut shut2);
@@ -257,7 +270,8 @@ module _ (S : List NodeKey) (a : Jid) (core : Core) (service : List ℕ) (is : I
       → AlikeHosts S a service (counted (with_entry v (Some (Gone h)))) (counted (with_entry w (Some (Gone h))))
   gone-worlds v w h al shut shut2 =
       let l = now (AlikeRuns S a) v w al.fronts in
-      let ends : Ends S a (st v.entries) (st w.entries) (Some (Gone h)) (Some (Gone h)) = record { same = gone-on S a (st v.entries) (st w.entries) h l.state (stays-on v (Some (Gone h)) shut) (stays-on w (Some (Gone h)) shut2); hear = refl } in
+      let ends : Ends S a (st v.entries) (st w.entries) (Some (Gone h)) (Some (Gone h)) = record
+      { same = gone-on S a (st v.entries) (st w.entries) h l.state (stays-on v (Some (Gone h)) shut) (stays-on w (Some (Gone h)) shut2); hear = refl } in
       record {
         fronts = entry-on (AlikeRuns S a) v w (Some (Gone h)) (Some (Gone h)) al.fronts (run-on S a v.entries w.entries (Some (Gone h)) (Some (Gone h)) l ends refl);
         lines = al.lines;
@@ -270,7 +284,8 @@ module _ (S : List NodeKey) (a : Jid) (core : Core) (service : List ℕ) (is : I
   -- ---- a step that adds nothing and changes no line and no reply
 
   pub still-worlds : (v w : World) (H G : List ℕ → HostPart) (A B : Jid → AddressPart) (b c : Bool) → AlikeHosts S a service v w
-      → ((k : List ℕ) → (H k).line ≡ (v.hosts k).line) → ((k : List ℕ) → (H k).said ≡ (v.hosts k).said) → ((k : List ℕ) → (G k).line ≡ (w.hosts k).line) → ((k : List ℕ) → (G k).said ≡ (w.hosts k).said)
+      → ((k : List ℕ) → (H k).line ≡ (v.hosts k).line) → ((k : List ℕ) → (H k).said ≡ (v.hosts k).said) → ((k : List ℕ) → (G k).line ≡ (w.hosts k).line)
+      → ((k : List ℕ) → (G k).said ≡ (w.hosts k).said)
       → ((k : List ℕ) → (H k).taken ≡ (G k).taken) → ((k : List ℕ) → (H k).earlier ≡ (v.hosts k).earlier) → ((k : List ℕ) → (G k).earlier ≡ (w.hosts k).earlier)
       → AlikeHosts S a service (counted (record v { hosts = H; addresses = A; broken = b })) (counted (record w { hosts = G; addresses = B; broken = c }))
   still-worlds v w H G A B b c al hl hs gl gs ts he ge = record {
@@ -284,10 +299,12 @@ module _ (S : List NodeKey) (a : Jid) (core : Core) (service : List ℕ) (is : I
 
   -- ---- a record: the same address in both, or another in one
 
-  pub record-worlds : (v w : World) (o p : Option Entry) (A B : Jid → AddressPart) → AlikeHosts S a service v w → Ends S a (st v.entries) (st w.entries) o p → hands o a ≡ hands p a → (added (st v.entries) o).book.service ≡ (st v.entries).book.service
+  pub record-worlds : (v w : World) (o p : Option Entry) (A B : Jid → AddressPart) → AlikeHosts S a service v w → Ends S a (st v.entries) (st w.entries) o p → hands o a ≡ hands p a
+      → (added (st v.entries) o).book.service ≡ (st v.entries).book.service
       → AlikeHosts S a service (counted (record (with_entry v o) { addresses = A })) (counted (record (with_entry w p) { addresses = B }))
   record-worlds v w o p A B al ends same keeps = record {
-    fronts = fronts-as (AlikeRuns S a) (counted (with_entry v o)) (counted (with_entry w p)) v.hosts w.hosts A B v.broken w.broken (entry-on (AlikeRuns S a) v w o p al.fronts (run-on S a v.entries w.entries o p (now (AlikeRuns S a) v w al.fronts) ends same));
+    fronts = fronts-as (AlikeRuns S a) (counted (with_entry v o)) (counted (with_entry w p)) v.hosts w.hosts A B v.broken w.broken
+        (entry-on (AlikeRuns S a) v w o p al.fronts (run-on S a v.entries w.entries o p (now (AlikeRuns S a) v w al.fronts) ends same));
     lines = al.lines;
     said = al.said;
     taken = al.taken;

@@ -48,7 +48,8 @@ module _ (S : List NodeKey) (a : Jid) (s t : State) (h : SameBut S a s t) where
 
   -- ---- lines
 
-  for-is : (u : State) (host : List ℕ) (line : ℕ) (one : Arrival) → replies_for a u (Asked host line one) (printed (reply_by u (Asked host line one))) ≡ printed (reply_for a host u.book line one false)
+  for-is : (u : State) (host : List ℕ) (line : ℕ) (one : Arrival)
+      → replies_for a u (Asked host line one) (printed (reply_by u (Asked host line one))) ≡ printed (reply_for a host u.book line one false)
   for-is u host line one = printed-for (is_from a (taking.taken host u.book.service one)) (reply_to host u.book line one false)
 
   same-line : (host : List ℕ) (line line2 : ℕ) (one : Arrival) → Goes (Asked host line one) (Asked host line2 one)
@@ -94,7 +95,8 @@ module _ (S : List NodeKey) (a : Jid) (s t : State) (h : SameBut S a s t) where
       → LookAlike S a (added s (cond b (Some e) None)) (added t (cond c (Some e) None)) (notes s (cond b (Some e) None)) (notes t (cond c (Some e) None))
 
   entry-by : (e : Entry) (b c : Bool)
-      → (IsShutOut S a (cond b (after s e) s).book → IsShutOut S a (cond c (after t e) t).book → LookAlike S a (cond b (after s e) s) (cond c (after t e) t) (cond b (notices_at s e) []) (cond c (notices_at t e) []))
+      → (IsShutOut S a (cond b (after s e) s).book → IsShutOut S a (cond c (after t e) t).book
+      → LookAlike S a (cond b (after s e) s) (cond c (after t e) t) (cond b (notices_at s e) []) (cond c (notices_at t e) []))
       → Ends e b c
   unfolding Ends
   entry-by e true true law shut shut2 = law shut shut2

@@ -65,7 +65,8 @@ module _ {D : Type 0} {g : DiskGhosts D} (disk : D) (service : List ℕ) (hosts 
       → worst_of (works ports ended) ≡ worst_in (λ (e : Ended L C K). e.read) (λ (e : Ended L C K). e.wrote) ended)
       (size_is : (ended : List (Ended L C K)) → length ended ≡ length ports → length (works ports ended) ≡ length ports) where
     -- the store has its entries and the Boot, and nothing is pending
-    still-booted : g.tells → g.written disk ≡ [] → (F : List Entry) → spelled (g.seen disk) F → IsShortIfUnbegun (g.seen disk) → Memory ≢ StoreFault → HasStill service (held_as g (disk_in y0)) F Memory
+    still-booted : g.tells → g.written disk ≡ [] → (F : List Entry) → spelled (g.seen disk) F → IsShortIfUnbegun (g.seen disk) → Memory ≢ StoreFault
+        → HasStill service (held_as g (disk_in y0)) F Memory
     still-booted tells none F spells short sound =
         let d = disk_in y0 in
         let all = is.archive.whole refl in

@@ -38,7 +38,8 @@ some-command o n has none = let clash : Some _ ≡ None = sym has.is ∙ none in
 pub text-status : (text : List ℕ) (old new : Option (List ℕ)) (before now : ℕ) (st bad : Status) → TellsText text old new before now st → st ≡ bad → TellsText text old new before now bad
 text-status text old new before now st bad told e = subst (TellsText text old new before now) e told
 
-pub numbers-told : (DidSo : Result (List (List ℕ)) Status → Type 0) (o : Option Command) (n : Numbers) → HasNumbers o n → (old mid new : Option (List ℕ)) (start at now : ℕ) (last : ℕ × ℕ) (st : Status)
+pub numbers-told : (DidSo : Result (List (List ℕ)) Status → Type 0) (o : Option Command) (n : Numbers) → HasNumbers o n
+    → (old mid new : Option (List ℕ)) (start at now : ℕ) (last : ℕ × ℕ) (st : Status)
     → mid ≡ old → start ≤ at → TellsNumbers n mid new at now st → IsTold DidSo o old new start last now st
 numbers-told DidSo o n has old mid new start at now last st same later told = inl (n, has, text-moved (numbers_report n) old mid new start at now st same later told)
 

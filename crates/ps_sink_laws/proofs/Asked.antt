@@ -32,8 +32,11 @@ query-node ns t node is fits =
 module _ (b : Book) (is : BookIs b) (service : List ℕ) (t : Tree) (r : Request) (from : IsAddress r.from) (target : IsAddress r.target) (fits : Fits 32 t) where
   pub child-fits : (a : Ask) → IsAsk service t r.from r.target a → IsAskOfAddresses a → Each (Fits 31) (child_list (child_of a b r))
   child-fits (ask.Create node form) asks own = tt
-  child-fits (ask.Publish node items options) asks own =
-      (publish-fits b is r target node items from (part-node (codes "set") pubsub_ns (codes "publish") node t asks.part asks.rest asks.pubsub asks.node_is fits) (ask-text service t r.from r.target (ask.Publish node items options) asks fits).1, tt)
+  child-fits (ask.Publish node items options) asks own = (
+    publish-fits b is r target node items from (part-node (codes "set") pubsub_ns (codes "publish") node t asks.part asks.rest asks.pubsub asks.node_is fits)
+        (ask-text service t r.from r.target (ask.Publish node items options) asks fits).1,
+    tt,
+  )
   child-fits (ask.Retract node ids notify) asks own = tt
   child-fits (ask.Purge node) asks own = tt
   child-fits (ask.Delete node) asks own = tt
@@ -45,11 +48,21 @@ module _ (b : Book) (is : BookIs b) (service : List ℕ) (t : Tree) (r : Request
   child-fits (ask.SubsSet node rows) asks own = tt
   child-fits (ask.MyAffils node) asks own = (own-affils-fit b is r target node, tt)
   child-fits (ask.MySubs node) asks own = (own-subs-fit b is r target node, tt)
-  child-fits (ask.Subscribe node who form) asks own = (subscribe-fits b is r target node who (part-node (codes "set") pubsub_ns (codes "subscribe") node t asks.0 asks.1 asks.2.pubsub asks.2.node_is fits) own, tt)
+  child-fits (ask.Subscribe node who form) asks own = (
+    subscribe-fits b is r target node who
+        (part-node (codes "set") pubsub_ns (codes "subscribe") node t asks.0 asks.1 asks.2.pubsub asks.2.node_is fits) own,
+    tt,
+  )
   child-fits (ask.Unsubscribe node who subid) asks own = tt
-  child-fits (ask.OptionsGet node who) asks own = (options-fit b is r target node who (part-node (codes "get") pubsub_ns (codes "options") node t asks.0 asks.1 asks.2.pubsub asks.2.node_is fits) own, tt)
+  child-fits (ask.OptionsGet node who) asks own = (
+    options-fit b is r target node who (part-node (codes "get") pubsub_ns (codes "options") node t asks.0 asks.1 asks.2.pubsub asks.2.node_is fits) own,
+    tt,
+  )
   child-fits (ask.OptionsSet node who form) asks own = tt
-  child-fits (ask.ItemsGet node max ids) asks own = (items-fit b is r target node max ids (part-node (codes "get") pubsub_ns (codes "items") node t asks.part asks.rest asks.pubsub asks.node_is fits), tt)
+  child-fits (ask.ItemsGet node max ids) asks own = (
+    items-fit b is r target node max ids (part-node (codes "get") pubsub_ns (codes "items") node t asks.part asks.rest asks.pubsub asks.node_is fits),
+    tt,
+  )
   child-fits (ask.InfoGet node) asks own = (info-fits b is r target node (query-node info_ns t node asks fits), tt)
   child-fits (ask.NodesGet node) asks own = (nodes-fit b is r target node (query-node items_ns t node asks fits), tt)
   child-fits (ask.RosterSet item) asks own = tt

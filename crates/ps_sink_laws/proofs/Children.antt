@@ -35,8 +35,46 @@ use Rattle.ps_model.specs.Access.{is_account}
 use Rattle.ps_model.specs.Book.{Book}
 use Rattle.ps_model.specs.ChangeEntity.{base_options, new_state}
 use Rattle.ps_model.specs.CheckForms.{node_of}
-use Rattle.ps_model.specs.Children.{about, affil_tree, affils_child, config_child, config_trees, item_tree, items_child, options_child, own_affil_tree, own_affils_child, own_row_tree, own_sub_tree, own_subs_child, payload_list, publish_child, published_items, row_tree, sub_tree, subs_child, subscribe_child}
-use Rattle.ps_model.specs.Discovery.{all_features, entity_type, feature_tree, identity_tree, info_child, info_kids, is_held_by, is_listed, item_entry, kind_entries, kind_type, listed_kids, node_entries, node_entry, node_info, nodes_child}
+use Rattle.ps_model.specs.Children.{
+  about,
+  affil_tree,
+  affils_child,
+  config_child,
+  config_trees,
+  item_tree,
+  items_child,
+  options_child,
+  own_affil_tree,
+  own_affils_child,
+  own_row_tree,
+  own_sub_tree,
+  own_subs_child,
+  payload_list,
+  publish_child,
+  published_items,
+  row_tree,
+  sub_tree,
+  subs_child,
+  subscribe_child,
+}
+use Rattle.ps_model.specs.Discovery.{
+  all_features,
+  entity_type,
+  feature_tree,
+  identity_tree,
+  info_child,
+  info_kids,
+  is_held_by,
+  is_listed,
+  item_entry,
+  kind_entries,
+  kind_type,
+  listed_kids,
+  node_entries,
+  node_entry,
+  node_info,
+  nodes_child,
+}
 use Rattle.ps_model.specs.ItemIds.{item_id}
 use Rattle.ps_model.specs.Lists.{is_asked_affil, is_asked_sub, is_named_item, is_of_other, listed_affils, listed_items, named_items, newest, own_affils, own_subs}
 use Rattle.ps_model.specs.Words.{affil_text, sub_text}
@@ -53,7 +91,8 @@ use Rattle.ps_compact_laws.proofs.Drafts.{word}
 
 about-fits : (ns name node : List ℕ) (kids : List Tree) → are_ascii ns ≡ true → is_word name ≡ true → IsUtf8 node → Each (Fits 29) kids → Fits 31 (about ns name node kids)
 about-fits ns name node kids ascii named text fit =
-    fit-element 30 (codes "pubsub") ns [] (element name ns ((codes "node", node) ∷ []) kids ∷ []) refl ascii tt (fit-element 29 name ns ((codes "node", node) ∷ []) kids named ascii ((word (codes "node") refl, text), tt) fit, tt)
+    fit-element 30 (codes "pubsub") ns [] (element name ns ((codes "node", node) ∷ []) kids ∷ []) refl ascii tt
+    (fit-element 29 name ns ((codes "node", node) ∷ []) kids named ascii ((word (codes "node") refl, text), tt) fit, tt)
 
 -- a tree without children
 leaf-fits : (n : ℕ) (name ns : List ℕ) (pairs : List (List ℕ × List ℕ)) → 1 ≤ n → is_word name ≡ true → are_ascii ns ≡ true → Each PairIs pairs → Fits n (element name ns pairs [])
@@ -99,13 +138,16 @@ state-utf8 sub.Pending = word (codes "pending") refl
 state-utf8 sub.Subscribed = word (codes "subscribed") refl
 
 affil-fits : (row : AffilRow) → IsAddress row.who → Fits 29 (affil_tree row)
-affil-fits row own = leaf-two 29 (codes "affiliation") owner_ns (codes "affiliation") (affil_text row.affil) (codes "jid") (jid_text row.who) (omega arith) refl refl refl (affil-utf8 row.affil) refl (jid-utf8 row.who own)
+affil-fits row own = leaf-two 29 (codes "affiliation") owner_ns (codes "affiliation") (affil_text row.affil) (codes "jid") (jid_text row.who) (omega arith) refl refl refl (affil-utf8 row.affil) refl
+    (jid-utf8 row.who own)
 
 own-affil-fits : (row : AffilRow) → AffilIs row → Fits 29 (own_affil_tree row)
-own-affil-fits row is = leaf-two 29 (codes "affiliation") pubsub_ns (codes "affiliation") (affil_text row.affil) (codes "node") row.node.name (omega arith) refl refl refl (affil-utf8 row.affil) refl is.name
+own-affil-fits row is = leaf-two 29 (codes "affiliation") pubsub_ns (codes "affiliation") (affil_text row.affil) (codes "node") row.node.name (omega arith) refl refl refl (affil-utf8 row.affil) refl
+    is.name
 
 sub-fits : (row : SubRow) → SubIs row → Fits 29 (sub_tree row)
-sub-fits row is = leaf-two 29 (codes "subscription") owner_ns (codes "jid") (jid_text row.who) (codes "subscription") (sub_text row.state) (omega arith) refl refl refl (jid-utf8 row.who is.who) refl (state-utf8 row.state)
+sub-fits row is = leaf-two 29 (codes "subscription") owner_ns (codes "jid") (jid_text row.who) (codes "subscription") (sub_text row.state) (omega arith) refl refl refl (jid-utf8 row.who is.who) refl
+    (state-utf8 row.state)
 
 own-sub-fits : (n : ℕ) (node : List ℕ) (who : Jid) (state : SubState) → 1 ≤ n → IsUtf8 node → IsAddress who → Fits n (own_sub_tree node who state)
 own-sub-fits n node who state le text own =
@@ -176,7 +218,8 @@ module _ (b : Book) (is : BookIs b) (r : Request) (target : IsAddress r.target) 
   entries-fit test = map-each (Fits 30) NodeIs (node_entry r.target) (filter test b.nodes) (λ row own. node-entry r.target row target own) (each-filter NodeIs test b.nodes is.rows.nodes)
 
   kinds-fit : (row : NodeRow) (k : NodeKind) → Each (Fits 30) (kind_entries b r row k)
-  kinds-fit row Leaf = map-each (Fits 30) ItemIs (item_entry r.target) (items_of row.key b.items) (λ i own. item-entry r.target i target own) (each-filter ItemIs (is_item_at row.key) b.items is.rows.items)
+  kinds-fit row Leaf = map-each (Fits 30) ItemIs (item_entry r.target) (items_of row.key b.items) (λ i own. item-entry r.target i target own)
+      (each-filter ItemIs (is_item_at row.key) b.items is.rows.items)
   kinds-fit row Collection = entries-fit (is_held_by b row.key)
 
   found-entries : (o : Option NodeRow) → Each (Fits 30) (node_entries b r o)
@@ -219,13 +262,15 @@ module _ (b : Book) (is : BookIs b) (r : Request) (target : IsAddress r.target) 
 
   pub subscribe-fits : (node : List ℕ) (who : Jid) → IsUtf8 node → IsAddress who → Fits 31 (subscribe_child b r node who)
   subscribe-fits node who text own =
-      fit-element 30 (codes "pubsub") pubsub_ns [] (own_sub_tree node who (new_state b r (node_of r node) who) ∷ []) refl refl tt (own-sub-fits 30 node who (new_state b r (node_of r node) who) (omega arith) text own, tt)
+      fit-element 30 (codes "pubsub") pubsub_ns [] (own_sub_tree node who (new_state b r (node_of r node) who) ∷ []) refl refl tt
+      (own-sub-fits 30 node who (new_state b r (node_of r node) who) (omega arith) text own, tt)
 
   pub options-fit : (node : List ℕ) (who : Jid) → IsUtf8 node → IsAddress who → Fits 31 (options_child b r node who)
   options-fit node who text own =
       let form = options_form (base_options b (node_of r node) who) in
       fit-element 30 (codes "pubsub") pubsub_ns [] (element (codes "options") pubsub_ns ((codes "jid", jid_text who) ∷ (codes "node", node) ∷ []) (form_tree form ∷ []) ∷ []) refl refl tt (
-        fit-element 29 (codes "options") pubsub_ns ((codes "jid", jid_text who) ∷ (codes "node", node) ∷ []) (form_tree form ∷ []) refl refl (two-pairs (codes "jid") (jid_text who) (codes "node") node refl (jid-utf8 who own) refl text)
+        fit-element 29 (codes "options") pubsub_ns ((codes "jid", jid_text who) ∷ (codes "node", node) ∷ []) (form_tree form ∷ []) refl refl
+            (two-pairs (codes "jid") (jid_text who) (codes "node") node refl (jid-utf8 who own) refl text)
             (form-in 29 form (omega arith) (options-fields (base_options b (node_of r node) who)), tt),
         tt,
       )

@@ -96,13 +96,15 @@ read-gives why (Err row) is = gives-none why
 given-is : (type : List ℕ) (base : NodeConfig) (o : Option Form) → FormTexts o → IsConfigText base → Gives (config_given type base o)
 given-is type base None texts is = gives-none _
 given-is type base (Some form) texts is =
-    gives-if (is_submit form.kind && has_form_type type form) (config_or _ (read_config form base)) _ (read-gives _ (read_config form base) (λ c e. config-text form (texts.texts form refl) base c is e)) (gives-none _)
+    gives-if (is_submit form.kind && has_form_type type form) (config_or _ (read_config form base)) _
+    (read-gives _ (read_config form base) (λ c e. config-text form (texts.texts form refl) base c is e)) (gives-none _)
 
 options-give : (base : NodeConfig) (o : Option Form) → FormTexts o → IsConfigText base → Gives (form_options o base)
 options-give base None texts is = gives-none _
 options-give base (Some form) texts is =
     gives-if (is_submit form.kind && has_form_type publish_type form) (known_options form base) _
-    (gives-if (list_all is_known form.fields) (config_or _ (read_config form base)) _ (read-gives _ (read_config form base) (λ c e. config-text form (texts.texts form refl) base c is e)) (gives-none _)) (gives-none _)
+    (gives-if (list_all is_known form.fields) (config_or _ (read_config form base)) _ (read-gives _ (read_config form base) (λ c e. config-text form (texts.texts form refl) base c is e))
+    (gives-none _)) (gives-none _)
 
 pub service-is : IsConfigText service_config
 service-is = record { title = IsUtf8-nil; groups = tt; collection = IsUtf8-nil }
@@ -135,9 +137,11 @@ published-is : (node : NodeKey) (config : NodeConfig) (who : Jid) (moment : Opti
 published-is node config who moment [] b is = is
 published-is node config who moment (item ∷ items) b is = is
 
-new-published : (given : Result NodeConfig Condition) (node : NodeKey) (who : Jid) (moment : Option ℕ) (items : List AskItem) (b : Book) → Gives given → AreText b → AreText (published_new given node who moment items b)
+new-published : (given : Result NodeConfig Condition) (node : NodeKey) (who : Jid) (moment : Option ℕ) (items : List AskItem) (b : Book) → Gives given → AreText b
+    → AreText (published_new given node who moment items b)
 new-published (Err why) node who moment items b ok is = is
-new-published (Ok config) node who moment items b ok is = published-is node config who moment items (created node who config b) (each-push NodeText b.nodes (new_node node who config) is (ok.config config refl))
+new-published (Ok config) node who moment items b ok is = published-is node config who moment items (created node who config b)
+    (each-push NodeText b.nodes (new_node node who config) is (ok.config config refl))
 
 published-by : (o : Option NodeRow) (node : NodeKey) (who : Jid) (moment : Option ℕ) (items : List AskItem) (options : Option Tree) (b : Book) → TreeTexts options → AreText b
     → AreText (published_by o node who moment items options b)
@@ -162,7 +166,8 @@ node-found node (x ∷ nodes) are = found-if (is_node node x) x (node_at node no
 configured-by : (o : Option NodeRow) (node : NodeKey) (form : Option Tree) (b : Book) → FoundText o → TreeTexts form → AreText b → AreText (configured_by o node form b)
 configured-by None node form b found texts is = is
 configured-by (Some row) node None b found texts is = is
-configured-by (Some row) node (Some form) b found texts is = configured-is (config_given config_type row.config (form_of form)) node b (given-is config_type row.config (form_of form) (texts.texts form refl) (found.found row refl)) is
+configured-by (Some row) node (Some form) b found texts is = configured-is (config_given config_type row.config (form_of form)) node b
+    (given-is config_type row.config (form_of form) (texts.texts form refl) (found.found row refl)) is
 
 -- ---- what leaves nodes as they are
 
@@ -192,7 +197,8 @@ retracted-is node (id ∷ ids) b is = is
 module _ (service : List ℕ) (t : Tree) (r : Request) (moment : Option ℕ) (fits : Fits 32 t) where
   pub changed-text : (a : Ask) (b : Book) → IsAsk service t r.from r.target a → AreText b → AreText (changed_by a r moment b)
   changed-text (ask.Create node form) b asks is =
-      created-is (new_config r.target form) (node_of r node) r.from b (new-is r.target form (after-texts (codes "set") pubsub_ns (codes "create") (codes "configure") t asks.part asks.rest form asks.pubsub asks.form_is fits)) is
+      created-is (new_config r.target form) (node_of r node) r.from b
+      (new-is r.target form (after-texts (codes "set") pubsub_ns (codes "create") (codes "configure") t asks.part asks.rest form asks.pubsub asks.form_is fits)) is
   changed-text (ask.Publish node items options) b asks is =
       published-by (node_at (node_of r node) b.nodes) (node_of r node) r.from moment items options b
       (after-texts (codes "set") pubsub_ns (codes "publish") (codes "publish-options") t asks.part asks.rest options asks.pubsub asks.options_is fits) is

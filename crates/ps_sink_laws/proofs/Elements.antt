@@ -63,7 +63,8 @@ fit-element n name ns pairs kids named ascii texts fit = let a = fine-pairs pair
 pub fit-leaf : (name ns : List ℕ) (pairs : List (List ℕ × List ℕ)) → is_word name ≡ true → are_ascii ns ≡ true → Each PairIs pairs → Fits 1 (element name ns pairs [])
 fit-leaf name ns pairs named ascii texts = fit-element 0 name ns pairs [] named ascii texts tt
 
-pub leaf-two : (n : ℕ) (name ns k v l w : List ℕ) → 1 ≤ n → is_word name ≡ true → are_ascii ns ≡ true → is_word k ≡ true → IsUtf8 v → is_word l ≡ true → IsUtf8 w → Fits n (element name ns ((k, v) ∷ (l, w) ∷ []) [])
+pub leaf-two : (n : ℕ) (name ns k v l w : List ℕ) → 1 ≤ n → is_word name ≡ true → are_ascii ns ≡ true → is_word k ≡ true → IsUtf8 v → is_word l ≡ true → IsUtf8 w
+    → Fits n (element name ns ((k, v) ∷ (l, w) ∷ []) [])
 leaf-two n name ns k v l w le named ascii e u f x = fit-more 1 n (element name ns ((k, v) ∷ (l, w) ∷ []) []) le (fit-leaf name ns ((k, v) ∷ (l, w) ∷ []) named ascii (two-pairs k v l w e u f x))
 
 -- ---- forms
@@ -79,7 +80,8 @@ value-fits (x ∷ v) text = fit-tree 0 (codes "value") data_ns [] _ refl refl tt
 
 field-fits : (f : Field) → FieldIs f → Fits 2 (field_tree f)
 field-fits f is =
-    fit-element 1 (codes "field") data_ns ((codes "type", f.kind) ∷ (codes "var", f.var) ∷ []) (map value_tree f.values) refl refl (two-pairs (codes "type") f.kind (codes "var") f.var refl is.kind refl is.var)
+    fit-element 1 (codes "field") data_ns ((codes "type", f.kind) ∷ (codes "var", f.var) ∷ []) (map value_tree f.values) refl refl
+    (two-pairs (codes "type") f.kind (codes "var") f.var refl is.kind refl is.var)
     (each-map (Fits 1) value_tree f.values (each-by (λ v. Fits 1 (value_tree v)) IsUtf8 f.values value-fits is.values))
 
 kind-utf8 : (k : FormKind) → IsUtf8 (kind_text k)

@@ -59,6 +59,7 @@ pub error-fits : (feature : List ℕ) (why : Condition) → IsUtf8 feature → F
 error-fits feature why text =
     let w = worded why in
     fit-more 2 31 (error_tree client feature why) (omega arith)
-    (fit-element 1 (codes "error") client ((codes "type", (wording_of why).type) ∷ []) (element (wording_of why).name stanzas_ns [] [] ∷ extra_trees (feature_in why feature) (wording_of why).extra) refl refl
+    (fit-element 1 (codes "error") client ((codes "type", (wording_of why).type) ∷ []) (element (wording_of why).name stanzas_ns [] [] ∷ extra_trees (feature_in why feature) (wording_of why).extra)
+    refl refl
     (one-pair (codes "type") (wording_of why).type refl (word (wording_of why).type w.type))
     (fit-leaf (wording_of why).name stanzas_ns [] w.name refl tt, extra-fits (feature_in why feature) (wording_of why).extra (w.feature feature text) w.extra))

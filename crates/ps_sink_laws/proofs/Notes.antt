@@ -68,7 +68,8 @@ entry-notes s (Boot service) ok own is = tt
 entry-notes s (Change host line moment t) ok own is = numbered-notes (step.handed_out s (Change host line moment t)) s.count s.tallies (given-out s (Change host line moment t) ok own is)
 entry-notes s (Handed to) ok own is = tt
 entry-notes s (Gone host) ok own is = tt
-entry-notes s (Base row) ok own is = each-notice IsNote s row ok (λ to line e note. row-note to s.count (made_for to s.tallies + 1) line (row-read row (tree-fits row own.tree) (notice to line) e) note)
+entry-notes s (Base row) ok own is = each-notice IsNote s row ok
+    (λ to line e note. row-note to s.count (made_for to s.tallies + 1) line (row-read row (tree-fits row own.tree) (notice to line) e) note)
 
 -- ---- the notices to a bare address
 

@@ -19,7 +19,8 @@ use Rattle.ps_sink_laws.proofs.Books.{BookIs, NodeText, book-is}
 use Rattle.ps_sink_laws.proofs.ConfigTexts.{changed-text}
 use Rattle.ps_sink_laws.proofs.RowTexts.{based-text}
 
-tree-text : (host : List ℕ) (t : Tree) (moment : Option ℕ) (b : Book) → Fits 32 t → (x : Taken) → tree_taken host b.service t ≡ x → Each NodeText b.nodes → Each NodeText (step.book_changed (request_in x) moment b).nodes
+tree-text : (host : List ℕ) (t : Tree) (moment : Option ℕ) (b : Book) → Fits 32 t → (x : Taken) → tree_taken host b.service t ≡ x → Each NodeText b.nodes
+    → Each NodeText (step.book_changed (request_in x) moment b).nodes
 tree-text host t moment b fits silent e is = is
 tree-text host t moment b fits (refused why) e is = is
 tree-text host t moment b fits (denied head why) e is = is

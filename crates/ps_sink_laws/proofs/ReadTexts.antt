@@ -55,16 +55,20 @@ plain : {X : Type 0} (put : NodeConfig → X → NodeConfig) (get : List (List �
     → (d c : NodeConfig) (values : List (List ℕ)) → Each IsUtf8 values → IsConfigText d → option_map (put d) (get values) ≡ Some c → IsConfigText c
 plain put get keeps d c values are is e = set-text (put d) (get values) c (λ x h. keeps d x is) e
 
-title-keeps : (d c : NodeConfig) (values : List (List ℕ)) → Each IsUtf8 values → IsConfigText d → option_map (λ (x : List ℕ). record d { title = x }) (option_and_then (λ t. Some t) (single values)) ≡ Some c → IsConfigText c
+title-keeps : (d c : NodeConfig) (values : List (List ℕ)) → Each IsUtf8 values → IsConfigText d
+    → option_map (λ (x : List ℕ). record d { title = x }) (option_and_then (λ t. Some t) (single values)) ≡ Some c → IsConfigText c
 title-keeps d c values are is e =
-    set-text (λ (x : List ℕ). record d { title = x }) (option_and_then (λ t. Some t) (single values)) c (λ x h. record { title = title-text values (single values) x refl h are; groups = is.groups; collection = is.collection }) e
+    set-text (λ (x : List ℕ). record d { title = x }) (option_and_then (λ t. Some t) (single values)) c
+    (λ x h. record { title = title-text values (single values) x refl h are; groups = is.groups; collection = is.collection }) e
 
 groups-keep : (d c : NodeConfig) (values : List (List ℕ)) → Each IsUtf8 values → IsConfigText d → Some (record d { roster_groups_allowed = values }) ≡ Some c → IsConfigText c
 groups-keep d c values are is e = subst IsConfigText (same_Some (record d { roster_groups_allowed = values }) c e) (record { title = is.title; groups = are; collection = is.collection })
 
-name-keeps : (d c : NodeConfig) (values : List (List ℕ)) → Each IsUtf8 values → IsConfigText d → option_map (λ (x : List ℕ). record d { collection = x }) (option_and_then name_of (single values)) ≡ Some c → IsConfigText c
+name-keeps : (d c : NodeConfig) (values : List (List ℕ)) → Each IsUtf8 values → IsConfigText d
+    → option_map (λ (x : List ℕ). record d { collection = x }) (option_and_then name_of (single values)) ≡ Some c → IsConfigText c
 name-keeps d c values are is e =
-    set-text (λ (x : List ℕ). record d { collection = x }) (option_and_then name_of (single values)) c (λ x h. record { title = is.title; groups = is.groups; collection = name-text values (single values) x refl h are }) e
+    set-text (λ (x : List ℕ). record d { collection = x }) (option_and_then name_of (single values)) c
+    (λ x h. record { title = is.title; groups = is.groups; collection = name-text values (single values) x refl h are }) e
 
 rows-keep : Each RowKeeps config_rows
 unfolding RowKeeps
@@ -91,13 +95,16 @@ rows-keep = (
                     (
                       groups-keep,
                       (
-                        plain (λ (d : NodeConfig) (x : SendLast). record d { send_last_published_item = x }) (choice_in send_choices) (λ d x is. like (record d { send_last_published_item = x }) d refl refl refl is),
+                        plain (λ (d : NodeConfig) (x : SendLast). record d { send_last_published_item = x }) (choice_in send_choices)
+                            (λ d x is. like (record d { send_last_published_item = x }) d refl refl refl is),
                         (
                           plain (λ (d : NodeConfig) (x : Bool). record d { presence_based_delivery = x }) boolean_in (λ d x is. like (record d { presence_based_delivery = x }) d refl refl refl is),
                           (
-                            plain (λ (d : NodeConfig) (x : NoticeKind). record d { notification_type = x }) (choice_in notice_choices) (λ d x is. like (record d { notification_type = x }) d refl refl refl is),
+                            plain (λ (d : NodeConfig) (x : NoticeKind). record d { notification_type = x }) (choice_in notice_choices)
+                                (λ d x is. like (record d { notification_type = x }) d refl refl refl is),
                             (
-                              plain (λ (d : NodeConfig) (x : ℕ). record d { max_payload_size = x }) (λ values. option_and_then (number_of 131072) (single values)) (λ d x is. like (record d { max_payload_size = x }) d refl refl refl is),
+                              plain (λ (d : NodeConfig) (x : ℕ). record d { max_payload_size = x }) (λ values. option_and_then (number_of 131072) (single values))
+                                  (λ d x is. like (record d { max_payload_size = x }) d refl refl refl is),
                               (
                                 plain (λ (d : NodeConfig) (x : NodeKind). record d { node_type = x }) (choice_in kind_choices) (λ d x is. like (record d { node_type = x }) d refl refl refl is),
                                 (
@@ -123,12 +130,14 @@ rows-keep = (
 
 -- ---- a form
 
-found-if : (var : List ℕ) (f : Field) (fields : List Field) (values : List (List ℕ)) (b : Bool) → Each IsUtf8 f.values → (option_map (λ (g : Field). g.values) (find (is_field var) fields) ≡ Some values → Each IsUtf8 values)
+found-if : (var : List ℕ) (f : Field) (fields : List Field) (values : List (List ℕ)) (b : Bool) → Each IsUtf8 f.values
+    → (option_map (λ (g : Field). g.values) (find (is_field var) fields) ≡ Some values → Each IsUtf8 values)
     → option_map (λ (g : Field). g.values) (cond b (Some f) (find (is_field var) fields)) ≡ Some values → Each IsUtf8 values
 found-if var f fields values true own later e = subst (Each IsUtf8) (same_Some f.values values e) own
 found-if var f fields values false own later e = later e
 
-found-values : (var : List ℕ) (fields : List Field) (values : List (List ℕ)) → Each FieldIs fields → option_map (λ (f : Field). f.values) (find (is_field var) fields) ≡ Some values → Each IsUtf8 values
+found-values : (var : List ℕ) (fields : List Field) (values : List (List ℕ)) → Each FieldIs fields → option_map (λ (f : Field). f.values) (find (is_field var) fields) ≡ Some values
+    → Each IsUtf8 values
 unfolding FieldIs
 found-values var [] values are e = absurd (cc e)
 found-values var (f ∷ fields) values are e = found-if var f fields values (is_field var f) are.0 (λ h. found-values var fields values are.1 h) e

@@ -70,7 +70,8 @@ why-utf8 L7 = word (codes "bad-stanza") refl
 refused-is : (line : ℕ) (why : LineRefusal) → IsReply (refused_tree line why)
 refused-is line why = record {
   tree = is-tree (refused_tree line why) (fit-more 1 32 (refused_tree line why) (omega arith)
-      (fit-leaf (codes "refused") line_ns ((codes "line", decimal line) ∷ (codes "why", why_text why) ∷ []) refl refl (two-pairs (codes "line") (decimal line) (codes "why") (why_text why) refl (decimal-utf8 line) refl (why-utf8 why))));
+      (fit-leaf (codes "refused") line_ns ((codes "line", decimal line) ∷ (codes "why", why_text why) ∷ []) refl refl
+      (two-pairs (codes "line") (decimal line) (codes "why") (why_text why) refl (decimal-utf8 line) refl (why-utf8 why))));
   reply = refl;
 }
 
@@ -126,7 +127,8 @@ answered-kind t e =
 full-kind : (t : Tree) → (is_answered t || is_presence t) ≡ true → IsKind (name_of t)
 full-kind t e = either (is_answered t) (is_presence t) (IsKind (name_of t)) (answered-kind t) (λ h. subst IsKind (sym (named-is (codes "presence") t h)) presence-kind) e
 
-stanza-is : (name from id to type : List ℕ) (kids : List Tree) → is_word name ≡ true → IsUtf8 from → IsUtf8 id → IsUtf8 to → is_word type ≡ true → Each (Fits 31) kids → IsTree (stanza name from id to type kids)
+stanza-is : (name from id to type : List ℕ) (kids : List Tree) → is_word name ≡ true → IsUtf8 from → IsUtf8 id → IsUtf8 to → is_word type ≡ true → Each (Fits 31) kids
+    → IsTree (stanza name from id to type kids)
 stanza-is name from id to type kids named u v w typed fit =
     let last = fine-pair (codes "type") type [] (word (codes "type") refl) (word type typed) fine-none in
     let more = fine-with (codes "to") to _ (word (codes "to") refl) w last in
@@ -137,7 +139,8 @@ stanza-is name from id to type kids named u v w typed fit =
 
 error-is : (head : Head) (feature : List ℕ) (why : Condition) → HeadIs head → IsKind head.name → IsUtf8 feature → IsReply (error_reply head feature why)
 error-is head feature why is k text = record {
-  tree = stanza-is head.name (jid_text head.target) head.id (jid_text head.sender) (codes "error") (error_tree client feature why ∷ []) k.named is.target is.id is.sender refl (error-fits feature why text, tt);
+  tree = stanza-is head.name (jid_text head.target) head.id (jid_text head.sender) (codes "error") (error_tree client feature why ∷ []) k.named is.target is.id is.sender refl
+      (error-fits feature why text, tt);
   reply = k.errs (jid_text head.target) head.id (jid_text head.sender) (error_tree client feature why ∷ []);
 }
 
@@ -202,7 +205,14 @@ module _ (host : List ℕ) (b : Book) (is : BookIs b) (line : ℕ) (full : Bool)
   asked-is : (t : Tree) (r : Request) → Fits 32 t → SpellsRequest host b.service t r → ReplyIs (reply_by (asked t r) b line full)
   asked-is t r fits spells =
       let own = spelled-addresses host b.service t r spells in
-      let head : HeadIs (head_of t r.from r.target) = record { sender = jid-utf8 r.from own.from; target = jid-utf8 r.target own.target; id = attr-utf8 32 (codes "id") t fits; tree = t; named = refl; answers = refl } in
+      let head : HeadIs (head_of t r.from r.target) = record {
+        sender = jid-utf8 r.from own.from;
+        target = jid-utf8 r.target own.target;
+        id = attr-utf8 32 (codes "id") t fits;
+        tree = t;
+        named = refl;
+        answers = refl;
+      } in
       outcome-is t r head (commits b r && full) (first_denial (steps_of r.ask b r)) (child_of r.ask b r) (child-fits b is b.service t r own.from own.target fits r.ask spells.ask own.ask)
 
   tree-is : (t : Tree) → Fits 32 t → (x : Taken) → tree_taken host b.service t ≡ x → TakenFrom t x → ReplyIs (reply_by x b line full)

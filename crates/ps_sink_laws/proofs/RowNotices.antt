@@ -58,7 +58,8 @@ placed-note to line s o e ok =
 
 -- the notices of a row: at most the one that it is
 module _ (P : Notice → Type 0) (place : ℕ) (T : List TallyRow) where
-  each-row : (o : Option BaseRow) → ((to : Jid) (line : List ℕ) → o ≡ Some (base.notice to line) → P (record { to = to; place = place; number = made_for to T + 1; line = line })) → Each P (row_notices place T o)
+  each-row : (o : Option BaseRow) → ((to : Jid) (line : List ℕ) → o ≡ Some (base.notice to line) → P (record { to = to; place = place; number = made_for to T + 1; line = line }))
+      → Each P (row_notices place T o)
   each-row None one = tt
   each-row (Some (base.node r)) one = tt
   each-row (Some (base.affiliation r)) one = tt

@@ -113,7 +113,8 @@ module _ (t : Tree) (fits : Fits 32 t) where
 
 -- ---- what a row adds
 
-linked-text : (o : Option NodeRow) (l : LinkRow) (nodes : List NodeRow) → FoundText o → IsUtf8 l.collection.name → Each NodeText nodes → Each NodeText (in_collection l.collection.name (option_map (λ (r : NodeRow). r.config) o) l nodes)
+linked-text : (o : Option NodeRow) (l : LinkRow) (nodes : List NodeRow) → FoundText o → IsUtf8 l.collection.name → Each NodeText nodes
+    → Each NodeText (in_collection l.collection.name (option_map (λ (r : NodeRow). r.config) o) l nodes)
 linked-text None l nodes found name is = is
 linked-text (Some r) l nodes found name is =
     let own = found.found r refl in

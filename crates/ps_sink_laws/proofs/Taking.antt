@@ -41,7 +41,8 @@ module _ (host service : List ℕ) (t : Tree) (hosted : IsUtf8 (jid_text (host_j
   ask-from from target (Err why) own other = head-is from target own (jid-utf8 target other)
   ask-from from target (Ok ask) own other = refl
 
-  served-from : (from target : Jid) (served : Bool) → IsAddress from → IsAddress target → TakenFrom t (cond served (ask_taken t from target (ask_of service t from target)) (denied (head_of t from target) C25))
+  served-from : (from target : Jid) (served : Bool) → IsAddress from → IsAddress target
+      → TakenFrom t (cond served (ask_taken t from target (ask_of service t from target)) (denied (head_of t from target) C25))
   served-from from target true own other = ask-from from target (ask_of service t from target) own other
   served-from from target false own other = head-is from target own (jid-utf8 target other)
 

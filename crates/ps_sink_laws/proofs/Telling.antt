@@ -79,7 +79,8 @@ bare-same a b to e f own =
     let h : to.host ≡ b.host = (bytes_eq-Decides to.host b.host).0 p.1 in
     rw (l, h, e, f) (third (bytes_eq a.local b.local) (bytes_eq a.host b.host))
 
-one-note : (x y : Bool) (l : List ℕ) (n : Notice) (ls : List (List ℕ)) (ns : List Notice) → x ≡ y → l ≡ n.line → ls ≡ map (λ (m : Notice). m.line) ns → cond x (l ∷ ls) ls ≡ map (λ (m : Notice). m.line) (cond y (n ∷ ns) ns)
+one-note : (x y : Bool) (l : List ℕ) (n : Notice) (ls : List (List ℕ)) (ns : List Notice) → x ≡ y → l ≡ n.line → ls ≡ map (λ (m : Notice). m.line) ns
+    → cond x (l ∷ ls) ls ≡ map (λ (m : Notice). m.line) (cond y (n ∷ ns) ns)
 one-note true true l n ls ns e f g = rw (f, g) refl
 one-note true false l n ls ns e f g = absurd (cc e)
 one-note false true l n ls ns e f g = absurd (cc e)
@@ -90,7 +91,8 @@ unfolding saying sayings
 notes-are a bare [] are = refl
 notes-are a bare (Reply text ∷ ws) are = notes-are a bare ws are.1
 notes-are a bare (Note b n ∷ ws) are =
-    one-note (same_bare a n.to) (same_jid a b) (print are.0.note.tree) n (sink.notes_in (sayings ws are.1) a) (notes_in a ws) (bare-same a b n.to bare are.0.bare are.0.own) are.0.note.line (notes-are a bare ws are.1)
+    one-note (same_bare a n.to) (same_jid a b) (print are.0.note.tree) n (sink.notes_in (sayings ws are.1) a) (notes_in a ws) (bare-same a b n.to bare are.0.bare are.0.own) are.0.note.line
+    (notes-are a bare ws are.1)
 
 told-apart : (ws : List Word) (rest : List ℕ) → Each Shown ws → NoNewline rest → IsToldApart ws rest
 told-apart ws rest are clean =

@@ -1,5 +1,37 @@
 -- Whether bytes begin with an entry.
-use Rattle.std.proofs.Common.{◌≡◌, ◌⊎◌, inl, inr, ℕ, zero, suc, ◌+◌, ◌<◌, ◌≤◌, ◌^◌, Bool, true, List, [], ◌∷◌, ◌++◌, length, map, Option, Some, None, option_map, refl, sym, ap, subst, ◌∙◌, append_assoc, arith, length-append}
+use Rattle.std.proofs.Common.{
+  ◌≡◌,
+  ◌⊎◌,
+  inl,
+  inr,
+  ℕ,
+  zero,
+  suc,
+  ◌+◌,
+  ◌<◌,
+  ◌≤◌,
+  ◌^◌,
+  Bool,
+  true,
+  List,
+  [],
+  ◌∷◌,
+  ◌++◌,
+  length,
+  map,
+  Option,
+  Some,
+  None,
+  option_map,
+  refl,
+  sym,
+  ap,
+  subst,
+  ◌∙◌,
+  append_assoc,
+  arith,
+  length-append,
+}
 use Rattle.std.specs.Prelude.{◌&&◌, nat_le, Result, Ok, Err}
 use Rattle.std.specs.Int.{w16, w32, w64, to_be_bytes}
 use Rattle.std.proofs.lemmas.Bool.{and_parts, leb-true}
@@ -30,7 +62,8 @@ AreSameParts p q = (p.local ≡ q.local) × ((p.host ≡ q.host) × (p.resource 
 
 same-parts : (p q : Parts) → Decided (p ≡ q)
 same-parts p q =
-    either-way (λ (h : AreSameParts p q). (λ i. record { local = h.0 i; host = h.1.0 i; resource = h.1.1 i })) (λ e. (ap (λ (x : Parts). x.local) e, (ap (λ (x : Parts). x.host) e, ap (λ (x : Parts). x.resource) e)))
+    either-way (λ (h : AreSameParts p q). (λ i. record { local = h.0 i; host = h.1.0 i; resource = h.1.1 i }))
+    (λ e. (ap (λ (x : Parts). x.local) e, (ap (λ (x : Parts). x.host) e, ap (λ (x : Parts). x.resource) e)))
     (both (same-bytes p.local q.local) (both (same-bytes p.host q.host) (same-bytes p.resource q.resource)))
 
 parts-decided : (j : Jid) → Decided (AreParts (parts_of j))
@@ -92,7 +125,8 @@ tree-again : (t : Tree) → IsWritten t → tree_or (line_tree (print t)) ≡ So
 tree-again t is = ap tree_or (reads-line (print t) t (print_reads t is.tree))
 
 written-decided : (t : Tree) → Decided (IsWritten t)
-written-decided t = either-way (λ (h : IsTree t × (length (print t) < 2 ^ 32)). record { tree = h.0; fits = h.1 }) (λ (is : IsWritten t). (is.tree, is.fits)) (both (tree-decided t) (is-below (length (print t)) (2 ^ 32)))
+written-decided t = either-way (λ (h : IsTree t × (length (print t) < 2 ^ 32)). record { tree = h.0; fits = h.1 }) (λ (is : IsWritten t). (is.tree, is.fits))
+    (both (tree-decided t) (is-below (length (print t)) (2 ^ 32)))
 
 -- ---- each kind of entry
 
@@ -131,7 +165,8 @@ entry-is (Base row) = written-decided row
 
 front-decided : (second : Bool) (bytes : List ℕ) (x : Front) → Decided (IsFront second bytes x)
 front-decided second bytes x =
-    both (either-way (λ (h : IsEntry x.0 × (in_version second x.0 ≡ true)). record { entry = h.0; suits = h.1 }) (λ (is : IsEntryIn second x.0). (is.entry, is.suits)) (both (entry-is x.0) (is-true (in_version second x.0))))
+    both (either-way (λ (h : IsEntry x.0 × (in_version second x.0 ≡ true)). record { entry = h.0; suits = h.1 }) (λ (is : IsEntryIn second x.0). (is.entry, is.suits))
+    (both (entry-is x.0) (is-true (in_version second x.0))))
     (same-bytes bytes (spelling x.0 ++ x.1))
 
 -- ---- the entry that is read, by the first byte
@@ -184,7 +219,8 @@ front-read (Base row) rest is = tree-then Base row rest is
 front-read (Change host line None t) rest is =
     let back : List ℕ = to_be_bytes w64 line ++ long (print t) in
     ap (λ (l : List ℕ). change_at (text_at w16 l)) (append_assoc (short host) back rest) ∙ ap change_at (text-again w16 (2 ^ 16) wide16 host (back ++ rest) (host_fits host is.0))
-    ∙ ap (λ (l : List ℕ). change_from host (number_at w64 l)) (append_assoc (to_be_bytes w64 line) (long (print t)) rest) ∙ ap (change_from host) (number-again w64 (2 ^ 64) wide64 line (long (print t) ++ rest) is.1)
+    ∙ ap (λ (l : List ℕ). change_from host (number_at w64 l)) (append_assoc (to_be_bytes w64 line) (long (print t)) rest) ∙ ap (change_from host)
+    (number-again w64 (2 ^ 64) wide64 line (long (print t) ++ rest) is.1)
     ∙ tree-then (Change host line None) t rest is.3
 front-read (Change host line (Some moment) t) rest is =
     let last : List ℕ = to_be_bytes w64 moment ++ long (print t) in

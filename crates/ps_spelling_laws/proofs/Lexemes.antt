@@ -7,7 +7,40 @@ use Rattle.json.specs.Token.{Token, begin_object, end_object, begin_array, end_a
 use Rattle.json.specs.Text.{content, plain}
 use Rattle.json.specs.Word.{is_operator, is_space, head, ends_word, after_number, number_before, literal, word}
 use Rattle.json.specs.Ascii as ascii
-use Rattle.json.specs.Lex.{Lexeme, token, comma, colon, Class, quote, backslash, operator, space, other, class, operator_lexeme, string_token, Mode, between, in_word, in_string, in_escape, lex_byte, lex, Place, fresh, after_value, after_comma, after_key, begins_colon, may_begin, may_close, if_allowed, place_token, punctuate, tokens}
+use Rattle.json.specs.Lex.{
+  Lexeme,
+  token,
+  comma,
+  colon,
+  Class,
+  quote,
+  backslash,
+  operator,
+  space,
+  other,
+  class,
+  operator_lexeme,
+  string_token,
+  Mode,
+  between,
+  in_word,
+  in_string,
+  in_escape,
+  lex_byte,
+  lex,
+  Place,
+  fresh,
+  after_value,
+  after_comma,
+  after_key,
+  begins_colon,
+  may_begin,
+  may_close,
+  if_allowed,
+  place_token,
+  punctuate,
+  tokens,
+}
 use Rattle.ps_spelling_laws.proofs.Strings.{beside, content-utf8}
 use Rattle.ps_spelling_laws.proofs.When.{When}
 
@@ -59,7 +92,8 @@ four-text false false false x y z w hx hy hz hw = hw
 word-text : (text : List ℕ) → IsText (word text)
 unfolding word
 word-text text =
-    four-text (head text == ascii.lower_t) (head text == ascii.lower_f) (head text == ascii.lower_n) (literal ascii.true_text (boolean true) text) (literal ascii.false_text (boolean false) text) (literal ascii.null_text null text) (number_before text (after_number text))
+    four-text (head text == ascii.lower_t) (head text == ascii.lower_f) (head text == ascii.lower_n) (literal ascii.true_text (boolean true) text) (literal ascii.false_text (boolean false) text)
+    (literal ascii.null_text null text) (number_before text (after_number text))
     (literal-text ascii.true_text (boolean true) text tt) (literal-text ascii.false_text (boolean false) text tt) (literal-text ascii.null_text null text tt) (number-text text (after_number text))
 
 six-lexemes : (a b c d e : Bool) → IsLexeme (cond a (token begin_object) (cond b (token end_object) (cond c (token begin_array) (cond d (token end_array) (cond e comma colon)))))
@@ -90,7 +124,8 @@ quote-is x e = by (x == 34) refl e
     by true h e = eqb-true x 34 h
     by false h e = absurd (no-quote (x == 92) (is_operator x) (is_space x) e)
 
-byte-texts : (m : Mode) (c : Class) (x : ℕ) (xs : List ℕ) (k : Mode → List Lexeme) → ((m : Mode) → AreLexemes (k m)) → (c ≡ quote → IsText (string_token (content plain xs))) → AreLexemes (lex_byte m c x xs k)
+byte-texts : (m : Mode) (c : Class) (x : ℕ) (xs : List ℕ) (k : Mode → List Lexeme) → ((m : Mode) → AreLexemes (k m)) → (c ≡ quote → IsText (string_token (content plain xs)))
+    → AreLexemes (lex_byte m c x xs k)
 byte-texts between quote x xs k h q = (q refl, h in_string)
 byte-texts between backslash x xs k h q = (tt, h in_word)
 byte-texts between operator x xs k h q = (operator-text x, h between)

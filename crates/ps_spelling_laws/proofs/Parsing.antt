@@ -2,7 +2,32 @@
 use Rattle.std.proofs.Common.{◌≡◌, ℕ, zero, suc, List, [], ◌∷◌, length, Option, Some, None, IsUtf8, option_and_then, refl, subst}
 use Rattle.std.specs.Prelude.{⊤}
 use Rattle.json.specs.Token.{Token}
-use Rattle.json.specs.Json.{Json, null, boolean, number, string, array, object, Items, no_items, item, Members, no_members, member, Parse, parse_map, after_end_array, read_key, items_step, members_step, items, members, value_with, value, if_last}
+use Rattle.json.specs.Json.{
+  Json,
+  null,
+  boolean,
+  number,
+  string,
+  array,
+  object,
+  Items,
+  no_items,
+  item,
+  Members,
+  no_members,
+  member,
+  Parse,
+  parse_map,
+  after_end_array,
+  read_key,
+  items_step,
+  members_step,
+  items,
+  members,
+  value_with,
+  value,
+  if_last,
+}
 use Rattle.json.proofs.Grammar.{closed_array, read_key_is}
 use Rattle.ps_spelling_laws.proofs.Lexemes.{AreTexts}
 use Rattle.ps_spelling_laws.proofs.When.{When}
@@ -40,7 +65,8 @@ then-more : {B : Type 0} (Q : B → Type 0) (f : Json → B → B) (more : Parse
 then-more Q f more None g again h = tt
 then-more Q f more (Some q) g again h = mapped Q Q (f q.0) (more q.1) (λ b k. g q.0 b h.0 k) (again q.1 h.1)
 
-item-turn : (p : Parse Json) (more : Parse Items) (ts : List Token) (o : Option (List Token)) → Parses HasTexts p → Parses ItemsHave more → AreTexts ts → after_end_array ts ≡ o → Parsed ItemsHave (items_step p more ts o)
+item-turn : (p : Parse Json) (more : Parse Items) (ts : List Token) (o : Option (List Token)) → Parses HasTexts p → Parses ItemsHave more → AreTexts ts → after_end_array ts ≡ o
+    → Parsed ItemsHave (items_step p more ts o)
 item-turn p more ts (Some rest) h again are e = let all : ⊤ × AreTexts rest = subst AreTexts (closed_array ts rest e) are in (tt, all.1)
 item-turn p more ts None h again are e = then-more ItemsHave item more (p ts) (λ j js u v. (u, v)) again (h ts are)
 
@@ -79,7 +105,8 @@ pub value-texts : (depth : ℕ) → Parses HasTexts (value depth)
 unfolding value
 value-texts zero = with-texts (λ ts. None) (λ ts. None) (λ ts are. tt) (λ ts are. tt)
 value-texts (suc d) =
-    with-texts (λ ts. items (value d) (length ts) ts) (λ ts. members (value d) (length ts) ts) (λ ts. items-have (value d) (value-texts d) (length ts) ts) (λ ts. members-have (value d) (value-texts d) (length ts) ts)
+    with-texts (λ ts. items (value d) (length ts) ts) (λ ts. members (value d) (length ts) ts) (λ ts. items-have (value d) (value-texts d) (length ts) ts)
+    (λ ts. members-have (value d) (value-texts d) (length ts) ts)
 
 pub last-texts : (j : Json) (ts : List Token) → HasTexts j → When HasTexts (if_last j ts)
 last-texts j [] h = h

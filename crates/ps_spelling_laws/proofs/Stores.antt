@@ -1,5 +1,41 @@
 -- Each store's bytes have a list of entries or a place of damage.
-use Rattle.std.proofs.Common.{◌≡◌, ◌≢◌, ◌⊎◌, inl, inr, ℕ, zero, suc, ◌+◌, ◌<◌, ◌≤◌, ◌^◌, Bool, true, false, List, [], ◌∷◌, ◌++◌, length, take, drop, map, Option, Some, refl, sym, ap, subst, ◌∙◌, append_assoc, append-nil, take-append-drop, arith, length-append}
+use Rattle.std.proofs.Common.{
+  ◌≡◌,
+  ◌≢◌,
+  ◌⊎◌,
+  inl,
+  inr,
+  ℕ,
+  zero,
+  suc,
+  ◌+◌,
+  ◌<◌,
+  ◌≤◌,
+  ◌^◌,
+  Bool,
+  true,
+  false,
+  List,
+  [],
+  ◌∷◌,
+  ◌++◌,
+  length,
+  take,
+  drop,
+  map,
+  Option,
+  Some,
+  refl,
+  sym,
+  ap,
+  subst,
+  ◌∙◌,
+  append_assoc,
+  append-nil,
+  take-append-drop,
+  arith,
+  length-append,
+}
 use Rattle.std.specs.Prelude.{◌==◌}
 use Rattle.std.specs.Int.{w32}
 use Rattle.std.specs.List.{AllByRecursion}
@@ -86,7 +122,8 @@ shorter e rest x n split fits = some (spelling e) refl
   where
     some : (s : List ℕ) → spelling e ≡ s → length rest ≤ n
     some [] is = absurd (starts e [] (sym (append-nil (spelling e) ∙ is)))
-    some (b ∷ s) is = (let l : length x ≡ length (spelling e) + length rest = ap length split ∙ length-append (spelling e) rest in let k : length (spelling e) ≡ length (b ∷ s) = ap length is in omega (arith, l, k, fits))
+    some (b ∷ s) is = (let l : length x ≡ length (spelling e) + length rest = ap length split ∙ length-append (spelling e) rest in let k : length (spelling e) ≡ length (b ∷ s) = ap length is in omega
+        (arith, l, k, fits))
 
 frame-shorter : (b after y : List ℕ) (n : ℕ) → y ≡ frame b ++ after → length y ≤ suc n → length after ≤ n
 frame-shorter b after y n split fits = (let l : length y ≡ length (frame b) + length after = ap length split ∙ length-append (frame b) after in omega (arith, l, fits))
@@ -132,12 +169,14 @@ module _ (bytes : List ℕ) (header : is_header (take 8 bytes) ≡ true) where
   }
 
   -- one more entry is read
-  next-entry : (ps : List (List Entry)) (es : List Entry) (x : List ℕ) (others : List (List ℕ)) → Reached bytes ps es x others → (f : Begins (is_second bytes) x) → accepted (replay (joined ps ++ es)) f.entry ≡ true → Reached bytes ps (es ++ f.entry ∷ []) f.rest others
+  next-entry : (ps : List (List Entry)) (es : List Entry) (x : List ℕ) (others : List (List ℕ)) → Reached bytes ps es x others → (f : Begins (is_second bytes) x)
+      → accepted (replay (joined ps ++ es)) f.entry ≡ true → Reached bytes ps (es ++ f.entry ∷ []) f.rest others
   next-entry ps es x others h f ok = record {
     parts = h.parts;
     entries = each-more (IsEntryIn (is_second bytes)) es f.entry h.entries f.is;
     each = subst lawful (append_assoc (joined ps) es (f.entry ∷ [])) (lawful-more (joined ps ++ es) f.entry empty_state h.each ok);
-    begun = subst (Begun bytes) (ap (λ (l : List ℕ). map body ps ++ l ∷ others) (ap (λ (l : List ℕ). body es ++ l) f.split ∙ sym (append_assoc (body es) (spelling f.entry) f.rest) ∙ ap (λ (l : List ℕ). l ++ f.rest) (sym (body-more es f.entry)))) h.begun;
+    begun = subst (Begun bytes) (ap (λ (l : List ℕ). map body ps ++ l ∷ others)
+        (ap (λ (l : List ℕ). body es ++ l) f.split ∙ sym (append_assoc (body es) (spelling f.entry) f.rest) ∙ ap (λ (l : List ℕ). l ++ f.rest) (sym (body-more es f.entry)))) h.begun;
   }
 
   unspelled : (ps : List (List Entry)) (es : List Entry) (x : List ℕ) (others : List (List ℕ)) → Reached bytes ps es x others → x ≢ [] → BeginsWithNone (is_second bytes) x → HasDamage bytes
@@ -152,7 +191,8 @@ module _ (bytes : List ℕ) (header : is_header (take 8 bytes) ≡ true) where
     })),
   )
 
-  refused : (ps : List (List Entry)) (es : List Entry) (x : List ℕ) (others : List (List ℕ)) → Reached bytes ps es x others → (f : Begins (is_second bytes) x) → accepted (replay (joined ps ++ es)) f.entry ≡ false → HasDamage bytes
+  refused : (ps : List (List Entry)) (es : List Entry) (x : List ℕ) (others : List (List ℕ)) → Reached bytes ps es x others → (f : Begins (is_second bytes) x)
+      → accepted (replay (joined ps ++ es)) f.entry ≡ false → HasDamage bytes
   refused ps es x others h f rejected = (
     gate_at (map body ps) + 5 + length (body es),
     inr (inr (record {
@@ -169,13 +209,16 @@ module _ (bytes : List ℕ) (header : is_header (take 8 bytes) ≡ true) where
   entries-on n ps es [] (o ∷ others) fits h = entries-on (length o) (ps ++ es ∷ []) [] o others (omega arith) (next-frame ps es o others h)
   entries-on zero ps es (b ∷ x) others fits h = absurd (let no : suc (length x) ≤ 0 = fits in omega (arith, no))
   entries-on (suc n) ps es (b ∷ x) others fits h =
-      begins (entry-decided (is_second bytes) (b ∷ x)) (λ f ok. entries-on n ps (es ++ f.entry ∷ []) f.rest others (shorter f.entry f.rest (b ∷ x) n f.split fits) (next-entry ps es (b ∷ x) others h f ok))
+      begins (entry-decided (is_second bytes) (b ∷ x)) (λ f ok. entries-on n ps (es ++ f.entry ∷ []) f.rest others (shorter f.entry f.rest (b ∷ x) n f.split fits)
+      (next-entry ps es (b ∷ x) others h f ok))
     where
-      judged : (f : Begins (is_second bytes) (b ∷ x)) → (accepted (replay (joined ps ++ es)) f.entry ≡ true → HasList bytes ⊎ HasDamage bytes) → (ok : Bool) → accepted (replay (joined ps ++ es)) f.entry ≡ ok → HasList bytes ⊎ HasDamage bytes
+      judged : (f : Begins (is_second bytes) (b ∷ x)) → (accepted (replay (joined ps ++ es)) f.entry ≡ true → HasList bytes ⊎ HasDamage bytes) → (ok : Bool)
+          → accepted (replay (joined ps ++ es)) f.entry ≡ ok → HasList bytes ⊎ HasDamage bytes
       judged f go true ok = go ok
       judged f go false rejected = inr (refused ps es (b ∷ x) others h f rejected)
 
-      begins : Begins (is_second bytes) (b ∷ x) ⊎ BeginsWithNone (is_second bytes) (b ∷ x) → ((f : Begins (is_second bytes) (b ∷ x)) → accepted (replay (joined ps ++ es)) f.entry ≡ true → HasList bytes ⊎ HasDamage bytes) → HasList bytes ⊎ HasDamage bytes
+      begins : Begins (is_second bytes) (b ∷ x) ⊎ BeginsWithNone (is_second bytes) (b ∷ x)
+          → ((f : Begins (is_second bytes) (b ∷ x)) → accepted (replay (joined ps ++ es)) f.entry ≡ true → HasList bytes ⊎ HasDamage bytes) → HasList bytes ⊎ HasDamage bytes
       begins (inl f) go = judged f (go f) (accepted (replay (joined ps ++ es)) f.entry) refl
       begins (inr none) go = inr (unspelled ps es (b ∷ x) others h (λ e. absurd (cc e)) none)
 
@@ -226,7 +269,8 @@ module _ (bytes : List ℕ) (header : is_header (take 8 bytes) ≡ true) where
 
   frames-on : (n : ℕ) (bs : List (List ℕ)) (y : List ℕ) → length y ≤ n → Framed bytes bs y → HasList bytes ⊎ HasDamage bytes
   frames-on zero bs y fits h =
-      last-frame bs y h (λ b after is some more. (let l : length y ≡ length (frame b) + length after = ap length more ∙ length-append (frame b) after in absurd (omega (arith, l, fits)))) (shut-decided y)
+      last-frame bs y h (λ b after is some more. (let l : length y ≡ length (frame b) + length after = ap length more ∙ length-append (frame b) after in absurd (omega (arith, l, fits))))
+      (shut-decided y)
   frames-on (suc n) bs y fits h = next (frame-decided y) (λ x f. frames-on n (bs ++ x.0 ∷ []) x.1 (frame-shorter x.0 x.1 y n f.1.1 fits) (next-framed bs y h x f))
     where
       next : HasFrame y ⊎ NoFrame y → ((x : List ℕ × List ℕ) → IsFrame y x → HasList bytes ⊎ HasDamage bytes) → HasList bytes ⊎ HasDamage bytes

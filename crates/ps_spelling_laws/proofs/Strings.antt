@@ -1,5 +1,35 @@
 -- The content of a string in a text of UTF-8 is UTF-8.
-use Rattle.std.proofs.Common.{◌≡◌, ℕ, ◌+◌, ◌*◌, ◌<◌, Bool, true, false, cond, ◌&&◌, ◌==◌, nat_lt, List, [], ◌∷◌, ◌++◌, length, get_or, Option, Some, None, option_and_then, IsUtf8, refl, sym, subst, arith, append_assoc, append-nil}
+use Rattle.std.proofs.Common.{
+  ◌≡◌,
+  ℕ,
+  ◌+◌,
+  ◌*◌,
+  ◌<◌,
+  Bool,
+  true,
+  false,
+  cond,
+  ◌&&◌,
+  ◌==◌,
+  nat_lt,
+  List,
+  [],
+  ◌∷◌,
+  ◌++◌,
+  length,
+  get_or,
+  Option,
+  Some,
+  None,
+  option_and_then,
+  IsUtf8,
+  refl,
+  sym,
+  subst,
+  arith,
+  append_assoc,
+  append-nil,
+}
 use Rattle.std.specs.Char.{digit_value, is_digit, encode_utf8, IsScalar}
 use Rattle.std.proofs.lemmas.Bool.{eqb-true, and_parts}
 use Rattle.std.proofs.lemmas.Bool.Decides.{nat_tests}
@@ -50,7 +80,8 @@ unit-is : (a b c d u : ℕ) → code_unit a b c d ≡ Some u → IsUnit a b c d 
 unfolding code_unit
 unit-is a b c d u e = by (is_digit a 16 && is_digit b 16 && is_digit c 16 && is_digit d 16) refl e
   where
-    by : (t : Bool) → (is_digit a 16 && is_digit b 16 && is_digit c 16 && is_digit d 16) ≡ t → cond t (Some (digit_value a * 4096 + digit_value b * 256 + digit_value c * 16 + digit_value d)) None ≡ Some u → IsUnit a b c d u
+    by : (t : Bool) → (is_digit a 16 && is_digit b 16 && is_digit c 16 && is_digit d 16) ≡ t
+        → cond t (Some (digit_value a * 4096 + digit_value b * 256 + digit_value c * 16 + digit_value d)) None ≡ Some u → IsUnit a b c d u
     by false h k = absurd (cc k)
     by true h k =
         let p = and_parts (is_digit a 16 && is_digit b 16 && is_digit c 16) (is_digit d 16) h in
@@ -117,7 +148,8 @@ content-utf8 after_backslash front [] r = tt
 content-utf8 after_backslash front (x ∷ text) r =
     whichever (λ s. IsUtf8 (front ++ s)) (x == 117) _ _
     (λ u. content-utf8 after_u front text (record { before = r.before; after = behind x text (omega (arith, eqb-true x 117 u)) r.after }))
-    (λ u. found front _ (short_escape x) (λ c e. joined front (c ∷ []) (content plain text) r.before (ascii-one c (short-is x c e).1) (content-utf8 plain [] text (behind x text (short-is x c e).0 r.after))))
+    (λ u. found front _ (short_escape x) (λ c e. joined front (c ∷ []) (content plain text) r.before (ascii-one c (short-is x c e).1)
+    (content-utf8 plain [] text (behind x text (short-is x c e).0 r.after))))
 content-utf8 after_u front [] r = tt
 content-utf8 after_u front (a ∷ []) r = tt
 content-utf8 after_u front (a ∷ b ∷ []) r = tt
@@ -141,7 +173,9 @@ content-utf8 (after_high h) front (s ∷ u ∷ a ∷ b ∷ c ∷ d ∷ text) r =
     (λ e. found front _ (code_unit a b c d) (λ l k.
     let both = and_parts (s == 92) (u == 117) e in
     let i = unit-is a b c d l k in
-    let units : IsUtf8 (a ∷ b ∷ c ∷ d ∷ text) = behind u (a ∷ b ∷ c ∷ d ∷ text) (omega (arith, eqb-true u 117 both.1)) (behind s (u ∷ a ∷ b ∷ c ∷ d ∷ text) (omega (arith, eqb-true s 92 both.0)) r.0.after) in
+    let units : IsUtf8 (a ∷ b ∷ c ∷ d ∷ text) = behind u (a ∷ b ∷ c ∷ d ∷ text) (omega (arith, eqb-true u 117 both.1))
+    (behind s (u ∷ a ∷ b ∷ c ∷ d ∷ text) (omega (arith, eqb-true s 92 both.0)) r.0.after) in
     whichever (λ s. IsUtf8 (front ++ s)) (is_low_surrogate l) _ _
-    (λ y. joined front (encode_utf8 (surrogate_pair h l)) (content plain text) r.0.before (IsUtf8-encode (surrogate_pair h l) (pair-scalar h l r.1 y)) (content-utf8 plain [] text (past-four a b c d text i.first i.second i.third i.fourth units)))
+    (λ y. joined front (encode_utf8 (surrogate_pair h l)) (content plain text) r.0.before (IsUtf8-encode (surrogate_pair h l) (pair-scalar h l r.1 y))
+    (content-utf8 plain [] text (past-four a b c d text i.first i.second i.third i.fourth units)))
     (λ y. tt))) (λ e. tt)

@@ -14,7 +14,25 @@ use Rattle.ps_types.specs.Attrs.{IsBelow, IsSorted, attr}
 use Rattle.ps_types.specs.Form.{AreTexts, IsHead, HasForm, HaveForm}
 use Rattle.ps_types.specs.LineTree.{line_tree}
 use Rattle.ps_types.specs.Print.{client}
-use Rattle.ps_types.specs.Reading.{Reads, has_known, text_of, unless_empty, name_in, ns_from, ns_in, attrs_of_members, attrs_of_data, attrs_from, attrs_in, element, tree_of, kids_in, kids_of, nodes_of_items, kid_then}
+use Rattle.ps_types.specs.Reading.{
+  Reads,
+  has_known,
+  text_of,
+  unless_empty,
+  name_in,
+  ns_from,
+  ns_in,
+  attrs_of_members,
+  attrs_of_data,
+  attrs_from,
+  attrs_in,
+  element,
+  tree_of,
+  kids_in,
+  kids_of,
+  nodes_of_items,
+  kid_then,
+}
 use Rattle.ps_types.specs.Tree.{Tree, tree, Nodes, branch, words}
 use Rattle.ps_model.specs.ReadFrom.{IsReadFrom}
 use Rattle.ps_model.proofs.LineLaws.{line-read}
@@ -52,7 +70,8 @@ named (x ∷ s) u = record { text = u; some = λ e. absurd (cc e) }
 
 name-sound : (ms : Members) → HaveSound ms → When IsName (name_in ms)
 name-sound ms h =
-    then-when IsUtf8 IsName unless_empty (option_and_then text_of (get_member (codes "n") ms)) (then-when IsSound IsUtf8 text_of (get_member (codes "n") ms) (get-sound (codes "n") ms h) text-sound) named
+    then-when IsUtf8 IsName unless_empty (option_and_then text_of (get_member (codes "n") ms)) (then-when IsSound IsUtf8 text_of (get_member (codes "n") ms) (get-sound (codes "n") ms h) text-sound)
+    named
 
 ns-sound : (parent : List ℕ) (o : Option Data) → IsUtf8 parent → When IsSound o → When IsUtf8 (ns_from parent o)
 ns-sound parent None u h = u
@@ -101,12 +120,16 @@ attrs-sound (Some d) h = data-attrs d h
 head-is : (name ns : List ℕ) (attrs : List Attr) → IsName name → IsUtf8 ns → AreAttrs attrs → IsHead name ns attrs
 head-is name ns attrs n v a = record { name_is_text = n.text; named = n.some; ns_is_text = v; texts = a.texts; sorted = a.sorted }
 
-element-form : (parent : List ℕ) (ms : Members) (kids : List ℕ → Option Nodes) → IsUtf8 parent → HaveSound ms → ((ns : List ℕ) → IsUtf8 ns → When HaveForm (kids ns)) → When HasForm (element parent ms kids)
+element-form : (parent : List ℕ) (ms : Members) (kids : List ℕ → Option Nodes) → IsUtf8 parent → HaveSound ms → ((ns : List ℕ) → IsUtf8 ns → When HaveForm (kids ns))
+    → When HasForm (element parent ms kids)
 element-form parent ms kids u h below =
-    whichever HasForm (has_known ms) (option_and_then (λ name. option_and_then (λ ns. option_and_then (λ attrs. option_map (tree name ns attrs) (kids ns)) (attrs_in ms)) (ns_in parent ms)) (name_in ms)) None
+    whichever HasForm (has_known ms) (option_and_then (λ name. option_and_then (λ ns. option_and_then (λ attrs. option_map (tree name ns attrs) (kids ns)) (attrs_in ms)) (ns_in parent ms))
+    (name_in ms)) None
     (λ known.
-    then-when IsName HasForm (λ name. option_and_then (λ ns. option_and_then (λ attrs. option_map (tree name ns attrs) (kids ns)) (attrs_in ms)) (ns_in parent ms)) (name_in ms) (name-sound ms h) (λ name n.
-    then-when IsUtf8 HasForm (λ ns. option_and_then (λ attrs. option_map (tree name ns attrs) (kids ns)) (attrs_in ms)) (ns_in parent ms) (ns-sound parent (get_member (codes "ns") ms) u (get-sound (codes "ns") ms h)) (λ ns v.
+    then-when IsName HasForm (λ name. option_and_then (λ ns. option_and_then (λ attrs. option_map (tree name ns attrs) (kids ns)) (attrs_in ms)) (ns_in parent ms)) (name_in ms) (name-sound ms h)
+    (λ name n.
+    then-when IsUtf8 HasForm (λ ns. option_and_then (λ attrs. option_map (tree name ns attrs) (kids ns)) (attrs_in ms)) (ns_in parent ms)
+    (ns-sound parent (get_member (codes "ns") ms) u (get-sound (codes "ns") ms h)) (λ ns v.
     then-when AreAttrs HasForm (λ attrs. option_map (tree name ns attrs) (kids ns)) (attrs_in ms) (attrs-sound (get_member (codes "a") ms) (get-sound (codes "a") ms h)) (λ attrs a.
     map-when HaveForm HasForm (tree name ns attrs) (kids ns) (below ns v) (λ nodes k. (head-is name ns attrs n v a, k))))))
     (λ unknown. tt)

@@ -79,7 +79,8 @@ mutual
   items-sound : (js : json.Items) → ItemsHave js → When AreSound (of_items js)
   items-sound json.no_items h = tt
   items-sound (json.item j js) h =
-      then-when IsSound AreSound (λ d. option_map (item d) (of_items js)) (of_json j) (json-sound j h.0) (λ d s. map-when AreSound AreSound (item d) (of_items js) (items-sound js h.1) (λ ds k. (s, k)))
+      then-when IsSound AreSound (λ d. option_map (item d) (of_items js)) (of_json j) (json-sound j h.0)
+      (λ d s. map-when AreSound AreSound (item d) (of_items js) (items-sound js h.1) (λ ds k. (s, k)))
 
   members-sound : (ms : json.Members) (found : Members) → MembersHave ms → HaveSound found → When HaveSound (of_members ms found)
   members-sound json.no_members found h f = f
@@ -90,5 +91,6 @@ mutual
 pub read-sound : (text : List ℕ) → IsUtf8 text → When IsSound (read text)
 read-sound text u =
     then-when HasTexts IsSound of_json (option_and_then (λ p. json.if_last p.0 p.1) (json.value max_depth (tokens text)))
-    (then-when (λ p. HasTexts p.0 × AreTexts p.1) HasTexts (λ p. json.if_last p.0 p.1) (json.value max_depth (tokens text)) (value-texts max_depth (tokens text) (tokens-texts text u)) (λ p h. last-texts p.0 p.1 h.0))
+    (then-when (λ p. HasTexts p.0 × AreTexts p.1) HasTexts (λ p. json.if_last p.0 p.1) (json.value max_depth (tokens text)) (value-texts max_depth (tokens text) (tokens-texts text u))
+    (λ p h. last-texts p.0 p.1 h.0))
     json-sound

@@ -49,7 +49,8 @@ use Rattle.ps_model.proofs.OneAt.{lawful-rest}
 -- ---- computed
 
 pub rows-stand : base it.whole ≡ it.rows
-unfolding same.same_jid same.same_bare same.same_node text.escape_byte fmt.digits str.is_utf8 str.chars utf8.encode json.value lex.punctuate lex.lex content.content b64.encode_symbols sha.sha1 sha.digest_bytes sha.hash_after sha.compress sha.rounds sha.schedule sha.first_words
+unfolding same.same_jid same.same_bare same.same_node text.escape_byte fmt.digits str.is_utf8 str.chars utf8.encode json.value lex.punctuate lex.lex content.content b64.encode_symbols sha.sha1
+    sha.digest_bytes sha.hash_after sha.compress sha.rounds sha.schedule sha.first_words
 rows-stand = refl
 
 abbrev all_accepted : State → List Entry → Bool
@@ -57,11 +58,13 @@ all_accepted s [] = true
 all_accepted s (e ∷ E) = accepted s e && all_accepted (after s e) E
 
 whole-accepted : all_accepted empty_state it.whole ≡ true
-unfolding same.same_jid same.same_bare same.same_node text.escape_byte fmt.digits str.is_utf8 str.chars utf8.encode json.value lex.punctuate lex.lex content.content b64.encode_symbols sha.sha1 sha.digest_bytes sha.hash_after sha.compress sha.rounds sha.schedule sha.first_words
+unfolding same.same_jid same.same_bare same.same_node text.escape_byte fmt.digits str.is_utf8 str.chars utf8.encode json.value lex.punctuate lex.lex content.content b64.encode_symbols sha.sha1
+    sha.digest_bytes sha.hash_after sha.compress sha.rounds sha.schedule sha.first_words
 whole-accepted = refl
 
 rows-accepted : all_accepted empty_state it.rows ≡ true
-unfolding same.same_jid same.same_bare same.same_node text.escape_byte fmt.digits str.is_utf8 str.chars utf8.encode json.value lex.punctuate lex.lex content.content b64.encode_symbols sha.sha1 sha.digest_bytes sha.hash_after sha.compress sha.rounds sha.schedule sha.first_words
+unfolding same.same_jid same.same_bare same.same_node text.escape_byte fmt.digits str.is_utf8 str.chars utf8.encode json.value lex.punctuate lex.lex content.content b64.encode_symbols sha.sha1
+    sha.digest_bytes sha.hash_after sha.compress sha.rounds sha.schedule sha.first_words
 rows-accepted = refl
 
 -- what both leave lawful-rest the next boot
@@ -94,22 +97,26 @@ left service = record {
 }
 
 whole-leaves : (service : List ℕ) → uncounted (after (replay it.whole) (Boot service)) ≡ left service
-unfolding same.same_jid same.same_bare same.same_node text.escape_byte fmt.digits str.is_utf8 str.chars utf8.encode json.value lex.punctuate lex.lex content.content b64.encode_symbols sha.sha1 sha.digest_bytes sha.hash_after sha.compress sha.rounds sha.schedule sha.first_words
+unfolding same.same_jid same.same_bare same.same_node text.escape_byte fmt.digits str.is_utf8 str.chars utf8.encode json.value lex.punctuate lex.lex content.content b64.encode_symbols sha.sha1
+    sha.digest_bytes sha.hash_after sha.compress sha.rounds sha.schedule sha.first_words
 whole-leaves service = refl
 
 rows-leave : (service : List ℕ) → uncounted (after (replay it.rows) (Boot service)) ≡ left service
-unfolding same.same_jid same.same_bare same.same_node text.escape_byte fmt.digits str.is_utf8 str.chars utf8.encode json.value lex.punctuate lex.lex content.content b64.encode_symbols sha.sha1 sha.digest_bytes sha.hash_after sha.compress sha.rounds sha.schedule sha.first_words
+unfolding same.same_jid same.same_bare same.same_node text.escape_byte fmt.digits str.is_utf8 str.chars utf8.encode json.value lex.punctuate lex.lex content.content b64.encode_symbols sha.sha1
+    sha.digest_bytes sha.hash_after sha.compress sha.rounds sha.schedule sha.first_words
 rows-leave service = refl
 
 booted-alike : (service : List ℕ) → uncounted (after (replay it.whole) (Boot service)) ≡ uncounted (after (replay it.rows) (Boot service))
 booted-alike service = whole-leaves service ∙ sym (rows-leave service)
 
 told-is : all_from empty_state it.whole ≡ it.told
-unfolding same.same_jid same.same_bare same.same_node text.escape_byte fmt.digits str.is_utf8 str.chars utf8.encode json.value lex.punctuate lex.lex content.content b64.encode_symbols sha.sha1 sha.digest_bytes sha.hash_after sha.compress sha.rounds sha.schedule sha.first_words
+unfolding same.same_jid same.same_bare same.same_node text.escape_byte fmt.digits str.is_utf8 str.chars utf8.encode json.value lex.punctuate lex.lex content.content b64.encode_symbols sha.sha1
+    sha.digest_bytes sha.hash_after sha.compress sha.rounds sha.schedule sha.first_words
 told-is = refl
 
 told-again : all_from empty_state it.rows ≡ it.told_again
-unfolding same.same_jid same.same_bare same.same_node text.escape_byte fmt.digits str.is_utf8 str.chars utf8.encode json.value lex.punctuate lex.lex content.content b64.encode_symbols sha.sha1 sha.digest_bytes sha.hash_after sha.compress sha.rounds sha.schedule sha.first_words
+unfolding same.same_jid same.same_bare same.same_node text.escape_byte fmt.digits str.is_utf8 str.chars utf8.encode json.value lex.punctuate lex.lex content.content b64.encode_symbols sha.sha1
+    sha.digest_bytes sha.hash_after sha.compress sha.rounds sha.schedule sha.first_words
 told-again = refl
 
 -- ---- lawful
@@ -222,7 +229,8 @@ rows-told a = part-of empty_state it.rows a ∙ ap (λ (l : List Notice). to_add
 boot-tells : (s : State) (service : List ℕ) (F : List Entry) (a : Jid) → notices_from s (Boot service ∷ F) a ≡ notices_from (after s (Boot service)) F a
 boot-tells s service F a = ap (λ (l : List Notice). l ++ notices_from (after s (Boot service)) F a) (of-none a.resource)
 
-notices-on : (service : List ℕ) (F : List Entry) (a : Jid) → map placeless (notices (it.rows ++ Boot service ∷ F) a) ≡ map placeless (drop (handed it.whole a) (notices (it.whole ++ Boot service ∷ F) a))
+notices-on : (service : List ℕ) (F : List Entry) (a : Jid) → map placeless (notices (it.rows ++ Boot service ∷ F) a) ≡ map placeless
+    (drop (handed it.whole a) (notices (it.whole ++ Boot service ∷ F) a))
 notices-on service F a =
     ap (λ (l : List Notice). map placeless l) rows-split
     ∙ map-append placeless (to_address a it.told_again) there

@@ -143,7 +143,15 @@ gone-first = inr (inr (record {
 }))
 
 nobody-bare : IsBare it.nobody
-nobody-bare = record { address = record { parts = record { local = refl; host = (codes "a", codes "example" ∷ [], refl, (refl, tt), refl); resource = refl; short = refl }; local = refl; host = refl }; bare = refl }
+nobody-bare = record {
+  address = record {
+    parts = record { local = refl; host = (codes "a", codes "example" ∷ [], refl, (refl, tt), refl); resource = refl; short = refl };
+    local = refl;
+    host =
+        refl;
+  };
+  bare = refl;
+}
 
 pub handed-none : IsDamagedAt it.handed_none 35
 unfolding same.same_jid same.same_bare same.same_node

@@ -95,7 +95,8 @@ module _ (o : Origin) (k : ℕ) where
     owned = b.owned;
   }
 
-  brought-did : {Did : World → List Step → Type 0} (old new : List Deed) (did : Does o k old new Did) (arrivals : List Arrival) → arrivals_in did.steps ≡ arrivals → HasNoEnd did.steps → HasNoGone did.steps → Brought o k old new arrivals
+  brought-did : {Did : World → List Step → Type 0} (old new : List Deed) (did : Does o k old new Did) (arrivals : List Arrival) → arrivals_in did.steps ≡ arrivals → HasNoEnd did.steps
+      → HasNoGone did.steps → Brought o k old new arrivals
   brought-did old new did arrivals e mild plain =
       let own = did-own the_core the-laws o.boot o.list o.hosts k old new did in
       record {
@@ -160,7 +161,13 @@ module _ (o : Origin) (k : ℕ) where
   adding-one found new did none calm = record { steps = did.steps; is = did-own the_core the-laws o.boot o.list o.hosts k found new did; none = none; calm = calm; owned = did.owned }
 
   adding-passed : (old found new : List Deed) → Passes o k old found → Adding found new → Adding old new
-  adding-passed old found new p a = record { steps = a.steps; is = a.is ∙ ap (λ l. l ++ a.steps) (passed-own the_core the-laws o.boot o.list o.hosts k old found p); none = a.none; calm = a.calm; owned = a.owned }
+  adding-passed old found new p a = record {
+    steps = a.steps;
+    is = a.is ∙ ap (λ l. l ++ a.steps) (passed-own the_core the-laws o.boot o.list o.hosts k old found p);
+    none = a.none;
+    calm = a.calm;
+    owned = a.owned;
+  }
 
   adding-all : (m : ℕ) (found new : List Deed) → AreOwned o.hosts found → FlushesAll o k m found new → Adding found new
   adding-all m found new owned (inl others) = adding-same found new owned others.0
@@ -207,7 +214,8 @@ module _ (o : Origin) (k : ℕ) where
     gone-brought old new (Err e) (inl did) = said-quiet old new did did.does.1
     gone-brought old new (Err e) (inr l) = gone-laid old new (NotFlushed o k) (λ mid f. adding-not-flushed mid new f) l.1
 
-    pub gone-keeps : {T : Type 0} (old new : List Deed) (r : Result T HandedRefusal) → (r ≡ Err NotStored → ⊥) → IsGone o k h old new r → IsKept the_core o.boot o.list o.hosts k old → IsKept the_core o.boot o.list o.hosts k new
+    pub gone-keeps : {T : Type 0} (old new : List Deed) (r : Result T HandedRefusal) → (r ≡ Err NotStored → ⊥) → IsGone o k h old new r → IsKept the_core o.boot o.list o.hosts k old
+        → IsKept the_core o.boot o.list o.hosts k new
     gone-keeps old new (Ok t) other l kept = flushes-keep l.mid new l.after
     gone-keeps old new (Err e) other (inl did) kept = did-kept the_core the-laws o.boot o.list o.hosts k old new did did.does.1 kept
     gone-keeps {T} old new (Err e) other (inr l) kept = absurd (other (ap (λ (x : HandedRefusal). the_err T x) l.0))

@@ -41,5 +41,6 @@ written-more first second third one two last a b =
       behind = b.behind;
       split = b.split;
       appends = subst (Appends first third) (sym (assoc (bytes_of one) (bytes_of two) b.front) ∙ ap (λ l. l ++ b.front) (sym (bytes-append one two)))
-          (appends_more first second third (bytes_of one) (bytes_of two ++ b.front) (subst (Appends first second) (ap (λ l. bytes_of one ++ l) nothing ∙ nil-right (bytes_of one)) a.appends) b.appends);
+          (appends_more first second third (bytes_of one) (bytes_of two ++ b.front) (subst (Appends first second) (ap (λ l. bytes_of one ++ l) nothing ∙ nil-right (bytes_of one)) a.appends)
+          b.appends);
     }

@@ -39,11 +39,13 @@ hand-landed hand h w is a here = by (is_in a hand) refl
     by false e = inl (is.others a here e)
 
 -- the notice to an address that is in hand is in flight, and has no Handed
-pub hand-flies : (o : Origin) (seen : List Deed) (hand : List Jid) (to : Jid) (h : List ℕ) → is_in to hand ≡ true → HasInHand h hand (world_at o seen) → ((world_at o seen).addresses to).flight ≡ Unrecorded
+pub hand-flies : (o : Origin) (seen : List Deed) (hand : List Jid) (to : Jid) (h : List ℕ) → is_in to hand ≡ true → HasInHand h hand (world_at o seen)
+    → ((world_at o seen).addresses to).flight ≡ Unrecorded
 hand-flies o seen hand to h is had = had.these to is
 
 -- there was no room for the first in hand, which is so still
-pub no-room : (o : Origin) (h : List ℕ) (hand now : List Jid) (seen : List Deed) (Found : Type 0) → hand ≢ [] → now ≡ hand → HasInHand h now (world_at o seen) → OfFirst hand (λ a. Found → FoundOver o (Handed a) seen) → Found → HadNoRoom o h seen
+pub no-room : (o : Origin) (h : List ℕ) (hand now : List Jid) (seen : List Deed) (Found : Type 0) → hand ≢ [] → now ≡ hand → HasInHand h now (world_at o seen)
+    → OfFirst hand (λ a. Found → FoundOver o (Handed a) seen) → Found → HadNoRoom o h seen
 no-room o h [] now seen Found some still held over full = absurd (some refl)
 no-room o h (a ∷ hand) now seen Found some still held over full =
     let has = subst (λ (l : List Jid). HasInHand h l (world_at o seen)) still held in
@@ -58,7 +60,8 @@ module _ (o : Origin) (k : ℕ) where
 
   pub tells-broken : (found new : List Deed) → TellsFault o k found new → (at new).broken ≡ true
   tells-broken found new (inl same) = ap (λ (l : List Deed). (at l).broken) same.0 ∙ same.1
-  tells-broken found new (inr added) = ap (λ (w : World). w.broken) (did-world the_core the-laws o.boot o.list o.hosts k found new added ∙ ap (run the_core o.boot (at (found ++ added.between))) added.does)
+  tells-broken found new (inr added) = ap (λ (w : World). w.broken)
+      (did-world the_core the-laws o.boot o.list o.hosts k found new added ∙ ap (run the_core o.boot (at (found ++ added.between))) added.does)
 
   module _ (T : Type 0) (h : List ℕ) (hand now : List Jid) (old new : List Deed) where
     -- the disk failed
@@ -76,7 +79,8 @@ module _ (o : Origin) (k : ℕ) where
       let found = at (old ++ did.between) in
       let still = ap (λ (w : World). (w.addresses c).flight) (world-append the_core the-laws o.boot o.list o.hosts old did.between)
       ∙ still-run the_core o.boot o.hosts differ h k writes c there (at old) did.between (did-between the_core the-laws o.boot o.list o.hosts k old new did) did.none (had c there) in
-      let last : ((at new).addresses c).flight ≡ (found.addresses c).flight = ap (λ (w : World). (w.addresses c).flight) (did-world the_core the-laws o.boot o.list o.hosts k old new did ∙ ap (run the_core o.boot found) did.does) in
+      let last : ((at new).addresses c).flight ≡ (found.addresses c).flight = ap (λ (w : World). (w.addresses c).flight)
+      (did-world the_core the-laws o.boot o.list o.hosts k old new did ∙ ap (run the_core o.boot found) did.does) in
       subst (λ (x : Flight). (x ≡ Nothing) ⊎ (x ≡ Unrecorded)) (sym (last ∙ still)) (had c there)
 
   pub broken-on : {Did : World → List Step → Type 0} (old new : List Deed) → Does o k old new Did → (at old).broken ≡ true → (at new).broken ≡ true

@@ -39,7 +39,8 @@ closed-on o h k old new g had = record {
 }
 
 -- found by the same pass later
-pub closed-later : (o : Origin) (j k : ℕ) (g h : List ℕ) (old mid new : List Deed) (arrivals : List Arrival) → j ≡ k → g ≡ h → Brought o k old mid arrivals → (HasNoEnd (own_steps j mid) → FoundClosed o g j new) → HasNoEnd (own_steps k old) → FoundClosed o h k new
+pub closed-later : (o : Origin) (j k : ℕ) (g h : List ℕ) (old mid new : List Deed) (arrivals : List Arrival) → j ≡ k → g ≡ h → Brought o k old mid arrivals
+    → (HasNoEnd (own_steps j mid) → FoundClosed o g j new) → HasNoEnd (own_steps k old) → FoundClosed o h k new
 closed-later o j k g h old mid new arrivals e f b had none =
     subst (λ (n : ℕ). FoundClosed o h n new) e (subst (λ (x : List ℕ). FoundClosed o x j new) f (had (subst (λ (n : ℕ). HasNoEnd (own_steps n mid)) (sym e) (b.no_end none))))
 

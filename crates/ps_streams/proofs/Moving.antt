@@ -63,14 +63,16 @@ says-records boot w [] = refl
 says-records boot w (a ∷ hand) = says-records boot (happens the_core boot w (Record a)) hand
 
 module _ (o : Origin) (k : ℕ) where
-  pub moved-more : (old mid new : List Deed) (ws vs : List Word) (rs ts us : Jid → ℕ) → ((a : Jid) → rs a + ts a ≤ us a) → Moved o k old mid ws rs → Moved o k mid new vs ts → Moved o k old new (ws ++ vs) us
+  pub moved-more : (old mid new : List Deed) (ws vs : List Word) (rs ts us : Jid → ℕ) → ((a : Jid) → rs a + ts a ≤ us a) → Moved o k old mid ws rs → Moved o k mid new vs ts
+      → Moved o k old new (ws ++ vs) us
   moved-more old mid new ws vs rs ts us most a b = record {
     words = b.words ∙ (ap (λ l. l ++ vs) a.words ∙ assoc (said_in o k old) ws vs);
     records = λ c. (let x = a.records c in let y = b.records c in let z = most c in omega (arith, x, y, z));
     owned = b.owned;
   }
 
-  pub moved-did : {Did : World → List Step → Type 0} (old new : List Deed) (did : Does o k old new Did) (ws : List Word) (rs : Jid → ℕ) → says the_core o.boot (world_at o (old ++ did.between)) did.steps ≡ ws → ((a : Jid) → records_in a did.steps ≤ rs a) → Moved o k old new ws rs
+  pub moved-did : {Did : World → List Step → Type 0} (old new : List Deed) (did : Does o k old new Did) (ws : List Word) (rs : Jid → ℕ)
+      → says the_core o.boot (world_at o (old ++ did.between)) did.steps ≡ ws → ((a : Jid) → records_in a did.steps ≤ rs a) → Moved o k old new ws rs
   moved-did old new did ws rs e few = record {
     words = did-words the_core the-laws o.boot o.list o.hosts k old new did ∙ ap (λ l. said_in o k old ++ l) e;
     records = λ a. (let x = did-records the_core the-laws o.boot o.list o.hosts k old new did a in let y = few a in omega (arith, x, y));
@@ -89,7 +91,8 @@ module _ (o : Origin) (k : ℕ) where
   moved-quiet old new did e = moved-passed old new (passed-by the_core the-laws o.boot o.list o.hosts k old new did e)
 
   -- a step that says nothing and records nothing
-  pub moved-one : {Did : World → List Step → Type 0} (old new : List Deed) (did : Does o k old new Did) (s : Step) → did.steps ≡ s ∷ [] → says the_core o.boot (world_at o (old ++ did.between)) (s ∷ []) ≡ [] → ((a : Jid) → records_in a (s ∷ []) ≡ 0) → Moved o k old new [] none
+  pub moved-one : {Did : World → List Step → Type 0} (old new : List Deed) (did : Does o k old new Did) (s : Step) → did.steps ≡ s ∷ []
+      → says the_core o.boot (world_at o (old ++ did.between)) (s ∷ []) ≡ [] → ((a : Jid) → records_in a (s ∷ []) ≡ 0) → Moved o k old new [] none
   moved-one old new did s e silent zero =
       moved-did old new did [] none (ap (says the_core o.boot (world_at o (old ++ did.between))) e ∙ silent) (λ a. (let x = ap (records_in a) e in let z = zero a in omega (arith, x, z)))
 
@@ -111,20 +114,23 @@ module _ (o : Origin) (k : ℕ) where
   moved-not-flushed old new f = moved-more old f.found new [] [] none none none (λ a. omega arith) (moved-passed old f.found f.passed) (moved-fault f.found new f.passed.owned f.fault)
 
   -- the first of the notices in hand are recorded
-  moved-recorded : (host : List ℕ) (hand rest : List Jid) (old new : List Deed) (Then : List Deed → List Deed → Type 0) → ((mid : List Deed) → Then mid new → Moved o k mid new [] none) → (r : RecordedThen o k host hand rest old new Then)
+  moved-recorded : (host : List ℕ) (hand rest : List Jid) (old new : List Deed) (Then : List Deed → List Deed → Type 0) → ((mid : List Deed) → Then mid new → Moved o k mid new [] none)
+      → (r : RecordedThen o k host hand rest old new Then)
       → Moved o k old new [] (λ a. times a r.recorded.does.2.done)
   moved-recorded host hand rest old new Then after r =
       let done = r.recorded.does.2.done in
       let steps = r.recorded.does.2.steps_are in
       let w = world_at o (old ++ r.recorded.between) in
       moved-more old r.mid new [] [] (λ a. times a done) none (λ a. times a done) (λ a. omega arith)
-      (moved-did old r.mid r.recorded [] (λ a. times a done) (ap (says the_core o.boot w) steps ∙ says-records o.boot w done) (λ a. (let x = ap (records_in a) steps ∙ records-times a done in omega (arith, x))))
+      (moved-did old r.mid r.recorded [] (λ a. times a done) (ap (says the_core o.boot w) steps ∙ says-records o.boot w done)
+      (λ a. (let x = ap (records_in a) steps ∙ records-times a done in omega (arith, x))))
       (after r.mid r.after)
 
   -- after a refusal the pass may have said that its writer has ended
   moved-refused : (host : List ℕ) (hand now : List Jid) (old new : List Deed) (e : HandedRefusal) → Does o k old new (RecordDoes {T = Unit {0}} o host hand now (Err e)) → Moved o k old new [] none
   moved-refused host hand now old new Store did = moved-quiet old new did did.does.2
-  moved-refused host hand now old new Full did = moved-did old new did [] none (ap (says the_core o.boot (world_at o (old ++ did.between))) did.does.2) (λ a. (let x = ap (records_in a) did.does.2 in omega (arith, x)))
+  moved-refused host hand now old new Full did = moved-did old new did [] none (ap (says the_core o.boot (world_at o (old ++ did.between))) did.does.2)
+      (λ a. (let x = ap (records_in a) did.does.2 in omega (arith, x)))
   moved-refused host hand now old new Memory did = moved-quiet old new did did.does.2
 
   recorded-by : (hand done rest : List Jid) (old new : List Deed) → hand ≡ done ++ rest → Moved o k old new [] (λ a. times a done) → Recorded o k hand rest old new
@@ -142,13 +148,15 @@ module _ (o : Origin) (k : ℕ) where
   recorded-none hand seen owned = record { words = refl; records = λ a. omega arith; owned = owned }
 
   pub handed-on : {T : Type 0} (host : List ℕ) (hand now : List Jid) (old new : List Deed) (t : T) → HasHanded o k host hand now old new (Ok t) → Recorded o k hand now old new
-  handed-on host hand now old new t h = recorded-by hand h.recorded.does.2.done now old new h.recorded.does.2.split (moved-recorded host hand now old new (Flushes o k) (λ mid f. moved-flushes mid new f) h)
+  handed-on host hand now old new t h = recorded-by hand h.recorded.does.2.done now old new h.recorded.does.2.split
+      (moved-recorded host hand now old new (Flushes o k) (λ mid f. moved-flushes mid new f) h)
 
   pub handed-not : (T : Type 0) (host : List ℕ) (hand now : List Jid) (old new : List Deed) (e : HandedRefusal) → HasHanded {T = T} o k host hand now old new (Err e) → Recorded o k hand [] old new
   handed-not T host hand now old new e (inl did) = recorded-less hand hand old new (recorded-by hand [] hand old new refl (moved-refused host hand now old new e did))
   handed-not T host hand now old new e (inr h) =
       let r = h.1.recorded in
-      recorded-less hand h.1.rest old new (recorded-by hand r.recorded.does.2.done h.1.rest old new r.recorded.does.2.split (moved-recorded host hand h.1.rest old new (NotFlushed o k) (λ mid f. moved-not-flushed mid new f) r))
+      recorded-less hand h.1.rest old new (recorded-by hand r.recorded.does.2.done h.1.rest old new r.recorded.does.2.split
+      (moved-recorded host hand h.1.rest old new (NotFlushed o k) (λ mid f. moved-not-flushed mid new f) r))
 
 -- the rest is shorter
 more-than : (done rest : List Jid) → done ≢ [] → length rest < length (done ++ rest)

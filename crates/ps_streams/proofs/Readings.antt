@@ -38,7 +38,8 @@ module _ (o : Origin) where
   pub so-begun : (k : ℕ) (seen : List Deed) (before : Bytes) (told : Told) → AreOwned o.hosts seen → SoRead o k seen seen before before told told
   so-begun k seen before told owned = record { arrived = []; came = came-none before; asked = asked-none told; brought = brought-none o k seen owned }
 
-  pub so-more : (k j : ℕ) (old mid new : List Deed) (all rest left : Bytes) (t u v : Told) → j ≡ k → SoRead o k old mid all rest t u → SoRead o j mid new rest left u v → SoRead o k old new all left t v
+  pub so-more : (k j : ℕ) (old mid new : List Deed) (all rest left : Bytes) (t u v : Told) → j ≡ k → SoRead o k old mid all rest t u → SoRead o j mid new rest left u v
+      → SoRead o k old new all left t v
   so-more k j old mid new all rest left t u v same a b' =
       let b = subst (λ (n : ℕ). SoRead o n mid new rest left u v) same b' in
       record {
@@ -48,7 +49,8 @@ module _ (o : Origin) where
         brought = brought-more o k old mid new a.arrived b.arrived a.brought b.brought;
       }
 
-  pub reads-ended : (k j : ℕ) (old mid new : List Deed) (all rest left source : Bytes) (t u v : Told) → j ≡ k → SoRead o k old mid all rest t u → SoRead o j mid new rest left u v → IsEnd rest left → Reads o k old new all source t v Ended
+  pub reads-ended : (k j : ℕ) (old mid new : List Deed) (all rest left source : Bytes) (t u v : Told) → j ≡ k → SoRead o k old mid all rest t u → SoRead o j mid new rest left u v → IsEnd rest left
+      → Reads o k old new all source t v Ended
   reads-ended k j old mid new all rest left source t u v same a b end =
       let s = so-more k j old mid new all rest left t u v same a b in
       record {
@@ -66,7 +68,8 @@ module _ (o : Origin) where
         brought = s.brought;
       }
 
-  pub reads-more : (k j : ℕ) (old mid new : List Deed) (all rest source : Bytes) (t u v : Told) (e : ReadEnd) → j ≡ k → SoRead o k old mid all rest t u → Reads o j mid new rest source u v e → Reads o k old new all source t v e
+  pub reads-more : (k j : ℕ) (old mid new : List Deed) (all rest source : Bytes) (t u v : Told) (e : ReadEnd) → j ≡ k → SoRead o k old mid all rest t u → Reads o j mid new rest source u v e
+      → Reads o k old new all source t v e
   reads-more k j old mid new all rest source t u v e same a b' =
       let b = subst (λ (n : ℕ). Reads o n mid new rest source u v e) same b' in
       let l = b.lined in
@@ -93,7 +96,17 @@ module _ (o : Origin) where
     pub next-err : (source : Bytes) (a : Arrival) (e : ReadEnd) → (brings_all e ≡ true → ⊥) → Comes before left told now a → Brought o k old new [] → Reads o k old new before source told now e
     next-err source a e some c b = record {
       arrived = [];
-      lined = record { missing = a ∷ []; few = inr (a, refl); none = λ is. absurd (some is); left = left; came = c.came; whole = λ is. absurd (some (ap brings_all is)); cut = λ is. absurd (not-cut e some is); asked = c.asked };
+      lined = record {
+        missing = a ∷ [];
+        few = inr (a, refl);
+        none = λ is. absurd (some is);
+        left = left;
+        came = c.came;
+        whole = λ is. absurd (some (ap brings_all is));
+        cut = λ is. absurd
+            (not-cut e some is);
+        asked = c.asked;
+      };
       brought = b;
     }
 
@@ -116,26 +129,39 @@ module _ (o : Origin) where
 
   -- ---- the flush behind the last line
 
-  module _ (k j : ℕ) (old mid new : List Deed) (before source : Bytes) (told now : Told) (end : ReadEnd) (same : j ≡ k) (a : Reads o k old mid before source told now end) (b : Brought o j mid new []) where
-    flushed : Brought o k old new a.arrived
-    flushed = subst (Brought o k old new) (nil-right a.arrived) (brought-more o k old mid new a.arrived [] a.brought (brought-as o j k mid new [] same b))
+  module _ (k j : ℕ) (old mid new : List Deed) (before source : Bytes) (told now : Told) (end : ReadEnd) (same : j ≡ k) (a : Reads o k old mid before source told now end) (b : Brought o j mid new [])
+    where
+      flushed : Brought o k old new a.arrived
+      flushed = subst (Brought o k old new) (nil-right a.arrived) (brought-more o k old mid new a.arrived [] a.brought (brought-as o j k mid new [] same b))
 
-    pub reads-flushed : Reads o k old new before source told now end
-    reads-flushed = record { arrived = a.arrived; lined = a.lined; brought = flushed }
+      pub reads-flushed : Reads o k old new before source told now end
+      reads-flushed = record { arrived = a.arrived; lined = a.lined; brought = flushed }
 
-    reads-broken : Reads o k old new before source told now Store
-    reads-broken = record {
-      arrived = a.arrived;
-      lined = record { missing = a.lined.missing; few = a.lined.few; none = λ is. absurd (cc is); left = a.lined.left; came = a.lined.came; whole = λ is. absurd (cc is); cut = λ is. absurd (elim is [ inl x ↦ cc x | inr x ↦ cc x ]); asked = a.lined.asked };
-      brought = flushed;
-    }
+      reads-broken : Reads o k old new before source told now Store
+      reads-broken = record {
+        arrived = a.arrived;
+        lined = record {
+          missing = a.lined.missing;
+          few = a.lined.few;
+          none = λ is. absurd (cc is);
+          left = a.lined.left;
+          came = a.lined.came;
+          whole = λ is. absurd (cc is);
+          cut = λ is. absurd
+              (elim is [ inl x ↦ cc x | inr x ↦ cc x ]);
+          asked = a.lined.asked;
+        };
+        brought = flushed;
+      }
 
-    pub reads-fault : (e : ReadEnd) → e ≡ Store → Reads o k old new before source told now e
-    reads-fault e is = subst (λ (x : ReadEnd). Reads o k old new before source told now x) (sym is) reads-broken
+      pub reads-fault : (e : ReadEnd) → e ≡ Store → Reads o k old new before source told now e
+      reads-fault e is = subst (λ (x : ReadEnd). Reads o k old new before source told now x) (sym is) reads-broken
 
   -- ---- the end of a stream
 
-  pub stream-read : {T : Type 0} (h : List ℕ) (k : ℕ) (old mid new : List Deed) (before source : Bytes) (told now : Told) (end final : ReadEnd) (r : Result T HandedRefusal) → (brings_all final ≡ true → final ≡ end) → (end ≡ Store → final ≡ Store) → (r ≡ Err NotStored → final ≡ Store) → Reads o k old mid before source told now end → (end ≢ Store → IsKept the_core o.boot o.list o.hosts k mid) → HasGone o k h mid new r → StreamRead o h k old new before source told now final
+  pub stream-read : {T : Type 0} (h : List ℕ) (k : ℕ) (old mid new : List Deed) (before source : Bytes) (told now : Told) (end final : ReadEnd) (r : Result T HandedRefusal)
+      → (brings_all final ≡ true → final ≡ end) → (end ≡ Store → final ≡ Store) → (r ≡ Err NotStored → final ≡ Store) → Reads o k old mid before source told now end
+      → (end ≢ Store → IsKept the_core o.boot o.list o.hosts k mid) → HasGone o k h mid new r → StreamRead o h k old new before source told now final
   stream-read h k old mid new before source told now end final r all earlier stored a landed gone =
       let b = gone-brought o k h mid gone.before r gone.gone in
       let there = arrivals_in (own_steps k gone.before) in
@@ -153,7 +179,8 @@ module _ (o : Origin) where
           asked = a.lined.asked;
         };
         own = ap arrivals_in last ∙ (arrivals-append (own_steps k gone.before) gone.ended.steps ∙ (ap (λ l. there ++ arrivals_in l) gone.ended.does ∙ (nil-right there ∙ (b.own ∙ a.brought.own))));
-        last = λ none. subst EndsByGone (sym (last ∙ ap (λ ss. own_steps k gone.before ++ ss) gone.ended.does)) (ends-append (own_steps k gone.before) (Ends h Reader ∷ []) (b.last (a.brought.no_gone none)) (λ l. l, tt) tt);
+        last = λ none. subst EndsByGone (sym (last ∙ ap (λ ss. own_steps k gone.before ++ ss) gone.ended.does))
+            (ends-append (own_steps k gone.before) (Ends h Reader ∷ []) (b.last (a.brought.no_gone none)) (λ l. l, tt) tt);
         owned = gone.ended.owned;
         done = λ other no_end kept.
             done-kept the_core the-laws o.boot o.list o.hosts k gone.before new gone.ended h gone.ended.does (b.no_end (a.brought.no_end no_end))

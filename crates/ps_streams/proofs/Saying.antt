@@ -101,7 +101,8 @@ pub writes_of : {B D : Type 0} {g : Ghosts D} (o : Origin) (t : OurTwin B D g) (
 writes_of o t p may = (p.at, may.writer.pass.here, may.writer.number)
 
 -- the same pass of the same host
-pub handed-as : {T : Type 0} (o : Origin) (j k : ℕ) (g h : List ℕ) (hand now : List Jid) (old new : List Deed) (r : Result T HandedRefusal) → j ≡ k → g ≡ h → HasHanded o j g hand now old new r → HasHanded o k h hand now old new r
+pub handed-as : {T : Type 0} (o : Origin) (j k : ℕ) (g h : List ℕ) (hand now : List Jid) (old new : List Deed) (r : Result T HandedRefusal) → j ≡ k → g ≡ h → HasHanded o j g hand now old new r
+    → HasHanded o k h hand now old new r
 handed-as o j k g h hand now old new r e f is = subst (λ (n : ℕ). HasHanded o n h hand now old new r) e (subst (λ (x : List ℕ). HasHanded o j x hand now old new r) f is)
 
 pub recorded-as : (o : Origin) (j k : ℕ) (hand rest : List Jid) (old new : List Deed) → j ≡ k → Recorded o j hand rest old new → Recorded o k hand rest old new
@@ -110,7 +111,8 @@ recorded-as o j k hand rest old new e is = subst (λ (n : ℕ). Recorded o n han
 -- ---- at the end of a call
 
 module _ (o : Origin) (k : ℕ) where
-  spoke-by : (hand rest : List Jid) (old new : List Deed) (before now : Option (List ℕ)) (whole last : List Word) → Moved o k old new (whole ++ last) none → IsFew last → Written before now whole last → ((a : Jid) → times a rest ≤ times a hand + length (notes_in a whole))
+  spoke-by : (hand rest : List Jid) (old new : List Deed) (before now : Option (List ℕ)) (whole last : List Word) → Moved o k old new (whole ++ last) none → IsFew last → Written before now whole last
+      → ((a : Jid) → times a rest ≤ times a hand + length (notes_in a whole))
       → SpokeOn o k hand rest old new before now whole last
   spoke-by hand rest old new before now whole last m few written most = record {
     words = m.words;
@@ -129,25 +131,32 @@ module _ (o : Origin) (k : ℕ) where
 
     -- a call of `next` that made no step
     pub quiet-whole : (r : Result Next E) (did : NextDid r) → did.steps ≡ [] → after ≡ hand → (b : Option (List ℕ)) → SpokeWhole o k hand after old new b b
-    quiet-whole r did e same b = record { whole = []; spoke = spoke-by hand after old new b b [] [] (moved-quiet o k old new did e) (inl refl) (written-none b) (λ a. (let x = ap (times a) same in omega (arith, x))) }
+    quiet-whole r did e same b = record {
+      whole = [];
+      spoke = spoke-by hand after old new b b [] [] (moved-quiet o k old new did e) (inl refl) (written-none b)
+          (λ a. (let x = ap (times a) same in omega (arith, x)));
+    }
 
     module _ (text : List ℕ) (did : NextDid (Ok (Reply text))) where
       moved-reply : Moved o k old new (words.Reply text ∷ []) none
       moved-reply =
           let w = world_at o (old ++ did.between) in
-          moved-did o k old new did (words.Reply text ∷ []) none (ap (says the_core o.boot w) did.does.2 ∙ (nil-right (said_by the_core w (Take h)) ∙ take_says w h text did.does.0)) (λ a. (let x = ap (records_in a) did.does.2 in omega (arith, x)))
+          moved-did o k old new did (words.Reply text ∷ []) none (ap (says the_core o.boot w) did.does.2 ∙ (nil-right (said_by the_core w (Take h)) ∙ take_says w h text did.does.0))
+          (λ a. (let x = ap (records_in a) did.does.2 in omega (arith, x)))
 
       pub reply-whole : (before now : Option (List ℕ)) → Appends before now (text ++ 10 ∷ []) → SpokeWhole o k hand after old new before now
       reply-whole before now wrote = record {
         whole = words.Reply text ∷ [];
-        spoke = spoke-by hand after old new before now (words.Reply text ∷ []) [] moved-reply (inl refl) (written-whole before now (words.Reply text) text refl wrote) (λ a. (let x = ap (times a) did.does.1 in omega (arith, x)));
+        spoke = spoke-by hand after old new before now (words.Reply text ∷ []) [] moved-reply (inl refl) (written-whole before now (words.Reply text) text refl wrote)
+            (λ a. (let x = ap (times a) did.does.1 in omega (arith, x)));
       }
 
       pub reply-part : {Cut : Type 0} → Cut → (before now : Option (List ℕ)) → AppendsFront before now (text ++ 10 ∷ []) → SpeaksOn o k hand old new before now Cut
       reply-part cut before now wrote = record {
         whole = [];
         last = words.Reply text ∷ [];
-        spoke = spoke-by hand [] old new before now [] (words.Reply text ∷ []) moved-reply (inr (words.Reply text, refl)) (written-part before now (words.Reply text) text refl wrote) (λ a. omega arith);
+        spoke = spoke-by hand [] old new before now [] (words.Reply text ∷ []) moved-reply (inr (words.Reply text, refl)) (written-part before now (words.Reply text) text refl wrote)
+            (λ a. omega arith);
         cut = inr cut;
       }
 
@@ -159,7 +168,8 @@ module _ (o : Origin) (k : ℕ) where
       moved-note =
           let w = world_at o (old ++ did.between) in
           let t = did.does in
-          moved-did o k old new did (note ∷ []) none (ap (says the_core o.boot w) t.steps_are ∙ (nil-right (said_by the_core w (Emit t.to)) ∙ emit_says w t.to text t.first t.free)) (λ a. (let x = ap (records_in a) t.steps_are in omega (arith, x)))
+          moved-did o k old new did (note ∷ []) none (ap (says the_core o.boot w) t.steps_are ∙ (nil-right (said_by the_core w (Emit t.to)) ∙ emit_says w t.to text t.first t.free))
+          (λ a. (let x = ap (records_in a) t.steps_are in omega (arith, x)))
 
       pub note-part : {Cut : Type 0} → Cut → (before now : Option (List ℕ)) → AppendsFront before now (text ++ 10 ∷ []) → SpeaksOn o k hand old new before now Cut
       note-part cut before now wrote = record {

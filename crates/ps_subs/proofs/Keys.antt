@@ -25,7 +25,10 @@ pub sub_of : (node : NodeKey) (who : Jid) → AsksBy (λ row. is_sub_of node who
 sub_of node who seed = record { alike = λ row h. (let p = both (same_node node row.node) (same_jid who row.who) h in one_jid_at seed node row.node who row.who p.0 p.1) }
 
 pub subscribed : (node : NodeKey) (who : Jid) → AsksBy (λ row. subscribes node who row) (λ seed. sub_by seed Bare) (λ seed. bare_digest seed who)
-subscribed node who seed = record { alike = λ row h. (let p = both (same_node node row.node && same_bare who row.who) (is_subscribed row.state) h in let q = both (same_node node row.node) (same_bare who row.who) p.0 in one_address seed who row.who q.1) }
+subscribed node who seed = record {
+  alike = λ row h. (let p = both (same_node node row.node && same_bare who row.who) (is_subscribed row.state) h in let q = both (same_node node row.node)
+      (same_bare who row.who) p.0 in one_address seed who row.who q.1);
+}
 
 -- with a subscription all of its node are of the node
 pub kin_at_node : (node : NodeKey) → AsksKin sub_kin (λ row. is_sub_at node row)

@@ -63,7 +63,8 @@ module _ (core : Core) (laws : Laws core) (boot : List ℕ) (some : boot ≢ [])
 
   words-append : (h : List ℕ) (w : World) (ss tt' : List Step) → words core h boot w (ss ++ tt') ≡ words core h boot w ss ++ words core h boot (run core boot w ss) tt'
   words-append h w [] tt' = refl
-  words-append h w (s ∷ ss) tt' = ap (λ r. word_if core h w s ++ r) (words-append h (happens core boot w s) ss tt') ∙ sym (assoc (word_if core h w s) (words core h boot (happens core boot w s) ss) (words core h boot (run core boot (happens core boot w s) ss) tt'))
+  words-append h w (s ∷ ss) tt' = ap (λ r. word_if core h w s ++ r) (words-append h (happens core boot w s) ss tt') ∙ sym
+      (assoc (word_if core h w s) (words core h boot (happens core boot w s) ss) (words core h boot (run core boot (happens core boot w s) ss) tt'))
 
   -- the front of the list that stood at the opening
   opening : (hosts : List (List ℕ)) (log : List Deed) (h : List ℕ) → AreOwned hosts log → take (at log).opened (at log).entries ≡ base
@@ -76,13 +77,16 @@ module _ (core : Core) (laws : Laws core) (boot : List ℕ) (some : boot ≢ [])
   all-made w is = take-whole (ends w.steps w.made) w.entries (let e = ends-all w.steps w.steps w.made is.by (omega arith) in let z = is.sizes in omega (arith, e, z))
 
   -- at the present number of steps what was sent is what is handed, but for one in flight
-  count-now : (w : World) (a : Jid) (was : List Entry) → Sound core w → take w.opened w.entries ≡ was → handed w.entries a + behind (w.addresses a).flight w.steps ≡ handed was a + length (w.addresses a).sent
+  count-now : (w : World) (a : Jid) (was : List Entry) → Sound core w → take w.opened w.entries ≡ was
+      → handed w.entries a + behind (w.addresses a).flight w.steps ≡ handed was a + length (w.addresses a).sent
   count-now w a was is open_is =
-      ap (λ l. handed l a + behind (w.addresses a).flight w.steps) (sym (all-made w is)) ∙ ((is.addresses a).count w.steps is.flushed (omega arith) ∙ ap (λ l. handed l a + length (w.addresses a).sent) open_is)
+      ap (λ l. handed l a + behind (w.addresses a).flight w.steps) (sym (all-made w is)) ∙
+      ((is.addresses a).count w.steps is.flushed (omega arith) ∙ ap (λ l. handed l a + length (w.addresses a).sent) open_is)
 
   module _ (hosts : List (List ℕ)) (h : List ℕ) where
     -- whatever the status
-    pub is-front : (log : List Deed) → AreOwned hosts log → IsFront core base h (at log) (came core h boot (start core boot list) (steps_in log)) (words core h boot (start core boot list) (steps_in log))
+    pub is-front : (log : List Deed) → AreOwned hosts log → IsFront core base h (at log) (came core h boot (start core boot list) (steps_in log))
+        (words core h boot (start core boot list) (steps_in log))
     is-front log owned =
         let w = at log in
         let c = calm hosts log owned in
@@ -103,7 +107,8 @@ module _ (core : Core) (laws : Laws core) (boot : List ℕ) (some : boot ≢ [])
     starts : (g : List ℕ) → ((start core boot list).hosts g).reader_ended ≡ false
     starts g = refl
 
-    inside-at : (d : Deed) (g : List ℕ) (k : ℕ) (before front rest after t : List Deed) → IsReaderOf hosts k g → AreOwned hosts front → HasNoEnd (own_steps k before) → ((at front).hosts g).reader_ended ≡ true → front ≡ before ++ t → d ∷ after ≡ t ++ rest → (u : List Deed) × (front ≡ before ++ d ∷ u) × (after ≡ u ++ rest)
+    inside-at : (d : Deed) (g : List ℕ) (k : ℕ) (before front rest after t : List Deed) → IsReaderOf hosts k g → AreOwned hosts front → HasNoEnd (own_steps k before)
+        → ((at front).hosts g).reader_ended ≡ true → front ≡ before ++ t → d ∷ after ≡ t ++ rest → (u : List Deed) × (front ≡ before ++ d ∷ u) × (after ≡ u ++ rest)
     inside-at d g k before front rest after [] reads owned no_end ended e f =
         let same : front ≡ before = e ∙ nil-right before in
         let none = subst (λ (l : List Deed). HasNoEnd (own_steps k l)) (sym same) no_end in
@@ -114,7 +119,8 @@ module _ (core : Core) (laws : Laws core) (boot : List ℕ) (some : boot ≢ [])
         (u, e ∙ ap (λ z. before ++ z ∷ u) (sym same), tail)
 
     -- where a reader has ended, all that it did stands in the front
-    inside : (d : Deed) (g : List ℕ) (k : ℕ) (before front rest after : List Deed) → IsReaderOf hosts k g → AreOwned hosts front → HasNoEnd (own_steps k before) → ((at front).hosts g).reader_ended ≡ true → before ++ d ∷ after ≡ front ++ rest → (u : List Deed) × (front ≡ before ++ d ∷ u) × (after ≡ u ++ rest)
+    inside : (d : Deed) (g : List ℕ) (k : ℕ) (before front rest after : List Deed) → IsReaderOf hosts k g → AreOwned hosts front → HasNoEnd (own_steps k before)
+        → ((at front).hosts g).reader_ended ≡ true → before ++ d ∷ after ≡ front ++ rest → (u : List Deed) × (front ≡ before ++ d ∷ u) × (after ≡ u ++ rest)
     inside d g k before front rest after reads owned no_end ended e = elim (cut before (d ∷ after) front rest e) [
       | inl p ↦ inside-at d g k before front rest after p.0 reads owned no_end ended p.1 p.2
       | inr p ↦ (let whole = subst HasNoEnd (ap (own_steps k) p.1 ∙ own-append k front p.0) no_end in
@@ -127,7 +133,8 @@ module _ (core : Core) (laws : Laws core) (boot : List ℕ) (some : boot ≢ [])
       pub settled : HasSettled (at front).flushed (at front)
       pub quiet : Quietly core laws boot (at front) (run core boot (at front) (steps_in rest))
 
-    settled-at : (log front rest : List Deed) → log ≡ front ++ rest → AreOwned hosts front → AreOwned hosts rest → AllRead core boot list hosts log → ((i : ℕ) (g : List ℕ) → slice_get hosts i ≡ Some g → ((at front).hosts g).reader_ended ≡ true) → IsSettledAt front rest
+    settled-at : (log front rest : List Deed) → log ≡ front ++ rest → AreOwned hosts front → AreOwned hosts rest → AllRead core boot list hosts log
+        → ((i : ℕ) (g : List ℕ) → slice_get hosts i ≡ Some g → ((at front).hosts g).reader_ended ≡ true) → IsSettledAt front rest
     settled-at log front rest split owned owned_rest all ended =
         let m = (at front).flushed in
         let reader : (k : ℕ) (g : List ℕ) → IsReaderOf hosts k g → LaidWithin m k 0 front × NoneOf k rest = λ k g reads. (
@@ -139,7 +146,8 @@ module _ (core : Core) (laws : Laws core) (boot : List ℕ) (some : boot ≢ [])
         let none : NoneOf (reads.0 + reads.0) (i.0 ++ rest) = subst (NoneOf (reads.0 + reads.0)) i.2 r.none in
         let later : (at r.done.before).flushed ≤ m = (
         let c = calm hosts front owned in
-        let e : at front ≡ run core boot (at r.done.before) (steps_in (d ∷ i.0)) = ap at i.1 ∙ (ap (λ ss. world core boot list ss) (steps-append r.done.before (d ∷ i.0)) ∙ run-append core laws boot (start core boot list) (steps_in r.done.before) (steps_in (d ∷ i.0))) in
+        let e : at front ≡ run core boot (at r.done.before) (steps_in (d ∷ i.0)) = ap at i.1 ∙
+        (ap (λ ss. world core boot list ss) (steps-append r.done.before (d ∷ i.0)) ∙ run-append core laws boot (start core boot list) (steps_in r.done.before) (steps_in (d ∷ i.0))) in
         let cs = calm hosts (d ∷ i.0) (owned-behind hosts r.done.before (d ∷ i.0) (subst (AreOwned hosts) i.1 owned)) in
         let l = flushed-later core laws boot (at r.done.before) (steps_in (d ∷ i.0)) cs in
         let s = ap (λ (v : World). v.flushed) e in
@@ -150,7 +158,8 @@ module _ (core : Core) (laws : Laws core) (boot : List ℕ) (some : boot ≢ [])
         (λ by lays. absurd lays, laid-none m (reads.0 + reads.0) (length r.done.before + 1) i.0 (none-front (reads.0 + reads.0) i.0 rest none))) in
         (subst (λ (n : ℕ). LaidWithin m n 0 front) (sym reads.2) laid, subst (λ (n : ℕ). NoneOf n rest) (sym reads.2) (none-behind (reads.0 + reads.0) i.0 rest none))) in
         record {
-          settled = run-settled core laws boot some hosts m 0 (start core boot list) front (start_kept core laws boot some list lawful) owned (all-laid hosts m 0 front owned (λ k g reads. (reader k g reads).0)) refl (begun-settled core boot list m);
+          settled = run-settled core laws boot some hosts m 0 (start core boot list) front (start_kept core laws boot some list lawful) owned
+              (all-laid hosts m 0 front owned (λ k g reads. (reader k g reads).0)) refl (begun-settled core boot list m);
           quiet = quiet-run core laws boot hands (at front) rest (calm hosts rest owned_rest) (none-lays hosts rest owned_rest (λ k g reads. (reader k g reads).1));
         }
 
@@ -162,22 +171,25 @@ module _ (core : Core) (laws : Laws core) (boot : List ℕ) (some : boot ≢ [])
     ]
 
     durable-notice : (w : World) (a : Jid) (k : ℕ) (n : Notice) → Sound core w → HasSettled w.flushed w → slice_get (core.notices w.entries a) k ≡ Some n → n.place < durable w
-    durable-notice w a k n is settled got = elim (source-of core laws hands w.entries a (length w.entries) k n (omega arith) (ap (λ l. slice_get (core.notices l a) k) (take-whole (length w.entries) w.entries (omega arith)) ∙ got)) [
-      | source e here kind ↦ (
-          let low : n.place < length w.made = (let p = slice_get_within w.entries n.place e here in let z = is.sizes in omega (arith, p, z)) in
-          let t = get-there w.made n.place low in
-          let firm = settled.firm n.place e t.0 here t.1 kind in
-          ends-past w.flushed w.made n.place low (λ i u le at_i. (let r = settled.rises i n.place u t.0 le at_i t.1 in omega (arith, r, firm))))
-    ]
+    durable-notice w a k n is settled got = elim (source-of core laws hands w.entries a (length w.entries) k n (omega arith)
+        (ap (λ l. slice_get (core.notices l a) k) (take-whole (length w.entries) w.entries (omega arith)) ∙ got)) [
+          | source e here kind ↦ (
+              let low : n.place < length w.made = (let p = slice_get_within w.entries n.place e here in let z = is.sizes in omega (arith, p, z)) in
+              let t = get-there w.made n.place low in
+              let firm = settled.firm n.place e t.0 here t.1 kind in
+              ends-past w.flushed w.made n.place low (λ i u le at_i. (let r = settled.rises i n.place u t.0 le at_i t.1 in omega (arith, r, firm))))
+        ]
 
     no-notice-left : (h : List ℕ) (w : World) (a : Jid) → a.host ≡ h → Sound core w → HasSettled w.flushed w → IsOver core hosts h w → handed w.entries a ≡ length (core.notices w.entries a)
     no-notice-left h w a there is settled over = elim (cases_lt (handed w.entries a) (length (core.notices w.entries a))) [
       | inl l ↦ (let t = get-there (core.notices w.entries a) (handed w.entries a) l in absurd (over.notices a t.0 there t.1 (durable-notice w a (handed w.entries a) t.0 is settled t.1)))
-      | inr l ↦ (let f = subst (λ (r : List Entry). handed r a ≤ length (core.notices r a)) (take-whole (length w.entries) w.entries (omega arith)) (handed-few core laws (length w.entries) w.entries a is.lawful (omega arith)) in omega (arith, l, f))
+      | inr l ↦ (let f = subst (λ (r : List Entry). handed r a ≤ length (core.notices r a)) (take-whole (length w.entries) w.entries (omega arith))
+          (handed-few core laws (length w.entries) w.entries a is.lawful (omega arith)) in omega (arith, l, f))
     ]
 
     module _ (h : List ℕ) where
-      pub is-complete : (log front rest : List Deed) → log ≡ front ++ rest → AreOwned hosts log → AllRead core boot list hosts log → IsOver core hosts h (at front) → IsComplete core base h (at log) (came core h boot (start core boot list) (steps_in log)) (words core h boot (start core boot list) (steps_in log))
+      pub is-complete : (log front rest : List Deed) → log ≡ front ++ rest → AreOwned hosts log → AllRead core boot list hosts log → IsOver core hosts h (at front)
+          → IsComplete core base h (at log) (came core h boot (start core boot list) (steps_in log)) (words core h boot (start core boot list) (steps_in log))
       is-complete log front rest split owned all over =
           let both = subst (AreOwned hosts) split owned in
           let owned_front = owned-front hosts front rest both in
@@ -187,7 +199,8 @@ module _ (core : Core) (laws : Laws core) (boot : List ℕ) (some : boot ≢ [])
           let w = at log in
           let c = calm hosts log owned in
           let cf = calm hosts front owned_front in
-          let e : w ≡ run core boot v (steps_in rest) = ap at split ∙ (ap (λ ss. world core boot list ss) (steps-append front rest) ∙ run-append core laws boot (start core boot list) (steps_in front) (steps_in rest)) in
+          let e : w ≡ run core boot v (steps_in rest) = ap at split ∙ (ap (λ ss. world core boot list ss) (steps-append front rest) ∙ run-append core laws boot (start core boot list) (steps_in front)
+          (steps_in rest)) in
           let q : Quietly core laws boot v w = subst (Quietly core laws boot v) (sym e) s.quiet in
           let lines = run-lines core h laws boot base (start core boot list) [] (steps_in log) c (begun-lines core h boot list) in
           let said = run-words core h laws boot (start core boot list) [] (steps_in log) c (begun-words core h boot list) in
@@ -195,7 +208,8 @@ module _ (core : Core) (laws : Laws core) (boot : List ℕ) (some : boot ≢ [])
           let ws = words core h boot (start core boot list) (steps_in log) in
           let vs = words core h boot (start core boot list) (steps_in front) in
           let us = words core h boot v (steps_in rest) in
-          let parts : ws ≡ vs ++ us = ap (λ l. words core h boot (start core boot list) (steps_in l)) split ∙ (ap (λ ss. words core h boot (start core boot list) ss) (steps-append front rest) ∙ words-append h (start core boot list) (steps_in front) (steps_in rest)) in
+          let parts : ws ≡ vs ++ us = ap (λ l. words core h boot (start core boot list) (steps_in l)) split ∙
+          (ap (λ ss. words core h boot (start core boot list) ss) (steps-append front rest) ∙ words-append h (start core boot list) (steps_in front) (steps_in rest)) in
           let taken = no-reply-left h v (sound front) s.settled over in
           let f = λ (x : Said). x.reply in
           let same : map f (w.hosts h).said ≡ map f (v.hosts h).said = ap (map f) (q.said h) in
@@ -228,6 +242,7 @@ module _ (core : Core) (laws : Laws core) (boot : List ℕ) (some : boot ≢ [])
                 let most = ap length (q.notices a) in
                 let grown = ap (λ l. handed l a) q.list in
                 let ga = handed-append v.entries q.more a in
-                let few = subst (λ (r : List Entry). handed r a ≤ length (core.notices r a)) (take-whole (length w.entries) w.entries (omega arith)) (handed-few core laws (length w.entries) w.entries a (sound log).lawful (omega arith)) in
+                let few = subst (λ (r : List Entry). handed r a ≤ length (core.notices r a)) (take-whole (length w.entries) w.entries (omega arith))
+                (handed-few core laws (length w.entries) w.entries a (sound log).lawful (omega arith)) in
                 omega (arith, all_handed, most, grown, ga, few));
           }

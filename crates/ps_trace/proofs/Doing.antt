@@ -31,7 +31,8 @@ steps-deeds k bytes (s ∷ ss) = ap (λ r. s ∷ r) (steps-deeds k bytes ss)
 
 pub words-deeds : (core : Core) (boot : List ℕ) (k bytes : ℕ) (w : World) (steps : List Step) → words_by core boot k w (deeds k bytes steps) ≡ says core boot w steps
 words-deeds core boot k bytes w [] = refl
-words-deeds core boot k bytes w (s ∷ ss) = ap (λ (b : Bool). (if b then said_by core w s else []) ++ words_by core boot k (happens core boot w s) (deeds k bytes ss)) (eq-eqb k k refl) ∙ ap (λ r. said_by core w s ++ r) (words-deeds core boot k bytes (happens core boot w s) ss)
+words-deeds core boot k bytes w (s ∷ ss) = ap (λ (b : Bool). (if b then said_by core w s else []) ++ words_by core boot k (happens core boot w s) (deeds k bytes ss)) (eq-eqb k k refl) ∙ ap
+    (λ r. said_by core w s ++ r) (words-deeds core boot k bytes (happens core boot w s) ss)
 
 -- the two ways to ask whether two addresses are one
 pub same-either : (a b : Jid) → same_jid a b ≡ same_jid b a
@@ -63,16 +64,20 @@ module _ (core : Core) (laws : Laws core) (boot : List ℕ) (list : List Entry) 
         ap (words_by core boot k (start core boot list)) did.seen
         ∙ (words-by-append core boot k (start core boot list) (old ++ did.between) (deeds k did.bytes did.steps)
         ∙ (ap (λ r. words_by core boot k (start core boot list) (old ++ did.between) ++ r) (words-deeds core boot k did.bytes found did.steps)
-        ∙ ap (λ r. r ++ says core boot found did.steps) (words-by-append core boot k (start core boot list) old did.between ∙ (ap (λ r. words_by core boot k (start core boot list) old ++ r) (words-by-none core boot k (world_of core boot list hosts old) did.between did.none) ∙ nil-right (words_by core boot k (start core boot list) old)))))
+        ∙ ap (λ r. r ++ says core boot found did.steps) (words-by-append core boot k (start core boot list) old did.between ∙
+        (ap (λ r. words_by core boot k (start core boot list) old ++ r) (words-by-none core boot k (world_of core boot list hosts old) did.between did.none) ∙ nil-right
+        (words_by core boot k (start core boot list) old)))))
 
     pub did-between : AreOwned hosts did.between
     did-between = owned-behind hosts old did.between (owned-front hosts (old ++ did.between) (deeds k did.bytes did.steps) (subst (AreOwned hosts) did.seen did.owned))
 
     pub did-free : AllDiffer hosts → (h : List ℕ) → IsWriterOf hosts k h → NoneInHand h (world_of core boot list hosts old) → NoneInHand h found
-    did-free differ h writes free = subst (NoneInHand h) (sym (world-append old did.between)) (free-run core boot hosts differ h k writes (world_of core boot list hosts old) did.between did-between did.none free)
+    did-free differ h writes free = subst (NoneInHand h) (sym (world-append old did.between))
+        (free-run core boot hosts differ h k writes (world_of core boot list hosts old) did.between did-between did.none free)
 
     pub did-hand : AllDiffer hosts → (h : List ℕ) → IsWriterOf hosts k h → (hand : List Jid) → HasInHand h hand (world_of core boot list hosts old) → HasInHand h hand found
-    did-hand differ h writes hand is = subst (HasInHand h hand) (sym (world-append old did.between)) (hand-run core boot hosts differ h k writes hand (world_of core boot list hosts old) did.between did-between did.none is)
+    did-hand differ h writes hand is = subst (HasInHand h hand) (sym (world-append old did.between))
+        (hand-run core boot hosts differ h k writes hand (world_of core boot list hosts old) did.between did-between did.none is)
 
     pub did-records : (a : Jid) → records_in a (own_steps k new) ≡ records_in a (own_steps k old) + records_in a did.steps
     did-records a = ap (records_in a) did-own ∙ records-append core laws boot a (own_steps k old) did.steps

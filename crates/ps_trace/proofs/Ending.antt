@@ -30,7 +30,8 @@ use Rattle.ps_trace.proofs.Settling.{HasSettled, step-settled}
 
 -- ---- whether a reader has ended
 
-answered-ended : (line : ℕ) (arrival : Arrival) (full : Bool) (place upto step : ℕ) (o : Option (List ℕ)) (part : HostPart) → (answered line arrival full place upto step o part).reader_ended ≡ part.reader_ended
+answered-ended : (line : ℕ) (arrival : Arrival) (full : Bool) (place upto step : ℕ) (o : Option (List ℕ)) (part : HostPart)
+    → (answered line arrival full place upto step o part).reader_ended ≡ part.reader_ended
 answered-ended line arrival full place upto step None part = refl
 answered-ended line arrival full place upto step (Some r) part = refl
 
@@ -56,7 +57,8 @@ module _ (core : Core) (boot : List ℕ) (hosts : List (List ℕ)) (differ : All
   emits-ended w a Nothing None = refl
   emits-ended w a Unrecorded next = refl
   emits-ended w a (Recorded t) next = refl
-  emits-ended w a Nothing (Some n) = chosen (λ v. Same w (counted v)) (nat_lt n.place (durable w)) (record w { addresses = at_address a (λ part. record part { sent = part.sent ++ n ∷ []; flight = Unrecorded }) w.addresses }) w (λ t. refl) (λ t. refl)
+  emits-ended w a Nothing (Some n) = chosen (λ v. Same w (counted v)) (nat_lt n.place (durable w))
+      (record w { addresses = at_address a (λ part. record part { sent = part.sent ++ n ∷ []; flight = Unrecorded }) w.addresses }) w (λ t. refl) (λ t. refl)
 
   records-ended : (w : World) (a : Jid) (f : Flight) → Same w (counted (records w a f))
   records-ended w a Nothing = refl
@@ -164,13 +166,15 @@ module _ (core : Core) (laws : Laws core) (boot : List ℕ) where
 
   took-later : (w : World) (f : List ℕ) (next : Option Said) → Later w (counted (took w f next))
   took-later w f None = omega arith
-  took-later w f (Some s) = chosen (λ v. Later w (counted v)) (nat_le s.step w.flushed) (record w { hosts = at_host f (λ part. record part { taken = part.taken + 1 }) w.hosts }) w (λ t. omega arith) (λ t. omega arith)
+  took-later w f (Some s) = chosen (λ v. Later w (counted v)) (nat_le s.step w.flushed) (record w { hosts = at_host f (λ part. record part { taken = part.taken + 1 }) w.hosts }) w (λ t. omega arith)
+      (λ t. omega arith)
 
   emits-later : (w : World) (a : Jid) (f : Flight) (next : Option Notice) → Later w (counted (emits w a f next))
   emits-later w a Nothing None = omega arith
   emits-later w a Unrecorded next = omega arith
   emits-later w a (Recorded t) next = omega arith
-  emits-later w a Nothing (Some n) = chosen (λ v. Later w (counted v)) (nat_lt n.place (durable w)) (record w { addresses = at_address a (λ part. record part { sent = part.sent ++ n ∷ []; flight = Unrecorded }) w.addresses }) w (λ t. omega arith) (λ t. omega arith)
+  emits-later w a Nothing (Some n) = chosen (λ v. Later w (counted v)) (nat_lt n.place (durable w))
+      (record w { addresses = at_address a (λ part. record part { sent = part.sent ++ n ∷ []; flight = Unrecorded }) w.addresses }) w (λ t. omega arith) (λ t. omega arith)
 
   records-later : (w : World) (a : Jid) (f : Flight) → Later w (counted (records w a f))
   records-later w a Nothing = omega arith
@@ -194,10 +198,12 @@ module _ (core : Core) (laws : Laws core) (boot : List ℕ) where
 
   -- ---- what is settled stays so
 
-  pub run-settled : boot ≢ [] → (hosts : List (List ℕ)) (m n : ℕ) (w : World) (log : List Deed) → Sound core w → AreOwned hosts log → AllLaid m n log → w.steps ≡ n → HasSettled m w → HasSettled m (run core boot w (steps_in log))
+  pub run-settled : boot ≢ [] → (hosts : List (List ℕ)) (m n : ℕ) (w : World) (log : List Deed) → Sound core w → AreOwned hosts log → AllLaid m n log → w.steps ≡ n → HasSettled m w
+      → HasSettled m (run core boot w (steps_in log))
   run-settled some hosts m n w [] sound owned laid number is = is
   run-settled some hosts m n w (d ∷ ds) sound owned laid number is =
-      run-settled some hosts m (n + 1) (happens core boot w d.step) ds (happens_kept core laws boot some w d.step sound) owned.1 laid.1 (let s = steps_one core boot w d.step in omega (arith, s, number))
+      run-settled some hosts m (n + 1) (happens core boot w d.step) ds (happens_kept core laws boot some w d.step sound) owned.1 laid.1
+      (let s = steps_one core boot w d.step in omega (arith, s, number))
       (step-settled m core laws boot w d.step sound (calm hosts (d ∷ ds) owned).0 (λ lays. (let l = laid.0 lays in omega (arith, l, number))) is)
 
   -- ---- steps that lay nothing
@@ -222,8 +228,10 @@ module _ (core : Core) (laws : Laws core) (boot : List ℕ) where
   quiet-emits w a Nothing None = quiet-same w (counted w) refl (λ g. refl)
   quiet-emits w a Unrecorded next = quiet-same w (counted w) refl (λ g. refl)
   quiet-emits w a (Recorded t) next = quiet-same w (counted w) refl (λ g. refl)
-  quiet-emits w a Nothing (Some n) = chosen (λ v. Quietly w (counted v)) (nat_lt n.place (durable w)) (record w { addresses = at_address a (λ part. record part { sent = part.sent ++ n ∷ []; flight = Unrecorded }) w.addresses }) w
-      (λ t. quiet-same w (counted (record w { addresses = at_address a (λ part. record part { sent = part.sent ++ n ∷ []; flight = Unrecorded }) w.addresses })) refl (λ g. refl)) (λ t. quiet-same w (counted w) refl (λ g. refl))
+  quiet-emits w a Nothing (Some n) = chosen (λ v. Quietly w (counted v)) (nat_lt n.place (durable w))
+      (record w { addresses = at_address a (λ part. record part { sent = part.sent ++ n ∷ []; flight = Unrecorded }) w.addresses }) w
+      (λ t. quiet-same w (counted (record w { addresses = at_address a (λ part. record part { sent = part.sent ++ n ∷ []; flight = Unrecorded }) w.addresses })) refl (λ g. refl))
+      (λ t. quiet-same w (counted w) refl (λ g. refl))
 
   role-said : (role : Role) (part : HostPart) → (ends_role role part).said ≡ part.said
   role-said Reader part = refl
@@ -237,7 +245,8 @@ module _ (core : Core) (laws : Laws core) (boot : List ℕ) where
 
     quiet-one : (w : World) (s : Step) → IsCalm s → (Lays s → ⊥) → Quietly w (happens core boot w s)
     quiet-one w (Arrive g arrival full) calm no_lay = absurd (no_lay tt)
-    quiet-one w (Flush m) calm no_lay = chosen (λ v. Quietly w (counted v)) (nat_le w.flushed m && nat_le m w.steps) (flushes w m) w (λ t. quiet-same w (counted (flushes w m)) refl (λ g. refl)) (λ t. quiet-same w (counted w) refl (λ g. refl))
+    quiet-one w (Flush m) calm no_lay = chosen (λ v. Quietly w (counted v)) (nat_le w.flushed m && nat_le m w.steps) (flushes w m) w (λ t. quiet-same w (counted (flushes w m)) refl (λ g. refl))
+        (λ t. quiet-same w (counted w) refl (λ g. refl))
     quiet-one w (Take g) calm no_lay = quiet-took w g (slice_get (w.hosts g).said (w.hosts g).taken)
     quiet-one w (Emit a) calm no_lay = quiet-emits w a (w.addresses a).flight (slice_get (core.notices w.entries a) (handed w.entries a))
     quiet-one w (Record a) calm no_lay = quiet-records w a (w.addresses a).flight

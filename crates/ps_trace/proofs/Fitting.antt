@@ -30,7 +30,8 @@ module _ (core : Core) (boot : List ℕ) where
   fits-emits w a Nothing None l = l
   fits-emits w a Unrecorded next l = l
   fits-emits w a (Recorded t) next l = l
-  fits-emits w a Nothing (Some n) l = chosen (λ v. Fits w (counted v)) (nat_lt n.place (durable w)) (record w { addresses = at_address a (λ part. record part { sent = part.sent ++ n ∷ []; flight = Unrecorded }) w.addresses }) w (λ t. l) (λ t. l)
+  fits-emits w a Nothing (Some n) l = chosen (λ v. Fits w (counted v)) (nat_lt n.place (durable w))
+      (record w { addresses = at_address a (λ part. record part { sent = part.sent ++ n ∷ []; flight = Unrecorded }) w.addresses }) w (λ t. l) (λ t. l)
 
   fits-records : (w : World) (a : Jid) (f : Flight) → w.flushed ≤ w.steps → Fits w (counted (records w a f))
   fits-records w a Nothing l = l

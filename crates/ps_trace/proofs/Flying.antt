@@ -34,7 +34,8 @@ module _ (core : Core) (boot : List ℕ) (hosts : List (List ℕ)) (differ : All
 
   pub still-took : (w : World) (f : List ℕ) (next : Option Said) → Still w (counted (took w f next))
   still-took w f None = refl
-  still-took w f (Some s) = chosen (λ v. Still w (counted v)) (nat_le s.step w.flushed) (record w { hosts = at_host f (λ part. record part { taken = part.taken + 1 }) w.hosts }) w (λ t. refl) (λ t. refl)
+  still-took w f (Some s) = chosen (λ v. Still w (counted v)) (nat_le s.step w.flushed) (record w { hosts = at_host f (λ part. record part { taken = part.taken + 1 }) w.hosts }) w (λ t. refl)
+      (λ t. refl)
 
   -- an address of another writer is another
   other : (b : ℕ) (a : Jid) → IsWriterOf hosts b a.host → b ≢ k → same_jid c a ≡ true → ⊥
@@ -50,13 +51,15 @@ module _ (core : Core) (boot : List ℕ) (hosts : List (List ℕ)) (differ : All
   still-emits w b a (Recorded t) next mine apart = refl
   still-emits w b a Nothing (Some n) mine apart =
       chosen (λ v. Still w (counted v)) (nat_lt n.place (durable w)) (record w { addresses = at_address a (λ part. record part { sent = part.sent ++ n ∷ []; flight = Unrecorded }) w.addresses }) w
-      (λ t. chosen (λ (p : AddressPart). p.flight ≡ (w.addresses c).flight) (same_jid c a) (record (w.addresses c) { sent = (w.addresses c).sent ++ n ∷ []; flight = Unrecorded }) (w.addresses c) (λ u. absurd (other b a mine apart u)) (λ u. refl))
+      (λ t. chosen (λ (p : AddressPart). p.flight ≡ (w.addresses c).flight) (same_jid c a) (record (w.addresses c) { sent = (w.addresses c).sent ++ n ∷ []; flight = Unrecorded }) (w.addresses c)
+      (λ u. absurd (other b a mine apart u)) (λ u. refl))
       (λ t. refl)
 
   pub still-records : (w : World) (b : ℕ) (a : Jid) (f : Flight) → IsWriterOf hosts b a.host → b ≢ k → Still w (counted (records w a f))
   still-records w b a Nothing mine apart = refl
   still-records w b a (Recorded t) mine apart = refl
-  still-records w b a Unrecorded mine apart = chosen (λ (p : AddressPart). p.flight ≡ (w.addresses c).flight) (same_jid c a) (record (w.addresses c) { sent = (w.addresses c).sent; flight = Recorded (w.steps + 1) }) (w.addresses c) (λ u. absurd (other b a mine apart u)) (λ u. refl)
+  still-records w b a Unrecorded mine apart = chosen (λ (p : AddressPart). p.flight ≡ (w.addresses c).flight) (same_jid c a)
+      (record (w.addresses c) { sent = (w.addresses c).sent; flight = Recorded (w.steps + 1) }) (w.addresses c) (λ u. absurd (other b a mine apart u)) (λ u. refl)
 
   still-one : (w : World) (b : ℕ) (s : Step) → MayMake hosts b s → b ≢ k → ((w.addresses c).flight ≡ Nothing) ⊎ ((w.addresses c).flight ≡ Unrecorded) → Still w (happens core boot w s)
   still-one w b (Arrive g arrival full) may apart f = refl
@@ -69,7 +72,8 @@ module _ (core : Core) (boot : List ℕ) (hosts : List (List ℕ)) (differ : All
   still-one w b Broken may apart f = refl
   still-one w b (Crash m) may apart f = absurd may
 
-  pub still-run : (w : World) (log : List Deed) → AreOwned hosts log → NoneOf k log → ((w.addresses c).flight ≡ Nothing) ⊎ ((w.addresses c).flight ≡ Unrecorded) → Still w (run core boot w (steps_in log))
+  pub still-run : (w : World) (log : List Deed) → AreOwned hosts log → NoneOf k log → ((w.addresses c).flight ≡ Nothing) ⊎ ((w.addresses c).flight ≡ Unrecorded)
+      → Still w (run core boot w (steps_in log))
   still-run w [] owned none f = refl
   still-run w (d ∷ ds) owned none f =
       let one = still-one w d.by d.step owned.0 none.0 f in
@@ -173,11 +177,13 @@ module _ (core : Core) (boot : List ℕ) (h : List ℕ) where
         (λ t. absurd (false≢true (sym (out-of-both hand a b out').1 ∙ t))) (λ f. is.others b there (out-of-both hand a b out').0);
   }
 
-  emits-if : (hand : List Jid) (w : World) (a : Jid) (n x : Notice) (b : Bool) → a.host ≡ h → is_in a hand ≡ false → HasInHand h hand w → (if b then Note a x ∷ [] else []) ≡ Note a n ∷ [] → HasInHand h (hand ++ a ∷ []) (counted (if b then sending w a x else w))
+  emits-if : (hand : List Jid) (w : World) (a : Jid) (n x : Notice) (b : Bool) → a.host ≡ h → is_in a hand ≡ false → HasInHand h hand w → (if b then Note a x ∷ [] else []) ≡ Note a n ∷ []
+      → HasInHand h (hand ++ a ∷ []) (counted (if b then sending w a x else w))
   emits-if hand w a n x true host out is said = emitted hand w a x host out is
   emits-if hand w a n x false host out is said = absurd (cc said)
 
-  emits-hand : (hand : List Jid) (w : World) (a : Jid) (n : Notice) (f : Flight) (next : Option Notice) → a.host ≡ h → is_in a hand ≡ false → HasInHand h hand w → noted_word (durable w) a f next ≡ Note a n ∷ []
+  emits-hand : (hand : List Jid) (w : World) (a : Jid) (n : Notice) (f : Flight) (next : Option Notice) → a.host ≡ h → is_in a hand ≡ false → HasInHand h hand w
+      → noted_word (durable w) a f next ≡ Note a n ∷ []
       → HasInHand h (hand ++ a ∷ []) (counted (emits w a f next))
   emits-hand hand w a n Nothing None host out is said = absurd (cc said)
   emits-hand hand w a n Unrecorded next host out is said = absurd (cc said)
@@ -185,12 +191,14 @@ module _ (core : Core) (boot : List ℕ) (h : List ℕ) where
   emits-hand hand w a n Nothing (Some x) host out is said = emits-if hand w a n x (nat_lt x.place (durable w)) host out is said
 
   -- what is said was not in hand
-  said-out : (hand : List Jid) (w : World) (a : Jid) (n : Notice) (next : Option Notice) (t : Bool) → is_in a hand ≡ t → HasInHand h hand w → noted_word (durable w) a (w.addresses a).flight next ≡ Note a n ∷ [] → is_in a hand ≡ false
+  said-out : (hand : List Jid) (w : World) (a : Jid) (n : Notice) (next : Option Notice) (t : Bool) → is_in a hand ≡ t → HasInHand h hand w
+      → noted_word (durable w) a (w.addresses a).flight next ≡ Note a n ∷ [] → is_in a hand ≡ false
   said-out hand w a n next true among is said = absurd (let no : [] ≡ Note a n ∷ [] = sym (ap (λ f. noted_word (durable w) a f next) (is.these a among)) ∙ said in cc no)
   said-out hand w a n next false out is said = out
 
   -- a notice that was said is in hand behind the others
-  pub emit-hand : (hand : List Jid) (w : World) (a : Jid) (n : Notice) → a.host ≡ h → HasInHand h hand w → noted_word (durable w) a (w.addresses a).flight (slice_get (core.notices w.entries a) (handed w.entries a)) ≡ Note a n ∷ []
+  pub emit-hand : (hand : List Jid) (w : World) (a : Jid) (n : Notice) → a.host ≡ h → HasInHand h hand w
+      → noted_word (durable w) a (w.addresses a).flight (slice_get (core.notices w.entries a) (handed w.entries a)) ≡ Note a n ∷ []
       → HasInHand h (hand ++ a ∷ []) (happens core boot w (Emit a))
   emit-hand hand w a n host is said =
       let next = slice_get (core.notices w.entries a) (handed w.entries a) in
@@ -201,8 +209,10 @@ module _ (core : Core) (boot : List ℕ) (h : List ℕ) where
   recorded-part true n p = refl
   recorded-part false n p = refl
 
-  pub record-flight : (w : World) (a : Jid) (f : Flight) → f ≡ Unrecorded → (c : Jid) → ((counted (records w a f)).addresses c).flight ≡ (if same_jid c a then Recorded (w.steps + 1) else (w.addresses c).flight)
-  record-flight w a f e c = subst (λ (g : Flight). ((counted (records w a g)).addresses c).flight ≡ (if same_jid c a then Recorded (w.steps + 1) else (w.addresses c).flight)) (sym e) (recorded-part (same_jid c a) (w.steps + 1) (w.addresses c))
+  pub record-flight : (w : World) (a : Jid) (f : Flight) → f ≡ Unrecorded → (c : Jid)
+      → ((counted (records w a f)).addresses c).flight ≡ (if same_jid c a then Recorded (w.steps + 1) else (w.addresses c).flight)
+  record-flight w a f e c = subst (λ (g : Flight). ((counted (records w a g)).addresses c).flight ≡ (if same_jid c a then Recorded (w.steps + 1) else (w.addresses c).flight)) (sym e)
+      (recorded-part (same_jid c a) (w.steps + 1) (w.addresses c))
 
   pub record-flushed : (w : World) (a : Jid) (f : Flight) → (counted (records w a f)).flushed ≡ w.flushed
   record-flushed w a Nothing = refl

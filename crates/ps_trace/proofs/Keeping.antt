@@ -65,7 +65,8 @@ module _ (core : Core) (laws : Laws core) (boot : List ℕ) (list : List Entry) 
       by false e = grind (arith, nat_tests)
 
   -- all that the pass laid is flushed where all that it then saw is
-  pub kept-within : (k : ℕ) (found rest : List Deed) → ((n : ℕ) → LaidWithin n k (length found) rest) → length found ≤ (world_of core boot list hosts (found ++ rest)).flushed → IsKept core boot list hosts k (found ++ rest)
+  pub kept-within : (k : ℕ) (found rest : List Deed) → ((n : ℕ) → LaidWithin n k (length found) rest) → length found ≤ (world_of core boot list hosts (found ++ rest)).flushed
+      → IsKept core boot list hosts k (found ++ rest)
   kept-within k found rest none covered =
       let n = (world_of core boot list hosts (found ++ rest)).flushed in
       laid-append n k 0 (length found) found rest (omega arith) (laid-short n k 0 found (omega (arith, covered))) (none n)

@@ -73,15 +73,18 @@ covered-hand h rest n w l are is = record {
 
 flushed-took : (w : World) (g : List ℕ) (next : Option Said) → (counted (took w g next)).flushed ≡ w.flushed
 flushed-took w g None = refl
-flushed-took w g (Some s) = chosen (λ v. (counted v).flushed ≡ w.flushed) (nat_le s.step w.flushed) (record w { hosts = at_host g (λ part. record part { taken = part.taken + 1 }) w.hosts }) w (λ t. refl) (λ t. refl)
+flushed-took w g (Some s) = chosen (λ v. (counted v).flushed ≡ w.flushed) (nat_le s.step w.flushed) (record w { hosts = at_host g (λ part. record part { taken = part.taken + 1 }) w.hosts }) w
+    (λ t. refl) (λ t. refl)
 
 flushed-emits : (w : World) (a : Jid) (f : Flight) (next : Option Notice) → (counted (emits w a f next)).flushed ≡ w.flushed
 flushed-emits w a Nothing None = refl
 flushed-emits w a Unrecorded next = refl
 flushed-emits w a (Recorded t) next = refl
-flushed-emits w a Nothing (Some n) = chosen (λ v. (counted v).flushed ≡ w.flushed) (nat_lt n.place (durable w)) (record w { addresses = at_address a (λ part. record part { sent = part.sent ++ n ∷ []; flight = Unrecorded }) w.addresses }) w (λ t. refl) (λ t. refl)
+flushed-emits w a Nothing (Some n) = chosen (λ v. (counted v).flushed ≡ w.flushed) (nat_lt n.place (durable w))
+    (record w { addresses = at_address a (λ part. record part { sent = part.sent ++ n ∷ []; flight = Unrecorded }) w.addresses }) w (λ t. refl) (λ t. refl)
 
-moved : (b : Bool) (n : ℕ) (w v : World) (c : Jid) → v.flushed ≡ w.flushed → (v.addresses c).flight ≡ (w.addresses c).flight → LandsIf b n w.flushed (w.addresses c).flight → LandsIf b n v.flushed (v.addresses c).flight
+moved : (b : Bool) (n : ℕ) (w v : World) (c : Jid) → v.flushed ≡ w.flushed → (v.addresses c).flight ≡ (w.addresses c).flight → LandsIf b n w.flushed (w.addresses c).flight
+    → LandsIf b n v.flushed (v.addresses c).flight
 moved b n w v c flushed flight is = subst (λ (m : ℕ). LandsIf b n m (v.addresses c).flight) (sym flushed) (subst (LandsIf b n w.flushed) (sym flight) is)
 
 steps-record : (w : World) (a : Jid) (f : Flight) → (counted (records w a f)).steps ≡ w.steps + 1
@@ -115,7 +118,8 @@ module _ (core : Core) (boot : List ℕ) (h : List ℕ) (n : ℕ) where
       (λ same. ap (λ (j : Jid). is_in j rest) ((same_jid-Decides c a).0 same) ∙ are.1) (is c there)))
 
   -- and of several
-  records-land : (w : World) (done rest : List Jid) → w.flushed ≤ w.steps → w.steps + length done ≤ n → AreHeld h (done ++ rest) → LandsBut h (done ++ rest) n w → LandsBut h rest n (run core boot w (records_of done))
+  records-land : (w : World) (done rest : List Jid) → w.flushed ≤ w.steps → w.steps + length done ≤ n → AreHeld h (done ++ rest) → LandsBut h (done ++ rest) n w
+      → LandsBut h rest n (run core boot w (records_of done))
   records-land w [] rest sound number are is = is
   records-land w (a ∷ done) rest sound number are is =
       let f = (w.addresses a).flight in
@@ -157,7 +161,8 @@ hand-lands h hand n w is c there = by (is_in c hand) refl
     by false e = subst (Lands n w.flushed) (sym (is.others c there e)) tt
 
 -- what was not recorded is in flight with no Handed still
-pub left-flies : (core : Core) (boot : List ℕ) (h : List ℕ) (w : World) (done : List Jid) (a : Jid) (rest : List Jid) → w.flushed ≤ w.steps → HasInHand h (done ++ a ∷ rest) w → ((run core boot w (records_of done)).addresses a).flight ≡ Unrecorded
+pub left-flies : (core : Core) (boot : List ℕ) (h : List ℕ) (w : World) (done : List Jid) (a : Jid) (rest : List Jid) → w.flushed ≤ w.steps → HasInHand h (done ++ a ∷ rest) w
+    → ((run core boot w (records_of done)).addresses a).flight ≡ Unrecorded
 left-flies core boot h w done a rest sound is =
     let n = w.steps + length done in
     let v = run core boot w (records_of done) in
@@ -178,7 +183,8 @@ module _ (core : Core) (laws : Laws core) (boot : List ℕ) (list : List Entry) 
   at seen = world_of core boot list hosts seen
 
   -- the writer recorded some of what it had in hand
-  pub did-record : (done rest : List Jid) (old mid : List Deed) → HasInHand h (done ++ rest) (at old) → Did core boot list hosts k old mid (λ w steps. steps ≡ records_of done) → LandsBut h rest (length mid) (at mid)
+  pub did-record : (done rest : List Jid) (old mid : List Deed) → HasInHand h (done ++ rest) (at old) → Did core boot list hosts k old mid (λ w steps. steps ≡ records_of done)
+      → LandsBut h rest (length mid) (at mid)
   did-record done rest old mid is did =
       let log = old ++ did.between in
       let owned = owned-front hosts log (deeds k did.bytes did.steps) (subst (AreOwned hosts) did.seen did.owned) in
@@ -202,7 +208,8 @@ module _ (core : Core) (laws : Laws core) (boot : List ℕ) (list : List Entry) 
       let log = old ++ did.between in
       let e : at new ≡ happens core boot (at log) (Flush m) = did-world core laws boot list hosts k old new did ∙ ap (run core boot (at log)) did.does in
       let here : LandsBut h rest n (at log) =
-      subst (LandsBut h rest n) (sym (world-append core laws boot list hosts old did.between)) (lands-run core boot h n hosts differ k writes rest (at old) did.between (did-between core laws boot list hosts k old new did) did.none is) in
+      subst (LandsBut h rest n) (sym (world-append core laws boot list hosts old did.between))
+      (lands-run core boot h n hosts differ k writes rest (at old) did.between (did-between core laws boot list hosts k old new did) did.none is) in
       subst (LandsBut h rest n) (sym e) (flush-lands core boot h n rest (at log) m here)
 
   pub records-land-flushed : (done rest : List Jid) (old mid found new : List Deed) → HasInHand h (done ++ rest) (at old) → Did core boot list hosts k old mid (λ w steps. steps ≡ records_of done)

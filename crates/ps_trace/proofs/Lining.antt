@@ -93,10 +93,12 @@ module _ (core : Core) (h : List ℕ) where
       let r = lines-in E (k + 1) (c.place + size c.entry) cs is.2 in
       (is.0, line-more E more k c (omega (arith, r)) is.1, lines-more E more (k + 1) (c.place + size c.entry) cs is.2)
 
-  lines-snoc : (E : List Entry) (k j from : ℕ) (cs : List Came) (c : Came) → k + length cs ≡ j → c.place ≡ length E → core.reply E h j c.arrival c.full ≡ c.reply → core.entry E h j c.arrival c.full ≡ c.entry → AreLines core h E k from cs → AreLines core h (E ++ as_list c.entry) k from (cs ++ c ∷ [])
+  lines-snoc : (E : List Entry) (k j from : ℕ) (cs : List Came) (c : Came) → k + length cs ≡ j → c.place ≡ length E → core.reply E h j c.arrival c.full ≡ c.reply
+      → core.entry E h j c.arrival c.full ≡ c.entry → AreLines core h E k from cs → AreLines core h (E ++ as_list c.entry) k from (cs ++ c ∷ [])
   lines-snoc E k j from [] c number at reply entry is =
       let same : k ≡ j = omega (arith, number) in
-      let front : take c.place (E ++ as_list c.entry) ≡ E = ap (λ p. take p (E ++ as_list c.entry)) at ∙ (take-front (length E) E (as_list c.entry) (omega arith) ∙ take-whole (length E) E (omega arith)) in (
+      let front : take c.place (E ++ as_list c.entry) ≡ E = ap (λ p. take p (E ++ as_list c.entry)) at ∙
+      (take-front (length E) E (as_list c.entry) (omega arith) ∙ take-whole (length E) E (omega arith)) in (
         omega (arith, at, is),
         record {
           reply = ap (λ r. core.reply r h k c.arrival c.full) front ∙ (ap (λ n. core.reply E h n c.arrival c.full) same ∙ reply);
@@ -114,7 +116,8 @@ module _ (core : Core) (h : List ℕ) where
 
   module _ (laws : Laws core) (boot : List ℕ) (base : List Entry) where
     -- a step that is no line of this host
-    on : (w v : World) (cs : List Came) (x : List Entry) → v.entries ≡ w.entries ++ x → changes_of h x ≡ [] → (v.hosts h).line ≡ (w.hosts h).line → (v.hosts h).said ≡ (w.hosts h).said → HasLines core base h w cs → HasLines core base h v (cs ++ [])
+    on : (w v : World) (cs : List Came) (x : List Entry) → v.entries ≡ w.entries ++ x → changes_of h x ≡ [] → (v.hosts h).line ≡ (w.hosts h).line → (v.hosts h).said ≡ (w.hosts h).said
+        → HasLines core base h w cs → HasLines core base h v (cs ++ [])
     on w v cs x grown none line said is = subst (λ (ds : List Came). HasLines core base h v ds) (sym (nil-right cs)) (record {
       since = is.since ++ x;
       list = grown ∙ (ap (λ r. r ++ x) is.list ∙ assoc base is.since x);
@@ -124,7 +127,8 @@ module _ (core : Core) (h : List ℕ) where
       said = ap (map (λ (s : Said). s.reply)) said ∙ is.said;
     })
 
-    same : (w v : World) (cs : List Came) → v.entries ≡ w.entries → (v.hosts h).line ≡ (w.hosts h).line → (v.hosts h).said ≡ (w.hosts h).said → HasLines core base h w cs → HasLines core base h v (cs ++ [])
+    same : (w v : World) (cs : List Came) → v.entries ≡ w.entries → (v.hosts h).line ≡ (w.hosts h).line → (v.hosts h).said ≡ (w.hosts h).said → HasLines core base h w cs
+        → HasLines core base h v (cs ++ [])
     same w v cs grown line said is = on w v cs [] (grown ∙ sym (nil-right w.entries)) refl line said is
 
     -- the world after a line, and the line
@@ -147,9 +151,11 @@ module _ (core : Core) (h : List ℕ) where
     answered-line line arrival full place upto step None part = refl
     answered-line line arrival full place upto step (Some r) part = refl
 
-    answered-said : (line : ℕ) (arrival : Arrival) (full : Bool) (place upto step : ℕ) (o : Option (List ℕ)) (part : HostPart) → map (λ (s : Said). s.reply) (answered line arrival full place upto step o part).said ≡ map (λ (s : Said). s.reply) part.said ++ onto o []
+    answered-said : (line : ℕ) (arrival : Arrival) (full : Bool) (place upto step : ℕ) (o : Option (List ℕ)) (part : HostPart)
+        → map (λ (s : Said). s.reply) (answered line arrival full place upto step o part).said ≡ map (λ (s : Said). s.reply) part.said ++ onto o []
     answered-said line arrival full place upto step None part = sym (nil-right (map (λ (s : Said). s.reply) part.said))
-    answered-said line arrival full place upto step (Some r) part = map-append (λ (s : Said). s.reply) part.said (record { line = line; arrival = arrival; full = full; place = place; upto = upto; step = step; reply = r } ∷ [])
+    answered-said line arrival full place upto step (Some r) part = map-append (λ (s : Said). s.reply) part.said
+        (record { line = line; arrival = arrival; full = full; place = place; upto = upto; step = step; reply = r } ∷ [])
 
     own-line : (w : World) (cs : List Came) (arrival : Arrival) (full : Bool) → HasLines core base h w cs → HasLines core base h (after w h arrival full true) (cs ++ this w h arrival full ∷ [])
     own-line w cs arrival full is =
@@ -159,18 +165,24 @@ module _ (core : Core) (h : List ℕ) where
         record {
           since = is.since ++ as_list c.entry;
           list = grown ∙ (ap (λ r. r ++ as_list c.entry) is.list ∙ assoc base is.since (as_list c.entry));
-          line = answered-line line arrival full (length w.entries) (length (more_entries w.entries c.entry)) (w.steps + 1) c.reply (w.hosts h) ∙ (let l = length-append cs (c ∷ []) in let k = is.line in omega (arith, l, k));
-          lines = subst (λ (E : List Entry). AreLines core h E 1 (length base) (cs ++ c ∷ [])) (sym grown) (lines-snoc w.entries 1 line (length base) cs c (let k = is.line in omega (arith, k)) refl refl refl is.lines);
-          changes = changes-append h is.since (as_list c.entry) ∙ (ap (λ r. r ++ changes_of h (as_list c.entry)) is.changes ∙ (ap (λ r. entries_of cs ++ r) (changes-own h line c.entry (λ e made. laws.change w.entries h line arrival full e made)) ∙ sym (entries-append cs (c ∷ []))));
-          said = answered-said line arrival full (length w.entries) (length (more_entries w.entries c.entry)) (w.steps + 1) c.reply (w.hosts h) ∙ (ap (λ r. r ++ onto c.reply []) is.said ∙ sym (replies-append cs (c ∷ [])));
+          line = answered-line line arrival full (length w.entries) (length (more_entries w.entries c.entry)) (w.steps + 1) c.reply (w.hosts h) ∙
+              (let l = length-append cs (c ∷ []) in let k = is.line in omega (arith, l, k));
+          lines = subst (λ (E : List Entry). AreLines core h E 1 (length base) (cs ++ c ∷ [])) (sym grown)
+              (lines-snoc w.entries 1 line (length base) cs c (let k = is.line in omega (arith, k)) refl refl refl is.lines);
+          changes = changes-append h is.since (as_list c.entry) ∙ (ap (λ r. r ++ changes_of h (as_list c.entry)) is.changes ∙
+              (ap (λ r. entries_of cs ++ r) (changes-own h line c.entry (λ e made. laws.change w.entries h line arrival full e made)) ∙ sym (entries-append cs (c ∷ []))));
+          said = answered-said line arrival full (length w.entries) (length (more_entries w.entries c.entry)) (w.steps + 1) c.reply (w.hosts h) ∙
+              (ap (λ r. r ++ onto c.reply []) is.said ∙ sym (replies-append cs (c ∷ [])));
         }
 
-    line-by : (w : World) (cs : List Came) (g : List ℕ) (arrival : Arrival) (full : Bool) (b : Bool) → bytes_eq h g ≡ b → HasLines core base h w cs → HasLines core base h (after w g arrival full b) (cs ++ (if b then this w g arrival full ∷ [] else []))
+    line-by : (w : World) (cs : List Came) (g : List ℕ) (arrival : Arrival) (full : Bool) (b : Bool) → bytes_eq h g ≡ b → HasLines core base h w cs
+        → HasLines core base h (after w g arrival full b) (cs ++ (if b then this w g arrival full ∷ [] else []))
     line-by w cs g arrival full true t is =
         subst (λ (f : List ℕ). HasLines core base h (after w f arrival full true) (cs ++ this w f arrival full ∷ [])) ((bytes_eq-Decides h g).0 t) (own-line w cs arrival full is)
     line-by w cs g arrival full false t is =
         let o = core.entry w.entries g ((w.hosts g).line + 1) arrival full in
-        on w (after w g arrival full false) cs (as_list o) (entries-more w.entries o) (changes-other h g ((w.hosts g).line + 1) o t (λ e made. laws.change w.entries g ((w.hosts g).line + 1) arrival full e made)) refl refl is
+        on w (after w g arrival full false) cs (as_list o) (entries-more w.entries o)
+        (changes-other h g ((w.hosts g).line + 1) o t (λ e made. laws.change w.entries g ((w.hosts g).line + 1) arrival full e made)) refl refl is
 
     -- a part of one host's row that is neither its line nor its replies
     role-line : (role : Role) (part : HostPart) → (ends_role role part).line ≡ part.line
@@ -195,7 +207,8 @@ module _ (core : Core) (h : List ℕ) where
     emits-lines w cs a Unrecorded next is = same w (counted w) cs refl refl refl is
     emits-lines w cs a (Recorded t) next is = same w (counted w) cs refl refl refl is
     emits-lines w cs a Nothing (Some n) is =
-        chosen (λ v. HasLines core base h (counted v) (cs ++ [])) (nat_lt n.place (durable w)) (record w { addresses = at_address a (λ part. record part { sent = part.sent ++ n ∷ []; flight = Unrecorded }) w.addresses }) w
+        chosen (λ v. HasLines core base h (counted v) (cs ++ [])) (nat_lt n.place (durable w))
+        (record w { addresses = at_address a (λ part. record part { sent = part.sent ++ n ∷ []; flight = Unrecorded }) w.addresses }) w
         (λ t. same w (counted (record w { addresses = at_address a (λ part. record part { sent = part.sent ++ n ∷ []; flight = Unrecorded }) w.addresses })) cs refl refl refl is)
         (λ t. same w (counted w) cs refl refl refl is)
 
@@ -209,7 +222,8 @@ module _ (core : Core) (h : List ℕ) where
         let r = line-by w cs g arrival full (bytes_eq h g) refl is in
         record { since = r.since; list = r.list; line = r.line; lines = r.lines; changes = r.changes; said = r.said }
     step-lines w cs (Flush m) calm is =
-        chosen (λ v. HasLines core base h (counted v) (cs ++ [])) (nat_le w.flushed m && nat_le m w.steps) (flushes w m) w (λ t. same w (counted (flushes w m)) cs refl refl refl is) (λ t. same w (counted w) cs refl refl refl is)
+        chosen (λ v. HasLines core base h (counted v) (cs ++ [])) (nat_le w.flushed m && nat_le m w.steps) (flushes w m) w (λ t. same w (counted (flushes w m)) cs refl refl refl is)
+        (λ t. same w (counted w) cs refl refl refl is)
     step-lines w cs (Take g) calm is = took-lines w cs g (slice_get (w.hosts g).said (w.hosts g).taken) is
     step-lines w cs (Emit a) calm is = emits-lines w cs a (w.addresses a).flight (slice_get (core.notices w.entries a) (handed w.entries a)) is
     step-lines w cs (Record a) calm is = records-lines w cs a (w.addresses a).flight is

@@ -89,11 +89,13 @@ module _ (core : Core) (boot : List ℕ) where
   words-by-append k w [] ys = refl
   words-by-append k w (x ∷ xs) ys =
       ap (λ r. (if eqb x.by k then said_by core w x.step else []) ++ r) (words-by-append k (happens core boot w x.step) xs ys)
-      ∙ sym (assoc (if eqb x.by k then said_by core w x.step else []) (words_by core boot k (happens core boot w x.step) xs) (words_by core boot k (run core boot (happens core boot w x.step) (steps_in xs)) ys))
+      ∙ sym (assoc (if eqb x.by k then said_by core w x.step else []) (words_by core boot k (happens core boot w x.step) xs)
+      (words_by core boot k (run core boot (happens core boot w x.step) (steps_in xs)) ys))
 
   pub words-by-none : (k : ℕ) (w : World) (xs : List Deed) → NoneOf k xs → words_by core boot k w xs ≡ []
   words-by-none k w [] h = refl
-  words-by-none k w (x ∷ xs) h = ap (λ (b : Bool). (if b then said_by core w x.step else []) ++ words_by core boot k (happens core boot w x.step) xs) (ne_eqb x.by k h.0) ∙ words-by-none k (happens core boot w x.step) xs h.1
+  words-by-none k w (x ∷ xs) h = ap (λ (b : Bool). (if b then said_by core w x.step else []) ++ words_by core boot k (happens core boot w x.step) xs) (ne_eqb x.by k h.0) ∙ words-by-none k
+      (happens core boot w x.step) xs h.1
 
 -- ---- a pass is its host's
 
@@ -112,21 +114,24 @@ module _ (hosts : List (List ℕ)) (differ : AllDiffer hosts) where
       (λ e. let s : b ≡ k = eqb-true b k (eqb b k) refl e in let p = mine.2 in let q = yours.2 in let i : yours.0 ≡ mine.0 = omega (arith, s, p, q) in
       let there : slice_get hosts mine.0 ≡ Some h = ap (λ n. slice_get hosts n) (sym i) ∙ yours.1 in
       let m = mine.1 in (bytes_eq-Decides h g).1 (cc))
-      (λ e. let s : h ≡ g = (bytes_eq-Decides h g).0 e in let i : mine.0 ≡ yours.0 = differ mine.0 yours.0 g mine.1 (yours.1 ∙ ap (λ x. Some x) s) in let p = mine.2 in let q = yours.2 in eq-eqb b k (omega (arith, i, p, q)))
+      (λ e. let s : h ≡ g = (bytes_eq-Decides h g).0 e in let i : mine.0 ≡ yours.0 = differ mine.0 yours.0 g mine.1 (yours.1 ∙ ap (λ x. Some x) s) in let p = mine.2 in let q = yours.2 in eq-eqb b k
+      (omega (arith, i, p, q)))
 
   pub same-writer : (b k : ℕ) (g h : List ℕ) → IsWriterOf hosts b g → IsWriterOf hosts k h → eqb b k ≡ bytes_eq h g
   same-writer b k g h mine yours = bool-same (eqb b k) (bytes_eq h g)
       (λ e. let s : b ≡ k = eqb-true b k (eqb b k) refl e in let p = mine.2 in let q = yours.2 in let i : yours.0 ≡ mine.0 = omega (arith, s, p, q) in
       let there : slice_get hosts mine.0 ≡ Some h = ap (λ n. slice_get hosts n) (sym i) ∙ yours.1 in
       let m = mine.1 in (bytes_eq-Decides h g).1 (cc))
-      (λ e. let s : h ≡ g = (bytes_eq-Decides h g).0 e in let i : mine.0 ≡ yours.0 = differ mine.0 yours.0 g mine.1 (yours.1 ∙ ap (λ x. Some x) s) in let p = mine.2 in let q = yours.2 in eq-eqb b k (omega (arith, i, p, q)))
+      (λ e. let s : h ≡ g = (bytes_eq-Decides h g).0 e in let i : mine.0 ≡ yours.0 = differ mine.0 yours.0 g mine.1 (yours.1 ∙ ap (λ x. Some x) s) in let p = mine.2 in let q = yours.2 in eq-eqb b k
+      (omega (arith, i, p, q)))
 
   -- the arrivals of the host's reader are those of the host's lines
   none-arrival : (b : Bool) (s : Step) → arrivals_in (s ∷ []) ≡ [] → arrivals_in (if b then s ∷ [] else []) ≡ []
   none-arrival true s e = e
   none-arrival false s e = refl
 
-  arrival-if : (b : Bool) (g : List ℕ) (arrival : Arrival) (full : Bool) (c : Came) → c.arrival ≡ arrival → arrivals_in (if b then Arrive g arrival full ∷ [] else []) ≡ map (λ (c : Came). c.arrival) (if b then c ∷ [] else [])
+  arrival-if : (b : Bool) (g : List ℕ) (arrival : Arrival) (full : Bool) (c : Came) → c.arrival ≡ arrival
+      → arrivals_in (if b then Arrive g arrival full ∷ [] else []) ≡ map (λ (c : Came). c.arrival) (if b then c ∷ [] else [])
   arrival-if true g arrival full c e = ap (λ a. a ∷ []) (sym e)
   arrival-if false g arrival full c e = refl
 
@@ -134,7 +139,14 @@ module _ (hosts : List (List ℕ)) (differ : AllDiffer hosts) where
     arrivals-one : (w : World) (b : ℕ) (s : Step) → MayMake hosts b s → arrivals_in (if eqb b k then s ∷ [] else []) ≡ map (λ c. c.arrival) (came_if core h w s)
     arrivals-one w b (Arrive g arrival full) may =
         ap (λ (t : Bool). arrivals_in (if t then Arrive g arrival full ∷ [] else [])) (same-reader b k g h may reads)
-        ∙ arrival-if (bytes_eq h g) g arrival full (record { arrival = arrival; full = full; place = length w.entries; reply = core.reply w.entries g ((w.hosts g).line + 1) arrival full; entry = core.entry w.entries g ((w.hosts g).line + 1) arrival full }) refl
+        ∙ arrival-if (bytes_eq h g) g arrival full (record {
+          arrival = arrival;
+          full = full;
+          place = length w.entries;
+          reply = core.reply w.entries g ((w.hosts g).line + 1) arrival full;
+          entry =
+              core.entry w.entries g ((w.hosts g).line + 1) arrival full;
+        }) refl
     arrivals-one w b (Flush m) may = none-arrival (eqb b k) (Flush m) refl
     arrivals-one w b (Take g) may = none-arrival (eqb b k) (Take g) refl
     arrivals-one w b (Emit a) may = none-arrival (eqb b k) (Emit a) refl

@@ -40,7 +40,8 @@ by-get n [] i t all e = absurd (cc e)
 by-get n (u ∷ us) zero t all e = let s : u ≡ t = cc in let l = all.0 in omega (arith, s, l)
 by-get n (u ∷ us) (suc i) t all e = by-get n us i t all.1 e
 
-rises-snoc : (made : List ℕ) (n v : ℕ) → AllBy n made → n ≤ v → ((i j : ℕ) (t u : ℕ) → i ≤ j → slice_get made i ≡ Some t → slice_get made j ≡ Some u → t ≤ u) → (i j : ℕ) (t u : ℕ) → i ≤ j → slice_get (made ++ v ∷ []) i ≡ Some t → slice_get (made ++ v ∷ []) j ≡ Some u → t ≤ u
+rises-snoc : (made : List ℕ) (n v : ℕ) → AllBy n made → n ≤ v → ((i j : ℕ) (t u : ℕ) → i ≤ j → slice_get made i ≡ Some t → slice_get made j ≡ Some u → t ≤ u) → (i j : ℕ) (t u : ℕ) → i ≤ j
+    → slice_get (made ++ v ∷ []) i ≡ Some t → slice_get (made ++ v ∷ []) j ≡ Some u → t ≤ u
 rises-snoc made n v by low f i j t u l a b = elim (get-snoc made v i t a) [
   | inl p ↦ elim (get-snoc made v j u b) [
     | inl q ↦ f i j t u l p.1 q.1
@@ -52,7 +53,9 @@ rises-snoc made n v by low f i j t u l a b = elim (get-snoc made v i t a) [
   ]
 ]
 
-firm-snoc : (m : ℕ) (E : List Entry) (made : List ℕ) (e : Entry) (v : ℕ) → length made ≡ length E → (NotHanded e → v ≤ m) → ((p : ℕ) (e : Entry) (t : ℕ) → slice_get E p ≡ Some e → slice_get made p ≡ Some t → NotHanded e → t ≤ m) → (p : ℕ) (f : Entry) (t : ℕ) → slice_get (E ++ e ∷ []) p ≡ Some f → slice_get (made ++ v ∷ []) p ≡ Some t → NotHanded f → t ≤ m
+firm-snoc : (m : ℕ) (E : List Entry) (made : List ℕ) (e : Entry) (v : ℕ) → length made ≡ length E → (NotHanded e → v ≤ m)
+    → ((p : ℕ) (e : Entry) (t : ℕ) → slice_get E p ≡ Some e → slice_get made p ≡ Some t → NotHanded e → t ≤ m) → (p : ℕ) (f : Entry) (t : ℕ) → slice_get (E ++ e ∷ []) p ≡ Some f
+    → slice_get (made ++ v ∷ []) p ≡ Some t → NotHanded f → t ≤ m
 firm-snoc m E made e v sizes last f p g t a b kind = elim (get-snoc E e p g a) [
   | inl x ↦ elim (get-snoc made v p t b) [
     | inl y ↦ f p g t x.1 y.1 kind
@@ -89,14 +92,17 @@ module _ (m : ℕ) where
   }
 
   -- one entry more
-  more-settled : (core : Core) (w v : World) (e : Entry) → Sound core w → v.entries ≡ w.entries ++ e ∷ [] → v.made ≡ w.made ++ (w.steps + 1) ∷ [] → (NotHanded e → w.steps + 1 ≤ m) → ((g : List ℕ) (k : ℕ) (s : Said) → slice_get (v.hosts g).said k ≡ Some s → s.step ≤ m) → HasSettled m w → HasSettled m v
+  more-settled : (core : Core) (w v : World) (e : Entry) → Sound core w → v.entries ≡ w.entries ++ e ∷ [] → v.made ≡ w.made ++ (w.steps + 1) ∷ [] → (NotHanded e → w.steps + 1 ≤ m)
+      → ((g : List ℕ) (k : ℕ) (s : Said) → slice_get (v.hosts g).said k ≡ Some s → s.step ≤ m) → HasSettled m w → HasSettled m v
   more-settled core w v e sound entries made low said is = record {
     said = said;
     firm = λ p f t a b. firm-snoc m w.entries w.made e (w.steps + 1) sound.sizes low is.firm p f t (ap (λ l. slice_get l p) (sym entries) ∙ a) (ap (λ l. slice_get l p) (sym made) ∙ b);
     rises = λ i j t u l a b. rises-snoc w.made w.steps (w.steps + 1) sound.by (omega arith) is.rises i j t u l (ap (λ l. slice_get l i) (sym made) ∙ a) (ap (λ l. slice_get l j) (sym made) ∙ b);
   }
 
-  answered-settled : (b : Bool) (line : ℕ) (arrival : Arrival) (full : Bool) (place upto step : ℕ) (o : Option (List ℕ)) (part : HostPart) → step ≤ m → ((k : ℕ) (s : Said) → slice_get part.said k ≡ Some s → s.step ≤ m) → (k : ℕ) (s : Said) → slice_get (if b then answered line arrival full place upto step o part else part).said k ≡ Some s → s.step ≤ m
+  answered-settled : (b : Bool) (line : ℕ) (arrival : Arrival) (full : Bool) (place upto step : ℕ) (o : Option (List ℕ)) (part : HostPart) → step ≤ m
+      → ((k : ℕ) (s : Said) → slice_get part.said k ≡ Some s → s.step ≤ m) → (k : ℕ) (s : Said) → slice_get (if b then answered line arrival full place upto step o part else part).said k ≡ Some s
+      → s.step ≤ m
   answered-settled false line arrival full place upto step o part low f k s got = f k s got
   answered-settled true line arrival full place upto step None part low f k s got = f k s got
   answered-settled true line arrival full place upto step (Some r) part low f k s got =
@@ -107,16 +113,22 @@ module _ (m : ℕ) where
       ]
 
   module _ (core : Core) (laws : Laws core) (boot : List ℕ) where
-    line-settled : (w : World) (g : List ℕ) (arrival : Arrival) (full : Bool) (o : Option Entry) → Sound core w → w.steps + 1 ≤ m → HasSettled m w → (let line = (w.hosts g).line + 1 in let next = with_entry w o in HasSettled m (counted (record next { hosts = at_host g (answered line arrival full (length w.entries) (length next.entries) (w.steps + 1) (core.reply w.entries g line arrival full)) w.hosts })))
+    line-settled : (w : World) (g : List ℕ) (arrival : Arrival) (full : Bool) (o : Option Entry) → Sound core w → w.steps + 1 ≤ m → HasSettled m w
+        → (let line = (w.hosts g).line + 1 in let next = with_entry w o in HasSettled m
+        (counted (record next { hosts = at_host g (answered line arrival full (length w.entries) (length next.entries) (w.steps + 1) (core.reply w.entries g line arrival full)) w.hosts })))
     line-settled w g arrival full None sound low is = record {
-      said = λ f. answered-settled (bytes_eq f g) ((w.hosts g).line + 1) arrival full (length w.entries) (length w.entries) (w.steps + 1) (core.reply w.entries g ((w.hosts g).line + 1) arrival full) (w.hosts f) low (is.said f);
+      said = λ f. answered-settled (bytes_eq f g) ((w.hosts g).line + 1) arrival full (length w.entries) (length w.entries) (w.steps + 1) (core.reply w.entries g ((w.hosts g).line + 1) arrival full)
+          (w.hosts f) low (is.said f);
       firm = is.firm;
       rises = is.rises;
     }
     line-settled w g arrival full (Some e) sound low is =
         let line = (w.hosts g).line + 1 in
         let next = with_entry w (Some e) in
-        more-settled core w (counted (record next { hosts = at_host g (answered line arrival full (length w.entries) (length next.entries) (w.steps + 1) (core.reply w.entries g line arrival full)) w.hosts })) e sound refl refl (λ kind. low)
+        more-settled core w (counted (record next {
+          hosts = at_host g (answered line arrival full (length w.entries) (length next.entries) (w.steps + 1) (core.reply w.entries g line arrival full))
+              w.hosts;
+        })) e sound refl refl (λ kind. low)
         (λ f. answered-settled (bytes_eq f g) line arrival full (length w.entries) (length next.entries) (w.steps + 1) (core.reply w.entries g line arrival full) (w.hosts f) low (is.said f)) is
 
     took-settled : (w : World) (g : List ℕ) (next : Option Said) → HasSettled m w → HasSettled m (counted (took w g next))
@@ -132,7 +144,8 @@ module _ (m : ℕ) where
     emits-settled w a Unrecorded next is = same-settled w (counted w) refl refl (λ f. refl) is
     emits-settled w a (Recorded t) next is = same-settled w (counted w) refl refl (λ f. refl) is
     emits-settled w a Nothing (Some n) is =
-        chosen (λ v. HasSettled m (counted v)) (nat_lt n.place (durable w)) (record w { addresses = at_address a (λ part. record part { sent = part.sent ++ n ∷ []; flight = Unrecorded }) w.addresses }) w
+        chosen (λ v. HasSettled m (counted v)) (nat_lt n.place (durable w))
+        (record w { addresses = at_address a (λ part. record part { sent = part.sent ++ n ∷ []; flight = Unrecorded }) w.addresses }) w
         (λ t. same-settled w (counted (record w { addresses = at_address a (λ part. record part { sent = part.sent ++ n ∷ []; flight = Unrecorded }) w.addresses })) refl refl (λ f. refl) is)
         (λ t. same-settled w (counted w) refl refl (λ f. refl) is)
 
@@ -148,7 +161,8 @@ module _ (m : ℕ) where
     pub step-settled : (w : World) (s : Step) → Sound core w → IsCalm s → (Lays s → w.steps + 1 ≤ m) → HasSettled m w → HasSettled m (happens core boot w s)
     step-settled w (Arrive g arrival full) sound calm low is = line-settled w g arrival full (core.entry w.entries g ((w.hosts g).line + 1) arrival full) sound (low tt) is
     step-settled w (Flush n) sound calm low is =
-        chosen (λ v. HasSettled m (counted v)) (nat_le w.flushed n && nat_le n w.steps) (flushes w n) w (λ t. same-settled w (counted (flushes w n)) refl refl (λ f. refl) is) (λ t. same-settled w (counted w) refl refl (λ f. refl) is)
+        chosen (λ v. HasSettled m (counted v)) (nat_le w.flushed n && nat_le n w.steps) (flushes w n) w (λ t. same-settled w (counted (flushes w n)) refl refl (λ f. refl) is)
+        (λ t. same-settled w (counted w) refl refl (λ f. refl) is)
     step-settled w (Take g) sound calm low is = took-settled w g (slice_get (w.hosts g).said (w.hosts g).taken) is
     step-settled w (Emit a) sound calm low is = emits-settled w a (w.addresses a).flight (slice_get (core.notices w.entries a) (handed w.entries a)) is
     step-settled w (Record a) sound calm low is = records-settled w a (w.addresses a).flight sound is
@@ -190,7 +204,8 @@ module _ (core : Core) (laws : Laws core) (hands : HandsNone core) where
   get-two (z ∷ xs) ys zero x e = inl e
   get-two (z ∷ xs) ys (suc k) x e = get-two xs ys k x e
 
-  gained : (E F : List Entry) (e : Entry) (a : Jid) (k : ℕ) (n : Notice) (p : ℕ) → p ≡ length F → slice_get E p ≡ Some e → NotHanded e → slice_get (core.notices (F ++ e ∷ []) a) k ≡ Some n → (slice_get (core.notices F a) k ≡ Some n) ⊎ Source E n.place
+  gained : (E F : List Entry) (e : Entry) (a : Jid) (k : ℕ) (n : Notice) (p : ℕ) → p ≡ length F → slice_get E p ≡ Some e → NotHanded e → slice_get (core.notices (F ++ e ∷ []) a) k ≡ Some n
+      → (slice_get (core.notices F a) k ≡ Some n) ⊎ Source E n.place
   gained E F e a k n p at stands kind got =
       let g = laws.gains F e a in
       elim (get-two (core.notices F a) g.more k n (ap (λ l. slice_get l k) (sym g.after) ∙ got)) [
@@ -198,7 +213,8 @@ module _ (core : Core) (laws : Laws core) (hands : HandsNone core) where
         | inr here ↦ inr (source e (ap (λ q. slice_get E q) (g.places here.0 n here.1 ∙ sym at) ∙ stands) kind)
       ]
 
-  source-one : (E F : List Entry) (e : Entry) (a : Jid) (k : ℕ) (n : Notice) (p : ℕ) → p ≡ length F → slice_get E p ≡ Some e → slice_get (core.notices (F ++ e ∷ []) a) k ≡ Some n → (slice_get (core.notices F a) k ≡ Some n) ⊎ Source E n.place
+  source-one : (E F : List Entry) (e : Entry) (a : Jid) (k : ℕ) (n : Notice) (p : ℕ) → p ≡ length F → slice_get E p ≡ Some e → slice_get (core.notices (F ++ e ∷ []) a) k ≡ Some n
+      → (slice_get (core.notices F a) k ≡ Some n) ⊎ Source E n.place
   source-one E F (Handed b) a k n p at stands got = inl (ap (λ l. slice_get l k) (sym (hands F b a)) ∙ got)
   source-one E F (Boot service) a k n p at stands got = gained E F (Boot service) a k n p at stands tt got
   source-one E F (Change g line moment t) a k n p at stands got = gained E F (Change g line moment t) a k n p at stands tt got

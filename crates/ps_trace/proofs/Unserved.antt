@@ -31,7 +31,8 @@ module _ (core : Core) (boot : List ℕ) (hosts : List (List ℕ)) (h : List ℕ
   no-line : (w : World) (b : ℕ) (s : Step) → MayMake hosts b s → came_if core h w s ≡ []
   no-line w b (Arrive g arrival full) may =
       let line = (w.hosts g).line + 1 in
-      not-this (bytes_eq h g) (record { arrival = arrival; full = full; place = length w.entries; reply = core.reply w.entries g line arrival full; entry = core.entry w.entries g line arrival full } ∷ []) (another g may.0 may.1)
+      not-this (bytes_eq h g) (record { arrival = arrival; full = full; place = length w.entries; reply = core.reply w.entries g line arrival full; entry = core.entry w.entries g line arrival full }
+      ∷ []) (another g may.0 may.1)
   no-line w b (Flush m) may = refl
   no-line w b (Take g) may = refl
   no-line w b (Emit a) may = refl
@@ -61,7 +62,8 @@ module _ (core : Core) (boot : List ℕ) (hosts : List (List ℕ)) (h : List ℕ
   no-words w (d ∷ ds) owned = ap (λ r. r ++ words core h boot (happens core boot w d.step) (steps_in ds)) (no-word w d.by d.step owned.0) ∙ no-words (happens core boot w d.step) ds owned.1
 
   -- no notice to its addresses is recorded
-  pub none-handed : Laws core → boot ≢ [] → (list : List Entry) → IsLawful core list → (log : List Deed) → AreOwned hosts log → (a : Jid) → a.host ≡ h → handed (world core boot list (steps_in log)).entries a ≡ handed (list ++ Boot boot ∷ []) a
+  pub none-handed : Laws core → boot ≢ [] → (list : List Entry) → IsLawful core list → (log : List Deed) → AreOwned hosts log → (a : Jid) → a.host ≡ h
+      → handed (world core boot list (steps_in log)).entries a ≡ handed (list ++ Boot boot ∷ []) a
   none-handed laws some list lawful log owned a there =
       let base = list ++ Boot boot ∷ [] in
       let lines = run-lines core h laws boot base (start core boot list) [] (steps_in log) (calm hosts log owned) (begun-lines core h boot list) in

@@ -65,7 +65,8 @@ none false = refl
 module _ (core : Core) (h : List ℕ) where
   module _ (laws : Laws core) (boot : List ℕ) where
     -- a step that says nothing for the host
-    keep : (w v : World) (ws : List Word) (x : List (List ℕ)) → map (λ (s : Said). s.reply) (v.hosts h).said ≡ map (λ (s : Said). s.reply) (w.hosts h).said ++ x → (v.hosts h).taken ≡ (w.hosts h).taken → ((c : Jid) → c.host ≡ h → (v.addresses c).sent ≡ (w.addresses c).sent) → HasSaid h w ws → HasSaid h v (ws ++ [])
+    keep : (w v : World) (ws : List Word) (x : List (List ℕ)) → map (λ (s : Said). s.reply) (v.hosts h).said ≡ map (λ (s : Said). s.reply) (w.hosts h).said ++ x
+        → (v.hosts h).taken ≡ (w.hosts h).taken → ((c : Jid) → c.host ≡ h → (v.addresses c).sent ≡ (w.addresses c).sent) → HasSaid h w ws → HasSaid h v (ws ++ [])
     keep w v ws x said taken sent is = subst (λ (us : List Word). HasSaid h v us) (sym (nil-right ws)) (record {
       rest = is.rest ++ x;
       replies = said ∙ (ap (λ r. r ++ x) is.replies ∙ assoc (replies_in ws) is.rest x);
@@ -73,14 +74,18 @@ module _ (core : Core) (h : List ℕ) where
       notes = λ c at. sent c at ∙ is.notes c at;
     })
 
-    still : (w v : World) (ws : List Word) → (v.hosts h).said ≡ (w.hosts h).said → (v.hosts h).taken ≡ (w.hosts h).taken → ((c : Jid) → c.host ≡ h → (v.addresses c).sent ≡ (w.addresses c).sent) → HasSaid h w ws → HasSaid h v (ws ++ [])
+    still : (w v : World) (ws : List Word) → (v.hosts h).said ≡ (w.hosts h).said → (v.hosts h).taken ≡ (w.hosts h).taken → ((c : Jid) → c.host ≡ h → (v.addresses c).sent ≡ (w.addresses c).sent)
+        → HasSaid h w ws → HasSaid h v (ws ++ [])
     still w v ws said taken sent is = keep w v ws [] (ap (map (λ (s : Said). s.reply)) said ∙ sym (nil-right (map (λ (s : Said). s.reply) (w.hosts h).said))) taken sent is
 
     -- the row of the host after a line
-    arrived-said : (b : Bool) (line : ℕ) (arrival : Arrival) (full : Bool) (place upto step : ℕ) (o : Option (List ℕ)) (part : HostPart) → (x : List (List ℕ)) × (map (λ (s : Said). s.reply) (if b then answered line arrival full place upto step o part else part).said ≡ map (λ (s : Said). s.reply) part.said ++ x) × ((if b then answered line arrival full place upto step o part else part).taken ≡ part.taken)
+    arrived-said : (b : Bool) (line : ℕ) (arrival : Arrival) (full : Bool) (place upto step : ℕ) (o : Option (List ℕ)) (part : HostPart)
+        → (x : List (List ℕ)) × (map (λ (s : Said). s.reply) (if b then answered line arrival full place upto step o part else part).said ≡ map (λ (s : Said). s.reply) part.said ++ x) ×
+        ((if b then answered line arrival full place upto step o part else part).taken ≡ part.taken)
     arrived-said false line arrival full place upto step o part = ([], sym (nil-right (map (λ (s : Said). s.reply) part.said)), refl)
     arrived-said true line arrival full place upto step None part = ([], sym (nil-right (map (λ (s : Said). s.reply) part.said)), refl)
-    arrived-said true line arrival full place upto step (Some r) part = (r ∷ [], map-append (λ (s : Said). s.reply) part.said (record { line = line; arrival = arrival; full = full; place = place; upto = upto; step = step; reply = r } ∷ []), refl)
+    arrived-said true line arrival full place upto step (Some r) part =
+        (r ∷ [], map-append (λ (s : Said). s.reply) part.said (record { line = line; arrival = arrival; full = full; place = place; upto = upto; step = step; reply = r } ∷ []), refl)
 
     -- the world after a Take of the host, by whether it is this host's
     abbrev taking : World → Bool → World
@@ -88,7 +93,8 @@ module _ (core : Core) (h : List ℕ) where
 
     takes : (w : World) (ws : List Word) (s : Said) → slice_get (w.hosts h).said (w.hosts h).taken ≡ Some s → HasSaid h w ws → HasSaid h (taking w true) (ws ++ Reply s.reply ∷ [])
     takes w ws s got is =
-        let there : slice_get (replies_in ws ++ is.rest) (length (replies_in ws)) ≡ Some s.reply = ap (λ n. slice_get (replies_in ws ++ is.rest) n) (sym is.taken) ∙ (ap (λ l. slice_get l (w.hosts h).taken) (sym is.replies) ∙ get-map (λ (s : Said). s.reply) (w.hosts h).said (w.hosts h).taken s got) in
+        let there : slice_get (replies_in ws ++ is.rest) (length (replies_in ws)) ≡ Some s.reply = ap (λ n. slice_get (replies_in ws ++ is.rest) n) (sym is.taken) ∙
+        (ap (λ l. slice_get l (w.hosts h).taken) (sym is.replies) ∙ get-map (λ (s : Said). s.reply) (w.hosts h).said (w.hosts h).taken s got) in
         let t = after-get (replies_in ws) is.rest s.reply there in
         let more = replies-in-append ws (Reply s.reply ∷ []) in
         record {
@@ -98,21 +104,26 @@ module _ (core : Core) (h : List ℕ) where
           notes = λ c at. is.notes c at ∙ (sym (nil-right (notes_in c ws)) ∙ sym (notes-in-append c ws (Reply s.reply ∷ [])));
         }
 
-    take-by : (w : World) (ws : List Word) (g : List ℕ) (b : Bool) → bytes_eq h g ≡ b → (s : Said) → slice_get (w.hosts g).said (w.hosts g).taken ≡ Some s → HasSaid h w ws → HasSaid h (taking w b) (ws ++ (if b then Reply s.reply ∷ [] else []))
+    take-by : (w : World) (ws : List Word) (g : List ℕ) (b : Bool) → bytes_eq h g ≡ b → (s : Said) → slice_get (w.hosts g).said (w.hosts g).taken ≡ Some s → HasSaid h w ws
+        → HasSaid h (taking w b) (ws ++ (if b then Reply s.reply ∷ [] else []))
     take-by w ws g true t s got is = takes w ws s (subst (λ (f : List ℕ). slice_get (w.hosts f).said (w.hosts f).taken ≡ Some s) (sym ((bytes_eq-Decides h g).0 t)) got) is
     take-by w ws g false t s got is = still w (taking w false) ws refl refl (λ c at. refl) is
 
     -- the same, by whether there is a reply, and whether it is released
-    took-at : (w : World) (ws : List Word) (g : List ℕ) (s : Said) (released : Bool) → slice_get (w.hosts g).said (w.hosts g).taken ≡ Some s → HasSaid h w ws → HasSaid h (counted (if released then record w { hosts = at_host g (λ part. record part { taken = part.taken + 1 }) w.hosts } else w)) (ws ++ (if bytes_eq h g then (if released then Reply s.reply ∷ [] else []) else []))
+    took-at : (w : World) (ws : List Word) (g : List ℕ) (s : Said) (released : Bool) → slice_get (w.hosts g).said (w.hosts g).taken ≡ Some s → HasSaid h w ws
+        → HasSaid h (counted (if released then record w { hosts = at_host g (λ part. record part { taken = part.taken + 1 }) w.hosts } else w))
+        (ws ++ (if bytes_eq h g then (if released then Reply s.reply ∷ [] else []) else []))
     took-at w ws g s true got is = let r = take-by w ws g (bytes_eq h g) refl s got is in record { rest = r.rest; replies = r.replies; taken = r.taken; notes = r.notes }
     took-at w ws g s false got is = subst (λ (us : List Word). HasSaid h (counted w) (ws ++ us)) (sym (none (bytes_eq h g))) (still w (counted w) ws refl refl (λ c at. refl) is)
 
-    takes-step : (w : World) (ws : List Word) (g : List ℕ) (next : Option Said) → slice_get (w.hosts g).said (w.hosts g).taken ≡ next → HasSaid h w ws → HasSaid h (counted (took w g next)) (ws ++ (if bytes_eq h g then taken_word w.flushed next else []))
+    takes-step : (w : World) (ws : List Word) (g : List ℕ) (next : Option Said) → slice_get (w.hosts g).said (w.hosts g).taken ≡ next → HasSaid h w ws
+        → HasSaid h (counted (took w g next)) (ws ++ (if bytes_eq h g then taken_word w.flushed next else []))
     takes-step w ws g None got is = subst (λ (us : List Word). HasSaid h (counted w) (ws ++ us)) (sym (none (bytes_eq h g))) (still w (counted w) ws refl refl (λ c at. refl) is)
     takes-step w ws g (Some s) got is = took-at w ws g s (nat_le s.step w.flushed) got is
 
     -- the parts of the addresses after an Emit, by whether it sends
-    sends : (w : World) (ws : List Word) (a : Jid) (n : Notice) (c : Jid) (b : Bool) → c.host ≡ h → same_jid c a ≡ b → HasSaid h w ws → (if b then record (w.addresses c) { sent = (w.addresses c).sent ++ n ∷ []; flight = Unrecorded } else w.addresses c).sent ≡ notes_in c ws ++ (if b then n ∷ [] else [])
+    sends : (w : World) (ws : List Word) (a : Jid) (n : Notice) (c : Jid) (b : Bool) → c.host ≡ h → same_jid c a ≡ b → HasSaid h w ws
+        → (if b then record (w.addresses c) { sent = (w.addresses c).sent ++ n ∷ []; flight = Unrecorded } else w.addresses c).sent ≡ notes_in c ws ++ (if b then n ∷ [] else [])
     sends w ws a n c true at t is = ap (λ l. l ++ n ∷ []) (is.notes c at)
     sends w ws a n c false at t is = is.notes c at ∙ sym (nil-right (notes_in c ws))
 
@@ -130,11 +141,13 @@ module _ (core : Core) (h : List ℕ) where
         (λ c at. chosen (λ (p : AddressPart). p.sent ≡ (w.addresses c).sent) (same_jid c a) (record (w.addresses c) { sent = (w.addresses c).sent ++ n ∷ []; flight = Unrecorded }) (w.addresses c)
         (λ u. let e : c ≡ a = (same_jid-Decides c a).0 u in absurd (false≢true (sym t ∙ (bytes_eq-Decides h a.host).1 (sym at ∙ ap (λ (j : Jid). j.host) e)))) (λ u. refl)) is
 
-    emit-at : (w : World) (ws : List Word) (a : Jid) (n : Notice) (durable_now : Bool) → HasSaid h w ws → HasSaid h (counted (if durable_now then sending w a n else w)) (ws ++ (if bytes_eq h a.host then (if durable_now then Note a n ∷ [] else []) else []))
+    emit-at : (w : World) (ws : List Word) (a : Jid) (n : Notice) (durable_now : Bool) → HasSaid h w ws
+        → HasSaid h (counted (if durable_now then sending w a n else w)) (ws ++ (if bytes_eq h a.host then (if durable_now then Note a n ∷ [] else []) else []))
     emit-at w ws a n true is = emit-by w ws a n (bytes_eq h a.host) refl is
     emit-at w ws a n false is = subst (λ (us : List Word). HasSaid h (counted w) (ws ++ us)) (sym (none (bytes_eq h a.host))) (still w (counted w) ws refl refl (λ c at. refl) is)
 
-    emits-step : (w : World) (ws : List Word) (a : Jid) (f : Flight) (next : Option Notice) → HasSaid h w ws → HasSaid h (counted (emits w a f next)) (ws ++ (if bytes_eq h a.host then noted_word (durable w) a f next else []))
+    emits-step : (w : World) (ws : List Word) (a : Jid) (f : Flight) (next : Option Notice) → HasSaid h w ws
+        → HasSaid h (counted (emits w a f next)) (ws ++ (if bytes_eq h a.host then noted_word (durable w) a f next else []))
     emits-step w ws a Nothing (Some n) is = emit-at w ws a n (nat_lt n.place (durable w)) is
     emits-step w ws a Nothing None is = subst (λ (us : List Word). HasSaid h (counted w) (ws ++ us)) (sym (none (bytes_eq h a.host))) (still w (counted w) ws refl refl (λ c at. refl) is)
     emits-step w ws a Unrecorded next is = subst (λ (us : List Word). HasSaid h (counted w) (ws ++ us)) (sym (none (bytes_eq h a.host))) (still w (counted w) ws refl refl (λ c at. refl) is)
@@ -144,7 +157,8 @@ module _ (core : Core) (h : List ℕ) where
     records-step w ws a Nothing is = still w (counted w) ws refl refl (λ c at. refl) is
     records-step w ws a (Recorded t) is = still w (counted w) ws refl refl (λ c at. refl) is
     records-step w ws a Unrecorded is = still w (counted (records w a Unrecorded)) ws refl refl
-        (λ c at. chosen (λ (p : AddressPart). p.sent ≡ (w.addresses c).sent) (same_jid c a) (record (w.addresses c) { sent = (w.addresses c).sent; flight = Recorded (w.steps + 1) }) (w.addresses c) (λ u. refl) (λ u. refl)) is
+        (λ c at. chosen (λ (p : AddressPart). p.sent ≡ (w.addresses c).sent) (same_jid c a) (record (w.addresses c) { sent = (w.addresses c).sent; flight = Recorded (w.steps + 1) }) (w.addresses c)
+        (λ u. refl) (λ u. refl)) is
 
     role-said : (role : Role) (part : HostPart) → (ends_role role part).said ≡ part.said
     role-said Reader part = refl
@@ -161,7 +175,8 @@ module _ (core : Core) (h : List ℕ) where
         let r = arrived-said (bytes_eq h g) line arrival full (length w.entries) (length next.entries) (w.steps + 1) (core.reply w.entries g line arrival full) (w.hosts h) in
         keep w (happens core boot w (Arrive g arrival full)) ws r.0 r.1 r.2 (λ c at. refl) is
     step-words w ws (Flush m) calm is =
-        chosen (λ v. HasSaid h (counted v) (ws ++ [])) (nat_le w.flushed m && nat_le m w.steps) (flushes w m) w (λ t. still w (counted (flushes w m)) ws refl refl (λ c at. refl) is) (λ t. still w (counted w) ws refl refl (λ c at. refl) is)
+        chosen (λ v. HasSaid h (counted v) (ws ++ [])) (nat_le w.flushed m && nat_le m w.steps) (flushes w m) w (λ t. still w (counted (flushes w m)) ws refl refl (λ c at. refl) is)
+        (λ t. still w (counted w) ws refl refl (λ c at. refl) is)
     step-words w ws (Take g) calm is = takes-step w ws g (slice_get (w.hosts g).said (w.hosts g).taken) refl is
     step-words w ws (Emit a) calm is = emits-step w ws a (w.addresses a).flight (slice_get (core.notices w.entries a) (handed w.entries a)) is
     step-words w ws (Record a) calm is = records-step w ws a (w.addresses a).flight is
@@ -198,13 +213,15 @@ module _ (core : Core) (laws : Laws core) (boot : List ℕ) (a : Jid) where
 
   grew-took : (w : World) (g : List ℕ) (next : Option Said) → Grew w 0 (counted (took w g next))
   grew-took w g None = omega arith
-  grew-took w g (Some s) = chosen (λ v. Grew w 0 (counted v)) (nat_le s.step w.flushed) (record w { hosts = at_host g (λ part. record part { taken = part.taken + 1 }) w.hosts }) w (λ t. omega arith) (λ t. omega arith)
+  grew-took w g (Some s) = chosen (λ v. Grew w 0 (counted v)) (nat_le s.step w.flushed) (record w { hosts = at_host g (λ part. record part { taken = part.taken + 1 }) w.hosts }) w (λ t. omega arith)
+      (λ t. omega arith)
 
   grew-emits : (w : World) (b : Jid) (f : Flight) (next : Option Notice) → Grew w 0 (counted (emits w b f next))
   grew-emits w b Nothing None = omega arith
   grew-emits w b Unrecorded next = omega arith
   grew-emits w b (Recorded t) next = omega arith
-  grew-emits w b Nothing (Some n) = chosen (λ v. Grew w 0 (counted v)) (nat_lt n.place (durable w)) (record w { addresses = at_address b (λ part. record part { sent = part.sent ++ n ∷ []; flight = Unrecorded }) w.addresses }) w (λ t. omega arith) (λ t. omega arith)
+  grew-emits w b Nothing (Some n) = chosen (λ v. Grew w 0 (counted v)) (nat_lt n.place (durable w))
+      (record w { addresses = at_address b (λ part. record part { sent = part.sent ++ n ∷ []; flight = Unrecorded }) w.addresses }) w (λ t. omega arith) (λ t. omega arith)
 
   grew-records : (w : World) (b : Jid) (f : Flight) → Grew w (cond (same_jid b a) (suc zero) zero) (counted (records w b f))
   grew-records w b Nothing = omega arith
@@ -212,7 +229,8 @@ module _ (core : Core) (laws : Laws core) (boot : List ℕ) (a : Jid) where
   grew-records w b Unrecorded = let f = handed-append w.entries (Handed b ∷ []) a in omega (arith, f)
 
   grew-step : (w : World) (s : Step) → IsCalm s → Grew w (records_in a (s ∷ [])) (happens core boot w s)
-  grew-step w (Arrive g arrival full) calm = let line = (w.hosts g).line + 1 in grew-line w.entries g line (core.entry w.entries g line arrival full) (λ e made. laws.change w.entries g line arrival full e made)
+  grew-step w (Arrive g arrival full) calm = let line = (w.hosts g).line + 1 in grew-line w.entries g line (core.entry w.entries g line arrival full)
+      (λ e made. laws.change w.entries g line arrival full e made)
   grew-step w (Flush m) calm = chosen (λ v. Grew w 0 (counted v)) (nat_le w.flushed m && nat_le m w.steps) (flushes w m) w (λ t. omega arith) (λ t. omega arith)
   grew-step w (Take g) calm = grew-took w g (slice_get (w.hosts g).said (w.hosts g).taken)
   grew-step w (Emit b) calm = grew-emits w b (w.addresses b).flight (slice_get (core.notices w.entries b) (handed w.entries b))

@@ -103,7 +103,8 @@ module _ (core : Core) (h : List ℕ) where
   emits-said w a Unrecorded next = refl
   emits-said w a (Recorded t) next = refl
   emits-said w a Nothing (Some n) =
-      chosen (λ v. (v.hosts h).said ≡ (w.hosts h).said) (nat_lt n.place (durable w)) (record w { addresses = at_address a (λ part. record part { sent = part.sent ++ n ∷ []; flight = Unrecorded }) w.addresses }) w
+      chosen (λ v. (v.hosts h).said ≡ (w.hosts h).said) (nat_lt n.place (durable w))
+      (record w { addresses = at_address a (λ part. record part { sent = part.sent ++ n ∷ []; flight = Unrecorded }) w.addresses }) w
       (λ t. refl) (λ t. refl)
 
   records-said : (w : World) (a : Jid) (f : Flight) → ((records w a f).hosts h).said ≡ (w.hosts h).said

@@ -36,7 +36,8 @@ module _ (o : Origin) (log : List Deed) (lawful : IsLawful the_core o.list) (nam
   opened-is =
       let base = base_of o in
       let f = run_follows the_core o.boot first (steps_in log) (calm o.hosts log owned) in
-      ap (λ n. take n at.entries) f.opened ∙ (ap (λ (l : List Entry). take (length base) l) f.entries ∙ (take-front (length base) base f.more (omega arith) ∙ take-whole (length base) base (omega arith)))
+      ap (λ n. take n at.entries) f.opened ∙ (ap (λ (l : List Entry). take (length base) l) f.entries ∙
+      (take-front (length base) base f.more (omega arith) ∙ take-whole (length base) base (omega arith)))
 
   -- of its notices all but one are recorded there
   pub again-durable : (h : List ℕ) (a : Jid) → a.host ≡ h → handed (base_of o) a + length (notes_in a (words the_core h o.boot first (steps_in log))) ≤ handed (take (durable at) at.entries) a + 1

@@ -27,7 +27,11 @@ module _ (limit upto : ℕ) (h : List ℕ) where
   full-if : (b : Bool) (E : List Entry) (cs : List Came) (c : Came) (rest : List Came) → (b ≡ true → c.full ≡ true → PassesLimit limit upto E h (length cs + 1) c)
       → AreFull limit upto E h (length (cs ++ (if b then c ∷ [] else [])) + 1) rest → AreFull limit upto E h (length cs + 1) ((if b then c ∷ [] else []) ++ rest)
   full-if false E cs c rest this is = rest-on E cs rest is
-  full-if true E cs c rest this is = (this refl, subst (λ n. AreFull limit upto E h n rest) (let l = length-append cs (c ∷ []) in let m : length (cs ++ c ∷ []) + 1 ≡ length cs + 1 + 1 = omega (arith, l) in m) is)
+  full-if true E cs c rest this is = (
+    this refl,
+    subst (λ n. AreFull limit upto E h n rest)
+        (let l = length-append cs (c ∷ []) in let m : length (cs ++ c ∷ []) + 1 ≡ length cs + 1 + 1 = omega (arith, l) in m) is,
+  )
 
   module _ (laws : Laws the_core) (boot : List ℕ) (base : List Entry) where
     -- a line of the host that found no room
@@ -42,7 +46,8 @@ module _ (limit upto : ℕ) (h : List ℕ) where
         })
     passes w cs g arrival full bytes E more grown few lines room own was_full =
         let r : NoRoom limit bytes w (Arrive g arrival true) = subst (λ (f : Bool). NoRoom limit bytes w (Arrive g arrival f)) was_full room in
-        let front : take (length w.entries) E ≡ w.entries = ap (λ l. take (length w.entries) l) grown ∙ (take-front (length w.entries) w.entries more (omega arith) ∙ take-whole (length w.entries) w.entries (omega arith)) in
+        let front : take (length w.entries) E ≡ w.entries = ap (λ l. take (length w.entries) l) grown ∙
+        (take-front (length w.entries) w.entries more (omega arith) ∙ take-whole (length w.entries) w.entries (omega arith)) in
         let same : h ≡ g = (bytes_eq-Decides h g).0 own in
         let its : the_core.entry (take (length w.entries) E) h (length cs + 1) arrival false ≡ Some r.0 =
         ap (λ l. the_core.entry l h (length cs + 1) arrival false) front
@@ -51,7 +56,8 @@ module _ (limit upto : ℕ) (h : List ℕ) where
         let over = r.2 in
         record { entry = r.0; its = its; over = omega (arith, over, few) }
 
-    full-step : (w : World) (cs : List Came) (s : Step) (bytes : ℕ) (E more : List Entry) (rest : List Came) → E ≡ w.entries ++ more → bytes ≤ upto → HasLines the_core base h w cs → NoRoom limit bytes w s
+    full-step : (w : World) (cs : List Came) (s : Step) (bytes : ℕ) (E more : List Entry) (rest : List Came) → E ≡ w.entries ++ more → bytes ≤ upto → HasLines the_core base h w cs
+        → NoRoom limit bytes w s
         → AreFull limit upto E h (length (cs ++ came_if the_core h w s) + 1) rest → AreFull limit upto E h (length cs + 1) (came_if the_core h w s ++ rest)
     full-step w cs (Arrive g arrival full) bytes E more rest grown few lines room is =
         full-if (bytes_eq h g) E cs (record {
@@ -105,7 +111,8 @@ module _ (limit bytes count : ℕ) (h : List ℕ) where
         }) rest
         (λ own was_full few.
         let lacks : NoRoom limit bytes w (Arrive g arrival true) = (subst (λ (f : Bool). LacksRoom limit bytes count w (Arrive g arrival f)) was_full room) few in
-        passes limit bytes h laws boot base w cs g arrival full bytes E more grown (omega arith) lines (subst (λ (f : Bool). NoRoom limit bytes w (Arrive g arrival f)) (sym was_full) lacks) own was_full) is
+        passes limit bytes h laws boot base w cs g arrival full bytes E more grown (omega arith) lines (subst (λ (f : Bool). NoRoom limit bytes w (Arrive g arrival f)) (sym was_full) lacks) own
+        was_full) is
     within-step w cs (Flush m) E more rest grown lines room is = rest-within E cs rest is
     within-step w cs (Take g) E more rest grown lines room is = rest-within E cs rest is
     within-step w cs (Emit a) E more rest grown lines room is = rest-within E cs rest is

@@ -31,7 +31,8 @@ no-writer-end-one : (b : Bool) (s : Step) → b ≡ true → HasNoWriterEnd (if 
 no-writer-end-one true s e h = h.0
 no-writer-end-one false s e h = absurd (false≢true e)
 
-answered-ended : (line : ℕ) (arrival : Arrival) (full : Bool) (place upto step : ℕ) (o : Option (List ℕ)) (part : HostPart) → (answered line arrival full place upto step o part).writer_ended ≡ part.writer_ended
+answered-ended : (line : ℕ) (arrival : Arrival) (full : Bool) (place upto step : ℕ) (o : Option (List ℕ)) (part : HostPart)
+    → (answered line arrival full place upto step o part).writer_ended ≡ part.writer_ended
 answered-ended line arrival full place upto step None part = refl
 answered-ended line arrival full place upto step (Some r) part = refl
 
@@ -49,7 +50,8 @@ module _ (boot : List ℕ) (hosts : List (List ℕ)) (differ : AllDiffer hosts) 
   emits-ended w a Nothing None = refl
   emits-ended w a Unrecorded next = refl
   emits-ended w a (Recorded t) next = refl
-  emits-ended w a Nothing (Some n) = chosen (λ v. Same w (counted v)) (nat_lt n.place (durable w)) (record w { addresses = at_address a (λ part. record part { sent = part.sent ++ n ∷ []; flight = Unrecorded }) w.addresses }) w (λ t. refl) (λ t. refl)
+  emits-ended w a Nothing (Some n) = chosen (λ v. Same w (counted v)) (nat_lt n.place (durable w))
+      (record w { addresses = at_address a (λ part. record part { sent = part.sent ++ n ∷ []; flight = Unrecorded }) w.addresses }) w (λ t. refl) (λ t. refl)
 
   records-ended : (w : World) (a : Jid) (f : Flight) → Same w (counted (records w a f))
   records-ended w a Nothing = refl
@@ -89,11 +91,13 @@ module _ (o : Origin) (log : List Deed) (owned : AreOwned o.hosts log) (differ :
   -- by a front of the deeds in which its pass doesn't say so neither has ended
   reader-runs : (front rest : List Deed) → log ≡ front ++ rest → HasNoEnd (own_steps (i + i) front) → ((world_at o front).hosts h).reader_ended ≡ true → ⊥
   reader-runs front rest is no_end ended =
-      false≢true (sym (ended-same the_core o.boot o.hosts differ h (i + i) (i, here, refl) (start the_core o.boot o.list) front (owned-front o.hosts front rest (subst (AreOwned o.hosts) is owned)) no_end) ∙ ended)
+      false≢true (sym (ended-same the_core o.boot o.hosts differ h (i + i) (i, here, refl) (start the_core o.boot o.list) front (owned-front o.hosts front rest (subst (AreOwned o.hosts) is owned))
+      no_end) ∙ ended)
 
   writer-runs : (front rest : List Deed) → log ≡ front ++ rest → HasNoWriterEnd (own_steps (i + i + 1) front) → ((world_at o front).hosts h).writer_ended ≡ true → ⊥
   writer-runs front rest is no_end ended =
-      false≢true (sym (goes-on o.boot o.hosts differ h (i + i + 1) (i, here, refl) (start the_core o.boot o.list) front (owned-front o.hosts front rest (subst (AreOwned o.hosts) is owned)) no_end) ∙ ended)
+      false≢true (sym (goes-on o.boot o.hosts differ h (i + i + 1) (i, here, refl) (start the_core o.boot o.list) front (owned-front o.hosts front rest (subst (AreOwned o.hosts) is owned)) no_end) ∙
+      ended)
 
   -- So of a front by which the writer has ended, before its reader says that it has, and one by which the reader has, before its writer says so, neither is the
   -- shorter one.
@@ -101,6 +105,8 @@ module _ (o : Origin) (log : List Deed) (owned : AreOwned o.hosts log) (differ :
       → HasNoWriterEnd (own_steps (i + i + 1) before) → ((world_at o before).hosts h).reader_ended ≡ true → ⊥
   never-both front rest before after is is_too reads closed writes read =
       elim (cut front rest before after (sym is ∙ is_too)) [
-        | inl p ↦ writer-runs front rest is (no-writer-end-split (own_steps (i + i + 1) front) (own_steps (i + i + 1) p.0) (subst HasNoWriterEnd (ap (own_steps (i + i + 1)) p.1 ∙ own-append (i + i + 1) front p.0) writes)).0 closed
-        | inr p ↦ reader-runs before after is_too (no-end-split (own_steps (i + i) before) (own_steps (i + i) p.0) (subst HasNoEnd (ap (own_steps (i + i)) p.1 ∙ own-append (i + i) before p.0) reads)).0 read
+        | inl p ↦ writer-runs front rest is (no-writer-end-split (own_steps (i + i + 1) front) (own_steps (i + i + 1) p.0)
+            (subst HasNoWriterEnd (ap (own_steps (i + i + 1)) p.1 ∙ own-append (i + i + 1) front p.0) writes)).0 closed
+        | inr p ↦ reader-runs before after is_too (no-end-split (own_steps (i + i) before) (own_steps (i + i) p.0)
+            (subst HasNoEnd (ap (own_steps (i + i)) p.1 ∙ own-append (i + i) before p.0) reads)).0 read
       ]

@@ -58,18 +58,21 @@ has_seen k seen log l = record { after = l.0; is = l.1; none = none_of k l.0 l.2
 own_seen : (k : ℕ) (seen log : List Deed) → HasSeen k seen log → own_steps k log ≡ own_steps k seen
 own_seen k seen log h = ap (own_steps k) h.is ∙ (own-append k seen h.after ∙ (ap (λ r. own_steps k seen ++ r) (own-none k h.after h.none) ∙ nil-right (own_steps k seen)))
 
-words_seen : (o : Origin) (k : ℕ) (seen log : List Deed) → HasSeen k seen log → words_by the_core o.boot k (start the_core o.boot o.list) log ≡ words_by the_core o.boot k (start the_core o.boot o.list) seen
+words_seen : (o : Origin) (k : ℕ) (seen log : List Deed) → HasSeen k seen log
+    → words_by the_core o.boot k (start the_core o.boot o.list) log ≡ words_by the_core o.boot k (start the_core o.boot o.list) seen
 words_seen o k seen log h =
     let first = start the_core o.boot o.list in
     let said = words_by the_core o.boot k first seen in
-    ap (words_by the_core o.boot k first) h.is ∙ (words-by-append the_core o.boot k first seen h.after ∙ (ap (λ r. said ++ r) (words-by-none the_core o.boot k (world_at o seen) h.after h.none) ∙ nil-right said))
+    ap (words_by the_core o.boot k first) h.is ∙ (words-by-append the_core o.boot k first seen h.after ∙
+    (ap (λ r. said ++ r) (words-by-none the_core o.boot k (world_at o seen) h.after h.none) ∙ nil-right said))
 
 -- a writer that has finished left no word that was not written whole
 none-left : (why : EndCause) (last : List Word) → (last ≡ []) ⊎ (why ≡ WriteFault) → why ≡ Finished → last ≡ []
 none-left why last (inl none) finished = none
 none-left why last (inr fault) finished = absurd (cc (fault, finished))
 
-module _ (o : Origin) (log : List Deed) (lawful : IsLawful the_core o.list) (named : o.boot ≡ [] → ⊥) (owned : AreOwned o.hosts log) (differ : AllDiffer o.hosts) (bytes : ℕ) (had : HadNoRoom o.limits.changes bytes o.boot (start the_core o.boot o.list) log)
+module _ (o : Origin) (log : List Deed) (lawful : IsLawful the_core o.list) (named : o.boot ≡ [] → ⊥) (owned : AreOwned o.hosts log) (differ : AllDiffer o.hosts) (bytes : ℕ)
+    (had : HadNoRoom o.limits.changes bytes o.boot (start the_core o.boot o.list) log)
     (i : ℕ) (h : List ℕ) (here : slice_get o.hosts i ≡ Some h) where
   abbrev first : World
   first = start the_core o.boot o.list
@@ -103,7 +106,8 @@ module _ (o : Origin) (log : List Deed) (lawful : IsLawful the_core o.list) (nam
   fits : durable at ≤ length at.entries
   fits = let n = ends-le at.flushed at.made in let m = sound.sizes in omega (arith, n, m)
 
-  pub serves_stream : (tells : Type 0) (left : List ℕ → Type 0) (room : tells → EachLacks left) (are_spelled : tells → AreEntries (take (durable at) at.entries)) (t : Worked) (seen seen_too : List Deed) → ReaderMade o h (i + i) seen t.source t.source_now t.clock t.clock_now t.read → HasSeen (i + i) seen log
+  pub serves_stream : (tells : Type 0) (left : List ℕ → Type 0) (room : tells → EachLacks left) (are_spelled : tells → AreEntries (take (durable at) at.entries)) (t : Worked)
+      (seen seen_too : List Deed) → ReaderMade o h (i + i) seen t.source t.source_now t.clock t.clock_now t.read → HasSeen (i + i) seen log
       → WriterMade o h (i + i + 1) seen_too t.sink t.sink_now t.wrote → HasSeen (i + i + 1) seen_too log
       → (s : ServesStream o tells left bytes at h t) × (AllRead the_core o.boot o.list o.hosts log → t.wrote ≡ Finished → IsAllSaid o tells left at h bytes t s)
   serves_stream tells left room are_spelled t seen seen_too r kept w kept_too =
@@ -136,7 +140,8 @@ module _ (o : Origin) (log : List Deed) (lawful : IsLawful the_core o.list) (nam
           stand = stand;
           lined = subst (Lined t.read t.source.bytes t.source_now.bytes t.clock.told t.clock_now.told) arrivals r.read.lined;
           full = full-run o.limits.changes bytes h the-laws o.boot base first [] log quiet (begun-lines the_core h o.boot o.list) had;
-          full_left = λ tells_all c may n has F spells. within-run o.limits.changes (n + 5) (length F) h the-laws o.boot base first [] log quiet (begun-lines the_core h o.boot o.list) (room tells_all c may n has F spells);
+          full_left = λ tells_all c may n has F spells. within-run o.limits.changes (n + 5) (length F) h the-laws o.boot base first [] log quiet (begun-lines the_core h o.boot o.list)
+              (room tells_all c may n has F spells);
           written = spoke.written;
           few = spoke.few;
           cut = w.speaks.cut;

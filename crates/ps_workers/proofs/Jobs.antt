@@ -49,7 +49,8 @@ module _ {B D S C K : Type 0} {g : Ghosts D} {s : SourceGhosts S} (o : Origin) (
         → SeatStreamRead o old.pass.host old.pass.seat p.seat (rest_of lines) (s.left (source_of now)) (told clock) (told clock_now) end
         → s.faults (source_of lines) ≤ s.faults (source_of now) → (end ≡ ReadFault → Rose (s.faults (source_of lines)) (s.faults (source_of now))) → (end ≡ Long → given_of now ≡ 2 ^ 40)
         → (says_gone end ≡ true → SaidGone old.pass.host (number_of old.pass.seat) (seen_of p.seat))
-        → Gave (s.left (source_of lines)) (s.left (source_of now)) (given_of lines) (given_of now) → (end ≡ Ended → given_of now < 2 ^ 40) → (end ≡ Ended → s.left (source_of now) ≡ nothing_of (s.left (source_of now)))
+        → Gave (s.left (source_of lines)) (s.left (source_of now)) (given_of lines) (given_of now) → (end ≡ Ended → given_of now < 2 ^ 40)
+        → (end ≡ Ended → s.left (source_of now) ≡ nothing_of (s.left (source_of now)))
         → (end ≡ ReaderStore → FindsBroken o p.seat) → (end ≡ ReaderFull → FoundOver o (Gone old.pass.host) (seen_of p.seat)) → (end ≡ Closed → SeatFoundClosed o old.pass.host old.pass.seat p.seat)
         → DidWork o t (clocks clock_faults told) (sinks sink_faults written) old (record { pass = p; work = Reader now clock_now end })
     did_read lines now clock clock_now e end is reader same read later fault long gone gave early spent broke full closed =

@@ -54,8 +54,10 @@ module _ {V J D : Type 0} {g : Ghosts D} (o : Origin) (v now : State) (y : Store
   begun = begun_all o v f.count f.length closed.log closed.home did.longer
 
   -- what each store that is left at the end has to tell
-  ended : (z : Store D g) → (g.tells → EachLacksRoom o (g.synced (disk_in z)) (g.written (disk_in z)) closed.log) → (g.tells → EntriesAreKept g o.at (disk_in z) now.flushed after) → (now.broken ≡ false → broken_in z ≡ None → IsWhole z after) → (now.broken ≡ false → broken_in z ≡ None → now.length ≡ length_in z)
-      → (now.broken ≡ true → is_some (broken_in z) ≡ true) → (is_some (broken_in z) ≡ true → Rose o.at.faults (g.faults (disk_in z))) → o.at.faults ≤ g.faults (disk_in z) → o.at.bytes ≤ length_in z → HasEnded o now z seats
+  ended : (z : Store D g) → (g.tells → EachLacksRoom o (g.synced (disk_in z)) (g.written (disk_in z)) closed.log) → (g.tells → EntriesAreKept g o.at (disk_in z) now.flushed after)
+      → (now.broken ≡ false → broken_in z ≡ None → IsWhole z after) → (now.broken ≡ false → broken_in z ≡ None → now.length ≡ length_in z)
+      → (now.broken ≡ true → is_some (broken_in z) ≡ true) → (is_some (broken_in z) ≡ true → Rose o.at.faults (g.faults (disk_in z))) → o.at.faults ≤ g.faults (disk_in z) → o.at.bytes ≤ length_in z
+      → HasEnded o now z seats
   ended z room kept whole length_is broken fault faults grows = record {
     log = closed.log;
     lawful = closed.home.lawful;
@@ -109,7 +111,8 @@ module _ {V J D : Type 0} {g : Ghosts D} (o : Origin) (v now : State) (y : Store
       ended z
       (λ tells. each_lacks o z after closed.log (bytes_in v) (s.sizes tells) closed.home.full
       (measured_as o z.count z.length (ends (firm_of z) after.made) (length_in z) closed.log (sym made) whole.length_is all) all)
-      (λ tells. kept_less g o.at (disk_in z) now.flushed (firm_of z) after (let a = stands.flushed in let b = stands.sound.flushed in let c = did.steps in let e = did.kept.steps in let h = stands.steps in omega (arith, a, b, c, e, h, firm)) (s.kept tells))
+      (λ tells. kept_less g o.at (disk_in z) now.flushed (firm_of z) after
+      (let a = stands.flushed in let b = stands.sound.flushed in let c = did.steps in let e = did.kept.steps in let h = stands.steps in omega (arith, a, b, c, e, h, firm)) (s.kept tells))
       (λ still none. s.whole calm)
       (λ still none. long ∙ (sym (ap (λ p. p.1) mark) ∙ (s.whole calm).length_is))
       (λ told. absurd (false≢true (sym quiet ∙ told)))
@@ -142,7 +145,8 @@ module _ {V J D : Type 0} {g : Ghosts D} (o : Origin) (v now : State) (y : Store
       t.faults
       t.grows
 
-  pub ended_last : {T E : Type 0} (z : Store D g) (r : Result T E) → now.broken ≡ false → OnOk r (Writes y z f) → OnErr r (Tears y z f) → mark_of z ≡ (f.count, f.length) → length_in y ≤ length_in z → OnOk r (firm_of z ≡ f.steps) → OnErr r (firm_of z ≡ firm_of y) → HasEnded o now z seats
+  pub ended_last : {T E : Type 0} (z : Store D g) (r : Result T E) → now.broken ≡ false → OnOk r (Writes y z f) → OnErr r (Tears y z f) → mark_of z ≡ (f.count, f.length) → length_in y ≤ length_in z
+      → OnOk r (firm_of z ≡ f.steps) → OnErr r (firm_of z ≡ firm_of y) → HasEnded o now z seats
   ended_last z (Ok t) quiet writes tears mark grows firm same = ended_written z quiet writes mark firm
   ended_last z (Err e) quiet writes tears mark grows firm same = ended_torn z quiet tears mark grows same
 

@@ -1,5 +1,36 @@
 -- What the readers and writers of some hosts do adds entries for these hosts alone.
-use Rattle.std.proofs.Common.{◌≡◌, ◌≢◌, ◌⊎◌, inl, inr, ℕ, suc, ◌+◌, ◌≤◌, Bool, true, false, eqb, cond, List, [], ◌∷◌, ◌++◌, Option, Some, None, length, refl, sym, ap, subst, ◌∙◌, arith, append_assoc, length-append}
+use Rattle.std.proofs.Common.{
+  ◌≡◌,
+  ◌≢◌,
+  ◌⊎◌,
+  inl,
+  inr,
+  ℕ,
+  suc,
+  ◌+◌,
+  ◌≤◌,
+  Bool,
+  true,
+  false,
+  eqb,
+  cond,
+  List,
+  [],
+  ◌∷◌,
+  ◌++◌,
+  Option,
+  Some,
+  None,
+  length,
+  refl,
+  sym,
+  ap,
+  subst,
+  ◌∙◌,
+  arith,
+  append_assoc,
+  length-append,
+}
 use Rattle.std.specs.Prelude.{◌&&◌, bytes_eq, nat_le, nat_lt, slice_get, if◌then◌else◌}
 use Rattle.std.specs.List.{AllByRecursion as Each}
 use Rattle.std.proofs.lemmas.Bool.{false≢true}
@@ -117,7 +148,8 @@ module _ (hosts : List (List ℕ)) (differ : AllDiffer hosts) (h : List ℕ) (k 
   own-lays false s e none = absurd (false≢true e)
 
   -- a step of the reader's own
-  own-last : (s : Step) (o : Option Entry) (xs : List Step) (es : List Entry) → OfStep s o → EndsByGone (s ∷ xs) → (LaysNothing xs → Each (IsNoneOf h) es) → (EndsByGone xs → GoneIsLast h es) → GoneIsLast h (added o ++ es)
+  own-last : (s : Step) (o : Option Entry) (xs : List Step) (es : List Entry) → OfStep s o → EndsByGone (s ∷ xs) → (LaysNothing xs → Each (IsNoneOf h) es) → (EndsByGone xs → GoneIsLast h es)
+      → GoneIsLast h (added o ++ es)
   own-last (Gone g) None xs es of ends none last = none-last h es (none ends)
   own-last (Gone g) (Some e) xs es of ends none last = gone-first h e es (none ends)
   own-last (Arrive g arrival full) None xs es of ends none last = last ends
@@ -225,7 +257,8 @@ module _ (boot : List ℕ) (hosts : List (List ℕ)) (differ : AllDiffer hosts) 
   abbrev Either : Option Entry → List Came → Type 0 → Type 0
   Either o ds Later = (ds ≡ []) ⊎ ((o ≢ Some (GoneEntry h)) × Later)
 
-  own-either : (s : Step) (o : Option Entry) (xs : List Step) (ds : List Came) (Later : Type 0) → OfStep s o → EndsByGone (s ∷ xs) → (LaysNothing xs → ds ≡ []) → (EndsByGone xs → Later) → Either o ds Later
+  own-either : (s : Step) (o : Option Entry) (xs : List Step) (ds : List Came) (Later : Type 0) → OfStep s o → EndsByGone (s ∷ xs) → (LaysNothing xs → ds ≡ []) → (EndsByGone xs → Later)
+      → Either o ds Later
   own-either (Gone g) o xs ds Later of ends none later = inl (none ends)
   own-either (Arrive g arrival full) o xs ds Later of ends none later = inr (no-end-of (Arrive g arrival full) o of (λ f e. cc e), later ends)
   own-either (Flush m) o xs ds Later of ends none later = inr (no-end-of (Flush m) o of (λ f e. cc e), later ends)
@@ -239,12 +272,14 @@ module _ (boot : List ℕ) (hosts : List (List ℕ)) (differ : AllDiffer hosts) 
   other-gone : (b : ℕ) (s : Step) → MayMake hosts b s → eqb b k ≡ false → (g : List ℕ) → s ≡ Gone g → g ≢ h
   other-gone b s may never g is = other-host hosts differ h k reads b g (subst (MayMake hosts b) is may) (λ t. false≢true (sym never ∙ t))
 
-  either-one : (b : ℕ) (t : Bool) (s : Step) (o : Option Entry) (xs : List Step) (ds : List Came) (Later : Type 0) → eqb b k ≡ t → OfStep s o → MayMake hosts b s → EndsByGone ((if t then s ∷ [] else []) ++ xs)
+  either-one : (b : ℕ) (t : Bool) (s : Step) (o : Option Entry) (xs : List Step) (ds : List Came) (Later : Type 0) → eqb b k ≡ t → OfStep s o → MayMake hosts b s
+      → EndsByGone ((if t then s ∷ [] else []) ++ xs)
       → (LaysNothing xs → ds ≡ []) → (EndsByGone xs → Later) → Either o ds Later
   either-one b true s o xs ds Later e of may ends none later = own-either s o xs ds Later of ends none later
   either-one b false s o xs ds Later e of may ends none later = inr (no-end-of s o of (other-gone b s may e), later ends)
 
-  before-one : (n m : ℕ) (o : Option Entry) (es : List Entry) (cs ds : List Came) → n + length (added o) ≡ m → AreUpTo n cs → Either o ds (AreBeforeGone h m es ds) → AreBeforeGone h n (added o ++ es) (cs ++ ds)
+  before-one : (n m : ℕ) (o : Option Entry) (es : List Entry) (cs ds : List Came) → n + length (added o) ≡ m → AreUpTo n cs → Either o ds (AreBeforeGone h m es ds)
+      → AreBeforeGone h n (added o ++ es) (cs ++ ds)
   before-one n m o es cs ds size low (inl none) = λ front rest is.
       up-to-both (n + length front) cs ds (up-to-more n (n + length front) cs (omega arith) low) (subst (AreUpTo (n + length front)) (sym none) tt)
   before-one n m None es cs ds size low (inr p) = λ front rest is.
@@ -281,7 +316,8 @@ module _ (boot : List ℕ) (hosts : List (List ℕ)) where
   recorded w a (Recorded t) served = adds-none hosts (Record a) w.entries w.entries refl
   recorded w a Unrecorded served = record { entry = Some (Handed a); list = refl; each = (served, tt); of = refl }
 
-  arrived : (E : List Entry) (g : List ℕ) (arrival : Arrival) (full : Bool) (line : ℕ) (o : Option Entry) → IsServed hosts g → ((e : Entry) → o ≡ Some e → (m : Option ℕ) × (t : Tree) × (e ≡ Change g line m t)) → Adds hosts (Arrive g arrival full) E (more_entries E o)
+  arrived : (E : List Entry) (g : List ℕ) (arrival : Arrival) (full : Bool) (line : ℕ) (o : Option Entry) → IsServed hosts g
+      → ((e : Entry) → o ≡ Some e → (m : Option ℕ) × (t : Tree) × (e ≡ Change g line m t)) → Adds hosts (Arrive g arrival full) E (more_entries E o)
   arrived E g arrival full line None served change = record { entry = None; list = more-is E None; each = tt; of = tt }
   arrived E g arrival full line (Some e) served change =
       let is = change e refl in

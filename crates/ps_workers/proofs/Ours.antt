@@ -43,7 +43,8 @@ module _ (core : Core) (h : List ℕ) where
 
   word-ours : (w : World) (s : Step) → AreOurs h (word_if core h w s)
   word-ours w (Take g) = if-ours (bytes_eq h g) (said_by core w (Take g)) (λ _. taken-ours h w.flushed (slice_get (w.hosts g).said (w.hosts g).taken))
-  word-ours w (Emit a) = if-ours (bytes_eq h a.host) (said_by core w (Emit a)) (λ is. noted-ours h (durable w) a (w.addresses a).flight (slice_get (core.notices w.entries a) (handed w.entries a)) (sym ((bytes_eq-Decides h a.host).0 is)))
+  word-ours w (Emit a) = if-ours (bytes_eq h a.host) (said_by core w (Emit a))
+      (λ is. noted-ours h (durable w) a (w.addresses a).flight (slice_get (core.notices w.entries a) (handed w.entries a)) (sym ((bytes_eq-Decides h a.host).0 is)))
   word-ours w (Arrive g arrival full) = tt
   word-ours w (Flush m) = tt
   word-ours w (Record a) = tt

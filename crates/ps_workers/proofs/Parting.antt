@@ -35,12 +35,14 @@ module _ {B D L C K : Type 0} {g : Ghosts D} where
   pub two_more : (all ws : List (Worker (Pass B D g) L C K)) (r w : Worker (Pass B D g) L C K) → all ≡ r ∷ w ∷ ws → ArePaired all → IsReading r.work × IsWriting w.work × ArePaired ws
   two_more all ws r w is paired = subst (λ (l : List (Worker (Pass B D g) L C K)). ArePaired l) is paired
 
-  pub passes_on : (all ws whole : List (Worker (Pass B D g) L C K)) (r w : Worker (Pass B D g) L C K) (old new : List (HostPasses B D g)) → all ≡ r ∷ w ∷ ws → new ≡ old ++ record { reader = r.pass; writer = w.pass } ∷ [] → old ++ passes_in all ≡ passes_in whole → new ++ passes_in ws ≡ passes_in whole
+  pub passes_on : (all ws whole : List (Worker (Pass B D g) L C K)) (r w : Worker (Pass B D g) L C K) (old new : List (HostPasses B D g)) → all ≡ r ∷ w ∷ ws
+      → new ≡ old ++ record { reader = r.pass; writer = w.pass } ∷ [] → old ++ passes_in all ≡ passes_in whole → new ++ passes_in ws ≡ passes_in whole
   passes_on all ws whole r w old new is pushed so_far =
       let both : HostPasses B D g = record { reader = r.pass; writer = w.pass } in
       ap (λ l. l ++ passes_in ws) pushed ∙ (assoc old (both ∷ []) (passes_in ws) ∙ (ap (λ (l : List (Worker (Pass B D g) L C K)). old ++ passes_in l) (sym is) ∙ so_far))
 
-  pub ended_on : (all ws whole : List (Worker (Pass B D g) L C K)) (r w : Worker (Pass B D g) L C K) (e : Ended L C K) (old new : List (Ended L C K)) → all ≡ r ∷ w ∷ ws → ended_by r.work w.work [] ≡ e ∷ [] → new ≡ old ++ e ∷ [] → old ++ ended_in all ≡ ended_in whole → new ++ ended_in ws ≡ ended_in whole
+  pub ended_on : (all ws whole : List (Worker (Pass B D g) L C K)) (r w : Worker (Pass B D g) L C K) (e : Ended L C K) (old new : List (Ended L C K)) → all ≡ r ∷ w ∷ ws
+      → ended_by r.work w.work [] ≡ e ∷ [] → new ≡ old ++ e ∷ [] → old ++ ended_in all ≡ ended_in whole → new ++ ended_in ws ≡ ended_in whole
   ended_on all ws whole r w e old new is made pushed so_far =
       ap (λ l. l ++ ended_in ws) pushed ∙ (assoc old (e ∷ []) (ended_in ws)
       ∙ (ap (λ l. old ++ l) (sym (ended_more r.work w.work e (ended_in ws) made)) ∙ (ap (λ (l : List (Worker (Pass B D g) L C K)). old ++ ended_in l) (sym is) ∙ so_far)))

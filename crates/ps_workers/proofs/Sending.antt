@@ -106,11 +106,21 @@ module _ (B D : RattleType) (g : Disk.Ghosts D.Denot) (b : IsSend B) (d : IsSend
   seated = seat.the_send (Home.the_row B) (Archive.the_row B D g) Deed.the_row (home B b) stored
 
   pub pass : IsSend (Pass.the_row B D g)
-  pass = declared_send (Pass.the_type B D g) (seated, (search (std.crosses, sendable), (text.the_send, (search (jid.the_send, std.crosses, sendable) depth 20, (search (std.crosses, sendable) depth 20, tt)))))
+  pass = declared_send (Pass.the_type B D g) (
+    seated,
+    (
+      search (std.crosses, sendable),
+      (text.the_send, (search (jid.the_send, std.crosses, sendable) depth 20, (search (std.crosses, sendable) depth 20, tt))),
+    ),
+  )
 
   module _ (o : Opening.Ghosts B.Denot) where
     room : IsSend (Room.the_row B D o g)
     room = declared_send (Room.the_type B D o g) (search (seated, std.crosses, sendable) depth 20, tt)
 
     pub hall : IsSync (Hall.the_row B D o g)
-    hall = declared_sync (Hall.the_type B D o g) (twin.the_sync (Home.the_row B) (Archive.the_row B D g) Deed.the_row _ (record { stands = _; maker = λ d. d.by; firm = _; mark = _ }) (home B b) stored, (search (room, std.crosses, sendable) depth 20, (bells.the_sync, tt)))
+    hall = declared_sync (Hall.the_type B D o g) (
+      twin.the_sync (Home.the_row B) (Archive.the_row B D g) Deed.the_row _ (record { stands = _; maker = λ d. d.by; firm = _; mark = _ }) (home B b)
+          stored,
+      (search (room, std.crosses, sendable) depth 20, (bells.the_sync, tt)),
+    )

@@ -64,13 +64,15 @@ module _ {B D S C K : Type 0} {g : Ghosts D} {s : SourceGhosts S} (o : Origin) (
   seen_reader k q there =
       let of = back.each k q there in
       let number : number_of q.reader.seat ≡ k + k = of.reader.number ∙ ap (λ n. n + n) of.at_reader in
-      has_seen (k + k) (seen_of q.reader.seat) ended.log (subst (λ n. Later maker_of n (seen_of q.reader.seat) ended.log) number (ended.later (k + k) q.reader.seat (seats_at (passes_in ws) k q there).0))
+      has_seen (k + k) (seen_of q.reader.seat) ended.log (subst (λ n. Later maker_of n (seen_of q.reader.seat) ended.log) number
+      (ended.later (k + k) q.reader.seat (seats_at (passes_in ws) k q there).0))
 
   seen_writer : (k : ℕ) (q : HostPasses B D g) → slice_get (passes_in ws) k ≡ Some q → HasSeen (k + k + 1) (seen_of q.writer.seat) ended.log
   seen_writer k q there =
       let of = back.each k q there in
       let number : number_of q.writer.seat ≡ k + k + 1 = of.writer.number ∙ ap (λ n. n + n + 1) of.at_writer in
-      has_seen (k + k + 1) (seen_of q.writer.seat) ended.log (subst (λ n. Later maker_of n (seen_of q.writer.seat) ended.log) number (ended.later (k + k + 1) q.writer.seat (seats_at (passes_in ws) k q there).1))
+      has_seen (k + k + 1) (seen_of q.writer.seat) ended.log (subst (λ n. Later maker_of n (seen_of q.writer.seat) ended.log) number
+      (ended.later (k + k + 1) q.writer.seat (seats_at (passes_in ws) k q there).1))
 
   -- where no worker met a fault of the disk, each reader had all flushed
   all_read : NoneBroke worked → AllRead the_core o.boot o.list o.hosts ended.log
@@ -114,7 +116,8 @@ module _ {B D S C K : Type 0} {g : Ghosts D} {s : SourceGhosts S} (o : Origin) (
         streams = λ i h x here there.
             let m = made_at o t clock_of sink_of ps ports ws same all passes i x there in
             let host : m.0 ≡ h = some_same m.0 h (sym m.3.here ∙ here) in
-            let r = serves_stream o ended.log ended.lawful ended.named ended.owned differ (v.length + 5) ended.full i h here g.tells (LeftOf y) ended.room spelled x (seen_of m.1.reader.seat) (seen_of m.1.writer.seat)
+            let r = serves_stream o ended.log ended.lawful ended.named ended.owned differ (v.length + 5) ended.full i h here g.tells (LeftOf y) ended.room spelled x (seen_of m.1.reader.seat)
+            (seen_of m.1.writer.seat)
             (subst (λ (k : List ℕ). ReaderMade o k (i + i) (seen_of m.1.reader.seat) x.source x.source_now x.clock x.clock_now x.read) host m.3.reader) (seen_reader i m.1 m.2)
             (subst (λ (k : List ℕ). WriterMade o k (i + i + 1) (seen_of m.1.writer.seat) x.sink x.sink_now x.wrote) host m.3.writer) (seen_writer i m.1 m.2) in
             (r.0, λ none finished. r.1 (all_read none) finished);
@@ -122,7 +125,8 @@ module _ {B D S C K : Type 0} {g : Ghosts D} {s : SourceGhosts S} (o : Origin) (
             let m = made_at o t clock_of sink_of ps ports ws same all passes i x there in
             let host : m.0 ≡ h = some_same m.0 h (sym m.3.here ∙ here) in
             subst (λ (k : List ℕ). HasReasons o v y w.entries k x) host
-            (reasons o v y (seats_in (passes_in ws)) ended differ i m.0 m.3.here x (seen_of m.1.reader.seat) (seen_of m.1.writer.seat) m.3.reader (seen_reader i m.1 m.2) m.3.writer (seen_writer i m.1 m.2));
+            (reasons o v y (seats_in (passes_in ws)) ended differ i m.0 m.3.here x (seen_of m.1.reader.seat) (seen_of m.1.writer.seat) m.3.reader (seen_reader i m.1 m.2) m.3.writer
+            (seen_writer i m.1 m.2));
         others = λ a unserved. none-handed the_core o.boot o.hosts a.host unserved the-laws ended.named o.list ended.lawful ended.log ended.owned a refl;
       }
 
@@ -145,13 +149,15 @@ module _ {B D S C K : Type 0} {g : Ghosts D} {s : SourceGhosts S} (o : Origin) (
         omega (arith, some, n, m, l)
 
     pub ready_now : All (λ (port : Port (Lines S s) C K). IsUnread port.lines) ports → (i : ℕ) (d : Worker (Pass B D g) (Lines S s) C K) → i < length now → IsReady o t (get_or now i d)
-    ready_now unread = subst (λ (l : List (Worker (Pass B D g) (Lines S s) C K)). (i : ℕ) (d : Worker (Pass B D g) (Lines S s) C K) → i < length l → IsReady o t (get_or l i d)) (sym lent) (team_ready o t ps ports fresh unread)
+    ready_now unread = subst (λ (l : List (Worker (Pass B D g) (Lines S s) C K)). (i : ℕ) (d : Worker (Pass B D g) (Lines S s) C K) → i < length l → IsReady o t (get_or l i d)) (sym lent)
+        (team_ready o t ps ports fresh unread)
 
     module _ (grown : length after ≡ length now)
         (did : (i : ℕ) (d : Worker (Pass B D g) (Lines S s) C K) → i < length now → DidWork o t clock_of sink_of (get_or now i d) (get_or after i d)) where
       pub all_of : AllDid o t clock_of sink_of ps ports after
       all_of = all_did o t clock_of sink_of ps ports after same_size (grown ∙ ap length lent)
-          (subst (λ (l : List (Worker (Pass B D g) (Lines S s) C K)). (i : ℕ) (d : Worker (Pass B D g) (Lines S s) C K) → i < length l → DidWork o t clock_of sink_of (get_or l i d) (get_or after i d)) lent did)
+          (subst (λ (l : List (Worker (Pass B D g) (Lines S s) C K)). (i : ℕ) (d : Worker (Pass B D g) (Lines S s) C K) → i < length l
+          → DidWork o t clock_of sink_of (get_or l i d) (get_or after i d)) lent did)
 
       module _ (whole : List (Worker (Pass B D g) (Lines S s) C K)) (is : whole ≡ after) where
         pub paired_ok : ArePaired whole
@@ -167,7 +173,8 @@ module _ {B D S C K : Type 0} {g : Ghosts D} {s : SourceGhosts S} (o : Origin) (
           pub back_ok : ArePasses o t back
           back_ok = subst (λ (l : List (HostPasses B D g)). ArePasses o t l) (sym back_is) (passes_back o t clock_of sink_of ps ports after all_of fresh.all)
 
-          pub serves_ok : AllDiffer o.hosts → (v : State) (y : Store D g) (ended : List (Ended (Lines S s) C K)) → ended ≡ ended_in whole → HasEnded o v y (seats_in back) → Serves o v y (worked_of clock_of sink_of ports ended)
+          pub serves_ok : AllDiffer o.hosts → (v : State) (y : Store D g) (ended : List (Ended (Lines S s) C K)) → ended ≡ ended_in whole → HasEnded o v y (seats_in back)
+              → Serves o v y (worked_of clock_of sink_of ports ended)
           serves_ok differ v y ended parted_too closed =
               let e : ended ≡ ended_in after = parted_too ∙ ap (λ (l : List (Worker (Pass B D g) (Lines S s) C K)). ended_in l) is in
               subst (λ (l : List (Ended (Lines S s) C K)). Serves o v y (worked_of clock_of sink_of ports l)) (sym e)

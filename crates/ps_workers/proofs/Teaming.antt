@@ -43,7 +43,8 @@ module _ {L C K : Type 0} where
     is : a ≡ Writer sink why
     did : W sink why
 
-  was_read : (R : L → L → C → C → ReadEnd → Type 0) (W : K → K → EndCause → Type 0) (lines : L) (clock : C) (e : ReadEnd) (a : Work L C K) → ByWork (Reader lines clock e) a R W → WasRead (λ m d end. R lines m clock d end) a
+  was_read : (R : L → L → C → C → ReadEnd → Type 0) (W : K → K → EndCause → Type 0) (lines : L) (clock : C) (e : ReadEnd) (a : Work L C K) → ByWork (Reader lines clock e) a R W
+      → WasRead (λ m d end. R lines m clock d end) a
   was_read R W lines clock e (Reader m d end) did = record { lines = m; clock = d; end = end; is = refl; did = did }
   was_read R W lines clock e (Writer j why) did = absurd did
 
@@ -62,7 +63,8 @@ some_same x y e = cc e
 
 module _ {B D : Type 0} {g : Ghosts D} where
   -- the seats of a host
-  pub seats_at : (qs : List (HostPasses B D g)) (k : ℕ) (q : HostPasses B D g) → slice_get qs k ≡ Some q → (slice_get (seats_in qs) (k + k) ≡ Some q.reader.seat) × (slice_get (seats_in qs) (k + k + 1) ≡ Some q.writer.seat)
+  pub seats_at : (qs : List (HostPasses B D g)) (k : ℕ) (q : HostPasses B D g) → slice_get qs k ≡ Some q
+      → (slice_get (seats_in qs) (k + k) ≡ Some q.reader.seat) × (slice_get (seats_in qs) (k + k + 1) ≡ Some q.writer.seat)
   seats_at [] k q e = absurd (cc e)
   seats_at (p ∷ ps) zero q e = (let same : p ≡ q = cc e in (ap (λ (x : HostPasses B D g). Some x.reader.seat) same, ap (λ (x : HostPasses B D g). Some x.writer.seat) same))
   seats_at (p ∷ ps) (suc k) q e =
@@ -106,7 +108,8 @@ module _ {B D S C K : Type 0} {g : Ghosts D} {s : SourceGhosts S} where
   module _ (o : Origin) (t : OurTwin B D g) where
     -- ---- before they work
 
-    each_ready : (ps : List (HostPasses B D g)) (ports : List (Port (Lines S s) C K)) → ((k : ℕ) (p : HostPasses B D g) → slice_get ps k ≡ Some p → AreReady o t p) → All (λ (port : Port (Lines S s) C K). IsUnread port.lines) ports
+    each_ready : (ps : List (HostPasses B D g)) (ports : List (Port (Lines S s) C K)) → ((k : ℕ) (p : HostPasses B D g) → slice_get ps k ≡ Some p → AreReady o t p)
+        → All (λ (port : Port (Lines S s) C K). IsUnread port.lines) ports
         → (i : ℕ) (d : Worker (Pass B D g) (Lines S s) C K) → i < length (team ps ports) → IsReady o t (get_or (team ps ports) i d)
     each_ready [] ports ready unread i d low = absurd (omega (arith, low))
     each_ready (p ∷ ps) [] ready unread i d low = absurd (omega (arith, low))
@@ -133,7 +136,8 @@ module _ {B D S C K : Type 0} {g : Ghosts D} {s : SourceGhosts S} where
       AllDid (p ∷ ps) (port ∷ ports) (r ∷ []) = ⊥
       AllDid (p ∷ ps) (port ∷ ports) (r ∷ w ∷ ws) = DidWork o t clock_of sink_of (reader_of p port) r × DidWork o t clock_of sink_of (writer_of p port) w × AllDid ps ports ws
 
-      pub all_did : (ps : List (HostPasses B D g)) (ports : List (Port (Lines S s) C K)) (ws : List (Worker (Pass B D g) (Lines S s) C K)) → length ports ≡ length ps → length ws ≡ length (team ps ports)
+      pub all_did : (ps : List (HostPasses B D g)) (ports : List (Port (Lines S s) C K)) (ws : List (Worker (Pass B D g) (Lines S s) C K)) → length ports ≡ length ps
+          → length ws ≡ length (team ps ports)
           → ((i : ℕ) (d : Worker (Pass B D g) (Lines S s) C K) → i < length (team ps ports) → DidWork o t clock_of sink_of (get_or (team ps ports) i d) (get_or ws i d)) → AllDid ps ports ws
       all_did [] ports ws same size did = none-left ws size
       all_did (p ∷ ps) [] ws same size did = absurd (omega (arith, same))
@@ -147,7 +151,8 @@ module _ {B D S C K : Type 0} {g : Ghosts D} {s : SourceGhosts S} where
         read : WasRead (λ m d end. ReaderDid o t p.reader r.pass (sources port.lines) (sources m) (clock_of port.clock) (clock_of d) end) r.work
         wrote : WasWritten (λ j why. WriterDid o t p.writer w.pass (sink_of port.sink) (sink_of j) why) w.work
 
-      two_did : (p : HostPasses B D g) (port : Port (Lines S s) C K) (r w : Worker (Pass B D g) (Lines S s) C K) → DidWork o t clock_of sink_of (reader_of p port) r → DidWork o t clock_of sink_of (writer_of p port) w → TwoDid p port r w
+      two_did : (p : HostPasses B D g) (port : Port (Lines S s) C K) (r w : Worker (Pass B D g) (Lines S s) C K) → DidWork o t clock_of sink_of (reader_of p port) r
+          → DidWork o t clock_of sink_of (writer_of p port) w → TwoDid p port r w
       two_did p port r w a b = record {
         read = was_read _ _ port.lines port.clock ReadAll r.work a.did;
         wrote = was_written _ _ port.sink Finished w.work b.did;
@@ -170,7 +175,8 @@ module _ {B D S C K : Type 0} {g : Ghosts D} {s : SourceGhosts S} where
       passes_size (p ∷ ps) (port ∷ ports) (r ∷ w ∷ ws) all = ap suc (passes_size ps ports ws all.2)
 
       -- the passes of a host, back from their work
-      of_two : (at : ℕ) (p : HostPasses B D g) (port : Port (Lines S s) C K) (r w : Worker (Pass B D g) (Lines S s) C K) → AreOf o t at p → DidWork o t clock_of sink_of (reader_of p port) r → DidWork o t clock_of sink_of (writer_of p port) w
+      of_two : (at : ℕ) (p : HostPasses B D g) (port : Port (Lines S s) C K) (r w : Worker (Pass B D g) (Lines S s) C K) → AreOf o t at p → DidWork o t clock_of sink_of (reader_of p port) r
+          → DidWork o t clock_of sink_of (writer_of p port) w
           → AreOf o t at (record { reader = r.pass; writer = w.pass })
       of_two at p port r w of a b =
           let two = two_did p port r w a b in
@@ -194,10 +200,12 @@ module _ {B D S C K : Type 0} {g : Ghosts D} {s : SourceGhosts S} where
           subst (λ m. AreOf o t m q) (let m : n + 1 + k ≡ n + suc k = omega arith in m)
           (each_back (n + 1) ps ports ws all.2 (λ j x there. subst (λ m. AreOf o t m x) (let m : n + suc j ≡ n + 1 + j = omega arith in m) (each (suc j) x there)) k q e)
 
-      pub passes_back : (ps : List (HostPasses B D g)) (ports : List (Port (Lines S s) C K)) (ws : List (Worker (Pass B D g) (Lines S s) C K)) → AllDid ps ports ws → ArePasses o t ps → ArePasses o t (passes_in ws)
+      pub passes_back : (ps : List (HostPasses B D g)) (ports : List (Port (Lines S s) C K)) (ws : List (Worker (Pass B D g) (Lines S s) C K)) → AllDid ps ports ws → ArePasses o t ps
+          → ArePasses o t (passes_in ws)
       passes_back ps ports ws all passes = record {
         size = passes_size ps ports ws all ∙ passes.size;
-        each = λ k q e. subst (λ m. AreOf o t m q) (let z : 0 + k ≡ k = omega arith in z) (each_back 0 ps ports ws all (λ j x there. subst (λ m. AreOf o t m x) (let z : j ≡ 0 + j = omega arith in z) (passes.each j x there)) k q e);
+        each = λ k q e. subst (λ m. AreOf o t m q) (let z : 0 + k ≡ k = omega arith in z)
+            (each_back 0 ps ports ws all (λ j x there. subst (λ m. AreOf o t m x) (let z : j ≡ 0 + j = omega arith in z) (passes.each j x there)) k q e);
       }
 
       -- ---- what each stream's objects tell
@@ -205,12 +213,14 @@ module _ {B D S C K : Type 0} {g : Ghosts D} {s : SourceGhosts S} where
       abbrev ended_two : (p : HostPasses B D g) (port : Port (Lines S s) C K) (r w : Worker (Pass B D g) (Lines S s) C K) → TwoDid p port r w → Ended (Lines S s) C K
       ended_two p port r w two = record { port = record { lines = two.read.lines; clock = two.read.clock; sink = two.wrote.sink }; read = two.read.end; wrote = two.wrote.why }
 
-      ended_is : (p : HostPasses B D g) (port : Port (Lines S s) C K) (r w : Worker (Pass B D g) (Lines S s) C K) (two : TwoDid p port r w) (rest : List (Ended (Lines S s) C K)) → ended_by r.work w.work rest ≡ ended_two p port r w two ∷ rest
+      ended_is : (p : HostPasses B D g) (port : Port (Lines S s) C K) (r w : Worker (Pass B D g) (Lines S s) C K) (two : TwoDid p port r w) (rest : List (Ended (Lines S s) C K))
+          → ended_by r.work w.work rest ≡ ended_two p port r w two ∷ rest
       ended_is p port r w two rest =
           ap (λ (a : Work (Lines S s) C K). ended_by a w.work rest) two.read.is
           ∙ ap (λ (b : Work (Lines S s) C K). ended_by (Reader two.read.lines two.read.clock two.read.end) b rest) two.wrote.is
 
-      pub worked_size : (ps : List (HostPasses B D g)) (ports : List (Port (Lines S s) C K)) (ws : List (Worker (Pass B D g) (Lines S s) C K)) → length ports ≡ length ps → AllDid ps ports ws → length (worked_of clock_of sink_of ports (ended_in ws)) ≡ length ps
+      pub worked_size : (ps : List (HostPasses B D g)) (ports : List (Port (Lines S s) C K)) (ws : List (Worker (Pass B D g) (Lines S s) C K)) → length ports ≡ length ps → AllDid ps ports ws
+          → length (worked_of clock_of sink_of ports (ended_in ws)) ≡ length ps
       worked_size [] [] ws same all = refl
       worked_size [] (port ∷ ports) ws same all = absurd (omega (arith, same))
       worked_size (p ∷ ps) [] ws same all = absurd all
@@ -246,7 +256,8 @@ module _ {B D S C K : Type 0} {g : Ghosts D} {s : SourceGhosts S} where
           }
 
       each_made : (n : ℕ) (ps : List (HostPasses B D g)) (ports : List (Port (Lines S s) C K)) (ws : List (Worker (Pass B D g) (Lines S s) C K)) → length ports ≡ length ps → AllDid ps ports ws
-          → ((k : ℕ) (p : HostPasses B D g) → slice_get ps k ≡ Some p → AreOf o t (n + k) p) → (k : ℕ) (x : Worked) → slice_get (worked_of clock_of sink_of ports (ended_in ws)) k ≡ Some x → MadeAt o (n + k) k (passes_in ws) x
+          → ((k : ℕ) (p : HostPasses B D g) → slice_get ps k ≡ Some p → AreOf o t (n + k) p) → (k : ℕ) (x : Worked) → slice_get (worked_of clock_of sink_of ports (ended_in ws)) k ≡ Some x
+          → MadeAt o (n + k) k (passes_in ws) x
       each_made n [] [] ws same all each k x e = absurd (cc e)
       each_made n [] (port ∷ ports) ws same all each k x e = absurd (omega (arith, same))
       each_made n (p ∷ ps) [] ws same all each k x e = absurd all
@@ -256,15 +267,23 @@ module _ {B D S C K : Type 0} {g : Ghosts D} {s : SourceGhosts S} where
           let two = two_did p port r w all.0 all.1 in
           let one = worked_one clock_of sink_of port (ended_two p port r w two) in
           let is : one ≡ x = some_same one x (ap (λ (l : List (Ended (Lines S s) C K)). slice_get (worked_of clock_of sink_of (port ∷ ports) l) 0) (sym (ended_is p port r w two (ended_in ws))) ∙ e) in
-          record { h = p.reader.host; q = record { reader = r.pass; writer = w.pass }; there = refl; made = subst (λ (y : Worked). HostMade o (n + 0) p.reader.host (record { reader = r.pass; writer = w.pass }) y) is (made_two (n + 0) p port r w (each 0 p refl) two) }
+          record {
+            h = p.reader.host;
+            q = record { reader = r.pass; writer = w.pass };
+            there = refl;
+            made = subst
+                (λ (y : Worked). HostMade o (n + 0) p.reader.host (record { reader = r.pass; writer = w.pass }) y) is (made_two (n + 0) p port r w (each 0 p refl) two);
+          }
       each_made n (p ∷ ps) (port ∷ ports) (r ∷ w ∷ ws) same all each (suc k) x e =
           let two = two_did p port r w all.0 all.1 in
           let m = each_made (n + 1) ps ports ws (omega (arith, same)) all.2 (λ j y there. subst (λ m. AreOf o t m y) (let m : n + suc j ≡ n + 1 + j = omega arith in m) (each (suc j) y there)) k x
           (ap (λ (l : List (Ended (Lines S s) C K)). slice_get (worked_of clock_of sink_of (port ∷ ports) l) (suc k)) (sym (ended_is p port r w two (ended_in ws))) ∙ e) in
           record { h = m.h; q = m.q; there = m.there; made = subst (λ i. HostMade o i m.h m.q x) (let i : n + 1 + k ≡ n + suc k = omega arith in i) m.made }
 
-      pub made_at : (ps : List (HostPasses B D g)) (ports : List (Port (Lines S s) C K)) (ws : List (Worker (Pass B D g) (Lines S s) C K)) → length ports ≡ length ps → AllDid ps ports ws → ArePasses o t ps
-          → (k : ℕ) (x : Worked) → slice_get (worked_of clock_of sink_of ports (ended_in ws)) k ≡ Some x → (h : List ℕ) × (q : HostPasses B D g) × (slice_get (passes_in ws) k ≡ Some q) × HostMade o k h q x
+      pub made_at : (ps : List (HostPasses B D g)) (ports : List (Port (Lines S s) C K)) (ws : List (Worker (Pass B D g) (Lines S s) C K)) → length ports ≡ length ps → AllDid ps ports ws
+          → ArePasses o t ps
+          → (k : ℕ) (x : Worked) → slice_get (worked_of clock_of sink_of ports (ended_in ws)) k ≡ Some x
+          → (h : List ℕ) × (q : HostPasses B D g) × (slice_get (passes_in ws) k ≡ Some q) × HostMade o k h q x
       made_at ps ports ws same all passes k x e =
           let m = each_made 0 ps ports ws same all (λ j y there. subst (λ m. AreOf o t m y) (let z : j ≡ 0 + j = omega arith in z) (passes.each j y there)) k x e in
           (m.h, m.q, m.there, subst (λ i. HostMade o i m.h m.q x) (let z : 0 + k ≡ k = omega arith in z) m.made)

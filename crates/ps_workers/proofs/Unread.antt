@@ -36,7 +36,8 @@ module _ (o : Origin) (h : List ℕ) (k : ℕ) (old new : List Deed) (before sou
   reads-none : AreOwned o.hosts old → Reads o k old old before source told told Memory
   reads-none owned = next-stop o k old old (brought-none o k old owned) before told told source Memory (λ x. cc x) (λ x. absurd (elim x [ inl y ↦ cc y | inr y ↦ cc y ])) (asked-none told)
 
-  pub stream-unread : {T : Type 0} (end : ReadEnd) (r : Result T HandedRefusal) → old ≡ [] → AreOwned o.hosts old → (says_gone end ≡ true → ⊥) → (r ≡ Err NotStored → end ≡ Store) → HasGone o k h old new r → StreamRead o h k old new before source told told end
+  pub stream-unread : {T : Type 0} (end : ReadEnd) (r : Result T HandedRefusal) → old ≡ [] → AreOwned o.hosts old → (says_gone end ≡ true → ⊥) → (r ≡ Err NotStored → end ≡ Store)
+      → HasGone o k h old new r → StreamRead o h k old new before source told told end
   stream-unread end r fresh owned never stored gone =
       stream-read o h k old old new before source told told Memory end r (λ all. absurd (never (gone-too end all))) (λ is. absurd (cc is)) stored (reads-none owned)
       (λ other. subst (IsKept the_core o.boot o.list o.hosts k) (sym fresh) tt) gone

@@ -38,7 +38,8 @@ same_follows w v entries made opened broken steps = record {
 }
 
 -- a step that makes an entry or none
-more_follows : (w v : World) (more : Option Entry) → v.entries ≡ more_entries w.entries more → v.made ≡ more_made w.made (w.steps + 1) more → v.opened ≡ w.opened → v.broken ≡ w.broken → v.steps ≡ w.steps + 1 → Follows w v
+more_follows : (w v : World) (more : Option Entry) → v.entries ≡ more_entries w.entries more → v.made ≡ more_made w.made (w.steps + 1) more → v.opened ≡ w.opened → v.broken ≡ w.broken
+    → v.steps ≡ w.steps + 1 → Follows w v
 more_follows w v None entries made opened broken steps = same_follows w v entries made opened (λ b. broken ∙ b) steps
 more_follows w v (Some e) entries made opened broken steps = record {
   more = e ∷ [];
@@ -58,10 +59,12 @@ itself w = same_follows w (counted w) refl refl refl (λ b. b) refl
 
 took_follows : (w : World) (h : List ℕ) (o : Option Said) → Follows w (counted (took w h o))
 took_follows w h None = itself w
-took_follows w h (Some s) = if_follows (nat_le s.step w.flushed) w (record w { hosts = at_host h (λ part. record part { taken = part.taken + 1 }) w.hosts }) w (same_follows w _ refl refl refl (λ b. b) refl) (itself w)
+took_follows w h (Some s) = if_follows (nat_le s.step w.flushed) w (record w { hosts = at_host h (λ part. record part { taken = part.taken + 1 }) w.hosts }) w
+    (same_follows w _ refl refl refl (λ b. b) refl) (itself w)
 
 emits_follows : (w : World) (a : Jid) (f : Flight) (o : Option Notice) → Follows w (counted (emits w a f o))
-emits_follows w a Nothing (Some n) = if_follows (nat_lt n.place (durable w)) w (record w { addresses = at_address a (λ part. record part { sent = part.sent ++ n ∷ []; flight = Unrecorded }) w.addresses }) w (same_follows w _ refl refl refl (λ b. b) refl) (itself w)
+emits_follows w a Nothing (Some n) = if_follows (nat_lt n.place (durable w)) w
+    (record w { addresses = at_address a (λ part. record part { sent = part.sent ++ n ∷ []; flight = Unrecorded }) w.addresses }) w (same_follows w _ refl refl refl (λ b. b) refl) (itself w)
 emits_follows w a Nothing None = itself w
 emits_follows w a Unrecorded o = itself w
 emits_follows w a (Recorded t) o = itself w

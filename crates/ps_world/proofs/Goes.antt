@@ -85,13 +85,38 @@ made-more k n made None l = omega arith
 made-more k n made (Some e) l = let same = ends-before k (n + 1) made (omega (arith, l)) in omega (arith, same)
 
 same : (w : World) → Goes w (counted w)
-same w = record { more = []; entries = sym (nil-right w.entries); opened = refl; flushed = omega arith; durable = omega arith; hosts = λ h. host-same (length w.entries) (w.hosts h); addresses = λ a. address-same (w.addresses a) }
+same w = record {
+  more = [];
+  entries = sym (nil-right w.entries);
+  opened = refl;
+  flushed = omega arith;
+  durable = omega arith;
+  hosts = λ h. host-same (length w.entries) (w.hosts h);
+  addresses = λ a.
+      address-same (w.addresses a);
+}
 
 with-hosts : (w : World) (h : List ℕ) (f : HostPart → HostPart) → ((k : List ℕ) → HostGoes (length w.entries) (w.hosts k) (f (w.hosts k))) → Goes w (counted (record w { hosts = at_host h f w.hosts }))
-with-hosts w h f each = record { more = []; entries = sym (nil-right w.entries); opened = refl; flushed = omega arith; durable = omega arith; hosts = hosts-at (length w.entries) h f w.hosts each; addresses = λ a. address-same (w.addresses a) }
+with-hosts w h f each = record {
+  more = [];
+  entries = sym (nil-right w.entries);
+  opened = refl;
+  flushed = omega arith;
+  durable = omega arith;
+  hosts = hosts-at (length w.entries) h f w.hosts each;
+  addresses = λ a. address-same (w.addresses a);
+}
 
 with-address : (w : World) (a : Jid) (f : AddressPart → AddressPart) → ((p : AddressPart) → AddressGoes p (f p)) → Goes w (counted (record w { addresses = at_address a f w.addresses }))
-with-address w a f each = record { more = []; entries = sym (nil-right w.entries); opened = refl; flushed = omega arith; durable = omega arith; hosts = λ h. host-same (length w.entries) (w.hosts h); addresses = addresses-at a f w.addresses each }
+with-address w a f each = record {
+  more = [];
+  entries = sym (nil-right w.entries);
+  opened = refl;
+  flushed = omega arith;
+  durable = omega arith;
+  hosts = λ h. host-same (length w.entries) (w.hosts h);
+  addresses = addresses-at a f w.addresses each;
+}
 
 flushed-on : (w : World) (m : ℕ) → w.flushed ≤ m → Goes w (counted (flushes w m))
 flushed-on w m low = record {
@@ -172,7 +197,16 @@ module _ (core : Core) (boot : List ℕ) where
   goes-or-crashes w (Record a) is = inl (recorded-on w a (w.addresses a).flight is.flushed)
   goes-or-crashes w (Gone h) is = inl (gone-on w (Some (GoneEntry h)) is.flushed)
   goes-or-crashes w (Ended h role) is = inl (with-hosts w h (ends_role role) (λ k. host-ends (length w.entries) role (w.hosts k)))
-  goes-or-crashes w Broken is = inl (record { more = []; entries = sym (nil-right w.entries); opened = refl; flushed = omega arith; durable = omega arith; hosts = λ h. host-same (length w.entries) (w.hosts h); addresses = λ a. address-same (w.addresses a) })
+  goes-or-crashes w Broken is = inl (record {
+    more = [];
+    entries = sym (nil-right w.entries);
+    opened = refl;
+    flushed = omega arith;
+    durable = omega arith;
+    hosts = λ h. host-same (length w.entries)
+        (w.hosts h);
+    addresses = λ a. address-same (w.addresses a);
+  })
   goes-or-crashes w (Crash m) is = by (nat_le w.flushed m && nat_le m w.steps) refl
     where
       low : (nat_le w.flushed m && nat_le m w.steps) ≡ true → w.flushed ≤ m
@@ -181,6 +215,8 @@ module _ (core : Core) (boot : List ℕ) where
       high : (nat_le w.flushed m && nat_le m w.steps) ≡ true → m ≤ w.steps
       high t = grind (arith, nat_tests)
 
-      by : (b : Bool) → (nat_le w.flushed m && nat_le m w.steps) ≡ b → Goes w (counted (if b then crashes core boot w m else w)) ⊎ ((k : ℕ) × (w.flushed ≤ k) × (k ≤ w.steps) × (counted (if b then crashes core boot w m else w) ≡ counted (crashes core boot w k)))
+      by : (b : Bool) → (nat_le w.flushed m && nat_le m w.steps) ≡ b
+          → Goes w (counted (if b then crashes core boot w m else w)) ⊎
+          ((k : ℕ) × (w.flushed ≤ k) × (k ≤ w.steps) × (counted (if b then crashes core boot w m else w) ≡ counted (crashes core boot w k)))
       by true t = inr (m, low t, high t, refl)
       by false t = inl (same w)

@@ -61,7 +61,8 @@ module _ (core : Core) (laws : Laws core) where
     pub after : core.notices (E ++ F) a ≡ core.notices E a ++ more
     pub places : (k : ℕ) (n : Notice) → slice_get more k ≡ Some n → length E ≤ n.place
 
-  get-after : (xs ys : List Notice) (k : ℕ) (n : Notice) (m : ℕ) → ((j : ℕ) (x : Notice) → slice_get xs j ≡ Some x → m ≤ x.place) → ((j : ℕ) (y : Notice) → slice_get ys j ≡ Some y → m ≤ y.place) → slice_get (xs ++ ys) k ≡ Some n → m ≤ n.place
+  get-after : (xs ys : List Notice) (k : ℕ) (n : Notice) (m : ℕ) → ((j : ℕ) (x : Notice) → slice_get xs j ≡ Some x → m ≤ x.place) → ((j : ℕ) (y : Notice) → slice_get ys j ≡ Some y → m ≤ y.place)
+      → slice_get (xs ++ ys) k ≡ Some n → m ≤ n.place
   get-after [] ys k n m f g h = g k n h
   get-after (x ∷ xs) ys zero n m f g h = f zero n h
   get-after (x ∷ xs) ys (suc k) n m f g h = get-after xs ys k n m (λ j y. f (suc j) y) g h
@@ -74,7 +75,8 @@ module _ (core : Core) (laws : Laws core) where
       record {
         more = one.more ++ rest.more;
         after = ap (λ r. core.notices r a) (sym (assoc E (f ∷ []) fs)) ∙ (rest.after ∙ (ap (λ r. r ++ rest.more) one.after ∙ assoc (core.notices E a) one.more rest.more));
-        places = λ k n h. get-after one.more rest.more k n (length E) (λ j x g. let p : x.place ≡ length E = one.places j x g in omega arith) (λ j y g. let p : length (E ++ f ∷ []) ≤ y.place = rest.places j y g in let l = length-append E (f ∷ []) in omega (arith, l)) h;
+        places = λ k n h. get-after one.more rest.more k n (length E) (λ j x g. let p : x.place ≡ length E = one.places j x g in omega arith)
+            (λ j y g. let p : length (E ++ f ∷ []) ≤ y.place = rest.places j y g in let l = length-append E (f ∷ []) in omega (arith, l)) h;
       }
 
   pub data There (E : List Entry) (p : ℕ) : Type 0 where
@@ -85,8 +87,10 @@ module _ (core : Core) (laws : Laws core) where
   get-there (e ∷ E) zero l = there e refl
   get-there (e ∷ E) (suc p) l = elim (get-there E p (omega arith)) [ there f h ↦ there f h ]
 
-  handed_here : (F : List Entry) (a b : Jid) (t : Bool) → IsLawful core F → same_jid b a ≡ t → handed F a ≤ length (core.notices F a) → core.accepted F (Handed b) ≡ true → handed F a + cond t (suc zero) zero ≤ length (core.notices F a)
-  handed_here F a b true lawful e few ok = let s : b ≡ a = (same_jid-Decides b a).0 e in let l : handed F a < length (core.notices F a) = laws.handed_only F a lawful (subst (λ (x : Jid). core.accepted F (Handed x) ≡ true) s ok) in omega arith
+  handed_here : (F : List Entry) (a b : Jid) (t : Bool) → IsLawful core F → same_jid b a ≡ t → handed F a ≤ length (core.notices F a) → core.accepted F (Handed b) ≡ true
+      → handed F a + cond t (suc zero) zero ≤ length (core.notices F a)
+  handed_here F a b true lawful e few ok = let s : b ≡ a = (same_jid-Decides b a).0 e in let l : handed F a < length (core.notices F a) = laws.handed_only F a lawful
+      (subst (λ (x : Jid). core.accepted F (Handed x) ≡ true) s ok) in omega arith
   handed_here F a b false lawful e few ok = omega arith
 
   one_step : (F : List Entry) (a : Jid) (e : Entry) → IsLawful core F → handed F a ≤ length (core.notices F a) → core.accepted F e ≡ true → handed F a + handed (e ∷ []) a ≤ length (core.notices F a)
@@ -97,7 +101,8 @@ module _ (core : Core) (laws : Laws core) where
   one_step F a (Gone host) lawful few ok = omega arith
 
   -- one more entry, which is accepted, hands out no notice that is not there
-  handed_step : (F : List Entry) (a : Jid) (e : Entry) (G : List Entry) → G ≡ F ++ e ∷ [] → IsLawful core F → handed F a ≤ length (core.notices F a) → core.accepted F e ≡ true → handed G a ≤ length (core.notices G a)
+  handed_step : (F : List Entry) (a : Jid) (e : Entry) (G : List Entry) → G ≡ F ++ e ∷ [] → IsLawful core F → handed F a ≤ length (core.notices F a) → core.accepted F e ≡ true
+      → handed G a ≤ length (core.notices G a)
   handed_step F a e G is lawful few ok =
       let g = laws.gains F e a in
       let l = length-append (core.notices F a) g.more in
@@ -131,7 +136,8 @@ module _ (core : Core) (laws : Laws core) where
       let len = length-front p E fits in
       elim (within k (length (core.notices (take p E) a))) [
         | inl l ↦ l
-        | inr l ↦ let q : length (take p E) ≤ n.place = get-past (core.notices (take p E) a) b.more k n (length (take p E)) l b.places (subst (λ (r : List Notice). slice_get r k ≡ Some n) e got) in absurd (omega (arith, len))
+        | inr l ↦ let q : length (take p E) ≤ n.place = get-past (core.notices (take p E) a) b.more k n (length (take p E)) l b.places (subst (λ (r : List Notice). slice_get r k ≡ Some n) e got) in
+            absurd (omega (arith, len))
       ]
 
   -- every front of a lawful list is lawful, and so is the list with one more that is accepted

@@ -1,5 +1,36 @@
 -- Each step keeps what holds of the machine.
-use Rattle.std.proofs.Common.{◌≡◌, ◌≢◌, ℕ, zero, suc, ◌+◌, ◌<◌, ◌≤◌, inl, inr, Bool, true, false, cond, List, [], ◌∷◌, ◌++◌, Option, Some, None, length, take, refl, ap, sym, ◌∙◌, subst, arith, length-append}
+use Rattle.std.proofs.Common.{
+  ◌≡◌,
+  ◌≢◌,
+  ℕ,
+  zero,
+  suc,
+  ◌+◌,
+  ◌<◌,
+  ◌≤◌,
+  inl,
+  inr,
+  Bool,
+  true,
+  false,
+  cond,
+  List,
+  [],
+  ◌∷◌,
+  ◌++◌,
+  Option,
+  Some,
+  None,
+  length,
+  take,
+  refl,
+  ap,
+  sym,
+  ◌∙◌,
+  subst,
+  arith,
+  length-append,
+}
 use Rattle.std.specs.Prelude.{slice_get, nat_le, nat_lt, bytes_eq, ◌&&◌, if◌then◌else◌}
 use Rattle.std.proofs.lemmas.Bool.{cases_lt, false≢true}
 use Rattle.std.proofs.lemmas.Bool.Decides.{nat_tests}
@@ -87,7 +118,9 @@ cond_no t k h = grind (arith, nat_tests)
 
 module _ (core : Core) (laws : Laws core) where
   -- what a step owes that makes no entry: what holds of the parts as they are afterwards
-  keeps : (w : World) (f : ℕ) (broken : Bool) (hosts : List ℕ → HostPart) (addresses : Jid → AddressPart) → w.flushed ≤ f → f ≤ w.steps → Sound core w → ((h : List ℕ) → HostSound core w.entries w.made (w.steps + 1) f h (hosts h)) → ((a : Jid) → AddressSound core w.entries w.made w.opened (w.steps + 1) f a (addresses a)) → Sound core (counted (record w { flushed = f; broken = broken; hosts = hosts; addresses = addresses }))
+  keeps : (w : World) (f : ℕ) (broken : Bool) (hosts : List ℕ → HostPart) (addresses : Jid → AddressPart) → w.flushed ≤ f → f ≤ w.steps → Sound core w
+      → ((h : List ℕ) → HostSound core w.entries w.made (w.steps + 1) f h (hosts h)) → ((a : Jid) → AddressSound core w.entries w.made w.opened (w.steps + 1) f a (addresses a))
+      → Sound core (counted (record w { flushed = f; broken = broken; hosts = hosts; addresses = addresses }))
   keeps w f broken hosts addresses low high is h a = record {
     lawful = is.lawful;
     sizes = is.sizes;
@@ -109,7 +142,8 @@ module _ (core : Core) (laws : Laws core) where
   address_same w a is =
       let part = is.addresses a in
       let f = (w.addresses a).flight in
-      address-later core laws w.entries w.made w.steps None w.entries w.made (none w is) w.opened w.flushed w.flushed a (w.addresses a) f is.opened (omega arith) is.flushed (ap (λ n. handed w.entries a + n) (behind-end f w.steps part.by)) (λ k l g. refl) (by-same f w.steps part.by) part
+      address-later core laws w.entries w.made w.steps None w.entries w.made (none w is) w.opened w.flushed w.flushed a (w.addresses a) f is.opened (omega arith) is.flushed
+      (ap (λ n. handed w.entries a + n) (behind-end f w.steps part.by)) (λ k l g. refl) (by-same f w.steps part.by) part
 
   -- a step that does nothing else
   counts : (w : World) → Sound core w → Sound core (counted w)
@@ -119,7 +153,8 @@ module _ (core : Core) (laws : Laws core) where
   breaks w is = keeps w w.flushed true w.hosts w.addresses (omega arith) is.flushed is (λ h. host_same w w.flushed h is (omega arith)) (λ a. address_same w a is)
 
   -- a change of one host's part alone
-  at_one : (w : World) (h : List ℕ) (f : HostPart → HostPart) (n flushed : ℕ) (E : List Entry) (made : List ℕ) → ((k : List ℕ) → k ≢ h → HostSound core E made n flushed k (w.hosts k)) → HostSound core E made n flushed h (f (w.hosts h)) → (k : List ℕ) → HostSound core E made n flushed k (at_host h f w.hosts k)
+  at_one : (w : World) (h : List ℕ) (f : HostPart → HostPart) (n flushed : ℕ) (E : List Entry) (made : List ℕ) → ((k : List ℕ) → k ≢ h → HostSound core E made n flushed k (w.hosts k))
+      → HostSound core E made n flushed h (f (w.hosts h)) → (k : List ℕ) → HostSound core E made n flushed k (at_host h f w.hosts k)
   at_one w h f n flushed E made all one k =
       chosen (HostSound core E made n flushed k) (bytes_eq k h) (f (w.hosts k)) (w.hosts k)
       (λ t. let e : k ≡ h = (bytes_eq-Decides k h).0 t in subst (λ (j : List ℕ). HostSound core E made n flushed j (f (w.hosts j))) (sym e) one)
@@ -140,7 +175,8 @@ module _ (core : Core) (laws : Laws core) where
       (ap (λ n. handed w.entries a + n) (landed-behind m f (w.steps + 1) (omega arith) ∙ behind-end f w.steps part.by))
       (λ k l g. landed-behind m f k l) (landed-by m f w.steps part.by) part)
 
-  takes_kept : (w : World) (h : List ℕ) (s : Said) → Sound core w → slice_get (w.hosts h).said (w.hosts h).taken ≡ Some s → s.step ≤ w.flushed → Sound core (counted (record w { hosts = at_host h (λ part. record part { taken = part.taken + 1 }) w.hosts }))
+  takes_kept : (w : World) (h : List ℕ) (s : Said) → Sound core w → slice_get (w.hosts h).said (w.hosts h).taken ≡ Some s → s.step ≤ w.flushed
+      → Sound core (counted (record w { hosts = at_host h (λ part. record part { taken = part.taken + 1 }) w.hosts }))
   takes_kept w h s is got low =
       let part = host_same w w.flushed h is (omega arith) in
       keeps w w.flushed w.broken (at_host h (λ p. record p { taken = p.taken + 1 }) w.hosts) w.addresses (omega arith) is.flushed is
@@ -152,45 +188,57 @@ module _ (core : Core) (laws : Laws core) where
         order = part.order;
         taken = λ k t at in_taken. elim (cases_lt k (w.hosts h).taken) [
           | inl l ↦ part.taken k t at l
-          | inr l ↦ (let e : k ≡ (w.hosts h).taken = omega arith in let same : s ≡ t = (let p = subst (λ (j : ℕ). slice_get (w.hosts h).said j ≡ Some t) e at in cc) in subst (λ (r : Said). r.step ≤ w.flushed) same low)
+          | inr l ↦ (let e : k ≡ (w.hosts h).taken = omega arith in let same : s ≡ t = (let p = subst (λ (j : ℕ). slice_get (w.hosts h).said j ≡ Some t) e at in cc) in subst
+              (λ (r : Said). r.step ≤ w.flushed) same low)
         ];
         within = (let v = slice_get_within (w.hosts h).said (w.hosts h).taken s got in omega arith);
       }))
       (λ a. address_same w a is)
 
   -- the parts of the addresses where one of them changed
-  at_this : (w : World) (a : Jid) (f : AddressPart → AddressPart) (n flushed opened : ℕ) (E : List Entry) (made : List ℕ) → ((b : Jid) → b ≢ a → AddressSound core E made opened n flushed b (w.addresses b)) → AddressSound core E made opened n flushed a (f (w.addresses a)) → (b : Jid) → AddressSound core E made opened n flushed b (at_address a f w.addresses b)
+  at_this : (w : World) (a : Jid) (f : AddressPart → AddressPart) (n flushed opened : ℕ) (E : List Entry) (made : List ℕ)
+      → ((b : Jid) → b ≢ a → AddressSound core E made opened n flushed b (w.addresses b)) → AddressSound core E made opened n flushed a (f (w.addresses a)) → (b : Jid)
+      → AddressSound core E made opened n flushed b (at_address a f w.addresses b)
   at_this w a f n flushed opened E made others one b =
       chosen (AddressSound core E made opened n flushed b) (same_jid b a) (f (w.addresses b)) (w.addresses b)
       (λ t. let e : b ≡ a = (same_jid-Decides b a).0 t in subst (λ (j : Jid). AddressSound core E made opened n flushed j (f (w.addresses j))) (sym e) one)
       (λ t. others b (λ e. let u = (same_jid-Decides b a).1 e in false≢true (sym t ∙ u)))
 
-  sends : (w : World) (a : Jid) (n : Notice) → Sound core w → (w.addresses a).flight ≡ Nothing → slice_get (core.notices w.entries a) (handed w.entries a) ≡ Some n → n.place < durable w → AddressSound core w.entries w.made w.opened w.steps w.flushed a (record (w.addresses a) { sent = (w.addresses a).sent ++ n ∷ []; flight = Unrecorded })
+  sends : (w : World) (a : Jid) (n : Notice) → Sound core w → (w.addresses a).flight ≡ Nothing → slice_get (core.notices w.entries a) (handed w.entries a) ≡ Some n → n.place < durable w
+      → AddressSound core w.entries w.made w.opened w.steps w.flushed a (record (w.addresses a) { sent = (w.addresses a).sent ++ n ∷ []; flight = Unrecorded })
   sends w a n is idle got low =
       let part = is.addresses a in
       let b = handed (take w.opened w.entries) a in
       let l = length (w.addresses a).sent in
       let len : length ((w.addresses a).sent ++ n ∷ []) ≡ l + 1 = length-append (w.addresses a).sent (n ∷ []) in
-      let open_ends : take (ends w.steps w.made) w.entries ≡ w.entries = take-whole (ends w.steps w.made) w.entries (let e = ends-all w.steps w.steps w.made is.by (omega arith) in let z = is.sizes in omega (arith, e, z)) in
-      let now : handed w.entries a + 0 ≡ b + l = ap (λ r. handed r a + 0) (sym open_ends) ∙ (ap (λ f. handed (take (ends w.steps w.made) w.entries) a + behind f w.steps) (sym idle) ∙ part.count w.steps is.flushed (omega arith)) in
+      let open_ends : take (ends w.steps w.made) w.entries ≡ w.entries = take-whole (ends w.steps w.made) w.entries
+      (let e = ends-all w.steps w.steps w.made is.by (omega arith) in let z = is.sizes in omega (arith, e, z)) in
+      let now : handed w.entries a + 0 ≡ b + l = ap (λ r. handed r a + 0) (sym open_ends) ∙
+      (ap (λ f. handed (take (ends w.steps w.made) w.entries) a + behind f w.steps) (sym idle) ∙ part.count w.steps is.flushed (omega arith)) in
       let at : b + l ≡ handed w.entries a = omega arith in
       let within : durable w ≤ length w.entries = (let e = ends-le w.flushed w.made in let z = is.sizes in omega (arith, e, z)) in
       let more : handed w.entries a < length (core.notices (take (durable w) w.entries) a) = notice-within core laws (durable w) w.entries a (handed w.entries a) n within got low in
       record {
         sent = rw len (sym (piece-more b l (handed w.entries a) (core.notices w.entries a) n at got ∙ ap (λ r. r ++ n ∷ []) (sym part.sent)));
         durable = rw len (omega arith);
-        count = λ k f s. (rw len (let c : handed (take (ends k w.made) w.entries) a + 0 ≡ b + l = ap (λ g. handed (take (ends k w.made) w.entries) a + behind g k) (sym idle) ∙ part.count k f s in omega arith));
+        count = λ k f s. (rw len (let c : handed (take (ends k w.made) w.entries) a + 0 ≡ b + l = ap (λ g. handed (take (ends k w.made) w.entries) a + behind g k) (sym idle) ∙ part.count k f s in
+            omega arith));
         by = tt;
       }
 
-  emits_kept : (w : World) (a : Jid) (n : Notice) → Sound core w → (w.addresses a).flight ≡ Nothing → slice_get (core.notices w.entries a) (handed w.entries a) ≡ Some n → n.place < durable w → Sound core (counted (record w { addresses = at_address a (λ part. record part { sent = part.sent ++ n ∷ []; flight = Unrecorded }) w.addresses }))
+  emits_kept : (w : World) (a : Jid) (n : Notice) → Sound core w → (w.addresses a).flight ≡ Nothing → slice_get (core.notices w.entries a) (handed w.entries a) ≡ Some n → n.place < durable w
+      → Sound core (counted (record w { addresses = at_address a (λ part. record part { sent = part.sent ++ n ∷ []; flight = Unrecorded }) w.addresses }))
   emits_kept w a n is idle got low =
-      keeps w w.flushed w.broken w.hosts (at_address a (λ part. record part { sent = part.sent ++ n ∷ []; flight = Unrecorded }) w.addresses) (omega arith) is.flushed is (λ h. host_same w w.flushed h is (omega arith))
+      keeps w w.flushed w.broken w.hosts (at_address a (λ part. record part { sent = part.sent ++ n ∷ []; flight = Unrecorded }) w.addresses) (omega arith) is.flushed is
+      (λ h. host_same w w.flushed h is (omega arith))
       (at_this w a (λ part. record part { sent = part.sent ++ n ∷ []; flight = Unrecorded }) (w.steps + 1) w.flushed w.opened w.entries w.made (λ b other. address_same w b is)
-      (address-later core laws w.entries w.made w.steps None w.entries w.made (none w is) w.opened w.flushed w.flushed a (record (w.addresses a) { sent = (w.addresses a).sent ++ n ∷ []; flight = Unrecorded }) Unrecorded is.opened (omega arith) is.flushed refl (λ k l g. refl) tt (sends w a n is idle got low)))
+      (address-later core laws w.entries w.made w.steps None w.entries w.made (none w is) w.opened w.flushed w.flushed a
+      (record (w.addresses a) { sent = (w.addresses a).sent ++ n ∷ []; flight = Unrecorded }) Unrecorded is.opened (omega arith) is.flushed refl (λ k l g. refl) tt (sends w a n is idle got low)))
 
   -- what a step owes that may make an entry
-  makes : (w : World) (more : Option Entry) (F : List Entry) (now : List ℕ) (hosts : List ℕ → HostPart) (addresses : Jid → AddressPart) → Sound core w → Extends w.entries w.made w.steps more F now → IsLawful core F → ((h : List ℕ) → HostSound core F now (w.steps + 1) w.flushed h (hosts h)) → ((a : Jid) → AddressSound core F now w.opened (w.steps + 1) w.flushed a (addresses a)) → Sound core (counted (record w { entries = F; made = now; hosts = hosts; addresses = addresses }))
+  makes : (w : World) (more : Option Entry) (F : List Entry) (now : List ℕ) (hosts : List ℕ → HostPart) (addresses : Jid → AddressPart) → Sound core w → Extends w.entries w.made w.steps more F now
+      → IsLawful core F → ((h : List ℕ) → HostSound core F now (w.steps + 1) w.flushed h (hosts h)) → ((a : Jid) → AddressSound core F now w.opened (w.steps + 1) w.flushed a (addresses a))
+      → Sound core (counted (record w { entries = F; made = now; hosts = hosts; addresses = addresses }))
   makes w more F now hosts addresses is x ok h a = record {
     lawful = ok;
     sizes = x.sizes;
@@ -203,14 +251,16 @@ module _ (core : Core) (laws : Laws core) where
   }
 
   -- an address after an entry that hands it nothing
-  address_on : (w : World) (more : Option Entry) (F : List Entry) (now : List ℕ) (a : Jid) → Sound core w → Extends w.entries w.made w.steps more F now → handed F a ≡ handed w.entries a → AddressSound core F now w.opened (w.steps + 1) w.flushed a (w.addresses a)
+  address_on : (w : World) (more : Option Entry) (F : List Entry) (now : List ℕ) (a : Jid) → Sound core w → Extends w.entries w.made w.steps more F now → handed F a ≡ handed w.entries a
+      → AddressSound core F now w.opened (w.steps + 1) w.flushed a (w.addresses a)
   address_on w more F now a is x same =
       let part = is.addresses a in
       let f = (w.addresses a).flight in
       address-later core laws w.entries w.made w.steps more F now x w.opened w.flushed w.flushed a (w.addresses a) f is.opened (omega arith) is.flushed
       (let b = behind-end f w.steps part.by in omega (arith, same, b)) (λ k l g. refl) (by-same f w.steps part.by) part
 
-  host_on : (w : World) (more : Option Entry) (F : List Entry) (now : List ℕ) (h : List ℕ) → Sound core w → Extends w.entries w.made w.steps more F now → core.greatest F h ≤ (w.hosts h).line → HostSound core F now (w.steps + 1) w.flushed h (w.hosts h)
+  host_on : (w : World) (more : Option Entry) (F : List Entry) (now : List ℕ) (h : List ℕ) → Sound core w → Extends w.entries w.made w.steps more F now → core.greatest F h ≤ (w.hosts h).line
+      → HostSound core F now (w.steps + 1) w.flushed h (w.hosts h)
   host_on w more F now h is x low = host-later core laws w.entries w.made w.steps more F now x w.flushed w.flushed h (w.hosts h) (omega arith) low (is.hosts h)
 
   extends : (w : World) (e : Entry) → Sound core w → Extends w.entries w.made w.steps (Some e) (w.entries ++ e ∷ []) (w.made ++ (w.steps + 1) ∷ [])
@@ -224,7 +274,8 @@ module _ (core : Core) (laws : Laws core) where
       let x = extends w (GoneEntry h) is in
       makes w (Some (GoneEntry h)) (w.entries ++ GoneEntry h ∷ []) (w.made ++ (w.steps + 1) ∷ []) w.hosts w.addresses is x
       (lawful-snoc core laws w.entries (GoneEntry h) is.lawful (laws.gone_ok w.entries h is.lawful is.boot))
-      (λ k. host_on w (Some (GoneEntry h)) (w.entries ++ GoneEntry h ∷ []) (w.made ++ (w.steps + 1) ∷ []) k is x (let g = laws.greatest_gone w.entries h k in let l = (is.hosts k).greatest in omega (arith, g, l)))
+      (λ k. host_on w (Some (GoneEntry h)) (w.entries ++ GoneEntry h ∷ []) (w.made ++ (w.steps + 1) ∷ []) k is x
+      (let g = laws.greatest_gone w.entries h k in let l = (is.hosts k).greatest in omega (arith, g, l)))
       (λ a. address_on w (Some (GoneEntry h)) (w.entries ++ GoneEntry h ∷ []) (w.made ++ (w.steps + 1) ∷ []) a is x (handed_not w (GoneEntry h) a refl))
 
   handed_one : (w : World) (a b : Jid) → b ≢ a → (t : Bool) → same_jid a b ≡ t → cond t (suc zero) zero ≡ zero
@@ -241,7 +292,8 @@ module _ (core : Core) (laws : Laws core) where
       let now = w.made ++ (n + 1) ∷ [] in
       let b = handed (take w.opened w.entries) a in
       let all : take (ends n w.made) w.entries ≡ w.entries = take-whole (ends n w.made) w.entries (let q = ends-all n n w.made is.by (omega arith) in let z = is.sizes in omega (arith, q, z)) in
-      let one : handed w.entries a + 1 ≡ b + length (w.addresses a).sent = ap (λ r. handed r a + 1) (sym all) ∙ (ap (λ f. handed (take (ends n w.made) w.entries) a + behind f n) (sym sent) ∙ part.count n is.flushed (omega arith)) in
+      let one : handed w.entries a + 1 ≡ b + length (w.addresses a).sent = ap (λ r. handed r a + 1) (sym all) ∙
+      (ap (λ f. handed (take (ends n w.made) w.entries) a + behind f n) (sym sent) ∙ part.count n is.flushed (omega arith)) in
       let few : handed w.entries a < length (core.notices w.entries a) = (let d = part.durable in let le = notices-take core laws (ends w.flushed w.made) w.entries a in omega (arith, d, le, one)) in
       let itself : handed (e ∷ []) a ≡ 1 = ap (λ t. cond t (suc zero) zero) ((same_jid-Decides a a).1 refl) in
       makes w (Some e) F now w.hosts (at_address a (λ p. record p { flight = Recorded (w.steps + 1) }) w.addresses) is x
@@ -250,7 +302,8 @@ module _ (core : Core) (laws : Laws core) where
       (at_this w a (λ p. record p { flight = Recorded (w.steps + 1) }) (n + 1) w.flushed w.opened F now
       (λ c other. address_on w (Some e) F now c is x (handed_not w e c (handed_one w a c other (same_jid a c) refl)))
       (address-later core laws w.entries w.made n (Some e) F now x w.opened w.flushed w.flushed a (w.addresses a) (Recorded (n + 1)) is.opened (omega arith) is.flushed
-      (let f = handed-append w.entries (e ∷ []) a in let z : behind (Recorded (n + 1)) (n + 1) ≡ 0 = cond_yes (n + 1) (n + 1) (omega arith) in let u : behind (w.addresses a).flight n ≡ 1 = ap (λ g. behind g n) sent in omega (arith, f, z, u, itself))
+      (let f = handed-append w.entries (e ∷ []) a in let z : behind (Recorded (n + 1)) (n + 1) ≡ 0 = cond_yes (n + 1) (n + 1) (omega arith) in let u : behind (w.addresses a).flight n ≡ 1 = ap
+      (λ g. behind g n) sent in omega (arith, f, z, u, itself))
       (λ k l g. cond_no (n + 1) k (omega arith) ∙ ap (λ r. behind r k) (sym sent)) (omega arith) part))
 
   -- the reply that a line waits for
@@ -258,7 +311,10 @@ module _ (core : Core) (laws : Laws core) where
   new_said line arrival full place upto step reply = record { line = line; arrival = arrival; full = full; place = place; upto = upto; step = step; reply = reply }
 
   -- the host's part after a line of its own
-  host_answered : (w : World) (more : Option Entry) (F : List Entry) (now : List ℕ) (h : List ℕ) (arrival : Arrival) (full : Bool) (r : Option (List ℕ)) → Sound core w → Extends w.entries w.made w.steps more F now → core.entry w.entries h ((w.hosts h).line + 1) arrival full ≡ more → core.reply w.entries h ((w.hosts h).line + 1) arrival full ≡ r → core.greatest F h ≤ (w.hosts h).line + 1 → HostSound core F now (w.steps + 1) w.flushed h (answered ((w.hosts h).line + 1) arrival full (length w.entries) (length F) (w.steps + 1) r (w.hosts h))
+  host_answered : (w : World) (more : Option Entry) (F : List Entry) (now : List ℕ) (h : List ℕ) (arrival : Arrival) (full : Bool) (r : Option (List ℕ)) → Sound core w
+      → Extends w.entries w.made w.steps more F now → core.entry w.entries h ((w.hosts h).line + 1) arrival full ≡ more → core.reply w.entries h ((w.hosts h).line + 1) arrival full ≡ r
+      → core.greatest F h ≤ (w.hosts h).line + 1 → HostSound core F now (w.steps + 1) w.flushed h
+      (answered ((w.hosts h).line + 1) arrival full (length w.entries) (length F) (w.steps + 1) r (w.hosts h))
   host_answered w more F now h arrival full None is x entry reply low =
       let part = is.hosts h in
       let line = (w.hosts h).line in
@@ -290,7 +346,8 @@ module _ (core : Core) (laws : Laws core) where
         line_le = omega arith;
         answer = subst (IsAnswer core h new) (sym all) answers;
       } in
-      let old : (k : ℕ) (s : Said) → slice_get said k ≡ Some s → IsSaid core F now (n + 1) (line + 1) h s = λ k s got. said-later core laws w.entries w.made n more F now x line (line + 1) h s (omega arith) (part.each k s got) in
+      let old : (k : ℕ) (s : Said) → slice_get said k ≡ Some s → IsSaid core F now (n + 1) (line + 1) h s = λ k s got. said-later core laws w.entries w.made n more F now x line (line + 1) h s
+      (omega arith) (part.each k s got) in
       record {
         greatest = low;
         few = (let q = part.few in omega (arith, q));
@@ -319,16 +376,29 @@ module _ (core : Core) (laws : Laws core) where
         within = (let l = length-append said (new ∷ []) in let i = part.within in omega (arith, l, i));
       }
 
-  arrives_on : (w : World) (more : Option Entry) (F : List Entry) (now : List ℕ) (h : List ℕ) (arrival : Arrival) (full : Bool) → Sound core w → Extends w.entries w.made w.steps more F now → core.entry w.entries h ((w.hosts h).line + 1) arrival full ≡ more → IsLawful core F → ((a : Jid) → handed F a ≡ handed w.entries a) → ((k : List ℕ) → k ≢ h → core.greatest F k ≤ (w.hosts k).line) → core.greatest F h ≤ (w.hosts h).line + 1 → Sound core (counted (record w { entries = F; made = now; hosts = at_host h (answered ((w.hosts h).line + 1) arrival full (length w.entries) (length F) (w.steps + 1) (core.reply w.entries h ((w.hosts h).line + 1) arrival full)) w.hosts }))
+  arrives_on : (w : World) (more : Option Entry) (F : List Entry) (now : List ℕ) (h : List ℕ) (arrival : Arrival) (full : Bool) → Sound core w → Extends w.entries w.made w.steps more F now
+      → core.entry w.entries h ((w.hosts h).line + 1) arrival full ≡ more → IsLawful core F → ((a : Jid) → handed F a ≡ handed w.entries a)
+      → ((k : List ℕ) → k ≢ h → core.greatest F k ≤ (w.hosts k).line) → core.greatest F h ≤ (w.hosts h).line + 1
+      → Sound core (counted (record w {
+        entries = F;
+        made = now;
+        hosts = at_host h
+            (answered ((w.hosts h).line + 1) arrival full (length w.entries) (length F) (w.steps + 1) (core.reply w.entries h ((w.hosts h).line + 1) arrival full)) w.hosts;
+      }))
   arrives_on w more F now h arrival full is x entry ok same others here =
-      makes w more F now (at_host h (answered ((w.hosts h).line + 1) arrival full (length w.entries) (length F) (w.steps + 1) (core.reply w.entries h ((w.hosts h).line + 1) arrival full)) w.hosts) w.addresses is x ok
+      makes w more F now (at_host h (answered ((w.hosts h).line + 1) arrival full (length w.entries) (length F) (w.steps + 1) (core.reply w.entries h ((w.hosts h).line + 1) arrival full)) w.hosts)
+      w.addresses is x ok
       (at_one w h (answered ((w.hosts h).line + 1) arrival full (length w.entries) (length F) (w.steps + 1) (core.reply w.entries h ((w.hosts h).line + 1) arrival full)) (w.steps + 1) w.flushed F now
       (λ k other. host_on w more F now k is x (others k other))
       (host_answered w more F now h arrival full (core.reply w.entries h ((w.hosts h).line + 1) arrival full) is x entry refl here))
       (λ a. address_on w more F now a is x (same a))
 
   -- a line, by the entry that it makes
-  arrives_at : (w : World) (h : List ℕ) (arrival : Arrival) (full : Bool) (more : Option Entry) → Sound core w → core.entry w.entries h ((w.hosts h).line + 1) arrival full ≡ more → (let next = with_entry w more in Sound core (counted (record next { hosts = at_host h (answered ((w.hosts h).line + 1) arrival full (length w.entries) (length next.entries) (w.steps + 1) (core.reply w.entries h ((w.hosts h).line + 1) arrival full)) w.hosts })))
+  arrives_at : (w : World) (h : List ℕ) (arrival : Arrival) (full : Bool) (more : Option Entry) → Sound core w → core.entry w.entries h ((w.hosts h).line + 1) arrival full ≡ more
+      → (let next = with_entry w more in Sound core (counted (record next {
+        hosts = at_host h (answered ((w.hosts h).line + 1) arrival full (length w.entries) (length next.entries) (w.steps + 1) (core.reply w.entries h ((w.hosts h).line + 1) arrival full))
+            w.hosts;
+      })))
   arrives_at w h arrival full None is entry =
       arrives_on w None w.entries w.made h arrival full is (none w is) entry is.lawful (λ a. refl) (λ k other. (is.hosts k).greatest) (let l = (is.hosts h).greatest in omega (arith, l))
   arrives_at w h arrival full (Some e) is entry =
@@ -340,11 +410,24 @@ module _ (core : Core) (laws : Laws core) where
       arrives_on w (Some e) (w.entries ++ e ∷ []) (w.made ++ (w.steps + 1) ∷ []) h arrival full is (extends w e is) entry
       (lawful-snoc core laws w.entries e is.lawful (laws.change_ok w.entries h line arrival full e is.lawful is.boot entry above))
       (λ a. handed_not w e a (ap (λ f. handed (f ∷ []) a) kind))
-      (λ k other. subst (λ (f : Entry). core.greatest (w.entries ++ f ∷ []) k ≤ (w.hosts k).line) (sym kind) (let g = laws.greatest_else w.entries h line change.0 change.1 k other in let l = (is.hosts k).greatest in omega (arith, g, l)))
+      (λ k other. subst (λ (f : Entry). core.greatest (w.entries ++ f ∷ []) k ≤ (w.hosts k).line) (sym kind)
+      (let g = laws.greatest_else w.entries h line change.0 change.1 k other in let l = (is.hosts k).greatest in omega (arith, g, l)))
       (subst (λ (f : Entry). core.greatest (w.entries ++ f ∷ []) h ≤ line) (sym kind) (let g = laws.greatest_same w.entries h line change.0 change.1 in omega (arith, g)))
 
   -- after the opening, or a crash, nothing is known but the list
-  fresh_kept : (boot : List ℕ) → boot ≢ [] → (E : List Entry) (now : List ℕ) (n : ℕ) (broken : Bool) (said : List ℕ → List Said) (sent : Jid → List (List Notice)) → IsLawful core E → length now ≡ length (E ++ Boot boot ∷ []) → AllBy n now → Sound core (record { entries = E ++ Boot boot ∷ []; made = now; opened = length (E ++ Boot boot ∷ []); steps = n; flushed = n; broken = broken; hosts = λ k. host_with (said k); addresses = λ k. address_with (sent k) })
+  fresh_kept : (boot : List ℕ) → boot ≢ [] → (E : List Entry) (now : List ℕ) (n : ℕ) (broken : Bool) (said : List ℕ → List Said) (sent : Jid → List (List Notice)) → IsLawful core E
+      → length now ≡ length (E ++ Boot boot ∷ []) → AllBy n now → Sound core
+      (record {
+        entries = E ++ Boot boot ∷ [];
+        made = now;
+        opened = length (E ++ Boot boot ∷ []);
+        steps = n;
+        flushed = n;
+        broken = broken;
+        hosts = λ k. host_with (said k);
+        addresses = λ k.
+            address_with (sent k);
+      })
   fresh_kept boot some E now n broken said sent ok sizes by =
       let F = E ++ Boot boot ∷ [] in
       let more : length F ≡ length E + 1 = length-append E (Boot boot ∷ []) in
@@ -370,7 +453,8 @@ module _ (core : Core) (laws : Laws core) where
           sent = refl;
           durable = rw (begun, whole) (
               let f = handed-append E (Boot boot ∷ []) a in
-              let few : handed E a ≤ length (core.notices E a) = subst (λ (r : List Entry). handed r a ≤ length (core.notices r a)) (take-whole (length E) E (omega arith)) (handed-few core laws (length E) E a ok (omega arith)) in
+              let few : handed E a ≤ length (core.notices E a) = subst (λ (r : List Entry). handed r a ≤ length (core.notices r a)) (take-whole (length E) E (omega arith))
+              (handed-few core laws (length E) E a ok (omega arith)) in
               let g = laws.gains E (Boot boot) a in
               let q = ap length g.after in
               let l = length-append (core.notices E a) g.more in
@@ -387,10 +471,21 @@ module _ (core : Core) (laws : Laws core) where
       let front_len : length (take c w.entries) ≡ c = length-front c w.entries within in
       let now = take c w.made ++ (w.steps + 1) ∷ [] in
       let len : length (take c w.entries ++ Boot boot ∷ []) ≡ c + 1 = (let a = length-append (take c w.entries) (Boot boot ∷ []) in omega (arith, a, front_len)) in
-      let kept = fresh_kept boot some (take c w.entries) now (w.steps + 1) false (λ k. all_taken (w.hosts k)) (λ k. (w.addresses k).earlier ++ (w.addresses k).sent ∷ []) (lawful-take core laws c w.entries is.lawful)
+      let kept = fresh_kept boot some (take c w.entries) now (w.steps + 1) false (λ k. all_taken (w.hosts k)) (λ k. (w.addresses k).earlier ++ (w.addresses k).sent ∷ [])
+      (lawful-take core laws c w.entries is.lawful)
       (let a = length-append (take c w.made) ((w.steps + 1) ∷ []) in let b = length-front c w.made (ends-le m w.made) in omega (arith, a, b, len))
       (by-snoc (w.steps + 1) (w.steps + 1) (take c w.made) (omega arith) (by-more w.steps (w.steps + 1) (take c w.made) (omega arith) (by-take w.steps c w.made is.by))) in
-      subst (λ (o : ℕ). Sound core (record { entries = take c w.entries ++ Boot boot ∷ []; made = now; opened = o; steps = w.steps + 1; flushed = w.steps + 1; broken = false; hosts = λ k. host_with (all_taken (w.hosts k)); addresses = λ k. address_with ((w.addresses k).earlier ++ (w.addresses k).sent ∷ []) })) len kept
+      subst (λ (o : ℕ). Sound core (record {
+        entries = take c w.entries ++ Boot boot ∷ [];
+        made = now;
+        opened = o;
+        steps = w.steps + 1;
+        flushed = w.steps + 1;
+        broken = false;
+        hosts = λ k. host_with
+            (all_taken (w.hosts k));
+        addresses = λ k. address_with ((w.addresses k).earlier ++ (w.addresses k).sent ∷ []);
+      })) len kept
 
   -- the first reply that is not taken, by whether there is one
   took_kept : (w : World) (h : List ℕ) (next : Option Said) → Sound core w → slice_get (w.hosts h).said (w.hosts h).taken ≡ next → Sound core (counted (took w h next))
@@ -399,7 +494,8 @@ module _ (core : Core) (laws : Laws core) where
       chosen (λ v. Sound core (counted v)) (nat_le s.step w.flushed) (record w { hosts = at_host h (λ part. record part { taken = part.taken + 1 }) w.hosts }) w
       (λ t. takes_kept w h s is got (le_from s.step w.flushed t)) (λ t. counts w is)
 
-  emits_at : (w : World) (a : Jid) (flight : Flight) (next : Option Notice) → Sound core w → (w.addresses a).flight ≡ flight → slice_get (core.notices w.entries a) (handed w.entries a) ≡ next → Sound core (counted (emits w a flight next))
+  emits_at : (w : World) (a : Jid) (flight : Flight) (next : Option Notice) → Sound core w → (w.addresses a).flight ≡ flight → slice_get (core.notices w.entries a) (handed w.entries a) ≡ next
+      → Sound core (counted (emits w a flight next))
   emits_at w a Nothing (Some n) is idle got =
       chosen (λ v. Sound core (counted v)) (nat_lt n.place (durable w)) (record w { addresses = at_address a (λ part. record part { sent = part.sent ++ n ∷ []; flight = Unrecorded }) w.addresses }) w
       (λ t. emits_kept w a n is idle got (lt_from n.place (durable w) t)) (λ t. counts w is)
@@ -446,7 +542,8 @@ module _ (core : Core) (laws : Laws core) where
       let n = w.steps in
       let b = handed (take w.opened w.entries) a in
       let all : take (ends n w.made) w.entries ≡ w.entries = take-whole (ends n w.made) w.entries (let q = ends-all n n w.made is.by (omega arith) in let z = is.sizes in omega (arith, q, z)) in
-      let one : handed w.entries a + 1 ≡ b + length (w.addresses a).sent = ap (λ r. handed r a + 1) (sym all) ∙ (ap (λ f. handed (take (ends n w.made) w.entries) a + behind f n) (sym sent) ∙ part.count n is.flushed (omega arith)) in
+      let one : handed w.entries a + 1 ≡ b + length (w.addresses a).sent = ap (λ r. handed r a + 1) (sym all) ∙
+      (ap (λ f. handed (take (ends n w.made) w.entries) a + behind f n) (sym sent) ∙ part.count n is.flushed (omega arith)) in
       let d = part.durable in
       let le = notices-take core laws (ends w.flushed w.made) w.entries a in
       omega (arith, d, le, one)

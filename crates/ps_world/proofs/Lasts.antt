@@ -20,7 +20,8 @@ use Rattle.ps_world.proofs.Lists.{ends-le, ends-mono, length-front, piece-front,
 use Rattle.ps_world.proofs.Rounds.{rounds-grow, rounds-more}
 
 -- an element of two lists is of the first, or of the second
-pub get-either : {X : Type 0} (xs ys : List X) (k : ℕ) (x : X) → slice_get (xs ++ ys) k ≡ Some x → ((k < length xs) × (slice_get xs k ≡ Some x)) ⊎ ((j : ℕ) × (length xs + j ≡ k) × (slice_get ys j ≡ Some x))
+pub get-either : {X : Type 0} (xs ys : List X) (k : ℕ) (x : X) → slice_get (xs ++ ys) k ≡ Some x
+    → ((k < length xs) × (slice_get xs k ≡ Some x)) ⊎ ((j : ℕ) × (length xs + j ≡ k) × (slice_get ys j ≡ Some x))
 get-either [] ys k x got = inr (k, (let e : 0 + k ≡ k = omega arith in e), got)
 get-either (y ∷ xs) ys zero x got = inl ((let l : 0 < suc (length xs) = omega arith in l), got)
 get-either (y ∷ xs) ys (suc k) x got = elim (get-either xs ys k x got) [
@@ -43,7 +44,8 @@ behind-one (Recorded t) k = elim (nat_le t k) as (λ b. cond b zero (suc zero) �
 module _ (core : Core) (laws : Laws core) (begun : List Entry) where
   -- ---- a step that is no crash
 
-  lasting-on : (E F : List Entry) (opened flushed later : ℕ) (h : List ℕ) (s : Said) → flushed ≤ later → take opened F ≡ take opened E → IsLasting core E opened flushed h s → IsLasting core F opened later h s
+  lasting-on : (E F : List Entry) (opened flushed later : ℕ) (h : List ℕ) (s : Said) → flushed ≤ later → take opened F ≡ take opened E → IsLasting core E opened flushed h s
+      → IsLasting core F opened later h s
   lasting-on E F opened flushed later h s l same is = record {
     place = is.place;
     upto = is.upto;
@@ -51,7 +53,8 @@ module _ (core : Core) (laws : Laws core) (begun : List Entry) where
     answer = subst (IsAnswer core h s) (sym (take-both s.upto opened E is.upto) ∙ ap (take s.upto) (sym same) ∙ take-both s.upto opened F is.upto) is.answer;
   }
 
-  host-on : (E F : List Entry) (opened flushed later n : ℕ) (h : List ℕ) (p q : HostPart) → flushed ≤ later → take opened F ≡ take opened E → opened ≤ n → HostGoes n p q → HostLasts core E opened flushed h p → HostLasts core F opened later h q
+  host-on : (E F : List Entry) (opened flushed later n : ℕ) (h : List ℕ) (p q : HostPart) → flushed ≤ later → take opened F ≡ take opened E → opened ≤ n → HostGoes n p q
+      → HostLasts core E opened flushed h p → HostLasts core F opened later h q
   host-on E F opened flushed later n h p q l same low goes is = record {
     each = λ k s got. lasting-on E F opened flushed later h s l same (is.each k s (ap (λ (x : List Said). slice_get x k) (sym goes.earlier) ∙ got));
     order = λ j k s t at_j at_k less. is.order j k s t (ap (λ (x : List Said). slice_get x j) (sym goes.earlier) ∙ at_j) (ap (λ (x : List Said). slice_get x k) (sym goes.earlier) ∙ at_k) less;
@@ -102,7 +105,8 @@ module _ (core : Core) (laws : Laws core) (begun : List Entry) where
       answer = subst (IsAnswer core h s) (sym (front s.upto (let u = one.upto in let o = opened-in in omega (arith, u, o)))) one.answer;
     }
 
-    new-lasts : (h : List ℕ) (k : ℕ) (s : Said) → slice_get (w.hosts h).said k ≡ Some s → k < (w.hosts h).taken → IsLasting core (take (ends m w.made) w.entries ++ Boot boot ∷ []) (ends m w.made + 1) (w.steps + 1) h s
+    new-lasts : (h : List ℕ) (k : ℕ) (s : Said) → slice_get (w.hosts h).said k ≡ Some s → k < (w.hosts h).taken
+        → IsLasting core (take (ends m w.made) w.entries ++ Boot boot ∷ []) (ends m w.made + 1) (w.steps + 1) h s
     new-lasts h k s got taken =
         let one = (is.hosts h).each k s got in
         let step : s.step ≤ w.flushed = (is.hosts h).taken k s got taken in
@@ -138,7 +142,8 @@ module _ (core : Core) (laws : Laws core) (begun : List Entry) where
           since = λ k t got. absurd (let no : None ≡ Some t = got in cc no);
         }
 
-    rounds-crashed : (a : Jid) → AreRounds (core.notices (take (ends m w.made) w.entries ++ Boot boot ∷ []) a) (handed begun a) ((w.addresses a).earlier ++ (w.addresses a).sent ∷ []) (handed (take (ends m w.made) w.entries ++ Boot boot ∷ []) a)
+    rounds-crashed : (a : Jid) → AreRounds (core.notices (take (ends m w.made) w.entries ++ Boot boot ∷ []) a) (handed begun a) ((w.addresses a).earlier ++ (w.addresses a).sent ∷ [])
+        (handed (take (ends m w.made) w.entries ++ Boot boot ∷ []) a)
     rounds-crashed a =
         let part = w.addresses a in
         let sound = is.addresses a in
@@ -159,7 +164,9 @@ module _ (core : Core) (laws : Laws core) (begun : List Entry) where
         let next : handed (M ++ Boot boot ∷ []) a ≡ handed M a + 0 = handed-append M (Boot boot ∷ []) a in
         let at_most = behind-one part.flight m in
         rounds-more (core.notices (M ++ Boot boot ∷ []) a) (handed begun a) part.earlier b part.sent (handed (M ++ Boot boot ∷ []) a)
-        (subst (λ (N : List Notice). AreRounds N (handed begun a) part.earlier b) (sym at_boot) (rounds-grow (core.notices (take w.opened w.entries) a) (begins core laws (take w.opened w.entries) (drop w.opened (M ++ Boot boot ∷ [])) a).more (handed begun a) part.earlier b (lasts.addresses a)))
+        (subst (λ (N : List Notice). AreRounds N (handed begun a) part.earlier b) (sym at_boot)
+        (rounds-grow (core.notices (take w.opened w.entries) a) (begins core laws (take w.opened w.entries) (drop w.opened (M ++ Boot boot ∷ [])) a).more (handed begun a) part.earlier b
+        (lasts.addresses a)))
         (sound.sent ∙ ap (λ (N : List Notice). take (length part.sent) (drop b N)) back ∙ piece-front b (length part.sent) (core.notices M a) two.more few
         ∙ sym (piece-front b (length part.sent) (core.notices M a) one.more few) ∙ ap (λ (N : List Notice). take (length part.sent) (drop b N)) (sym now))
         (let l = ap length now in let q = length-append (core.notices M a) one.more in omega (arith, few, l, q))

@@ -78,7 +78,9 @@ module _ (core : Core) (laws : Laws core) (E : List Entry) (made : List ℕ) (n 
   pub notices-later : (a : Jid) → (rest : List Notice) × (core.notices F a ≡ core.notices E a ++ rest)
   notices-later a = let b = begins core laws E (as_list more) a in (b.more, ap (λ r. core.notices r a) x.after ∙ b.after)
 
-  pub address-later : (opened f f_now : ℕ) (a : Jid) (part : AddressPart) (flight : Flight) → opened ≤ ends f made → f ≤ f_now → f_now ≤ n → handed F a + behind flight (n + 1) ≡ handed E a + behind part.flight n → ((k : ℕ) → f_now ≤ k → k ≤ n → behind flight k ≡ behind part.flight k) → IsBy flight (n + 1) → AddressSound core E made opened n f a part → AddressSound core F now opened (n + 1) f_now a (record part { flight = flight })
+  pub address-later : (opened f f_now : ℕ) (a : Jid) (part : AddressPart) (flight : Flight) → opened ≤ ends f made → f ≤ f_now → f_now ≤ n
+      → handed F a + behind flight (n + 1) ≡ handed E a + behind part.flight n → ((k : ℕ) → f_now ≤ k → k ≤ n → behind flight k ≡ behind part.flight k) → IsBy flight (n + 1)
+      → AddressSound core E made opened n f a part → AddressSound core F now opened (n + 1) f_now a (record part { flight = flight })
   address-later opened f f_now a part flight open_in l fits last same by is =
       let open_le : opened ≤ length E = let le = ends-le f made in omega (arith, le, x.before, open_in) in
       let base : take opened F ≡ take opened E = front opened open_le in
@@ -92,7 +94,8 @@ module _ (core : Core) (laws : Laws core) (E : List Entry) (made : List ℕ) (n 
         sent = rw (base_is, grown.1, piece-front b (length part.sent) (core.notices E a) grown.0 few) is.sent;
         durable = rw (base_is, front-ends f_now fits) (let le = notices-mono core laws (ends f made) (ends f_now made) E a (ends-mono f f_now made l) in omega (arith, le, dur));
         count = λ k low high. (rw base_is (elim (cases_lt n k) [
-          | inl past ↦ (let at : k ≡ n + 1 = omega arith in rw (at, whole (n + 1) (omega arith)) (last ∙ (ap (λ r. handed r a + behind part.flight n) (sym (whole-before n (omega arith))) ∙ is.count n f_le (omega arith))))
+          | inl past ↦ (let at : k ≡ n + 1 = omega arith in rw (at, whole (n + 1) (omega arith))
+              (last ∙ (ap (λ r. handed r a + behind part.flight n) (sym (whole-before n (omega arith))) ∙ is.count n f_le (omega arith))))
           | inr within ↦ rw (front-ends k within, same k low within) (is.count k (omega arith) within)
         ]));
         by = by;

@@ -34,7 +34,8 @@ module _ (core : Core) (laws : Laws core) where
         place = omega arith;
         reply = subst (λ (r : List Entry). core.reply r h s.line s.arrival s.full ≡ Some s.reply) same is.reply;
         entry = λ e made.
-            (let whole : take s.upto E ≡ take s.place E ++ e ∷ [] = subst (λ (r : List Entry). take s.upto E ≡ r ++ as_list (core.entry r h s.line s.arrival s.full)) same is.entry ∙ ap (λ o. take s.place E ++ as_list o) made in
+            (let whole : take s.upto E ≡ take s.place E ++ e ∷ [] = subst (λ (r : List Entry). take s.upto E ≡ r ++ as_list (core.entry r h s.line s.arrival s.full)) same is.entry ∙ ap
+            (λ o. take s.place E ++ as_list o) made in
             let len : length (take s.upto E) ≡ length (take s.place E) + 1 = ap length whole ∙ length-append (take s.place E) (e ∷ []) in
             let a = length-front s.upto E high in
             let b : length (take s.place E) ≡ s.place = length-front s.place E (omega arith) in
@@ -77,7 +78,8 @@ module _ (core : Core) (laws : Laws core) where
         ]
       ]
 
-  rounds-now : (begun : List Entry) (w : World) (a : Jid) → Sound core w → Lasting core begun w → AreRounds (core.notices w.entries a) (handed begun a) (w.addresses a).earlier (handed (take w.opened w.entries) a)
+  rounds-now : (begun : List Entry) (w : World) (a : Jid) → Sound core w → Lasting core begun w
+      → AreRounds (core.notices w.entries a) (handed begun a) (w.addresses a).earlier (handed (take w.opened w.entries) a)
   rounds-now begun w a is lasts =
       let b = begins core laws (take w.opened w.entries) (drop w.opened w.entries) a in
       let grown : core.notices w.entries a ≡ core.notices (take w.opened w.entries) a ++ b.more = ap (λ (r : List Entry). core.notices r a) (sym (take-drop w.opened w.entries)) ∙ b.after in
@@ -113,13 +115,15 @@ module _ (core : Core) (laws : Laws core) where
             let enough : n ≤ length (core.notices (take d w.entries) a) = (is.addresses a).durable in
             let one = begins core laws (take d w.entries) (drop d v.entries) a in
             let two = begins core laws (take d w.entries) (drop d w.entries) a in
-            let there : core.notices v.entries a ≡ core.notices (take d w.entries) a ++ one.more = ap (λ (r : List Entry). core.notices r a) (sym (take-drop d v.entries) ∙ ap (λ (l : List Entry). l ++ drop d v.entries) stays.entries) ∙ one.after in
+            let there : core.notices v.entries a ≡ core.notices (take d w.entries) a ++ one.more = ap (λ (r : List Entry). core.notices r a)
+            (sym (take-drop d v.entries) ∙ ap (λ (l : List Entry). l ++ drop d v.entries) stays.entries) ∙ one.after in
             let back : core.notices w.entries a ≡ core.notices (take d w.entries) a ++ two.more = ap (λ (r : List Entry). core.notices r a) (sym (take-drop d w.entries)) ∙ two.after in
             rw (there, back, take-front n (core.notices (take d w.entries) a) one.more enough, take-front n (core.notices (take d w.entries) a) two.more enough) refl);
         enough = λ a. (
             let few = (is.addresses a).durable in
             let one = begins core laws (take d w.entries) (drop d v.entries) a in
-            let there : core.notices v.entries a ≡ core.notices (take d w.entries) a ++ one.more = ap (λ (r : List Entry). core.notices r a) (sym (take-drop d v.entries) ∙ ap (λ (l : List Entry). l ++ drop d v.entries) stays.entries) ∙ one.after in
+            let there : core.notices v.entries a ≡ core.notices (take d w.entries) a ++ one.more = ap (λ (r : List Entry). core.notices r a)
+            (sym (take-drop d v.entries) ∙ ap (λ (l : List Entry). l ++ drop d v.entries) stays.entries) ∙ one.after in
             let l = ap length there in
             let b = length-append (core.notices (take d w.entries) a) one.more in
             omega (arith, few, l, b));
@@ -127,7 +131,8 @@ module _ (core : Core) (laws : Laws core) where
         sent = stays.sent;
       }
 
-  again : (boot : List ℕ) (w : World) (m : ℕ) (a : Jid) → Sound core w → w.flushed ≤ m → m ≤ w.steps → (handed (crashes core boot w m).entries a ≤ sent_count w a) × (sent_count w a ≤ handed (crashes core boot w m).entries a + 1)
+  again : (boot : List ℕ) (w : World) (m : ℕ) (a : Jid) → Sound core w → w.flushed ≤ m → m ≤ w.steps
+      → (handed (crashes core boot w m).entries a ≤ sent_count w a) × (sent_count w a ≤ handed (crashes core boot w m).entries a + 1)
   again boot w m a is low high =
       let f = handed-append (take (ends m w.made) w.entries) (Boot boot ∷ []) a in
       let n = (is.addresses a).count m low high in
@@ -155,7 +160,8 @@ steps_took w h None = refl
 steps_took w h (Some s) = steps_if (nat_le s.step w.flushed) (record w { hosts = at_host h (λ part. record part { taken = part.taken + 1 }) w.hosts }) w w.steps refl refl
 
 steps_emits : (w : World) (a : Jid) (f : Flight) (next : Option Notice) → (emits w a f next).steps ≡ w.steps
-steps_emits w a Nothing (Some n) = steps_if (nat_lt n.place (durable w)) (record w { addresses = at_address a (λ part. record part { sent = part.sent ++ n ∷ []; flight = Unrecorded }) w.addresses }) w w.steps refl refl
+steps_emits w a Nothing (Some n) = steps_if (nat_lt n.place (durable w)) (record w { addresses = at_address a (λ part. record part { sent = part.sent ++ n ∷ []; flight = Unrecorded }) w.addresses })
+    w w.steps refl refl
 steps_emits w a Nothing None = refl
 steps_emits w a Unrecorded next = refl
 steps_emits w a (Recorded t) next = refl
@@ -188,11 +194,14 @@ module _ (core : Core) (laws : Laws core) where
       subst (λ v. StillHolds core w v) (sym (run-append core laws boot (start core boot E) steps more))
       (still core laws (E ++ Boot boot ∷ []) w (run core boot w more) sound (world-lasts core laws boot some E steps ok) (stays-run core laws boot some w more sound))
 
-  pub crash-ok : (boot : List ℕ) → boot ≢ [] → (E : List Entry) (steps : List Step) (m : ℕ) → IsLawful core E → (let w = world core boot E steps in w.flushed ≤ m → m ≤ w.steps → CrashHolds core w (world core boot E (steps ++ Crash m ∷ [])))
+  pub crash-ok : (boot : List ℕ) → boot ≢ [] → (E : List Entry) (steps : List Step) (m : ℕ) → IsLawful core E
+      → (let w = world core boot E steps in w.flushed ≤ m → m ≤ w.steps → CrashHolds core w (world core boot E (steps ++ Crash m ∷ [])))
   crash-ok boot some E steps m ok low high =
       let w = world core boot E steps in
-      let e : world core boot E (steps ++ Crash m ∷ []) ≡ counted (crashes core boot w m) = run-append core laws boot (start core boot E) steps (Crash m ∷ []) ∙ crash-happens core laws boot w m low high in
+      let e : world core boot E (steps ++ Crash m ∷ []) ≡ counted (crashes core boot w m) = run-append core laws boot (start core boot E) steps (Crash m ∷ []) ∙ crash-happens core laws boot w m low
+      high in
       record {
         still = stays-ok boot some E steps (Crash m ∷ []) ok;
-        again = λ a. subst (λ (v : World). (handed v.entries a ≤ sent_count w a) × (sent_count w a ≤ handed v.entries a + 1)) (sym e) (again core laws boot w m a (world_kept core laws boot some E steps ok) low high);
+        again = λ a. subst (λ (v : World). (handed v.entries a ≤ sent_count w a) × (sent_count w a ≤ handed v.entries a + 1)) (sym e)
+            (again core laws boot w m a (world_kept core laws boot some E steps ok) low high);
       }

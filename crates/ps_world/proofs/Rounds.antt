@@ -15,7 +15,8 @@ rounds-grow all more begin (r ∷ rounds) end are = (
   rounds-grow all more are.2 rounds end are.5,
 )
 
-pub rounds-more : (all : List Notice) (begin : ℕ) (rounds : List (List Notice)) (end : ℕ) (r : List Notice) (next : ℕ) → AreRounds all begin rounds end → r ≡ take (length r) (drop end all) → end + length r ≤ length all → next ≤ end + length r → end + length r ≤ next + 1 → AreRounds all begin (rounds ++ r ∷ []) next
+pub rounds-more : (all : List Notice) (begin : ℕ) (rounds : List (List Notice)) (end : ℕ) (r : List Notice) (next : ℕ) → AreRounds all begin rounds end → r ≡ take (length r) (drop end all)
+    → end + length r ≤ length all → next ≤ end + length r → end + length r ≤ next + 1 → AreRounds all begin (rounds ++ r ∷ []) next
 rounds-more all begin [] end r next are is fits low high = (
   is ∙ ap (λ k. take (length r) (drop k all)) (sym are),
   (let e : begin ≡ end = are in omega (arith, e, fits)),

@@ -37,13 +37,19 @@ goes-stays core w v is goes = record {
   durable_on = goes.durable;
   taken = λ h. (
       let g = goes.hosts h in
-      let p = w.hosts h in
-      (g.taken.0, ap (λ (l : List Said). l ++ take (v.hosts h).taken (v.hosts h).said) g.earlier ∙ ap (λ (l : List Said). p.earlier ++ l) g.taken.1 ∙ sym (assoc p.earlier (take p.taken p.said) g.taken.0)));
+      let p = w.hosts h in (
+        g.taken.0,
+        ap (λ (l : List Said). l ++ take (v.hosts h).taken (v.hosts h).said) g.earlier ∙ ap (λ (l : List Said). p.earlier ++ l) g.taken.1 ∙ sym
+            (assoc p.earlier (take p.taken p.said) g.taken.0),
+      ));
   sent = λ a. (
       let g = goes.addresses a in
       let p = w.addresses a in
-      let before = flat_map (λ (sent : List Notice). sent) p.earlier in
-      (g.sent.0, ap (λ (l : List (List Notice)). flat_map (λ (sent : List Notice). sent) l ++ (v.addresses a).sent) g.earlier ∙ ap (λ (l : List Notice). before ++ l) g.sent.1 ∙ sym (assoc before p.sent g.sent.0)));
+      let before = flat_map (λ (sent : List Notice). sent) p.earlier in (
+        g.sent.0,
+        ap (λ (l : List (List Notice)). flat_map (λ (sent : List Notice). sent) l ++ (v.addresses a).sent) g.earlier ∙ ap (λ (l : List Notice). before ++ l) g.sent.1 ∙ sym
+            (assoc before p.sent g.sent.0),
+      ));
 }
 
 flat-more : (rounds : List (List Notice)) (sent : List Notice) → flat_map (λ (s : List Notice). s) (rounds ++ sent ∷ []) ≡ flat_map (λ (s : List Notice). s) rounds ++ sent

@@ -10,4 +10,5 @@ loop-row-preserved c =
     let i = c.loop-row.row-index in
     let less : i < length rows = omega arith in
     let more : take (i + 1) rows ≡ take i rows ++ c.row-item.result ∷ [] = take_more rows i c.row-item.result less ∙ ap (λ (x : AskRow). take i rows ++ x ∷ []) (sym c.row-item.is) in
-    affil-next c.args.node.now c.row-item.result rows i c.in_ok-row.row c.args.affils.now.rows c.loop-row.affils.rows c.reserve.new.self.rows c.set.new.self.rows c.in_ok-row.ensures.row c.reserve.ensures.rows c.set.ensures.rows c.loop-row.invariant more
+    affil-next c.args.node.now c.row-item.result rows i c.in_ok-row.row c.args.affils.now.rows c.loop-row.affils.rows c.reserve.new.self.rows c.set.new.self.rows c.in_ok-row.ensures.row
+    c.reserve.ensures.rows c.set.ensures.rows c.loop-row.invariant more

@@ -15,7 +15,8 @@ returns-in-Err g c =
     let R = explain_report c.args.who.now c.args.node.now in
     subst (λ d. Audited D.tells R (held_on D old) (held_on D d) (D.left_since d) c.told.result.report) (sym c.told.ensures.disk)
     (subst (λ r. Audited D.tells R (held_on D old) (held_on D old) (D.left_since old) r) (sym c.told.ensures.report)
-    (audit-refused D R old old (omega arith) (λ tells E spells few. started D.moment D.left_since old (LeftOrHas (D.synced old) (D.written old) E) (λ f left. inl (g.met.D.Disk.only_now old f left))) Memory tt (λ tells. tt)))
+    (audit-refused D R old old (omega arith) (λ tells E spells few. started D.moment D.left_since old (LeftOrHas (D.synced old) (D.written old) E) (λ f left. inl (g.met.D.Disk.only_now old f left)))
+    Memory tt (λ tells. tt)))
 
 pub returns-in-Ok : goal.returns-in-Ok
 returns-in-Ok g c =

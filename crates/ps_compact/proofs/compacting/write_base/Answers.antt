@@ -21,13 +21,15 @@ returns-in-Ok-clause-serves g c = on-any c.write_store.result.outcome c.in-Ok.en
 pub returns-in-Ok-clause-durable : goal.returns-in-Ok-clause-durable
 returns-in-Ok-clause-durable g c tells =
     let D = g.D.Disk in
-    subst (λ (es : List Entry). OnOk c.write_store.result.outcome (LeavesList (D.synced c.write_store.result.new) (D.written c.write_store.result.new) es)) c.in-Ok.ensures.ok (c.write_store.ensures.durable tells)
+    subst (λ (es : List Entry). OnOk c.write_store.result.outcome (LeavesList (D.synced c.write_store.result.new) (D.written c.write_store.result.new) es)) c.in-Ok.ensures.ok
+    (c.write_store.ensures.durable tells)
 
 pub returns-in-Ok-clause-any_moment : goal.returns-in-Ok-clause-any_moment
 returns-in-Ok-clause-any_moment g c tells empty short =
     let D = g.D.Disk in
     let old = c.args.new in
-    subst (λ (es : List Entry). LeavesOnly D.moment D.left_since old c.write_store.result.new (LeftEmptyOrWhole (D.synced old) (D.written old) es)) c.in-Ok.ensures.ok (c.write_store.ensures.any_moment tells empty short)
+    subst (λ (es : List Entry). LeavesOnly D.moment D.left_since old c.write_store.result.new (LeftEmptyOrWhole (D.synced old) (D.written old) es)) c.in-Ok.ensures.ok
+    (c.write_store.ensures.any_moment tells empty short)
 
 pub returns-in-Err-Long-clause-any_moment : goal.returns-in-Err-Long-clause-any_moment
 returns-in-Err-Long-clause-any_moment g c tells empty short =

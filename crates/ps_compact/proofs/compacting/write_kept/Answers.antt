@@ -15,7 +15,8 @@ the-err w = Err w
 pub returns-in-Ok-clause-done : goal.returns-in-Ok-clause-done
 returns-in-Ok-clause-done g c tells =
     let D = g.D.Disk in
-    subst (λ (b : List ℕ). OnOk c.write_base.result.outcome (IsWrittenNew b (D.seen c.write_base.result.new) (base (entries_of c.args.kept.now)))) (c.find_empty.ensures.seen tells) (c.write_base.ensures.done tells)
+    subst (λ (b : List ℕ). OnOk c.write_base.result.outcome (IsWrittenNew b (D.seen c.write_base.result.new) (base (entries_of c.args.kept.now)))) (c.find_empty.ensures.seen tells)
+    (c.write_base.ensures.done tells)
 
 pub returns-in-Ok-clause-any_moment : goal.returns-in-Ok-clause-any_moment
 returns-in-Ok-clause-any_moment g c tells short =
@@ -32,7 +33,8 @@ pub returns-in-Err-clause-any_moment : goal.returns-in-Err-clause-any_moment
 returns-in-Err-clause-any_moment g c tells short =
     let D = g.D.Disk in
     let old = c.args.new in
-    only-looked D.moment D.left_since (D.synced old) (D.synced old) (D.written old) (D.written old) (base (entries_of c.args.kept.now)) old c.find_empty.new.disk (c.find_empty.ensures.any_moment tells)
+    only-looked D.moment D.left_since (D.synced old) (D.synced old) (D.written old) (D.written old) (base (entries_of c.args.kept.now)) old c.find_empty.new.disk
+    (c.find_empty.ensures.any_moment tells)
 
 pub returns-in-Ok-clause-keeps : goal.returns-in-Ok-clause-keeps
 returns-in-Ok-clause-keeps g c tells short =

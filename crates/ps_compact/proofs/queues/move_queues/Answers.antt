@@ -12,4 +12,5 @@ whos-preserved c =
     let who = c.who-item.result in
     let here = c.who-item.is ∙ ap (λ (l : List Jid). get_or l c.whos.who-index who) c.deref-who-items.ensures.value in
     let done = c.in_ok-move_queue.ensures in
-    emptied-more whos c.whos.who-index who c.args.queues.now.waiting c.whos.queues.waiting c.args.entries.now.items c.whos.entries.items (omega (arith, c.deref-who-items.ensures.len)) here c.whos.invariant c.move_queue.new.queues.waiting c.move_queue.new.entries.items c.requires.apart done.entries done.others
+    emptied-more whos c.whos.who-index who c.args.queues.now.waiting c.whos.queues.waiting c.args.entries.now.items c.whos.entries.items (omega (arith, c.deref-who-items.ensures.len)) here
+    c.whos.invariant c.move_queue.new.queues.waiting c.move_queue.new.entries.items c.requires.apart done.entries done.others

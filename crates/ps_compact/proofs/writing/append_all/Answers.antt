@@ -35,13 +35,15 @@ pub returns-in-Ok-clause-any_moment : goal.returns-in-Ok-clause-any_moment
 returns-in-Ok-clause-any_moment g c = λ tells has old runs.
     let E = c.args.batch.now in
     subst (λ d. LeavesOnly g.D.Disk.moment g.D.Disk.left_since old d (LeftEmptyOrWhole (g.D.Disk.synced old) (g.D.Disk.written old) E)) (sym c.close-in-Ok.ensures)
-    (then-left (g.D.Disk.synced old) (g.D.Disk.written old) E g.D.Disk.moment g.D.Disk.left_since old c.args.journal.disk c.append.new.self.disk runs (c.append.ensures.any_moment tells c.requires.whole [] has))
+    (then-left (g.D.Disk.synced old) (g.D.Disk.written old) E g.D.Disk.moment g.D.Disk.left_since old c.args.journal.disk c.append.new.self.disk runs
+    (c.append.ensures.any_moment tells c.requires.whole [] has))
 
 pub returns-in-Err-clause-any_moment : goal.returns-in-Err-clause-any_moment
 returns-in-Err-clause-any_moment g c = λ tells has old runs.
     let E = c.args.batch.now in
     subst (λ d. LeavesOnly g.D.Disk.moment g.D.Disk.left_since old d (LeftEmptyOrWhole (g.D.Disk.synced old) (g.D.Disk.written old) E)) (sym c.close-in-Err.ensures)
-    (then-left (g.D.Disk.synced old) (g.D.Disk.written old) E g.D.Disk.moment g.D.Disk.left_since old c.args.journal.disk c.append.new.self.disk runs (c.append.ensures.any_moment tells c.requires.whole [] has))
+    (then-left (g.D.Disk.synced old) (g.D.Disk.written old) E g.D.Disk.moment g.D.Disk.left_since old c.args.journal.disk c.append.new.self.disk runs
+    (c.append.ensures.any_moment tells c.requires.whole [] has))
 
 pub returns-in-Ok-clause-fits : goal.returns-in-Ok-clause-fits
 returns-in-Ok-clause-fits g c = λ low.

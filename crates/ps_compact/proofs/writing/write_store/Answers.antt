@@ -17,12 +17,14 @@ returns-in-Err-clause-occupied g c tells is empty =
 
 pub returns-in-Err-clause-any_moment : goal.returns-in-Err-clause-any_moment
 returns-in-Err-clause-any_moment g c = λ tells empty short.
-    still-left (g.D.Disk.synced c.args.new) (g.D.Disk.written c.args.new) c.args.batch.now g.D.Disk.moment g.D.Disk.left_since c.args.new c.in-Err.refusal.disk (c.in-Err.ensures.any_moment tells [] empty short)
+    still-left (g.D.Disk.synced c.args.new) (g.D.Disk.written c.args.new) c.args.batch.now g.D.Disk.moment g.D.Disk.left_since c.args.new c.in-Err.refusal.disk
+    (c.in-Err.ensures.any_moment tells [] empty short)
 
 pub returns-then-is_empty-clause-durable : goal.returns-then-is_empty-clause-durable
 returns-then-is_empty-clause-durable g c = λ tells.
     let none = none-long c.in-Ok.placed.items (sym c.in-Ok.placed.ok.0 ∙ eqb-true c.in-Ok.placed.len 0 (sym c.is_empty.ensures ∙ c.if-is_empty.true)) in
-    c.append_all.ensures.durable tells (subst (λ ps. Has c.in-Ok.journal (entries_in ps)) none (c.in-Ok.ensures.same tells)) (subst (λ ps. Keeps c.in-Ok.journal (entries_in ps)) none (c.in-Ok.ensures.durable tells))
+    c.append_all.ensures.durable tells (subst (λ ps. Has c.in-Ok.journal (entries_in ps)) none (c.in-Ok.ensures.same tells))
+    (subst (λ ps. Keeps c.in-Ok.journal (entries_in ps)) none (c.in-Ok.ensures.durable tells))
 
 pub returns-then-is_empty-clause-full : goal.returns-then-is_empty-clause-full
 returns-then-is_empty-clause-full g c = λ tells full.
@@ -45,7 +47,8 @@ returns-clause-occupied g c = λ tells same empty.
 pub returns-clause-any_moment : goal.returns-clause-any_moment
 returns-clause-any_moment g c = λ tells empty short.
     subst (λ d. LeavesOnly g.D.Disk.moment g.D.Disk.left_since c.args.new d (LeftEmptyOrWhole (g.D.Disk.synced c.args.new) (g.D.Disk.written c.args.new) c.args.batch.now)) (sym c.close.ensures)
-    (still-left (g.D.Disk.synced c.args.new) (g.D.Disk.written c.args.new) c.args.batch.now g.D.Disk.moment g.D.Disk.left_since c.args.new c.in-Ok.journal.disk (c.in-Ok.ensures.any_moment tells [] empty short))
+    (still-left (g.D.Disk.synced c.args.new) (g.D.Disk.written c.args.new) c.args.batch.now g.D.Disk.moment g.D.Disk.left_since c.args.new c.in-Ok.journal.disk
+    (c.in-Ok.ensures.any_moment tells [] empty short))
 
 pub returns-then-is_empty-clause-done : goal.returns-then-is_empty-clause-done
 returns-then-is_empty-clause-done g c = λ tells.

@@ -28,7 +28,8 @@ returns-in-Ok-clause-full c = λ wanted.
     let here = if_ok _ _ (λ a. a.full ≡ full_by a.entry (outcome_reply c.args.tree c.args.request.now (c.in-Ok.plan.commits && true) (accepted c.in-Ok.plan.reply)))
     c.accepted_answer.result (λ a e f. full_here c.args.tree c.args.request.now c.in-Ok.plan.commits made c.in-Ok.plan.reply a.entry a.full e f)
     c.accepted_answer.ensures.entry (c.accepted_answer.ensures.full wanted) in
-    let with_kept = subst (λ (k : Bool). IfOk c.accepted_answer.result (λ a. a.full ≡ full_by a.entry (outcome_reply c.args.tree c.args.request.now (k && true) (accepted c.in-Ok.plan.reply)))) (sym agreed.1) here in
+    let with_kept = subst (λ (k : Bool). IfOk c.accepted_answer.result (λ a. a.full ≡ full_by a.entry (outcome_reply c.args.tree c.args.request.now (k && true) (accepted c.in-Ok.plan.reply))))
+    (sym agreed.1) here in
     subst (λ (o : Outcome). IfOk c.accepted_answer.result (λ a. a.full ≡ full_by a.entry (outcome_reply c.args.tree c.args.request.now (kept && true) o))) (sym agreed.0) with_kept
 
 pub returns-in-Err-Denied-clause-entry : goal.returns-in-Err-Denied-clause-entry
@@ -46,7 +47,8 @@ returns-in-Err-Denied-clause-reply c =
     let agreed = rw c.in-Err-Denied.field-0-is at c.in-Err-Denied.ensures in
     let is = is_denied c.in-Err-Denied.why (check book c.args.request.now) (commits book c.args.request.now) agreed in
     let said = c.in_ok-reply-in-Err-Denied.ensures in
-    subst (λ (o : Outcome). c.reply_alone.result.reply ≡ outcome_reply c.args.tree c.args.request.now (commits book c.args.request.now && false) o) (sym is) (cc (c.reply_alone.ensures.reply, said, c.in-Err-Denied.why-is))
+    subst (λ (o : Outcome). c.reply_alone.result.reply ≡ outcome_reply c.args.tree c.args.request.now (commits book c.args.request.now && false) o) (sym is)
+    (cc (c.reply_alone.ensures.reply, said, c.in-Err-Denied.why-is))
 
 pub returns-in-Ok-clause-entry : goal.returns-in-Ok-clause-entry
 returns-in-Ok-clause-entry c =

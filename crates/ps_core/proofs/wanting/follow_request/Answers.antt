@@ -8,4 +8,5 @@ returns-then-not-is_of_resource c =
 
 pub returns : goal.returns
 returns c =
-    on_ok c.follow_row.result (request-followed c.args.request.now c.args.presence.now.rows c.args.wants.now.rows c.follow_row.new.wants.rows (sym c.if-not-is_of_resource.ensures)) c.follow_row.ensures
+    on_ok c.follow_row.result (request-followed c.args.request.now c.args.presence.now.rows c.args.wants.now.rows c.follow_row.new.wants.rows (sym c.if-not-is_of_resource.ensures))
+    c.follow_row.ensures

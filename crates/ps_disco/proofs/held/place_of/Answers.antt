@@ -14,4 +14,5 @@ returns-then-is_under c = λ at.
 
 pub returns-else-is_under : goal.returns-else-is_under
 returns-else-is_under c = λ at.
-    none_true (is_there c.args.child.now (slice_get c.args.tables.now.nodes.rows at)) (is_under c.args.child.now c.args.collection.now false c.args.tables.now.links.rows) (sym c.is_under.ensures.under ∙ c.if-is_under.false)
+    none_true (is_there c.args.child.now (slice_get c.args.tables.now.nodes.rows at)) (is_under c.args.child.now c.args.collection.now false c.args.tables.now.links.rows)
+    (sym c.is_under.ensures.under ∙ c.if-is_under.false)

@@ -29,7 +29,8 @@ returns-in-Err-clause-asked g c =
     let second : OpenCall = record { kind = Sink; name = stream.sink } in
     let third : OpenCall = record { kind = Clock; name = stream.host } in
     let sink = one-more (w.asked c.open_lines.new.world) (w.asked c.open_sink.new.self) second (third ∷ []) c.in-Err.why c.in-Err.ensures.asked in
-    let both : Front (first ∷ second ∷ third ∷ []) (w.asked old) (w.asked c.open_sink.new.self) = after-one (w.asked old) (w.asked c.open_lines.new.world) (w.asked c.open_sink.new.self) first (second ∷ third ∷ []) c.in_ok-lines.ensures.all sink in
+    let both : Front (first ∷ second ∷ third ∷ []) (w.asked old) (w.asked c.open_sink.new.self) = after-one (w.asked old) (w.asked c.open_lines.new.world) (w.asked c.open_sink.new.self) first
+    (second ∷ third ∷ []) c.in_ok-lines.ensures.all sink in
     (both.0, c.give_back.ensures.asked ∙ both.1)
 
 pub returns-in-Ok-open_clock-clause-asked : goal.returns-in-Ok-open_clock-clause-asked
@@ -56,10 +57,12 @@ returns-in-Err-open_clock-clause-refused g c =
     (held-same _ _ _ _ c.in-Ok.ensures.object c.give_back_sink.ensures.held ∙ c.in_ok-lines.ensures.sinks stream.sink) in
     record {
       sources = returned stream.source (w.sources c.args.world.now) (w.sources new)
-          (λ n differ. c.give_back-in-Err-open_clock.ensures.sources n differ ∙ (c.give_back_sink.ensures.sources n ∙ (c.in-Err-open_clock.ensures.sources n ∙ (c.in-Ok.ensures.sources n ∙ c.in_ok-lines.ensures.others.sources n (differ, tt)))))
+          (λ n differ. c.give_back-in-Err-open_clock.ensures.sources n differ ∙
+          (c.give_back_sink.ensures.sources n ∙ (c.in-Err-open_clock.ensures.sources n ∙ (c.in-Ok.ensures.sources n ∙ c.in_ok-lines.ensures.others.sources n (differ, tt)))))
           (held-same _ _ _ _ c.in_ok-lines.ensures.held back);
       sinks = λ n. c.give_back-in-Err-open_clock.ensures.sinks n ∙ sinks n;
-      clocks = λ n. c.give_back-in-Err-open_clock.ensures.clocks n ∙ (c.give_back_sink.ensures.clocks n ∙ (c.in-Err-open_clock.ensures.refused_clocks n ∙ (c.in-Ok.ensures.clocks n ∙ c.in_ok-lines.ensures.clocks n)));
+      clocks = λ n. c.give_back-in-Err-open_clock.ensures.clocks n ∙
+          (c.give_back_sink.ensures.clocks n ∙ (c.in-Err-open_clock.ensures.refused_clocks n ∙ (c.in-Ok.ensures.clocks n ∙ c.in_ok-lines.ensures.clocks n)));
     }
 
 pub returns-in-Err-open_clock-clause-asked : goal.returns-in-Err-open_clock-clause-asked
@@ -72,5 +75,6 @@ returns-in-Err-open_clock-clause-asked g c =
     let third : OpenCall = record { kind = Clock; name = stream.host } in
     let clock = one-more (w.asked c.open_sink.new.self) (w.asked c.open_clock.new.self) third [] c.in-Err-open_clock.why c.in-Err-open_clock.ensures.asked in
     let two = after-one (w.asked c.open_lines.new.world) (w.asked c.open_sink.new.self) (w.asked c.open_clock.new.self) second (third ∷ []) c.in-Ok.ensures.asked clock in
-    let all : Front (first ∷ second ∷ third ∷ []) (w.asked old) (w.asked c.open_clock.new.self) = after-one (w.asked old) (w.asked c.open_lines.new.world) (w.asked c.open_clock.new.self) first (second ∷ third ∷ []) c.in_ok-lines.ensures.all two in
+    let all : Front (first ∷ second ∷ third ∷ []) (w.asked old) (w.asked c.open_clock.new.self) = after-one (w.asked old) (w.asked c.open_lines.new.world) (w.asked c.open_clock.new.self) first
+    (second ∷ third ∷ []) c.in_ok-lines.ensures.all two in
     (all.0, c.give_back-in-Err-open_clock.ensures.asked ∙ (c.give_back_sink.ensures.asked ∙ all.1))

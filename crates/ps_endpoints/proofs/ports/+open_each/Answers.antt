@@ -41,7 +41,8 @@ returns-in-Ok-clause-opened g t c =
     let more = c.in-Ok.ensures.opened in
     let are = rest-opened w k clock stream others more.0 c.args.world.now c.open_port.new.world apart.0 apart.1 apart.2 c.open_port.ensures.others more.2 in (
       port ∷ more.0,
-      more.1 ∙ (ap (λ (l : List (Port (Lines g.row.W-Reading.Denot g.W.Reading.Source) g.row.W-Ticking.Denot g.row.W-Writing.Denot)). l ++ more.0) c.push_reserved.ensures.items ∙ append_assoc c.args.ports.now.items (port ∷ []) more.0),
+      more.1 ∙ (ap (λ (l : List (Port (Lines g.row.W-Reading.Denot g.W.Reading.Source) g.row.W-Ticking.Denot g.row.W-Writing.Denot)). l ++ more.0) c.push_reserved.ensures.items ∙ append_assoc
+          c.args.ports.now.items (port ∷ []) more.0),
       subst (λ (l : List Stream). AreOpened w k clock c.args.world.now l (port ∷ more.0)) (sym c.in-Some.ensures.cases.0) (c.in_ok-port.ensures.opened, are),
     )
 
@@ -54,7 +55,8 @@ returns-in-Ok-clause-asked g t c =
     let second : OpenCall = record { kind = Sink; name = stream.sink } in
     let third : OpenCall = record { kind = Clock; name = stream.host } in
     subst (λ (l : List Stream). Front (port_openings l) (w.asked c.args.world.now) (w.asked c.open_each.new.world)) (sym c.in-Some.ensures.cases.0)
-    (after-three (w.asked c.args.world.now) (w.asked c.open_port.new.world) (w.asked c.open_each.new.world) first second third (port_openings others) c.in_ok-port.ensures.all c.open_each.ensures.asked)
+    (after-three (w.asked c.args.world.now) (w.asked c.open_port.new.world) (w.asked c.open_each.new.world) first second third (port_openings others) c.in_ok-port.ensures.all
+    c.open_each.ensures.asked)
 
 pub returns-in-Err-clause-refused : goal.returns-in-Err-clause-refused
 returns-in-Err-clause-refused g t c =
@@ -77,6 +79,7 @@ returns-in-Err-clause-asked g t c =
     let first : OpenCall = record { kind = Source; name = stream.source } in
     let second : OpenCall = record { kind = Sink; name = stream.sink } in
     let third : OpenCall = record { kind = Clock; name = stream.host } in
-    let more = after-three (w.asked c.args.world.now) (w.asked c.open_port.new.world) (w.asked c.open_each.new.world) first second third (port_openings others) c.in_ok-port.ensures.all c.open_each.ensures.asked in
+    let more = after-three (w.asked c.args.world.now) (w.asked c.open_port.new.world) (w.asked c.open_each.new.world) first second third (port_openings others) c.in_ok-port.ensures.all
+    c.open_each.ensures.asked in
     subst (λ (l : List Stream). Front (port_openings l) (w.asked c.args.world.now) (w.asked c.give_back_port.new.world)) (sym c.in-Some.ensures.cases.0)
     (more.0, c.give_back_port.ensures.nothing.asked ∙ more.1)

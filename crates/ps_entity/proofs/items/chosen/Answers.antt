@@ -15,5 +15,6 @@ returns-then-is_empty c =
 pub returns-else-is_empty : goal.returns-else-is_empty
 returns-else-is_empty c =
     let some : (length c.args.ids.now == 0) ≡ false = search rules in
-    let named = ap (λ n. newest_of n (items_named c.args.key.now c.args.ids.now c.args.items.now.rows)) c.most_of-most.ensures ∙ named_chosen c.args.max.now c.args.ids.now c.args.key.now c.args.items.now.rows some in
+    let named = ap (λ n. newest_of n (items_named c.args.key.now c.args.ids.now c.args.items.now.rows)) c.most_of-most.ensures ∙ named_chosen c.args.max.now c.args.ids.now c.args.key.now
+    c.args.items.now.rows some in
     subst (λ x. IfOk c.named.result (λ rows. rows.items ≡ x)) named c.named.ensures.rows

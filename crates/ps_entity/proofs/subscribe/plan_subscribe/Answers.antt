@@ -17,7 +17,8 @@ use Rattle.ps_access.specs.Tables.{book_of}
 use Rattle.ps_entity.proofs.subscribe.plan_subscribe.Goals as goal
 
 abbrev AgreesAt : Result Plan PlanRefusal → Book → Request → Jid → Option Tree → NodeKey → Type 0
-AgreesAt result book r who form key = Agrees result (outcome (first_denial (subscribe_steps book r key.name who form)) (Some (subscribe_child book r key.name who))) (not (same_subs (subscribe_change r key who form book).subs book.subs))
+AgreesAt result book r who form key = Agrees result (outcome (first_denial (subscribe_steps book r key.name who form)) (Some (subscribe_child book r key.name who)))
+    (not (same_subs (subscribe_change r key who form book).subs book.subs))
 
 pub returns : goal.returns
 returns c = subst (AgreesAt c.subscribe_at.result (book_of c.args.tables.now) c.args.request.now c.args.who.now c.args.form.now) c.in_ok-key.ensures.key c.subscribe_at.ensures

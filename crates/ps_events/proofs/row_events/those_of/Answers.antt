@@ -17,7 +17,8 @@ loop-row-preserved c =
     let more : (who : Jid) → is_asked who (take (i + 1) rows) ≡ (is_asked who (take i rows) || same_jid x.jid who) =
     λ who. list_any_more (λ (row : AskRow). same_jid row.jid who) rows i x less ∙ ap (λ (y : AskRow). is_asked who (take i rows) || same_jid y.jid who) (sym c.row-item.is)
     in
-    those-more c.args.node.now rows i x c.args.subs.now.rows c.loop-row.few.rows c.set_state.new.subs.rows c.get-state.result more c.get-state.ensures.state c.in_ok-set_state.ensures.subs c.loop-row.invariant
+    those-more c.args.node.now rows i x c.args.subs.now.rows c.loop-row.few.rows c.set_state.new.subs.rows c.get-state.result more c.get-state.ensures.state c.in_ok-set_state.ensures.subs
+    c.loop-row.invariant
 
 pub returns : goal.returns
 returns c =

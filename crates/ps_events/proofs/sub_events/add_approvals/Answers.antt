@@ -9,5 +9,6 @@ pub returns : goal.returns
 returns c =
     let after = book_of c.args.after.now in
     subst (λ (l : List Event). OnOk c.add_others.result (c.add_others.new.told.items ≡ l))
-    (asked-all c.args.node.now c.args.who.now after c.as_slice.result.now c.args.told.now.items c.add_account.new.told.items _ (c.as_slice.ensures.value ∙ c.in_ok-rows.ensures.rows) c.in_ok-add_account.ensures refl)
+    (asked-all c.args.node.now c.args.who.now after c.as_slice.result.now c.args.told.now.items c.add_account.new.told.items _ (c.as_slice.ensures.value ∙ c.in_ok-rows.ensures.rows)
+    c.in_ok-add_account.ensures refl)
     c.add_others.ensures

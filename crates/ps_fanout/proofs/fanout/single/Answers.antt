@@ -9,13 +9,15 @@ use Rattle.ps_fanout.proofs.fanout.single.Goals as goal
 pub returns-in_ok-approval-in-Approval : goal.returns-in_ok-approval-in-Approval
 returns-in_ok-approval-in-Approval c =
     subst (λ (xs : List (Jid × Tree)). IfOk c.to_one.result (λ v. v.items ≡ xs))
-    (approval-told (book_of c.args.tables.now) c.args.event.now c.in-Approval.node c.in-Approval.owner c.in-Approval.who c.in_ok-approval-in-Approval.field-0 c.in-Approval.is c.in_ok-approval-in-Approval.ensures)
+    (approval-told (book_of c.args.tables.now) c.args.event.now c.in-Approval.node c.in-Approval.owner c.in-Approval.who c.in_ok-approval-in-Approval.field-0 c.in-Approval.is
+    c.in_ok-approval-in-Approval.ensures)
     c.to_one.ensures
 
 pub returns-in_ok-subscription_told-in-Told : goal.returns-in_ok-subscription_told-in-Told
 returns-in_ok-subscription_told-in-Told c =
     subst (λ (xs : List (Jid × Tree)). IfOk c.to_one-in-Told.result (λ v. v.items ≡ xs))
-    (sub-told (book_of c.args.tables.now) c.args.event.now c.in-Told.node c.in-Told.who c.in-Told.state c.in_ok-subscription_told-in-Told.field-0 c.in-Told.is c.in_ok-subscription_told-in-Told.ensures)
+    (sub-told (book_of c.args.tables.now) c.args.event.now c.in-Told.node c.in-Told.who c.in-Told.state c.in_ok-subscription_told-in-Told.field-0 c.in-Told.is
+    c.in_ok-subscription_told-in-Told.ensures)
     c.to_one-in-Told.ensures
 
 pub returns-in_ok-tree-in-Last : goal.returns-in_ok-tree-in-Last

@@ -11,7 +11,16 @@ returns c =
     let change = c.args.change.now in
     let node = c.args.node.now in
     node-tells (book_of c.args.tables.now) (is_of_items change) node (is_told change) (change_inside node change) c.in-Some.config.now c.is_on-is_on.result
-    (record { node = c.args.node; joins = false; items = c.is_of_items-items.result; above = c.in_ok-above.above; config = c.in-Some.config; is_on = c.is_on-is_on.result; event = c.in_ok-event.event })
+    (record {
+      node = c.args.node;
+      joins = false;
+      items = c.is_of_items-items.result;
+      above = c.in_ok-above.above;
+      config = c.in-Some.config;
+      is_on = c.is_on-is_on.result;
+      event =
+          c.in_ok-event.event;
+    })
     (sym c.in-Some.ensures.config) c.is_on-is_on.ensures
     (record {
       node = refl;

@@ -8,10 +8,12 @@ loop-who-init c = subst (λ (es : List (List ℕ × Jid)). Placing c.args.whos.i
 
 pub loop-who-preserved-in_ok-insert : goal.loop-who-preserved-in_ok-insert
 loop-who-preserved-in_ok-insert c =
-    placing-on c.args.whos.items c.loop-who.whos.items c.pop.new.self.items c.loop-who.map.entries c.insert.new.self.entries c.in-Some.who c.in_ok-text.text c.loop-who.invariant c.in-Some.ensures.items
+    placing-on c.args.whos.items c.loop-who.whos.items c.pop.new.self.items c.loop-who.map.entries c.insert.new.self.entries c.in-Some.who c.in_ok-text.text c.loop-who.invariant
+    c.in-Some.ensures.items
     c.in_ok-text.ensures c.in_ok-insert.ensures.entries
 
 pub loop-who-preserved : goal.loop-who-preserved
 loop-who-preserved c =
-    placing-on c.args.whos.items c.loop-who.whos.items c.pop.new.self.items c.loop-who.map.entries c.insert.new.self.entries c.in-Some.who c.in_ok-text.text c.loop-who.invariant c.in-Some.ensures.items
+    placing-on c.args.whos.items c.loop-who.whos.items c.pop.new.self.items c.loop-who.map.entries c.insert.new.self.entries c.in-Some.who c.in_ok-text.text c.loop-who.invariant
+    c.in-Some.ensures.items
     c.in_ok-text.ensures c.in_ok-insert.ensures.entries

@@ -29,5 +29,6 @@ each g c n d less =
 pub returns : goal.returns
 returns g c =
     IfOk-weaker c.joined.result (λ told. Joins c.in_ok-parts.parts.items told.items) (λ told. told.items ≡ given_to (hears (book_of c.args.tables.now) c.args.news.now) c.args.whos.now)
-    (λ told is. joined-pieces (hears (book_of c.args.tables.now) c.args.news.now) c.part_of-size.result c.in_ok-parts.parts.items c.args.whos.now told.items c.part_of-size.ensures (search rules) (each g c) is)
+    (λ told is. joined-pieces (hears (book_of c.args.tables.now) c.args.news.now) c.part_of-size.result c.in_ok-parts.parts.items c.args.whos.now told.items c.part_of-size.ensures (search rules)
+    (each g c) is)
     c.joined.ensures

@@ -6,4 +6,5 @@ pub returns : goal.returns
 returns c =
     let most = c.requires.most in
     let size = c.len.ensures in
-    rest_left c.args.hand.now.items c.args.count (c.len.result - c.args.count) c.rotate_left.new.self.items c.truncate.new.self.items most (omega (arith, most, size)) c.rotate_left.ensures.items c.truncate.ensures.items
+    rest_left c.args.hand.now.items c.args.count (c.len.result - c.args.count) c.rotate_left.new.self.items c.truncate.new.self.items most (omega (arith, most, size)) c.rotate_left.ensures.items
+    c.truncate.ensures.items

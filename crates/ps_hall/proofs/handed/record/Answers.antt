@@ -14,7 +14,8 @@ use Rattle.ps_hall.proofs.Recording.{bytes_grow, record_does, record_few, record
 use Rattle.ps_hall.proofs.handed.record.Goals as goal
 
 pub record_or_end-outcome-requires-clause-here : goal.record_or_end-outcome-requires-clause-here
-record_or_end-outcome-requires-clause-here g c κs within = home_here g.B.Opening.origin c.enter-home.result.state (seen_of c.enter-home.new.seat) c.args.at c.args.host.now c.enter-home.ensures.value c.requires.writer.pass.here
+record_or_end-outcome-requires-clause-here g c κs within = home_here g.B.Opening.origin c.enter-home.result.state (seen_of c.enter-home.new.seat) c.args.at c.args.host.now c.enter-home.ensures.value
+    c.requires.writer.pass.here
 
 pub record_or_end-outcome-requires-clause-few : goal.record_or_end-outcome-requires-clause-few
 record_or_end-outcome-requires-clause-few g c κs within = home_few g.B.Opening.origin c.enter-home.result.state (seen_of c.enter-home.new.seat) c.enter-home.ensures.value c.enter-home.ensures.few
@@ -52,8 +53,10 @@ leave_recorded-requires g c κs within =
         within.1,
         (
           e.twin,
-          notes o c.args.twin.now s v now (record_steps host hand result) e.twin e.held e.value e.firm e.mark x.kept (record_quiet host hand result) (record_owned o.hosts (number_of s) (bytes_in now) host hand result held.are writes)
-              (λ le. record_rooms o v now (seen_of s) e.value (number_of s) host hand result) (record_few v now host hand result did) (record_stands o v now (seen_of s) e.value host hand result c.requires.some did),
+          notes o c.args.twin.now s v now (record_steps host hand result) e.twin e.held e.value e.firm e.mark x.kept (record_quiet host hand result)
+              (record_owned o.hosts (number_of s) (bytes_in now) host hand result held.are writes)
+              (λ le. record_rooms o v now (seen_of s) e.value (number_of s) host hand result) (record_few v now host hand result did)
+              (record_stands o v now (seen_of s) e.value host hand result c.requires.some did),
         ),
       ),
     )
@@ -74,7 +77,8 @@ returns-clause-does g c =
     let held = hand_found o v (number_of old) (seen_of old) (seen_of s) e.value e.later host (c.args.at, c.requires.writer.pass.here, c.requires.writer.number) hand c.requires.hand in
     let did = subst (λ (h : List ℕ). RecordsOrEnds v now h hand result) row.2 (x.does row.0 row.1) in
     let writes = writes_at o c.args.twin.now c.args.at host old (number_of s) e.number c.requires.writer in
-    did_by o old s c.leave_recorded.new.seat v now (record_steps host hand result) (RecordsSome o host hand result) e.number e.later e.value (record_owned o.hosts (number_of s) (bytes_in now) host hand result held.are writes)
+    did_by o old s c.leave_recorded.new.seat v now (record_steps host hand result) (RecordsSome o host hand result) e.number e.later e.value
+    (record_owned o.hosts (number_of s) (bytes_in now) host hand result held.are writes)
     c.leave_recorded.ensures.seen (record_does o v now (seen_of s) e.value host hand result c.requires.some held did)
 
 pub returns-clause-over : goal.returns-clause-over
@@ -93,7 +97,9 @@ returns-clause-over g c =
     let held = hand_found o v (number_of old) (seen_of old) (seen_of s) e.value e.later host (c.args.at, c.requires.writer.pass.here, c.requires.writer.number) hand c.requires.hand in
     let did = subst (λ (h : List ℕ). RecordsOrEnds v now h hand result) row.2 (x.does row.0 row.1) in
     let owned = record_owned o.hosts (number_of s) (bytes_in now) host hand result held.are (writes_at o c.args.twin.now c.args.at host old (number_of s) e.number c.requires.writer) in
-    record_over o v now (seen_of s) e.value (number_of s) host hand result (seen_of c.leave_recorded.new.seat) did (bytes_grow o v now (seen_of s) e.value (number_of s) (record_steps host hand result) (record_stands o v now (seen_of s) e.value host hand result c.requires.some did) owned x.kept) c.leave_recorded.ensures.seen
+    record_over o v now (seen_of s) e.value (number_of s) host hand result (seen_of c.leave_recorded.new.seat) did
+    (bytes_grow o v now (seen_of s) e.value (number_of s) (record_steps host hand result) (record_stands o v now (seen_of s) e.value host hand result c.requires.some did) owned x.kept)
+    c.leave_recorded.ensures.seen
 
 pub returns-clause-hand : goal.returns-clause-hand
 returns-clause-hand g c =
@@ -114,7 +120,8 @@ returns-clause-writer g c =
     let now = c.record_or_end-outcome.new.state in
     let s = c.enter-home.new.seat in
     writer_on g.B.Opening.origin c.args.twin.now c.args.at c.args.host.now c.args.seat.now s c.leave_recorded.new.seat now
-    (deeds (number_of s) (bytes_in now) (record_steps c.args.host.now c.args.hand.now.items c.record_or_end-outcome.result)) c.requires.writer c.enter-home.ensures.number c.enter-home.ensures.hand c.leave_recorded.ensures (returns-clause-does g c).owned
+    (deeds (number_of s) (bytes_in now) (record_steps c.args.host.now c.args.hand.now.items c.record_or_end-outcome.result)) c.requires.writer c.enter-home.ensures.number c.enter-home.ensures.hand
+    c.leave_recorded.ensures (returns-clause-does g c).owned
 
 pub returns-clause-differ : goal.returns-clause-differ
 returns-clause-differ g c = home_differ g.B.Opening.origin c.enter-home.result.state (seen_of c.enter-home.new.seat) c.enter-home.ensures.value

@@ -30,7 +30,8 @@ leave_flushed-requires g c κs within =
         (
           e.twin,
           may_note o c.args.twin.now s v now (Flush c.args.upto ∷ []) e.twin e.held e.value x.mark.hosts x.mark.limits x.mark.count x.mark.length_same
-              (low_firm now.flushed v.flushed c.args.upto (known_of s0) (known_of s) x.firm c.requires.known e.known e.firm) (inr (same_mark v now x.mark same ∙ sym e.mark)) (tt, tt) (λ le. ((omega arith, tt), tt)) (omega arith) stands,
+              (low_firm now.flushed v.flushed c.args.upto (known_of s0) (known_of s) x.firm c.requires.known e.known e.firm) (inr (same_mark v now x.mark same ∙ sym e.mark)) (tt, tt)
+              (λ le. ((omega arith, tt), tt)) (omega arith) stands,
         ),
       ),
     )
@@ -38,9 +39,14 @@ leave_flushed-requires g c κs within =
 pub returns-clause-call : goal.returns-clause-call
 returns-clause-call g c =
     let l = c.leave_flushed.ensures in
-    record { twin = l.twin; free = free_kept c.args.twin.now c.args.seat.now c.enter-home.new.seat c.leave_flushed.new.seat c.settle.new.self (deeds (number_of c.enter-home.new.seat) (bytes_in c.settle.new.self) (Flush c.args.upto ∷ [])) c.enter-home.ensures.hand l c.requires.call.free }
+    record {
+      twin = l.twin;
+      free = free_kept c.args.twin.now c.args.seat.now c.enter-home.new.seat c.leave_flushed.new.seat c.settle.new.self
+          (deeds (number_of c.enter-home.new.seat) (bytes_in c.settle.new.self) (Flush c.args.upto ∷ [])) c.enter-home.ensures.hand l c.requires.call.free;
+    }
 
 pub returns-clause-added : goal.returns-clause-added
 returns-clause-added g c =
     let e = c.enter-home.ensures in
-    did_by g.B.Opening.origin c.args.seat.now c.enter-home.new.seat c.leave_flushed.new.seat c.enter-home.result.state c.settle.new.self (Flush c.args.upto ∷ []) (λ w steps. steps ≡ Flush c.args.upto ∷ []) e.number e.later e.value (tt, tt) c.leave_flushed.ensures.seen refl
+    did_by g.B.Opening.origin c.args.seat.now c.enter-home.new.seat c.leave_flushed.new.seat c.enter-home.result.state c.settle.new.self (Flush c.args.upto ∷ [])
+    (λ w steps. steps ≡ Flush c.args.upto ∷ []) e.number e.later e.value (tt, tt) c.leave_flushed.ensures.seen refl

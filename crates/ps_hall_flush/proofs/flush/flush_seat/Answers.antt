@@ -48,7 +48,8 @@ returns-in-Ok-Some-clause-ok g c =
     let found = seen_of c.begin_frame.new.seat in
     let b = c.in-Ok-Some.ensures in
     let p = passes_as o k (number_of c.enter_journal-archive.new.seat) old (seen_of c.enter_journal-archive.new.seat) found found e.number e.seen refl b.passed in
-    flush_ok o k (number_of c.begin_frame.new.seat) old found (seen_of c.write_frame.new.seat) c.write_frame.result (b.number ∙ e.number) p (rw c.in-Ok-Some.field-0-is at b.some).loaded.unbroken c.write_frame.ensures.ok
+    flush_ok o k (number_of c.begin_frame.new.seat) old found (seen_of c.write_frame.new.seat) c.write_frame.result (b.number ∙ e.number) p (rw c.in-Ok-Some.field-0-is at b.some).loaded.unbroken
+    c.write_frame.ensures.ok
 
 pub returns-in-Ok-Some-clause-known : goal.returns-in-Ok-Some-clause-known
 returns-in-Ok-Some-clause-known g c =

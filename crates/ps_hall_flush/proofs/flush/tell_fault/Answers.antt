@@ -27,14 +27,16 @@ leave_broken-requires g c κs within =
         within.1,
         (
           e.twin,
-          may_note o c.args.twin.now s v now (Broken ∷ []) e.twin e.held e.value x.kept.hosts x.kept.limits x.kept.count x.kept.length_same (let f = x.kept.flushed in let k = e.firm in omega (arith, f, k))
+          may_note o c.args.twin.now s v now (Broken ∷ []) e.twin e.held e.value x.kept.hosts x.kept.limits x.kept.count x.kept.length_same
+              (let f = x.kept.flushed in let k = e.firm in omega (arith, f, k))
               (inl (holds_on c.args.seat.now s e.hand c.requires.held.1)) (tt, tt) (λ le. ((omega arith, tt), tt)) (omega arith) (x.goes o.boot e.value.named (world_at o (seen_of s)) e.value.stands),
         ),
       ),
     )
 
 pub returns-clause-held : goal.returns-clause-held
-returns-clause-held g c = journal_kept c.args.twin.now c.args.seat.now c.enter-home.new.seat c.leave_broken.new.seat c.fault.new.self (deeds (number_of c.enter-home.new.seat) (bytes_in c.fault.new.self) (Broken ∷ [])) c.enter-home.ensures.hand c.leave_broken.ensures c.requires.held
+returns-clause-held g c = journal_kept c.args.twin.now c.args.seat.now c.enter-home.new.seat c.leave_broken.new.seat c.fault.new.self
+    (deeds (number_of c.enter-home.new.seat) (bytes_in c.fault.new.self) (Broken ∷ [])) c.enter-home.ensures.hand c.leave_broken.ensures c.requires.held
 
 pub returns-clause-hand : goal.returns-clause-hand
 returns-clause-hand g c =
@@ -62,14 +64,16 @@ returns-clause-steps g c =
 pub returns-clause-added : goal.returns-clause-added
 returns-clause-added g c =
     let e = c.enter-home.ensures in
-    did_by g.B.Opening.origin c.args.seat.now c.enter-home.new.seat c.leave_broken.new.seat c.enter-home.result.state c.fault.new.self (Broken ∷ []) (λ w steps. steps ≡ Broken ∷ []) e.number e.later e.value (tt, tt) c.leave_broken.ensures.seen refl
+    did_by g.B.Opening.origin c.args.seat.now c.enter-home.new.seat c.leave_broken.new.seat c.enter-home.result.state c.fault.new.self (Broken ∷ []) (λ w steps. steps ≡ Broken ∷ []) e.number e.later
+    e.value (tt, tt) c.leave_broken.ensures.seen refl
 
 pub returns-clause-broken : goal.returns-clause-broken
 returns-clause-broken g c =
     let s = c.enter-home.new.seat in
     let now = c.fault.new.self in
     let home = broken_home g.B.Opening.origin c.enter-home.result.state now (seen_of s) (number_of s) c.enter-home.ensures.value c.fault.ensures.kept c.fault.ensures.goes in
-    subst (λ (log : List Deed). IsBrokenAt g.B.Opening.origin log) (sym c.leave_broken.ensures.seen) (record { owned = home.owned; broken = sym home.stands.broken ∙ c.fault.ensures.broken; sound = home.stands.sound })
+    subst (λ (log : List Deed). IsBrokenAt g.B.Opening.origin log) (sym c.leave_broken.ensures.seen)
+    (record { owned = home.owned; broken = sym home.stands.broken ∙ c.fault.ensures.broken; sound = home.stands.sound })
 
 pub returns-clause-measured : goal.returns-clause-measured
 returns-clause-measured g c few =
@@ -81,4 +85,5 @@ returns-clause-measured g c few =
     let marks = c.enter-home.ensures.marked c.requires.held.1 in
     let home = broken_home o v now (seen_of s) (number_of s) c.enter-home.ensures.value c.fault.ensures.kept c.fault.ensures.goes in
     subst (λ (log : List Deed). AreMeasured o mark.0 mark.1 log) (sym c.leave_broken.ensures.seen)
-    (measured_as o now.count now.length mark.0 mark.1 (seen_of s ++ deeds (number_of s) (bytes_in now) (Broken ∷ [])) (c.fault.ensures.kept.count ∙ mark_count v mark marks few) (c.fault.ensures.kept.length_same ∙ ap (λ m. m.1) marks) home.begun)
+    (measured_as o now.count now.length mark.0 mark.1 (seen_of s ++ deeds (number_of s) (bytes_in now) (Broken ∷ [])) (c.fault.ensures.kept.count ∙ mark_count v mark marks few)
+    (c.fault.ensures.kept.length_same ∙ ap (λ m. m.1) marks) home.begun)

@@ -34,7 +34,8 @@ leave_journal-requires g c =
 pub end_frame-requires : goal.end_frame-requires
 end_frame-requires g c =
     let left = c.leave_journal.ensures in
-    is_written g.B.Opening.origin c.args.twin.now c.args.seat.now c.leave_journal.new.seat c.args.archive.store c.append.new.self c.args.frame c.requires left.twin left.free left.seen c.in-Ok.ensures.firm left.firm
+    is_written g.B.Opening.origin c.args.twin.now c.args.seat.now c.leave_journal.new.seat c.args.archive.store c.append.new.self c.args.frame c.requires left.twin left.free left.seen
+    c.in-Ok.ensures.firm left.firm
 
 pub returns-in-Ok-clause-number : goal.returns-in-Ok-clause-number
 returns-in-Ok-clause-number g c = c.end_frame.ensures.number ∙ c.leave_journal.ensures.number
@@ -43,12 +44,14 @@ pub returns-in-Ok-clause-ok : goal.returns-in-Ok-clause-ok
 returns-in-Ok-clause-ok g c =
     let o = g.B.Opening.origin in
     let left = c.leave_journal.ensures in
-    adds_as o (number_of c.leave_journal.new.seat) (number_of c.args.seat.now) (seen_of c.leave_journal.new.seat) (seen_of c.args.seat.now) (seen_of c.end_frame.new.seat) (Flush c.args.frame.steps) (Flush _) left.number left.seen
+    adds_as o (number_of c.leave_journal.new.seat) (number_of c.args.seat.now) (seen_of c.leave_journal.new.seat) (seen_of c.args.seat.now) (seen_of c.end_frame.new.seat) (Flush c.args.frame.steps)
+    (Flush _) left.number left.seen
     (ap Flush (frame_steps o c.args.twin.now c.args.seat.now c.args.archive.store c.args.frame c.requires)) c.end_frame.ensures.added
 
 pub returns-in-Ok-clause-known : goal.returns-in-Ok-clause-known
 returns-in-Ok-clause-known g c =
-    written_known g.B.Opening.origin c.args.twin.now c.args.seat.now c.leave_journal.new.seat c.end_frame.new.seat c.args.archive.store c.append.new.self c.args.frame c.requires c.in-Ok.ensures.firm c.leave_journal.ensures.firm c.end_frame.ensures.known
+    written_known g.B.Opening.origin c.args.twin.now c.args.seat.now c.leave_journal.new.seat c.end_frame.new.seat c.args.archive.store c.append.new.self c.args.frame c.requires c.in-Ok.ensures.firm
+    c.leave_journal.ensures.firm c.end_frame.ensures.known
 
 pub leave_journal-requires-in-Err : goal.leave_journal-requires-in-Err
 leave_journal-requires-in-Err g c =
@@ -69,7 +72,8 @@ leave_journal-requires-in-Err g c =
         seen_of s',
         record {
           stands = stands;
-          within = failed_within o t s s' c.args.archive.store c.note.new.self f (number_of s) r (m.firm ∙ did.firm_same) (let a = did.grows in let b = m.length in omega (arith, a, b)) (m.mark ∙ did.mark) n.added n.measured;
+          within = failed_within o t s s' c.args.archive.store c.note.new.self f (number_of s) r (m.firm ∙ did.firm_same) (let a = did.grows in let b = m.length in omega (arith, a, b))
+              (m.mark ∙ did.mark) n.added n.measured;
         },
         failed_front o t s s' c.args.archive.store f (number_of s) r n.hand.list n.added,
         ([], sym (nil-right (seen_of s'))),

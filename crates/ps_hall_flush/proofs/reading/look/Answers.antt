@@ -11,7 +11,8 @@ leave_as_was-requires-clause-may g c =
     let e = c.enter-home.ensures in
     let s = c.enter-home.new.seat in
     let v = c.enter-home.result.state in
-    notes_none g.B.Opening.origin c.args.twin.now s v v e.twin e.held e.value refl refl (omega arith) e.value.begun refl e.firm (inl (holds_on c.args.seat.now s e.hand c.requires.held.1)) (λ service some w is. is)
+    notes_none g.B.Opening.origin c.args.twin.now s v v e.twin e.held e.value refl refl (omega arith) e.value.begun refl e.firm (inl (holds_on c.args.seat.now s e.hand c.requires.held.1))
+    (λ service some w is. is)
 
 pub returns-clause-passed : goal.returns-clause-passed
 returns-clause-passed g c =
@@ -22,4 +23,5 @@ returns-clause-passed g c =
 pub returns-clause-as_was : goal.returns-clause-as_was
 returns-clause-as_was g c =
     let e = c.enter-home.ensures in
-    no_frame g.B.Opening.origin c.args.twin.now c.args.seat.now c.enter-home.new.seat c.leave_as_was.new.seat c.enter-home.result.state c.args.archive.now.store c.requires e.hand e.value (e.front c.requires.held.1) (e.marked c.requires.held.1) c.leave_as_was.ensures
+    no_frame g.B.Opening.origin c.args.twin.now c.args.seat.now c.enter-home.new.seat c.leave_as_was.new.seat c.enter-home.result.state c.args.archive.now.store c.requires e.hand e.value
+    (e.front c.requires.held.1) (e.marked c.requires.held.1) c.leave_as_was.ensures

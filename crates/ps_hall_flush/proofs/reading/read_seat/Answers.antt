@@ -36,7 +36,8 @@ returns-then-is_broken-clause-err g c =
     let o = g.B.Opening.origin in
     let e = c.enter_journal-archive.ensures in
     let l = c.look.ensures in
-    let p = passes_as o (number_of c.args.seat.now) (number_of c.enter_journal-archive.new.seat) (seen_of c.args.seat.now) (seen_of c.enter_journal-archive.new.seat) (seen_of c.look.new.seat) (seen_of c.look.new.seat) e.number e.seen refl l.passed in
+    let p = passes_as o (number_of c.args.seat.now) (number_of c.enter_journal-archive.new.seat) (seen_of c.args.seat.now) (seen_of c.enter_journal-archive.new.seat) (seen_of c.look.new.seat)
+    (seen_of c.look.new.seat) e.number e.seen refl l.passed in
     was_told o (number_of c.args.seat.now) (seen_of c.args.seat.now) (seen_of c.look.new.seat) (seen_of c.leave_journal.new.seat) p c.leave_journal.ensures.seen
     (told_before o c.args.twin.now c.look.new.seat c.enter_journal-archive.result.store l.as_was p.owned (sym c.is_broken.ensures ∙ c.if-is_broken.true))
 
@@ -71,7 +72,8 @@ returns-in-Ok-clause-ok g c =
     let s = c.look.new.seat in
     let seen = c.leave_journal-in-Ok.ensures.seen in
     record {
-      passed = passes_as o (number_of c.args.seat.now) (number_of c.enter_journal-archive.new.seat) (seen_of c.args.seat.now) (seen_of c.enter_journal-archive.new.seat) (seen_of s) (seen_of c.leave_journal-in-Ok.new.seat) e.number e.seen seen l.passed;
+      passed = passes_as o (number_of c.args.seat.now) (number_of c.enter_journal-archive.new.seat) (seen_of c.args.seat.now) (seen_of c.enter_journal-archive.new.seat) (seen_of s)
+          (seen_of c.leave_journal-in-Ok.new.seat) e.number e.seen seen l.passed;
       read = record {
         front = list_of s;
         is = subst (λ (log : List Deed). Prefix (list_of s) log) (sym seen) n.front;
@@ -106,7 +108,8 @@ pub returns-in-Err-Memory-clause-err : goal.returns-in-Err-Memory-clause-err
 returns-in-Err-Memory-clause-err g c =
     let e = c.enter_journal-archive.ensures in
     let left = c.leave_journal-in-Err-Memory in
-    passes_as g.B.Opening.origin (number_of c.args.seat.now) (number_of c.enter_journal-archive.new.seat) (seen_of c.args.seat.now) (seen_of c.enter_journal-archive.new.seat) (seen_of c.look.new.seat) (seen_of left.new.seat) e.number e.seen left.ensures.seen c.look.ensures.passed
+    passes_as g.B.Opening.origin (number_of c.args.seat.now) (number_of c.enter_journal-archive.new.seat) (seen_of c.args.seat.now) (seen_of c.enter_journal-archive.new.seat)
+    (seen_of c.look.new.seat) (seen_of left.new.seat) e.number e.seen left.ensures.seen c.look.ensures.passed
 
 -- the disk failed
 
@@ -121,7 +124,8 @@ leave_journal-requires-in-Err-Store g c =
     let told = c.tell_fault-steps.ensures in
     let m = c.note.ensures in
     let y = c.enter_journal-archive.result.store in
-    let stands = told_stands o t s s' y c.entries.new.self c.note.new.self c.tell_fault-steps.result (number_of s) n (sym c.is_broken.ensures ∙ c.if-is_broken.false) (rw c.in-Err-Store.field-0-is at x.err) m.notes told.steps told.added told.broken in
+    let stands = told_stands o t s s' y c.entries.new.self c.note.new.self c.tell_fault-steps.result (number_of s) n (sym c.is_broken.ensures ∙ c.if-is_broken.false)
+    (rw c.in-Err-Store.field-0-is at x.err) m.notes told.steps told.added told.broken in
     record {
       twin = told.twin;
       held = told.held;
@@ -129,7 +133,8 @@ leave_journal-requires-in-Err-Store g c =
         seen_of s',
         record {
           stands = stands;
-          within = told_within o t s s' y c.note.new.self (number_of s) n (sym c.is_broken.ensures ∙ c.if-is_broken.false) (m.firm ∙ x.firm) (m.length ∙ x.length) (m.mark ∙ x.mark) told.added told.measured;
+          within = told_within o t s s' y c.note.new.self (number_of s) n (sym c.is_broken.ensures ∙ c.if-is_broken.false) (m.firm ∙ x.firm) (m.length ∙ x.length) (m.mark ∙ x.mark) told.added
+              told.measured;
         },
         told_front o t s s' y (number_of s) n told.hand.list told.added,
         ([], sym (nil-right (seen_of s'))),

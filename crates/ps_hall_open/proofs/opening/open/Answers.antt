@@ -26,11 +26,13 @@ returns-in-Ok-clause-any_moment g c tells E spells short =
     let D = g.D.Disk in
     let old = c.args.disk in
     subst
-    (λ (b : Entry). MatchResult c.open_ready.result (λ r. OpenLeaves D.moment D.left_since D.synced D.written E b old (disk_in r.store)) (λ e. OpenLeaves D.moment D.left_since D.synced D.written E b old e.disk))
+    (λ (b : Entry). MatchResult c.open_ready.result (λ r. OpenLeaves D.moment D.left_since D.synced D.written E b old (disk_in r.store))
+    (λ e. OpenLeaves D.moment D.left_since D.synced D.written E b old e.disk))
     c.in-Ok.ensures.boot (c.open_ready.ensures.any_moment tells E spells short)
 
 pub returns-in-Err-clause-fronts : goal.returns-in-Err-clause-fronts
-returns-in-Err-clause-fronts g c tells none E spells short = fronts_same g.D.Disk g.met.D.Disk.only_now c.args.disk (λ f may. (E, quiet_lasts g.D.Disk g.met.D.Disk.seen_left c.args.disk E none spells f may))
+returns-in-Err-clause-fronts g c tells none E spells short = fronts_same g.D.Disk g.met.D.Disk.only_now c.args.disk
+    (λ f may. (E, quiet_lasts g.D.Disk g.met.D.Disk.seen_left c.args.disk E none spells f may))
 
 pub returns-in-Err-clause-still : goal.returns-in-Err-clause-still
 returns-in-Err-clause-still g c tells none E spells short not = record { spells = spells; lasts = quiet_lasts g.D.Disk g.met.D.Disk.seen_left c.args.disk E none spells }

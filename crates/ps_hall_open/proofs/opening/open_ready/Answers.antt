@@ -36,7 +36,8 @@ returns-in-Err-clause-refused g c service hosts ready =
     let not = OpenNot D.tells (D.seen c.args.disk) (D.faults c.args.disk) (D.faults c.in-Err.refusal.disk) service c.args.limits.whole in
     subst not (sym c.from-why.ensures)
     (subst (λ (w : ReadWhy). not (open_why w)) (sym c.why_not.ensures)
-    (refused_journal D.tells (D.seen c.args.disk) service (D.faults c.args.disk) (D.faults c.in-Err.refusal.disk) c.args.limits.whole (λ ps. _ × HasTaken ps c.open_giving.new.taker.rebuilt) (λ ps t. t.1.replayed.each) c.in-Err.refusal.why (λ tells. e.stopped tells) e.store))
+    (refused_journal D.tells (D.seen c.args.disk) service (D.faults c.args.disk) (D.faults c.in-Err.refusal.disk) c.args.limits.whole (λ ps. _ × HasTaken ps c.open_giving.new.taker.rebuilt)
+    (λ ps t. t.1.replayed.each) c.in-Err.refusal.why (λ tells. e.stopped tells) e.store))
 
 pub returns-in-Err-clause-damaged : goal.returns-in-Err-clause-damaged
 returns-in-Err-clause-damaged g c tells =
@@ -53,7 +54,8 @@ returns-in-Err-clause-still g c tells none E spells short not =
 pub returns-in-Err-restore-clause-damaged : goal.returns-in-Err-restore-clause-damaged
 returns-in-Err-restore-clause-damaged g c tells =
     let D = g.D.Disk in
-    undamaged c.in-Ok.journal c.restore.new.journal c.in-Ok.placed.items c.args.ready.boot c.args.limits.whole c.in-Err-restore.why (D.seen c.args.disk) (D.seen c.close.result) c.in-Err-restore.ensures.err
+    undamaged c.in-Ok.journal c.restore.new.journal c.in-Ok.placed.items c.args.ready.boot c.args.limits.whole c.in-Err-restore.why (D.seen c.args.disk) (D.seen c.close.result)
+    c.in-Err-restore.ensures.err
 
 pub returns-in-Err-restore-clause-still : goal.returns-in-Err-restore-clause-still
 returns-in-Err-restore-clause-still g c tells none E spells short not =
@@ -67,7 +69,8 @@ pub returns-in-Err-clause-any_moment : goal.returns-in-Err-clause-any_moment
 returns-in-Err-clause-any_moment g c tells E spells short =
     let D = g.D.Disk in
     let old = c.args.disk in
-    weaker D.moment D.left_since old c.in-Err.refusal.disk _ (IsOpenLeft (D.synced old) (D.written old) E c.args.ready.boot) (c.in-Err.ensures.any_moment tells E spells short) (journal_left (D.synced old) (D.written old) E c.args.ready.boot)
+    weaker D.moment D.left_since old c.in-Err.refusal.disk _ (IsOpenLeft (D.synced old) (D.written old) E c.args.ready.boot) (c.in-Err.ensures.any_moment tells E spells short)
+    (journal_left (D.synced old) (D.written old) E c.args.ready.boot)
 
 pub returns-in-Err-clause-fronts : goal.returns-in-Err-clause-fronts
 returns-in-Err-clause-fronts g c tells none E spells short =
@@ -76,7 +79,8 @@ returns-in-Err-clause-fronts g c tells none E spells short =
 pub returns-in-Err-restore-clause-refused : goal.returns-in-Err-restore-clause-refused
 returns-in-Err-restore-clause-refused g c service hosts ready =
     let e = c.in-Ok.ensures in
-    refused_restore c.in-Ok.journal c.restore.new.journal c.args.disk c.close.result c.in-Ok.placed.items c.args.ready.boot service c.args.limits.whole c.in-Err-restore.why c.close.ensures ready.boot (λ tells. e.entries tells) (λ tells. e.long tells) e.later c.in-Err-restore.ensures.err
+    refused_restore c.in-Ok.journal c.restore.new.journal c.args.disk c.close.result c.in-Ok.placed.items c.args.ready.boot service c.args.limits.whole c.in-Err-restore.why c.close.ensures ready.boot
+    (λ tells. e.entries tells) (λ tells. e.long tells) e.later c.in-Err-restore.ensures.err
 
 pub returns-in-Err-restore-clause-any_moment : goal.returns-in-Err-restore-clause-any_moment
 returns-in-Err-restore-clause-any_moment g c tells E spells short =
@@ -84,7 +88,8 @@ returns-in-Err-restore-clause-any_moment g c tells E spells short =
     let old = c.args.disk in
     let e = c.in-Ok.ensures in
     subst (λ d. OpenLeaves D.moment D.left_since D.synced D.written E c.args.ready.boot old d) (sym c.close.ensures)
-    (open_left D old (disk_of c.in-Ok.journal) (disk_of c.restore.new.journal) c.in-Ok.placed.items c.args.ready.boot E spells (e.entries tells) (e.same tells) (e.durable tells) (e.any_moment tells E spells short) (c.restore.ensures.any_moment tells))
+    (open_left D old (disk_of c.in-Ok.journal) (disk_of c.restore.new.journal) c.in-Ok.placed.items c.args.ready.boot E spells (e.entries tells) (e.same tells) (e.durable tells)
+    (e.any_moment tells E spells short) (c.restore.ensures.any_moment tells))
 
 pub returns-in-Err-restore-clause-fronts : goal.returns-in-Err-restore-clause-fronts
 returns-in-Err-restore-clause-fronts g c tells none E spells short =
@@ -102,7 +107,8 @@ returns-clause-any_moment g c tells E spells short =
     let old = c.args.disk in
     let e = c.in-Ok.ensures in
     subst (λ d. OpenLeaves D.moment D.left_since D.synced D.written E c.args.ready.boot old d) (sym c.made_of.ensures.made.disk)
-    (open_left D old (disk_of c.in-Ok.journal) (disk_of c.restore.new.journal) c.in-Ok.placed.items c.args.ready.boot E spells (e.entries tells) (e.same tells) (e.durable tells) (e.any_moment tells E spells short) (c.restore.ensures.any_moment tells))
+    (open_left D old (disk_of c.in-Ok.journal) (disk_of c.restore.new.journal) c.in-Ok.placed.items c.args.ready.boot E spells (e.entries tells) (e.same tells) (e.durable tells)
+    (e.any_moment tells E spells short) (c.restore.ensures.any_moment tells))
 
 pub returns-clause-fronts : goal.returns-clause-fronts
 returns-clause-fronts g c tells none E spells short =
@@ -126,14 +132,17 @@ returns-clause-opened g c service hosts ready =
     let restored = subst (λ (b : Entry). IsRestored E b c.restore.new.rebuilt) ready.boot done.restored in
     let size = done.length ∙ ap (λ (n : ℕ). length_of c.in-Ok.journal + n) (ap frame_of ready.boot) in
     subst (λ (es : Trail). IsOpen c.args.disk service hosts c.args.limits (entries_in es.items) c.made_of.result.state c.made_of.result.store) (sym c.made_of.ensures.entries)
-    (opens c.restore.new.journal c.restore.new.rebuilt c.args.ready.rows.items c.args.limits _ _ c.made_of.ensures.made c.args.disk service hosts E (length_of c.in-Ok.journal) (name_some service ready.name) ready.hosts_are ready.rows restored
-    c.requires.bounded.0 c.requires.bounded.1 (λ tells. opened_store (D.seen c.args.disk) c.in-Ok.placed.items (e.entries tells) done.restored.each) (λ tells. e.long tells) size (omega (arith, done.room, done.length)) done.unbroken
+    (opens c.restore.new.journal c.restore.new.rebuilt c.args.ready.rows.items c.args.limits _ _ c.made_of.ensures.made c.args.disk service hosts E (length_of c.in-Ok.journal)
+    (name_some service ready.name) ready.hosts_are ready.rows restored
+    c.requires.bounded.0 c.requires.bounded.1 (λ tells. opened_store (D.seen c.args.disk) c.in-Ok.placed.items (e.entries tells) done.restored.each) (λ tells. e.long tells) size
+    (omega (arith, done.room, done.length)) done.unbroken
     (λ tells. subst (λ (b : Entry). spelled (D.seen new) (E ++ b ∷ [])) ready.boot (done.entries tells (e.same tells)))
     (λ tells. subst (λ (b : Entry). LeavesList (D.synced new) (D.written new) (E ++ b ∷ [])) ready.boot (done.durable tells (e.same tells)))
     (λ tells short. (
     let spells = opened_spells (D.seen old) c.in-Ok.placed.items (e.entries tells) in
     subst (λ (b : Entry). OpenLeaves D.moment D.left_since D.synced D.written E b old new) ready.boot
-    (open_left D old mid new c.in-Ok.placed.items c.args.ready.boot E spells (e.entries tells) (e.same tells) (e.durable tells) (e.any_moment tells E spells short) (c.restore.ensures.any_moment tells))))
+    (open_left D old mid new c.in-Ok.placed.items c.args.ready.boot E spells (e.entries tells) (e.same tells) (e.durable tells) (e.any_moment tells E spells short)
+    (c.restore.ensures.any_moment tells))))
     (λ tells none short. (
     let spells = opened_spells (D.seen old) c.in-Ok.placed.items (e.entries tells) in
     fronts_then D old mid new (fronts_opened D g.met.D.Disk.seen_left g.met.D.Disk.counts_now old mid E none spells (e.any_moment tells E spells short))

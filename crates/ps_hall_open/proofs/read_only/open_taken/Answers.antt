@@ -25,7 +25,8 @@ returns-in-Err-clause-refused g c =
     let e = c.in-Err.ensures in
     let all = c.open_giving.new.taker in
     subst (ReadNot D.tells (D.seen c.args.disk) (D.faults c.args.disk) (D.faults c.in-Err.refusal.disk)) (sym c.why_not-why.ensures)
-    (read_refused D.tells (D.seen c.args.disk) [] (D.faults c.args.disk) (D.faults c.in-Err.refusal.disk) 0 (λ ps. _ × HasTaken ps all.rebuilt × g.O.Observer.saw c.args.observer all.observer (entries_in ps)) (λ ps t. t.1.replayed.each) c.in-Err.refusal.why (λ tells. e.stopped tells) e.store)
+    (read_refused D.tells (D.seen c.args.disk) [] (D.faults c.args.disk) (D.faults c.in-Err.refusal.disk) 0
+    (λ ps. _ × HasTaken ps all.rebuilt × g.O.Observer.saw c.args.observer all.observer (entries_in ps)) (λ ps t. t.1.replayed.each) c.in-Err.refusal.why (λ tells. e.stopped tells) e.store)
 
 pub returns-in-Err-clause-untouched : goal.returns-in-Err-clause-untouched
 returns-in-Err-clause-untouched g c tells =

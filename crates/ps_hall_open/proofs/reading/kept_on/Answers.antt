@@ -16,7 +16,8 @@ returns-in-Err-clause-refused g c =
     let D = g.D.Disk in
     let e = c.in-Err.ensures in
     subst (ReadNot D.tells (D.seen c.args.disk.now) (D.faults c.args.disk.now) (D.faults c.look_giving.new.disk)) (sym c.why_not.ensures)
-    (read_refused D.tells (D.seen c.args.disk.now) [] (D.faults c.args.disk.now) (D.faults c.look_giving.new.disk) 0 (λ ps. _ × HasTaken ps c.look_giving.new.taker.rebuilt) (λ ps t. t.1.replayed.each) c.in-Err.why (λ tells. e.stopped tells) (λ is. e.store (ap Err is)))
+    (read_refused D.tells (D.seen c.args.disk.now) [] (D.faults c.args.disk.now) (D.faults c.look_giving.new.disk) 0 (λ ps. _ × HasTaken ps c.look_giving.new.taker.rebuilt)
+    (λ ps t. t.1.replayed.each) c.in-Err.why (λ tells. e.stopped tells) (λ is. e.store (ap Err is)))
 
 pub returns-in-Ok-clause-kept : goal.returns-in-Ok-clause-kept
 returns-in-Ok-clause-kept g c =

@@ -14,8 +14,10 @@ begin-requires-clause-few g c κs within = all_few c.args._placed.now.items c.ar
 pub returns-clause-restored : goal.returns-clause-restored
 returns-clause-restored g c =
     on_ok_weaker c.begin.result
-    (restored_is c.args._placed.now.items c.args.rebuilt.now (record { service = c.begin.new.service; queues = c.args.rebuilt.now.queues }) c.args.boot.now c.requires.taken.replayed c.requires.taken.few c.requires.boot refl) c.begin.ensures.state
+    (restored_is c.args._placed.now.items c.args.rebuilt.now (record { service = c.begin.new.service; queues = c.args.rebuilt.now.queues }) c.args.boot.now c.requires.taken.replayed
+    c.requires.taken.few c.requires.boot refl) c.begin.ensures.state
 
 pub returns-clause-err : goal.returns-clause-err
 returns-clause-err g c =
-    IfErr-weaker c.begin.result _ _ (λ why not. not_restored c.args.journal.now c.begin.new.journal c.args._placed.now.items c.args.boot.now c.args.whole why c.requires.taken.replayed.each not) c.begin.ensures.err
+    IfErr-weaker c.begin.result _ _ (λ why not. not_restored c.args.journal.now c.begin.new.journal c.args._placed.now.items c.args.boot.now c.args.whole why c.requires.taken.replayed.each not)
+    c.begin.ensures.err

@@ -16,7 +16,8 @@ loop-notice-preserved c =
     let n = c.in-Some.notice in
     let rest = c.next.new.self.rest.items in
     let split : c.loop-notice.notice-iterator.rest.items ≡ n ∷ rest = search rules in (
-      ap (λ (q : List Notice). q ++ rest) c.push.ensures.waiting ∙ (append_assoc c.loop-notice.queues.waiting (n ∷ []) rest ∙ (ap (λ (q : List Notice). c.loop-notice.queues.waiting ++ q) (sym split) ∙ c.loop-notice.invariant.0)),
+      ap (λ (q : List Notice). q ++ rest) c.push.ensures.waiting ∙
+          (append_assoc c.loop-notice.queues.waiting (n ∷ []) rest ∙ (ap (λ (q : List Notice). c.loop-notice.queues.waiting ++ q) (sym split) ∙ c.loop-notice.invariant.0)),
       spare-tail c.loop-notice.notice-iterator.rest.items n rest c.loop-notice.queues c.push.new.self split c.loop-notice.invariant.1 c.push.ensures.kept,
       c.push.ensures.held ∙ c.loop-notice.invariant.2,
     )

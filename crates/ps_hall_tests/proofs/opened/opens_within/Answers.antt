@@ -12,4 +12,5 @@ pub open-requires-clause-hosts : goal.open-requires-clause-hosts
 open-requires-clause-hosts g c κs within = subst AreHosts (sym c.requires.hosts) one_is
 
 pub returns-in-Ok : goal.returns-in-Ok
-returns-in-Ok g c = may_start c.args.disk c.args.service.now c.args.hosts.now c.args.limits (entries_in c.in-Ok.opened.entries.items) c.in-Ok.opened.state c.in-Ok.opened.store c.requires.service c.requires.hosts c.in-Ok.ensures.opened
+returns-in-Ok g c = may_start c.args.disk c.args.service.now c.args.hosts.now c.args.limits (entries_in c.in-Ok.opened.entries.items) c.in-Ok.opened.state c.in-Ok.opened.store c.requires.service
+    c.requires.hosts c.in-Ok.ensures.opened

@@ -23,6 +23,7 @@ returns c =
     let row = row_seen c.args.row.now in
     let config = c.in_ok-config.config in
     let is : is_cancelled (form_of tree) ≡ false = ap (λ (f : Option Form). is_cancelled f) (sym c.in_ok-form.ensures.form) ∙ sym c.is_cancelled.ensures ∙ c.if-is_cancelled.false in
-    let g : config_given config_type row.config (form_of tree) ≡ Ok config = ap (λ (f : Option Form). config_given config_type row.config f) (sym c.in_ok-form.ensures.form) ∙ c.in_ok-config.ensures.config in
+    let g : config_given config_type row.config (form_of tree) ≡ Ok config = ap (λ (f : Option Form). config_given config_type row.config f) (sym c.in_ok-form.ensures.form) ∙
+    c.in_ok-config.ensures.config in
     let unmoved = rw c.is_unmoved.ensures.unmoved at c.in_ok-pass_if.ensures.passes in
     (passes (form_of tree) row.config config is g unmoved, ap (λ (b : Bool). not b) c.stays.ensures ∙ given (book_of c.args.tables.now) c.args.key.now row tree config c.requires.row g)

@@ -183,7 +183,8 @@ returns-in-Lines-clause-reported g c =
     let new = c.tell_lines.new.world in
     let only = c.tell_lines.ensures.only in
     let lines = c.in-Lines.lines in
-    let told = subst (λ (ls : List (List ℕ)). TellsText (text_of ls) (w.reported ran) (w.reported new) (w.faults ran) (w.faults new) c.tell_lines.result) c.as_slice.ensures c.tell_lines.ensures.told in
+    let told = subst (λ (ls : List (List ℕ)). TellsText (text_of ls) (w.reported ran) (w.reported new) (w.faults ran) (w.faults new) c.tell_lines.result) c.as_slice.ensures c.tell_lines.ensures.told
+    in
     let since : (w.last_opening new).1 ≤ w.faults ran = subst (λ (l : ℕ × ℕ). l.1 ≤ w.faults ran) (sym only.last) c.in-Lines.ensures.since in
     inr (
       Ok lines,

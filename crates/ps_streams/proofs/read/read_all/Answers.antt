@@ -21,7 +21,9 @@ returns-in-Ok-clause-reads g c =
     let mid = c.read_lines-end.new.pass.seat in
     let k = number_of c.args.pass.now.seat in
     let same = w.reader.number ∙ (ap (λ n. n + n) w.same.at ∙ sym c.requires.reader.number) in
-    reads-flushed g.B.Opening.origin k (number_of mid) (seen_of c.args.pass.now.seat) (seen_of mid) (seen_of c.flush_all.new.pass.seat) (rest_of c.args.lines.now) (g.S.Source.left (source_of c.read_lines-end.new.lines)) (g.C.Clock.told c.args.clock.now) (g.C.Clock.told c.read_lines-end.new.clock) c.read_lines-end.result same w.reads c.flush_all.ensures.brings
+    reads-flushed g.B.Opening.origin k (number_of mid) (seen_of c.args.pass.now.seat) (seen_of mid) (seen_of c.flush_all.new.pass.seat) (rest_of c.args.lines.now)
+    (g.S.Source.left (source_of c.read_lines-end.new.lines)) (g.C.Clock.told c.args.clock.now) (g.C.Clock.told c.read_lines-end.new.clock) c.read_lines-end.result same w.reads
+    c.flush_all.ensures.brings
 
 pub returns-in-Err-clause-reads : goal.returns-in-Err-clause-reads
 returns-in-Err-clause-reads g c =
@@ -29,7 +31,9 @@ returns-in-Err-clause-reads g c =
     let mid = c.read_lines-end.new.pass.seat in
     let k = number_of c.args.pass.now.seat in
     let same = w.reader.number ∙ (ap (λ n. n + n) w.same.at ∙ sym c.requires.reader.number) in
-    reads-fault g.B.Opening.origin k (number_of mid) (seen_of c.args.pass.now.seat) (seen_of mid) (seen_of c.flush_all.new.pass.seat) (rest_of c.args.lines.now) (g.S.Source.left (source_of c.read_lines-end.new.lines)) (g.C.Clock.told c.args.clock.now) (g.C.Clock.told c.read_lines-end.new.clock) c.read_lines-end.result same w.reads c.flush_all.ensures.brings c.in-Err.fault c.in-Err.ensures.fault.0
+    reads-fault g.B.Opening.origin k (number_of mid) (seen_of c.args.pass.now.seat) (seen_of mid) (seen_of c.flush_all.new.pass.seat) (rest_of c.args.lines.now)
+    (g.S.Source.left (source_of c.read_lines-end.new.lines)) (g.C.Clock.told c.args.clock.now) (g.C.Clock.told c.read_lines-end.new.clock) c.read_lines-end.result same w.reads
+    c.flush_all.ensures.brings c.in-Err.fault c.in-Err.ensures.fault.0
 
 pub returns-in-Ok-clause-kept : goal.returns-in-Ok-clause-kept
 returns-in-Ok-clause-kept g c = λ other. (
@@ -41,11 +45,13 @@ returns-in-Ok-clause-kept g c = λ other. (
 
 pub returns-in-Ok-clause-store : goal.returns-in-Ok-clause-store
 returns-in-Ok-clause-store g c = λ e.
-    flushes-broken g.B.Opening.origin (number_of c.read_lines-end.new.pass.seat) c.args.pass.now.host (seen_of c.read_lines-end.new.pass.seat) (seen_of c.flush_all.new.pass.seat) c.in-Ok.ensures.flushes (c.read_lines-end.ensures.store e)
+    flushes-broken g.B.Opening.origin (number_of c.read_lines-end.new.pass.seat) c.args.pass.now.host (seen_of c.read_lines-end.new.pass.seat) (seen_of c.flush_all.new.pass.seat)
+    c.in-Ok.ensures.flushes (c.read_lines-end.ensures.store e)
 
 pub returns-in-Ok-clause-closed : goal.returns-in-Ok-clause-closed
 returns-in-Ok-clause-closed g c = λ e none. (
     let o = g.B.Opening.origin in
     let mid = c.read_lines-end.new.pass.seat in
     let new = seen_of c.flush_all.new.pass.seat in
-    closed-on o c.args.pass.now.host (number_of c.args.pass.now.seat) (seen_of mid) new (grows-flushes o (number_of mid) (seen_of mid) new c.in-Ok.ensures.flushes) (c.read_lines-end.ensures.closed e none))
+    closed-on o c.args.pass.now.host (number_of c.args.pass.now.seat) (seen_of mid) new (grows-flushes o (number_of mid) (seen_of mid) new c.in-Ok.ensures.flushes)
+    (c.read_lines-end.ensures.closed e none))

@@ -37,8 +37,16 @@ loop-preserved g c =
     let u = g.C.Clock.told c.loop.clock in
     let v = g.C.Clock.told c.read_next.new.clock in
     let same = i.0.number ∙ (ap (λ n. n + n) i.1.at ∙ sym c.requires.reader.number) in
-    let read = subst (λ (b : Bool). NextRead o j mid new rest source left u v (Ok b)) c.in-Ok-true.field-0-test c.in-Ok-true.ensures.read in
-    (c.read_next.ensures.reader, record { at = c.read_next.ensures.same.at ∙ c.loop.invariant.1.at; host = c.read_next.ensures.same.host ∙ c.loop.invariant.1.host }, so-more o k j old mid new all rest left t u v same i.2 read, c.in-Ok-true.ensures.going, (let x = i.4 in let y = c.read_next.ensures.later in omega (arith, x, y)), gave-on (g.S.Source.left (source_of c.args.lines.now)) (g.S.Source.left (source_of c.loop.lines)) source (given_of c.args.lines.now) (given_of c.loop.lines) (given_of c.read_next.new.lines) i.5 c.read_next.ensures.gave)
+    let read = subst (λ (b : Bool). NextRead o j mid new rest source left u v (Ok b)) c.in-Ok-true.field-0-test c.in-Ok-true.ensures.read in (
+      c.read_next.ensures.reader,
+      record { at = c.read_next.ensures.same.at ∙ c.loop.invariant.1.at; host = c.read_next.ensures.same.host ∙ c.loop.invariant.1.host },
+      so-more o k j old mid new all
+          rest left t u v same i.2 read,
+      c.in-Ok-true.ensures.going,
+      (let x = i.4 in let y = c.read_next.ensures.later in omega (arith, x, y)),
+      gave-on (g.S.Source.left (source_of c.args.lines.now))
+          (g.S.Source.left (source_of c.loop.lines)) source (given_of c.args.lines.now) (given_of c.loop.lines) (given_of c.read_next.new.lines) i.5 c.read_next.ensures.gave,
+    )
 
 pub returns-in-Ok-false-clause-same : goal.returns-in-Ok-false-clause-same
 returns-in-Ok-false-clause-same g c = record { at = c.read_next.ensures.same.at ∙ c.loop.invariant.1.at; host = c.read_next.ensures.same.host ∙ c.loop.invariant.1.host }
@@ -91,16 +99,19 @@ returns-in-Err-clause-closed g c = λ e none. (
     let k = number_of c.args.pass.now.seat in
     let j = number_of c.loop.pass.seat in
     let same = i.0.number ∙ (ap (λ n. n + n) i.1.at ∙ sym c.requires.reader.number) in
-    closed-later g.B.Opening.origin j k c.loop.pass.host c.args.pass.now.host (seen_of c.args.pass.now.seat) (seen_of c.loop.pass.seat) (seen_of c.read_next.new.pass.seat) i.2.arrived same i.1.host i.2.brought
+    closed-later g.B.Opening.origin j k c.loop.pass.host c.args.pass.now.host (seen_of c.args.pass.now.seat) (seen_of c.loop.pass.seat) (seen_of c.read_next.new.pass.seat) i.2.arrived same i.1.host
+    i.2.brought
     (c.in-Err.ensures.closed (ap (λ (w : ReadEnd). the_err Bool w) e)) none)
 
 pub returns-in-Ok-false-clause-gave : goal.returns-in-Ok-false-clause-gave
 returns-in-Ok-false-clause-gave g c =
-    gave-on (g.S.Source.left (source_of c.args.lines.now)) (g.S.Source.left (source_of c.loop.lines)) (g.S.Source.left (source_of c.read_next.new.lines)) (given_of c.args.lines.now) (given_of c.loop.lines) (given_of c.read_next.new.lines) c.loop.invariant.5 c.read_next.ensures.gave
+    gave-on (g.S.Source.left (source_of c.args.lines.now)) (g.S.Source.left (source_of c.loop.lines)) (g.S.Source.left (source_of c.read_next.new.lines)) (given_of c.args.lines.now)
+    (given_of c.loop.lines) (given_of c.read_next.new.lines) c.loop.invariant.5 c.read_next.ensures.gave
 
 pub returns-in-Err-clause-gave : goal.returns-in-Err-clause-gave
 returns-in-Err-clause-gave g c =
-    gave-on (g.S.Source.left (source_of c.args.lines.now)) (g.S.Source.left (source_of c.loop.lines)) (g.S.Source.left (source_of c.read_next.new.lines)) (given_of c.args.lines.now) (given_of c.loop.lines) (given_of c.read_next.new.lines) c.loop.invariant.5 c.read_next.ensures.gave
+    gave-on (g.S.Source.left (source_of c.args.lines.now)) (g.S.Source.left (source_of c.loop.lines)) (g.S.Source.left (source_of c.read_next.new.lines)) (given_of c.args.lines.now)
+    (given_of c.loop.lines) (given_of c.read_next.new.lines) c.loop.invariant.5 c.read_next.ensures.gave
 
 pub returns-in-Err-clause-early : goal.returns-in-Err-clause-early
 returns-in-Err-clause-early g c = λ e. absurd (c.in-Err.ensures.ended (ap (λ (w : ReadEnd). the_err Bool w) e))

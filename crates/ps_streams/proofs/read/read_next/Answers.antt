@@ -13,7 +13,9 @@ use Rattle.ps_streams.proofs.Readings.{next-err, next-fault, next-none, next-ok,
 use Rattle.ps_streams.proofs.read.read_next.Goals as goal
 
 pub take_line-requires-clause-arrival : goal.take_line-requires-clause-arrival
-take_line-requires-clause-arrival g c κs within = (subst (λ (p : Option Arrival). IfSome p (Comes (rest_of c.args.lines.now) (rest_of c.next_arrival.new.lines) (g.C.Clock.told c.args.clock.now) (g.C.Clock.told c.next_arrival.new.clock))) c.in-Ok-Some.field-0-is c.in-Ok-Some.ensures.some).moment
+take_line-requires-clause-arrival g c κs within = (subst (λ (p : Option Arrival). IfSome p
+    (Comes (rest_of c.args.lines.now) (rest_of c.next_arrival.new.lines) (g.C.Clock.told c.args.clock.now) (g.C.Clock.told c.next_arrival.new.clock))) c.in-Ok-Some.field-0-is
+    c.in-Ok-Some.ensures.some).moment
 
 pub returns-in-Ok-clause-read : goal.returns-in-Ok-clause-read
 returns-in-Ok-clause-read g c =
@@ -44,7 +46,8 @@ returns-in-Ok-Some-clause-read g c =
     let left = rest_of c.next_arrival.new.lines in
     let told = g.C.Clock.told c.args.clock.now in
     let now = g.C.Clock.told c.next_arrival.new.clock in
-    next-err o k old new before left told now (g.S.Source.left (source_of c.next_arrival.new.lines)) c.in-Ok-Some.arrival c.in-Err-take_line.end c.in-Err-take_line.ensures.some (subst (λ (p : Option Arrival). IfSome p (Comes before left told now)) c.in-Ok-Some.field-0-is c.in-Ok-Some.ensures.some)
+    next-err o k old new before left told now (g.S.Source.left (source_of c.next_arrival.new.lines)) c.in-Ok-Some.arrival c.in-Err-take_line.end c.in-Err-take_line.ensures.some
+    (subst (λ (p : Option Arrival). IfSome p (Comes before left told now)) c.in-Ok-Some.field-0-is c.in-Ok-Some.ensures.some)
     (brought-later o (number_of mid) k old (seen_of mid) new [] same w.brings c.in-Err-take_line.ensures.takes)
 
 pub returns-in-Ok-None-clause-read : goal.returns-in-Ok-None-clause-read
@@ -70,7 +73,8 @@ returns-clause-read g c =
     let before = rest_of c.args.lines.now in
     let told = g.C.Clock.told c.args.clock.now in
     let now = g.C.Clock.told c.next_arrival.new.clock in
-    next-stop o k old (seen_of mid) w.brings before told now (g.S.Source.left (source_of c.next_arrival.new.lines)) c.in-Err.end (λ e. c.in-Err.ensures.ended (ap (λ (x : ReadEnd). the_err (Option Arrival) x) e)) c.in-Err.ensures.cut c.in-Err.ensures.asked
+    next-stop o k old (seen_of mid) w.brings before told now (g.S.Source.left (source_of c.next_arrival.new.lines)) c.in-Err.end
+    (λ e. c.in-Err.ensures.ended (ap (λ (x : ReadEnd). the_err (Option Arrival) x) e)) c.in-Err.ensures.cut c.in-Err.ensures.asked
 
 pub returns-in_err-flush_to_wait-clause-read : goal.returns-in_err-flush_to_wait-clause-read
 returns-in_err-flush_to_wait-clause-read g c =
@@ -80,7 +84,8 @@ returns-in_err-flush_to_wait-clause-read g c =
     let w = c.flush_to_wait.ensures in
     let mid = c.flush_to_wait.new.pass.seat in
     let p = err_from_is_err_and c.from_residual.result c.from_residual.ensures.1 in
-    rw (p.1, p.2) (next-fault o k old (seen_of mid) w.brings (rest_of c.args.lines.now) (g.S.Source.left (source_of c.args.lines.now)) (g.C.Clock.told c.args.clock.now) c.in_err-flush_to_wait.field-0.0 c.in_err-flush_to_wait.ensures.fault.0)
+    rw (p.1, p.2) (next-fault o k old (seen_of mid) w.brings (rest_of c.args.lines.now) (g.S.Source.left (source_of c.args.lines.now)) (g.C.Clock.told c.args.clock.now)
+    c.in_err-flush_to_wait.field-0.0 c.in_err-flush_to_wait.ensures.fault.0)
 
 pub returns-in-Ok-Some-clause-closed : goal.returns-in-Ok-Some-clause-closed
 returns-in-Ok-Some-clause-closed g c = λ e none. (

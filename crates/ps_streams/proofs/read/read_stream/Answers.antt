@@ -23,7 +23,9 @@ returns-in-Ok-clause-read g c =
     let h = c.args.pass.now.host in
     let same = w.reader.number ∙ (ap (λ n. n + n) w.same.at ∙ sym c.requires.reader.number) in
     let gone = gone-as o (number_of mid.seat) k mid.host h (seen_of mid.seat) (seen_of c.gone.new.pass.seat) c.gone.result same w.same.host c.gone.ensures.gone in
-    stream-read o h k (seen_of c.args.pass.now.seat) (seen_of mid.seat) (seen_of c.gone.new.pass.seat) (rest_of c.args.lines.now) (g.S.Source.left (source_of c.read_all-end.new.lines)) (g.C.Clock.told c.args.clock.now) (g.C.Clock.told c.read_all-end.new.clock) c.read_all-end.result c.read_all-end.result c.gone.result (λ is. refl) (λ e. e) (λ e. absurd (cc (sym c.in-Ok.is ∙ e))) w.reads (λ other. subst (λ (n : ℕ). IsKept the_core o.boot o.list o.hosts n (seen_of mid.seat)) same (w.kept other)) gone
+    stream-read o h k (seen_of c.args.pass.now.seat) (seen_of mid.seat) (seen_of c.gone.new.pass.seat) (rest_of c.args.lines.now) (g.S.Source.left (source_of c.read_all-end.new.lines))
+    (g.C.Clock.told c.args.clock.now) (g.C.Clock.told c.read_all-end.new.clock) c.read_all-end.result c.read_all-end.result c.gone.result (λ is. refl) (λ e. e)
+    (λ e. absurd (cc (sym c.in-Ok.is ∙ e))) w.reads (λ other. subst (λ (n : ℕ). IsKept the_core o.boot o.list o.hosts n (seen_of mid.seat)) same (w.kept other)) gone
 
 pub returns-in-Err-clause-read : goal.returns-in-Err-clause-read
 returns-in-Err-clause-read g c =
@@ -34,7 +36,10 @@ returns-in-Err-clause-read g c =
     let h = c.args.pass.now.host in
     let same = w.reader.number ∙ (ap (λ n. n + n) w.same.at ∙ sym c.requires.reader.number) in
     let gone = gone-as o (number_of mid.seat) k mid.host h (seen_of mid.seat) (seen_of c.gone.new.pass.seat) c.gone.result same w.same.host c.gone.ensures.gone in
-    stream-read o h k (seen_of c.args.pass.now.seat) (seen_of mid.seat) (seen_of c.gone.new.pass.seat) (rest_of c.args.lines.now) (g.S.Source.left (source_of c.read_all-end.new.lines)) (g.C.Clock.told c.args.clock.now) (g.C.Clock.told c.read_all-end.new.clock) c.read_all-end.result c.worse.result c.gone.result (λ is. absurd (c.worse.ensures.some is)) c.worse.ensures.earlier (λ e. c.worse.ensures.store (err-same c.in-Err.refusal _ (sym c.in-Err.is ∙ e))) w.reads (λ other. subst (λ (n : ℕ). IsKept the_core o.boot o.list o.hosts n (seen_of mid.seat)) same (w.kept other)) gone
+    stream-read o h k (seen_of c.args.pass.now.seat) (seen_of mid.seat) (seen_of c.gone.new.pass.seat) (rest_of c.args.lines.now) (g.S.Source.left (source_of c.read_all-end.new.lines))
+    (g.C.Clock.told c.args.clock.now) (g.C.Clock.told c.read_all-end.new.clock) c.read_all-end.result c.worse.result c.gone.result (λ is. absurd (c.worse.ensures.some is)) c.worse.ensures.earlier
+    (λ e. c.worse.ensures.store (err-same c.in-Err.refusal _ (sym c.in-Err.is ∙ e))) w.reads
+    (λ other. subst (λ (n : ℕ). IsKept the_core o.boot o.list o.hosts n (seen_of mid.seat)) same (w.kept other)) gone
 
 pub returns-in-Ok-clause-store : goal.returns-in-Ok-clause-store
 returns-in-Ok-clause-store g c = λ e. (
@@ -56,7 +61,8 @@ returns-in-Err-clause-store g c = λ e. (
     let h = c.args.pass.now.host in
     let same = w.reader.number ∙ (ap (λ n. n + n) w.same.at ∙ sym c.requires.reader.number) in
     let gone = gone-as o (number_of mid.seat) k mid.host h (seen_of mid.seat) (seen_of c.gone.new.pass.seat) c.gone.result same w.same.host c.gone.ensures.gone in
-    stream-broken o k h (seen_of mid.seat) (seen_of c.gone.new.pass.seat) c.gone.result gone (elim (c.worse.ensures.from_store e) [ inl a ↦ inl (w.store a) | inr b ↦ inr (c.in-Err.is ∙ ap (λ (x : HandedRefusal). the_err (Unit {0}) x) b) ]))
+    stream-broken o k h (seen_of mid.seat) (seen_of c.gone.new.pass.seat) c.gone.result gone
+    (elim (c.worse.ensures.from_store e) [ inl a ↦ inl (w.store a) | inr b ↦ inr (c.in-Err.is ∙ ap (λ (x : HandedRefusal). the_err (Unit {0}) x) b) ]))
 
 pub returns-in-Ok-clause-gone : goal.returns-in-Ok-clause-gone
 returns-in-Ok-clause-gone g c = λ e. (

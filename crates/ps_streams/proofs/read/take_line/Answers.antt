@@ -78,7 +78,8 @@ returns-in-Err-clause-takes g c =
 
 pub returns-in-Err-clause-store : goal.returns-in-Err-clause-store
 returns-in-Err-clause-store g c = λ e.
-    laid-store g.B.Opening.origin (number_of c.loop.pass.seat) c.loop.pass.host c.args.arrival.now (seen_of c.loop.pass.seat) (seen_of c.lay.new.pass.seat) c.in-Err.refusal (c.end_of_line.ensures.from_store (err-same c.end_of_line.result _ e)) c.in-Err.ensures.does
+    laid-store g.B.Opening.origin (number_of c.loop.pass.seat) c.loop.pass.host c.args.arrival.now (seen_of c.loop.pass.seat) (seen_of c.lay.new.pass.seat) c.in-Err.refusal
+    (c.end_of_line.ensures.from_store (err-same c.end_of_line.result _ e)) c.in-Err.ensures.does
 
 pub returns-in-Err-clause-closed : goal.returns-in-Err-clause-closed
 returns-in-Err-clause-closed g c = λ e none. (

@@ -22,7 +22,9 @@ returns-in-Ok-clause-whole g c =
     let after = c.next.new.pass.in_hand.items in
     let old = seen_of c.args.pass.now.seat in
     let new = seen_of c.next.new.pass.seat in
-    reply-whole o k h Memory hand after old new c.in-Ok-Reply.line (next-as o k h Memory hand after old new c.in-Ok-Reply.field-0 (Reply c.in-Ok-Reply.line) c.in-Ok-Reply.field-0-is c.in-Ok-Reply.ensures.does) (g.K.Sink.written c.args.sink.now) (g.K.Sink.written c.put_line.new.sink) c.in-Ok.ensures.whole
+    reply-whole o k h Memory hand after old new c.in-Ok-Reply.line
+    (next-as o k h Memory hand after old new c.in-Ok-Reply.field-0 (Reply c.in-Ok-Reply.line) c.in-Ok-Reply.field-0-is c.in-Ok-Reply.ensures.does) (g.K.Sink.written c.args.sink.now)
+    (g.K.Sink.written c.put_line.new.sink) c.in-Ok.ensures.whole
 
 pub returns-in-Ok-put_line-clause-whole : goal.returns-in-Ok-put_line-clause-whole
 returns-in-Ok-put_line-clause-whole g c =
@@ -33,7 +35,9 @@ returns-in-Ok-put_line-clause-whole g c =
     let after = c.next.new.pass.in_hand.items in
     let old = seen_of c.args.pass.now.seat in
     let new = seen_of c.next.new.pass.seat in
-    note-whole o k h Memory hand after old new c.in-Ok-Notice.line (next-as o k h Memory hand after old new c.in-Ok-Notice.field-0 (Notice c.in-Ok-Notice.line) c.in-Ok-Notice.field-0-is c.in-Ok-Notice.ensures.does) (g.K.Sink.written c.args.sink.now) (g.K.Sink.written c.put_line-in-Ok-Notice.new.sink) c.in-Ok-put_line.ensures.whole
+    note-whole o k h Memory hand after old new c.in-Ok-Notice.line
+    (next-as o k h Memory hand after old new c.in-Ok-Notice.field-0 (Notice c.in-Ok-Notice.line) c.in-Ok-Notice.field-0-is c.in-Ok-Notice.ensures.does) (g.K.Sink.written c.args.sink.now)
+    (g.K.Sink.written c.put_line-in-Ok-Notice.new.sink) c.in-Ok-put_line.ensures.whole
 
 pub returns-in-Ok-NotYet-clause-whole : goal.returns-in-Ok-NotYet-clause-whole
 returns-in-Ok-NotYet-clause-whole g c =
@@ -112,7 +116,9 @@ returns-in-Err-put_line-clause-spoke g c =
     let after = c.next.new.pass.in_hand.items in
     let old = seen_of c.args.pass.now.seat in
     let new = seen_of c.next.new.pass.seat in
-    reply-part o k h Memory hand after old new c.in-Ok-Reply.line (next-as o k h Memory hand after old new c.in-Ok-Reply.field-0 (Reply c.in-Ok-Reply.line) c.in-Ok-Reply.field-0-is c.in-Ok-Reply.ensures.does) refl (g.K.Sink.written c.args.sink.now) (g.K.Sink.written c.put_line.new.sink) c.put_line.ensures.part
+    reply-part o k h Memory hand after old new c.in-Ok-Reply.line
+    (next-as o k h Memory hand after old new c.in-Ok-Reply.field-0 (Reply c.in-Ok-Reply.line) c.in-Ok-Reply.field-0-is c.in-Ok-Reply.ensures.does) refl (g.K.Sink.written c.args.sink.now)
+    (g.K.Sink.written c.put_line.new.sink) c.put_line.ensures.part
 
 pub returns-in-Err-put_line-2-clause-spoke : goal.returns-in-Err-put_line-2-clause-spoke
 returns-in-Err-put_line-2-clause-spoke g c =
@@ -123,7 +129,9 @@ returns-in-Err-put_line-2-clause-spoke g c =
     let after = c.next.new.pass.in_hand.items in
     let old = seen_of c.args.pass.now.seat in
     let new = seen_of c.next.new.pass.seat in
-    note-part o k h Memory hand after old new c.in-Ok-Notice.line (next-as o k h Memory hand after old new c.in-Ok-Notice.field-0 (Notice c.in-Ok-Notice.line) c.in-Ok-Notice.field-0-is c.in-Ok-Notice.ensures.does) refl (g.K.Sink.written c.args.sink.now) (g.K.Sink.written c.put_line-in-Ok-Notice.new.sink) c.put_line-in-Ok-Notice.ensures.part
+    note-part o k h Memory hand after old new c.in-Ok-Notice.line
+    (next-as o k h Memory hand after old new c.in-Ok-Notice.field-0 (Notice c.in-Ok-Notice.line) c.in-Ok-Notice.field-0-is c.in-Ok-Notice.ensures.does) refl (g.K.Sink.written c.args.sink.now)
+    (g.K.Sink.written c.put_line-in-Ok-Notice.new.sink) c.put_line-in-Ok-Notice.ensures.part
 
 pub returns-in-Err-clause-spoke : goal.returns-in-Err-clause-spoke
 returns-in-Err-clause-spoke g c =
@@ -150,56 +158,91 @@ returns-in-Ok-Over-clause-over g c = λ no.
 
 pub returns-in-Ok-clause-going : goal.returns-in-Ok-clause-going
 returns-in-Ok-clause-going g c =
-    goes-next g.B.Opening.origin (number_of c.args.pass.now.seat) c.args.pass.now.host c.args.pass.now.in_hand.items c.next.new.pass.in_hand.items (seen_of c.args.pass.now.seat) (seen_of c.next.new.pass.seat) c.next.result c.next.ensures.does
+    goes-next g.B.Opening.origin (number_of c.args.pass.now.seat) c.args.pass.now.host c.args.pass.now.in_hand.items c.next.new.pass.in_hand.items (seen_of c.args.pass.now.seat)
+    (seen_of c.next.new.pass.seat) c.next.result c.next.ensures.does
 
 pub returns-in-Err-put_line-clause-going : goal.returns-in-Err-put_line-clause-going
 returns-in-Err-put_line-clause-going g c =
-    goes-next g.B.Opening.origin (number_of c.args.pass.now.seat) c.args.pass.now.host c.args.pass.now.in_hand.items c.next.new.pass.in_hand.items (seen_of c.args.pass.now.seat) (seen_of c.next.new.pass.seat) c.next.result c.next.ensures.does
+    goes-next g.B.Opening.origin (number_of c.args.pass.now.seat) c.args.pass.now.host c.args.pass.now.in_hand.items c.next.new.pass.in_hand.items (seen_of c.args.pass.now.seat)
+    (seen_of c.next.new.pass.seat) c.next.result c.next.ensures.does
 
 pub returns-in-Ok-put_line-clause-going : goal.returns-in-Ok-put_line-clause-going
 returns-in-Ok-put_line-clause-going g c =
-    goes-next g.B.Opening.origin (number_of c.args.pass.now.seat) c.args.pass.now.host c.args.pass.now.in_hand.items c.next.new.pass.in_hand.items (seen_of c.args.pass.now.seat) (seen_of c.next.new.pass.seat) c.next.result c.next.ensures.does
+    goes-next g.B.Opening.origin (number_of c.args.pass.now.seat) c.args.pass.now.host c.args.pass.now.in_hand.items c.next.new.pass.in_hand.items (seen_of c.args.pass.now.seat)
+    (seen_of c.next.new.pass.seat) c.next.result c.next.ensures.does
 
 pub returns-in-Err-put_line-2-clause-going : goal.returns-in-Err-put_line-2-clause-going
 returns-in-Err-put_line-2-clause-going g c =
-    goes-next g.B.Opening.origin (number_of c.args.pass.now.seat) c.args.pass.now.host c.args.pass.now.in_hand.items c.next.new.pass.in_hand.items (seen_of c.args.pass.now.seat) (seen_of c.next.new.pass.seat) c.next.result c.next.ensures.does
+    goes-next g.B.Opening.origin (number_of c.args.pass.now.seat) c.args.pass.now.host c.args.pass.now.in_hand.items c.next.new.pass.in_hand.items (seen_of c.args.pass.now.seat)
+    (seen_of c.next.new.pass.seat) c.next.result c.next.ensures.does
 
 pub returns-in-Ok-NotYet-clause-going : goal.returns-in-Ok-NotYet-clause-going
 returns-in-Ok-NotYet-clause-going g c =
-    goes-next g.B.Opening.origin (number_of c.args.pass.now.seat) c.args.pass.now.host c.args.pass.now.in_hand.items c.next.new.pass.in_hand.items (seen_of c.args.pass.now.seat) (seen_of c.next.new.pass.seat) c.next.result c.next.ensures.does
+    goes-next g.B.Opening.origin (number_of c.args.pass.now.seat) c.args.pass.now.host c.args.pass.now.in_hand.items c.next.new.pass.in_hand.items (seen_of c.args.pass.now.seat)
+    (seen_of c.next.new.pass.seat) c.next.result c.next.ensures.does
 
 pub returns-in-Ok-Over-clause-going : goal.returns-in-Ok-Over-clause-going
 returns-in-Ok-Over-clause-going g c =
-    goes-next g.B.Opening.origin (number_of c.args.pass.now.seat) c.args.pass.now.host c.args.pass.now.in_hand.items c.next.new.pass.in_hand.items (seen_of c.args.pass.now.seat) (seen_of c.next.new.pass.seat) c.next.result c.next.ensures.does
+    goes-next g.B.Opening.origin (number_of c.args.pass.now.seat) c.args.pass.now.host c.args.pass.now.in_hand.items c.next.new.pass.in_hand.items (seen_of c.args.pass.now.seat)
+    (seen_of c.next.new.pass.seat) c.next.result c.next.ensures.does
 
 pub returns-in-Err-clause-going : goal.returns-in-Err-clause-going
 returns-in-Err-clause-going g c =
-    goes-next g.B.Opening.origin (number_of c.args.pass.now.seat) c.args.pass.now.host c.args.pass.now.in_hand.items c.next.new.pass.in_hand.items (seen_of c.args.pass.now.seat) (seen_of c.next.new.pass.seat) c.next.result c.next.ensures.does
+    goes-next g.B.Opening.origin (number_of c.args.pass.now.seat) c.args.pass.now.host c.args.pass.now.in_hand.items c.next.new.pass.in_hand.items (seen_of c.args.pass.now.seat)
+    (seen_of c.next.new.pass.seat) c.next.result c.next.ensures.does
 
 pub returns-in-Ok-clause-ready : goal.returns-in-Ok-clause-ready
 returns-in-Ok-clause-ready g c =
-    record { writer = c.next.ensures.writer; hand = subst (λ (h : List ℕ). HandAt g.B.Opening.origin c.next.new.pass.in_hand.items h c.next.new.pass.seat) (sym c.next.ensures.same.1) c.next.ensures.hand }
+    record {
+      writer = c.next.ensures.writer;
+      hand = subst (λ (h : List ℕ). HandAt g.B.Opening.origin c.next.new.pass.in_hand.items h c.next.new.pass.seat) (sym c.next.ensures.same.1)
+          c.next.ensures.hand;
+    }
 
 pub returns-in-Err-put_line-clause-ready : goal.returns-in-Err-put_line-clause-ready
 returns-in-Err-put_line-clause-ready g c =
-    record { writer = c.next.ensures.writer; hand = subst (λ (h : List ℕ). HandAt g.B.Opening.origin c.next.new.pass.in_hand.items h c.next.new.pass.seat) (sym c.next.ensures.same.1) c.next.ensures.hand }
+    record {
+      writer = c.next.ensures.writer;
+      hand = subst (λ (h : List ℕ). HandAt g.B.Opening.origin c.next.new.pass.in_hand.items h c.next.new.pass.seat) (sym c.next.ensures.same.1)
+          c.next.ensures.hand;
+    }
 
 pub returns-in-Ok-put_line-clause-ready : goal.returns-in-Ok-put_line-clause-ready
 returns-in-Ok-put_line-clause-ready g c =
-    record { writer = c.next.ensures.writer; hand = subst (λ (h : List ℕ). HandAt g.B.Opening.origin c.next.new.pass.in_hand.items h c.next.new.pass.seat) (sym c.next.ensures.same.1) c.next.ensures.hand }
+    record {
+      writer = c.next.ensures.writer;
+      hand = subst (λ (h : List ℕ). HandAt g.B.Opening.origin c.next.new.pass.in_hand.items h c.next.new.pass.seat) (sym c.next.ensures.same.1)
+          c.next.ensures.hand;
+    }
 
 pub returns-in-Err-put_line-2-clause-ready : goal.returns-in-Err-put_line-2-clause-ready
 returns-in-Err-put_line-2-clause-ready g c =
-    record { writer = c.next.ensures.writer; hand = subst (λ (h : List ℕ). HandAt g.B.Opening.origin c.next.new.pass.in_hand.items h c.next.new.pass.seat) (sym c.next.ensures.same.1) c.next.ensures.hand }
+    record {
+      writer = c.next.ensures.writer;
+      hand = subst (λ (h : List ℕ). HandAt g.B.Opening.origin c.next.new.pass.in_hand.items h c.next.new.pass.seat) (sym c.next.ensures.same.1)
+          c.next.ensures.hand;
+    }
 
 pub returns-in-Ok-NotYet-clause-ready : goal.returns-in-Ok-NotYet-clause-ready
 returns-in-Ok-NotYet-clause-ready g c =
-    record { writer = c.next.ensures.writer; hand = subst (λ (h : List ℕ). HandAt g.B.Opening.origin c.next.new.pass.in_hand.items h c.next.new.pass.seat) (sym c.next.ensures.same.1) c.next.ensures.hand }
+    record {
+      writer = c.next.ensures.writer;
+      hand = subst (λ (h : List ℕ). HandAt g.B.Opening.origin c.next.new.pass.in_hand.items h c.next.new.pass.seat) (sym c.next.ensures.same.1)
+          c.next.ensures.hand;
+    }
 
 pub returns-in-Ok-Over-clause-ready : goal.returns-in-Ok-Over-clause-ready
 returns-in-Ok-Over-clause-ready g c =
-    record { writer = c.next.ensures.writer; hand = subst (λ (h : List ℕ). HandAt g.B.Opening.origin c.next.new.pass.in_hand.items h c.next.new.pass.seat) (sym c.next.ensures.same.1) c.next.ensures.hand }
+    record {
+      writer = c.next.ensures.writer;
+      hand = subst (λ (h : List ℕ). HandAt g.B.Opening.origin c.next.new.pass.in_hand.items h c.next.new.pass.seat) (sym c.next.ensures.same.1)
+          c.next.ensures.hand;
+    }
 
 pub returns-in-Err-clause-ready : goal.returns-in-Err-clause-ready
 returns-in-Err-clause-ready g c =
-    record { writer = c.next.ensures.writer; hand = subst (λ (h : List ℕ). HandAt g.B.Opening.origin c.next.new.pass.in_hand.items h c.next.new.pass.seat) (sym c.next.ensures.same.1) c.next.ensures.hand }
+    record {
+      writer = c.next.ensures.writer;
+      hand = subst (λ (h : List ℕ). HandAt g.B.Opening.origin c.next.new.pass.in_hand.items h c.next.new.pass.seat) (sym c.next.ensures.same.1)
+          c.next.ensures.hand;
+    }

@@ -13,7 +13,8 @@ pub loop-init : goal.loop-init
 loop-init g c = (
   record { writer = c.requires.ready.writer; hand = c.requires.ready.hand },
   record { at = refl; host = refl },
-  subst (λ (h : List Jid). SeatSpokeWhole g.B.Opening.origin [] h c.args.pass.now.seat c.args.pass.now.seat (g.K.Sink.written c.args.sink.now) (g.K.Sink.written c.args.sink.now)) (sym c.requires.ready.free)
+  subst (λ (h : List Jid). SeatSpokeWhole g.B.Opening.origin [] h c.args.pass.now.seat c.args.pass.now.seat (g.K.Sink.written c.args.sink.now) (g.K.Sink.written c.args.sink.now))
+      (sym c.requires.ready.free)
       (begun-whole g.B.Opening.origin (number_of c.args.pass.now.seat) [] (seen_of c.args.pass.now.seat) (g.K.Sink.written c.args.sink.now) c.requires.ready.writer.pass.owned),
   omega arith,
   λ none. none,
@@ -60,10 +61,12 @@ returns-in-Ok-false-clause-spoke g c =
     let second = g.K.Sink.written c.loop.sink in
     let third = g.K.Sink.written c.write_next.new.sink in
     let same = i.0.writer.number ∙ (ap (λ n. n + n + 1) i.1.at ∙ sym c.requires.ready.writer.number) in
-    speaks-on o k j c.loop.pass.in_hand.items old mid new first second third (IsErrOf {T = Bool} {E = EndCause} (Ok c.in-Ok-false.field-0) WriteFault) _ same (λ no. absurd (cc no)) i.2 c.in-Ok-false.ensures.spoke
+    speaks-on o k j c.loop.pass.in_hand.items old mid new first second third (IsErrOf {T = Bool} {E = EndCause} (Ok c.in-Ok-false.field-0) WriteFault) _ same (λ no. absurd (cc no)) i.2
+    c.in-Ok-false.ensures.spoke
 
 pub returns-in-Ok-false-clause-over : goal.returns-in-Ok-false-clause-over
-returns-in-Ok-false-clause-over g c = λ e. subst (λ (h : List ℕ). FindsOver g.B.Opening.origin h c.write_next.new.pass.seat) c.loop.invariant.1.host (c.in-Ok-false.ensures.over c.in-Ok-false.field-0-test)
+returns-in-Ok-false-clause-over g c = λ e. subst (λ (h : List ℕ). FindsOver g.B.Opening.origin h c.write_next.new.pass.seat) c.loop.invariant.1.host
+    (c.in-Ok-false.ensures.over c.in-Ok-false.field-0-test)
 
 pub returns-in-Ok-false-clause-going : goal.returns-in-Ok-false-clause-going
 returns-in-Ok-false-clause-going g c = λ no none. (
@@ -94,7 +97,8 @@ returns-in-Err-clause-spoke g c =
     let second = g.K.Sink.written c.loop.sink in
     let third = g.K.Sink.written c.write_next.new.sink in
     let same = i.0.writer.number ∙ (ap (λ n. n + n + 1) i.1.at ∙ sym c.requires.ready.writer.number) in
-    speaks-on o k j c.loop.pass.in_hand.items old mid new first second third (IsErrOf {T = Bool} {E = EndCause} (Err c.in-Err.why) WriteFault) _ same (λ e. err-same c.in-Err.why WriteFault e) i.2 c.in-Err.ensures.spoke
+    speaks-on o k j c.loop.pass.in_hand.items old mid new first second third (IsErrOf {T = Bool} {E = EndCause} (Err c.in-Err.why) WriteFault) _ same (λ e. err-same c.in-Err.why WriteFault e) i.2
+    c.in-Err.ensures.spoke
 
 pub returns-in-Err-clause-going : goal.returns-in-Err-clause-going
 returns-in-Err-clause-going g c = λ no none. (
@@ -124,10 +128,13 @@ pub returns-in-Err-clause-cause : goal.returns-in-Err-clause-cause
 returns-in-Err-clause-cause g c = λ e. (let before = c.loop.invariant.3 in let cause = c.in-Err.ensures.cause (ap (λ (w : EndCause). the_err Bool w) e) in omega (arith, before, cause))
 
 pub returns-in-Err-clause-full : goal.returns-in-Err-clause-full
-returns-in-Err-clause-full g c = λ e. subst (λ (h : List ℕ). FoundNoRoom g.B.Opening.origin h c.write_next.new.pass.seat) c.loop.invariant.1.host (c.in-Err.ensures.full (ap (λ (w : EndCause). the_err Bool w) e))
+returns-in-Err-clause-full g c = λ e. subst (λ (h : List ℕ). FoundNoRoom g.B.Opening.origin h c.write_next.new.pass.seat) c.loop.invariant.1.host
+    (c.in-Err.ensures.full (ap (λ (w : EndCause). the_err Bool w) e))
 
 pub returns-in-Ok-false-clause-landed : goal.returns-in-Ok-false-clause-landed
-returns-in-Ok-false-clause-landed g c = λ no. subst (λ (h : List ℕ). FindsLanded g.B.Opening.origin h c.write_next.new.pass.seat) c.loop.invariant.1.host (c.in-Ok-false.ensures.landed (λ e. absurd (cc e)))
+returns-in-Ok-false-clause-landed g c = λ no. subst (λ (h : List ℕ). FindsLanded g.B.Opening.origin h c.write_next.new.pass.seat) c.loop.invariant.1.host
+    (c.in-Ok-false.ensures.landed (λ e. absurd (cc e)))
 
 pub returns-in-Err-clause-landed : goal.returns-in-Err-clause-landed
-returns-in-Err-clause-landed g c = λ no. subst (λ (h : List ℕ). FindsLanded g.B.Opening.origin h c.write_next.new.pass.seat) c.loop.invariant.1.host (c.in-Err.ensures.landed (λ e. no (err-same c.in-Err.why _ e)))
+returns-in-Err-clause-landed g c = λ no. subst (λ (h : List ℕ). FindsLanded g.B.Opening.origin h c.write_next.new.pass.seat) c.loop.invariant.1.host
+    (c.in-Err.ensures.landed (λ e. no (err-same c.in-Err.why _ e)))

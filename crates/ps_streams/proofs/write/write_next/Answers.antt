@@ -22,11 +22,13 @@ returns-in-Err-clause-spoke g c =
     let held = c.say_next.new.pass.in_hand.items in
     let old = seen_of c.args.pass.now.seat in
     let mid = seen_of c.say_next.new.pass.seat in
-    speaks-cut o k hand old mid (g.K.Sink.written c.args.sink.now) (g.K.Sink.written c.say_next.new.sink) _ _ (λ e. ap (λ (w : EndCause). the_err Bool w) (err-same c.in-Err.why WriteFault e)) c.in-Err.ensures.spoke
+    speaks-cut o k hand old mid (g.K.Sink.written c.args.sink.now) (g.K.Sink.written c.say_next.new.sink) _ _ (λ e. ap (λ (w : EndCause). the_err Bool w) (err-same c.in-Err.why WriteFault e))
+    c.in-Err.ensures.spoke
 
 pub returns-in-Err-clause-landed : goal.returns-in-Err-clause-landed
 returns-in-Err-clause-landed g c = λ no.
-    subst (λ (x : List ℕ). FindsLanded g.B.Opening.origin x c.say_next.new.pass.seat) c.say_next.ensures.same.host (hand-landed c.say_next.new.pass.in_hand.items c.say_next.new.pass.host (world_at g.B.Opening.origin (seen_of c.say_next.new.pass.seat)) c.say_next.ensures.ready.hand)
+    subst (λ (x : List ℕ). FindsLanded g.B.Opening.origin x c.say_next.new.pass.seat) c.say_next.ensures.same.host
+    (hand-landed c.say_next.new.pass.in_hand.items c.say_next.new.pass.host (world_at g.B.Opening.origin (seen_of c.say_next.new.pass.seat)) c.say_next.ensures.ready.hand)
 
 pub returns-in-Err-clause-cause : goal.returns-in-Err-clause-cause
 returns-in-Err-clause-cause g c = λ e.
@@ -70,7 +72,8 @@ returns-then-is_all-clause-going g c = λ no.
 
 pub returns-then-is_all-clause-landed : goal.returns-then-is_all-clause-landed
 returns-then-is_all-clause-landed g c = λ no.
-    subst (λ (x : List ℕ). FindsLanded g.B.Opening.origin x c.say_next.new.pass.seat) c.say_next.ensures.same.host (hand-landed c.say_next.new.pass.in_hand.items c.say_next.new.pass.host (world_at g.B.Opening.origin (seen_of c.say_next.new.pass.seat)) c.say_next.ensures.ready.hand)
+    subst (λ (x : List ℕ). FindsLanded g.B.Opening.origin x c.say_next.new.pass.seat) c.say_next.ensures.same.host
+    (hand-landed c.say_next.new.pass.in_hand.items c.say_next.new.pass.host (world_at g.B.Opening.origin (seen_of c.say_next.new.pass.seat)) c.say_next.ensures.ready.hand)
 
 pub returns-then-goes_on-clause-spoke : goal.returns-then-goes_on-clause-spoke
 returns-then-goes_on-clause-spoke g c =
@@ -90,7 +93,8 @@ returns-then-goes_on-clause-going g c = λ no.
 
 pub returns-then-goes_on-clause-landed : goal.returns-then-goes_on-clause-landed
 returns-then-goes_on-clause-landed g c = λ no.
-    subst (λ (x : List ℕ). FindsLanded g.B.Opening.origin x c.say_next.new.pass.seat) c.say_next.ensures.same.host (hand-landed c.say_next.new.pass.in_hand.items c.say_next.new.pass.host (world_at g.B.Opening.origin (seen_of c.say_next.new.pass.seat)) c.say_next.ensures.ready.hand)
+    subst (λ (x : List ℕ). FindsLanded g.B.Opening.origin x c.say_next.new.pass.seat) c.say_next.ensures.same.host
+    (hand-landed c.say_next.new.pass.in_hand.items c.say_next.new.pass.host (world_at g.B.Opening.origin (seen_of c.say_next.new.pass.seat)) c.say_next.ensures.ready.hand)
 
 pub returns-then-is_all-clause-over : goal.returns-then-is_all-clause-over
 returns-then-is_all-clause-over g c = λ no.
@@ -110,7 +114,8 @@ returns-in-Err-record_all-clause-spoke g c =
     let rest = c.record_all.new.pass.in_hand.items in
     let new = seen_of c.record_all.new.pass.seat in
     speaks-whole o k hand [] old new (g.K.Sink.written c.args.sink.now) (g.K.Sink.written c.say_next.new.sink) _
-    (whole-recorded o k hand held [] old mid new (g.K.Sink.written c.args.sink.now) (g.K.Sink.written c.say_next.new.sink) c.in-Ok.ensures.whole (recorded-as o j k held [] mid new same c.in-Err-record_all.ensures.refused))
+    (whole-recorded o k hand held [] old mid new (g.K.Sink.written c.args.sink.now) (g.K.Sink.written c.say_next.new.sink) c.in-Ok.ensures.whole
+    (recorded-as o j k held [] mid new same c.in-Err-record_all.ensures.refused))
 
 pub returns-in-Err-record_all-clause-cause : goal.returns-in-Err-record_all-clause-cause
 returns-in-Err-record_all-clause-cause g c = λ e.
@@ -126,7 +131,8 @@ returns-in-Err-record_all-clause-store g c = λ e.
 
 pub returns-in-Err-record_all-clause-full : goal.returns-in-Err-record_all-clause-full
 returns-in-Err-record_all-clause-full g c = λ e.
-    subst (λ (x : List ℕ). FoundNoRoom g.B.Opening.origin x c.record_all.new.pass.seat) c.say_next.ensures.same.host (c.in-Err-record_all.ensures.full (ap (λ (w : EndCause). the_err (Unit {0}) w) (err-same c.in-Err-record_all.why Full e)))
+    subst (λ (x : List ℕ). FoundNoRoom g.B.Opening.origin x c.record_all.new.pass.seat) c.say_next.ensures.same.host
+    (c.in-Err-record_all.ensures.full (ap (λ (w : EndCause). the_err (Unit {0}) w) (err-same c.in-Err-record_all.why Full e)))
 
 pub returns-in-Err-record_all-clause-going : goal.returns-in-Err-record_all-clause-going
 returns-in-Err-record_all-clause-going g c = λ no none. (
@@ -156,11 +162,13 @@ returns-in-Err-record_all-clause-ended g c = λ e. (
     let same = c.say_next.ensures.ready.writer.number ∙ (ap (λ n. n + n + 1) c.say_next.ensures.same.at ∙ sym c.requires.ready.writer.number) in
     let rest = c.record_all.new.pass.in_hand.items in
     let new = seen_of c.record_all.new.pass.seat in
-    ends-after h k old mid new c.say_next.ensures.going (ends-as j k c.say_next.new.pass.host h mid new same c.say_next.ensures.same.host (c.in-Err-record_all.ensures.ended (ap (λ (w : EndCause). the_err (Unit {0}) w) (err-same c.in-Err-record_all.why Full e)))))
+    ends-after h k old mid new c.say_next.ensures.going (ends-as j k c.say_next.new.pass.host h mid new same c.say_next.ensures.same.host
+    (c.in-Err-record_all.ensures.ended (ap (λ (w : EndCause). the_err (Unit {0}) w) (err-same c.in-Err-record_all.why Full e)))))
 
 pub returns-in-Err-record_all-clause-landed : goal.returns-in-Err-record_all-clause-landed
 returns-in-Err-record_all-clause-landed g c = λ no.
-    subst (λ (x : List ℕ). FindsLanded g.B.Opening.origin x c.record_all.new.pass.seat) c.say_next.ensures.same.host (c.in-Err-record_all.ensures.landed (λ e. no (ap (λ (w : EndCause). the_err Bool w) (err-same c.in-Err-record_all.why Store e))))
+    subst (λ (x : List ℕ). FindsLanded g.B.Opening.origin x c.record_all.new.pass.seat) c.say_next.ensures.same.host
+    (c.in-Err-record_all.ensures.landed (λ e. no (ap (λ (w : EndCause). the_err Bool w) (err-same c.in-Err-record_all.why Store e))))
 
 pub returns-in-Ok-record_all-clause-whole : goal.returns-in-Ok-record_all-clause-whole
 returns-in-Ok-record_all-clause-whole g c =
@@ -175,7 +183,8 @@ returns-in-Ok-record_all-clause-whole g c =
     let same = c.say_next.ensures.ready.writer.number ∙ (ap (λ n. n + n + 1) c.say_next.ensures.same.at ∙ sym c.requires.ready.writer.number) in
     let rest = c.record_all.new.pass.in_hand.items in
     let new = seen_of c.record_all.new.pass.seat in
-    whole-recorded o k hand held rest old mid new (g.K.Sink.written c.args.sink.now) (g.K.Sink.written c.say_next.new.sink) c.in-Ok.ensures.whole (recorded-as o j k held rest mid new same c.in-Ok-record_all.ensures.quiet)
+    whole-recorded o k hand held rest old mid new (g.K.Sink.written c.args.sink.now) (g.K.Sink.written c.say_next.new.sink) c.in-Ok.ensures.whole
+    (recorded-as o j k held rest mid new same c.in-Ok-record_all.ensures.quiet)
 
 pub returns-in-Ok-record_all-clause-spoke : goal.returns-in-Ok-record_all-clause-spoke
 returns-in-Ok-record_all-clause-spoke g c =

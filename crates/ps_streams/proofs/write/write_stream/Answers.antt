@@ -34,14 +34,16 @@ returns-clause-ended g c =
     let mid = seen_of now.seat in
     let new = seen_of c.writer_ended.new.pass.seat in
     let same = w.writer.number ∙ (ap (λ n. n + n + 1) w.same.at ∙ sym c.requires.ready.writer.number) in
-    ends-after h k (seen_of c.args.pass.now.seat) mid new (w.going (c.has_ended.ensures.other c.if-has_ended.false)) (ends-as j k now.host h mid new same w.same.host (ends-added g.B.Opening.origin j now.host mid new c.writer_ended.ensures.ended))
+    ends-after h k (seen_of c.args.pass.now.seat) mid new (w.going (c.has_ended.ensures.other c.if-has_ended.false))
+    (ends-as j k now.host h mid new same w.same.host (ends-added g.B.Opening.origin j now.host mid new c.writer_ended.ensures.ended))
 
 pub returns-clause-done : goal.returns-clause-done
 returns-clause-done g c = λ e. (
     let w = c.write_lines-why.ensures in
     let now = c.write_lines-why.new.pass in
     let same = w.writer.number ∙ (ap (λ n. n + n + 1) w.same.at ∙ sym c.requires.ready.writer.number) in
-    writer-end g.B.Opening.origin (number_of c.args.pass.now.seat) (number_of now.seat) c.args.pass.now.host now.host (seen_of c.args.pass.now.seat) (seen_of now.seat) (seen_of c.writer_ended.new.pass.seat) same w.same.host
+    writer-end g.B.Opening.origin (number_of c.args.pass.now.seat) (number_of now.seat) c.args.pass.now.host now.host (seen_of c.args.pass.now.seat) (seen_of now.seat)
+    (seen_of c.writer_ended.new.pass.seat) same w.same.host
     (w.going (c.has_ended.ensures.other c.if-has_ended.false)) (w.over e) c.writer_ended.ensures.ended)
 
 pub returns-clause-store : goal.returns-clause-store

@@ -18,5 +18,6 @@ returns g c =
     let t = c.args.turn.now in
     let before = c.args.seats.now in
     let after = c.for_each_mut.new.s in
-    let each : (k : ℕ) (d : Seat Diary Entry) → k < length before → IsSeatOf t (get_or after k d) × IsFree (get_or after k d) × (number_of (get_or after k d) ≡ number_of (get_or before k d)) = search rules in
+    let each : (k : ℕ) (d : Seat Diary Entry) → k < length before
+    → IsSeatOf t (get_or after k d) × IsFree (get_or after k d) × (number_of (get_or after k d) ≡ number_of (get_or before k d)) = search rules in
     all_worked t before after c.requires.new c.for_each_mut.auto.s each

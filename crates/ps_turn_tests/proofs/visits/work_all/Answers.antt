@@ -19,7 +19,8 @@ returns-clause-all g c =
     let t = c.args.turn.now in
     let before = c.args.seats.now in
     let after = c.for_each_mut.new.s in
-    let each : (k : ℕ) (d : Seat Visits Visit) → k < length before → IsSeatOf t (get_or after k d) × IsFree (get_or after k d) × (number_of (get_or after k d) ≡ number_of (get_or before k d)) = search rules in
+    let each : (k : ℕ) (d : Seat Visits Visit) → k < length before
+    → IsSeatOf t (get_or after k d) × IsFree (get_or after k d) × (number_of (get_or after k d) ≡ number_of (get_or before k d)) = search rules in
     all_worked t before after c.requires.new c.for_each_mut.auto.s each
 
 pub returns-clause-visited : goal.returns-clause-visited
@@ -32,7 +33,8 @@ returns-clause-visited g c k s e =
     let visit : ℕ → Visit = λ n. record { by = n } in
     let mine : ℕ → List Visit → List Visit = λ n l. own (λ (v : Visit). v.by) n l in
     let same : number_of (get_or after k s) ≡ number_of (get_or before k s) = search rules in
-    let once : mine (number_of (get_or before k s)) (seen_of (get_or after k s)) ≡ mine (number_of (get_or before k s)) (seen_of (get_or before k s)) ++ visit (number_of (get_or before k s)) ∷ [] = search rules in
+    let once : mine (number_of (get_or before k s)) (seen_of (get_or after k s)) ≡ mine (number_of (get_or before k s)) (seen_of (get_or before k s)) ++ visit (number_of (get_or before k s)) ∷ [] =
+    search rules in
     let at_k : mine k (seen_of (get_or after k s)) ≡ mine k [] ++ visit k ∷ [] =
     subst (λ (y : ℕ × List Visit). mine y.0 (seen_of (get_or after k s)) ≡ mine y.0 y.1 ++ visit y.0 ∷ []) (λ j. (new.number j, new.seen j)) once in
     subst (λ (u : Seat Visits Visit). (number_of u ≡ k) × (mine k (seen_of u) ≡ visit k ∷ [])) is (same ∙ new.number, at_k)

@@ -16,14 +16,17 @@ pub returns-in-Reader : goal.returns-in-Reader
 returns-in-Reader g c =
     let e = c.read_stream.ensures in
     record {
-      did = did_read g.B.Opening.origin c.args.hall.now.twin c.args.worker.now c.requires.ready (λ x. g.C.Clock.faults x) (λ x. g.C.Clock.told x) (λ x. g.K.Sink.faults x) (λ x. g.K.Sink.written x) c.read_stream.new.pass
-          c.in-Reader.lines c.read_stream.new.lines c.in-Reader.clock c.read_stream.new.clock c.in-Reader.end c.read_stream.result c.in-Reader.is e.reader e.same e.read e.later e.fault e.long e.gone e.gave e.early e.whole e.store e.full e.closed;
+      did = did_read g.B.Opening.origin c.args.hall.now.twin c.args.worker.now c.requires.ready (λ x. g.C.Clock.faults x) (λ x. g.C.Clock.told x) (λ x. g.K.Sink.faults x) (λ x. g.K.Sink.written x)
+          c.read_stream.new.pass
+          c.in-Reader.lines c.read_stream.new.lines c.in-Reader.clock c.read_stream.new.clock c.in-Reader.end c.read_stream.result c.in-Reader.is e.reader e.same e.read e.later e.fault e.long e.gone
+          e.gave e.early e.whole e.store e.full e.closed;
     }
 
 pub returns-in-Writer : goal.returns-in-Writer
 returns-in-Writer g c =
     let e = c.write_stream.ensures in
     record {
-      did = did_write g.B.Opening.origin c.args.hall.now.twin c.args.worker.now c.requires.ready (λ x. g.C.Clock.faults x) (λ x. g.C.Clock.told x) (λ x. g.K.Sink.faults x) (λ x. g.K.Sink.written x) c.write_stream.new.pass
+      did = did_write g.B.Opening.origin c.args.hall.now.twin c.args.worker.now c.requires.ready (λ x. g.C.Clock.faults x) (λ x. g.C.Clock.told x) (λ x. g.K.Sink.faults x) (λ x. g.K.Sink.written x)
+          c.write_stream.new.pass
           c.in-Writer.sink c.write_stream.new.sink c.in-Writer.why c.write_stream.result c.in-Writer.is e.writer e.same e.spoke e.done e.later e.cause e.store e.full;
     }

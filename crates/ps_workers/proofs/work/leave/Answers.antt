@@ -25,9 +25,12 @@ returns-in-Reader g c =
     let clock = c.in-Reader.field-1 in
     let left = g.S.Source.left (source_of lines) in
     record {
-      did = did_read g.B.Opening.origin c.args.hall.now.twin c.args.worker.now c.requires.ready (λ x. g.C.Clock.faults x) (λ x. g.C.Clock.told x) (λ x. g.K.Sink.faults x) (λ x. g.K.Sink.written x) c.leave_unread.new.pass
-          lines lines clock clock c.in-Reader.end c.leave_unread.result c.in-Reader.is e.reader e.same (e.read (rest_of lines) left (g.C.Clock.told clock)) (omega arith) (λ x. absurd (e.never (ap says_gone x))) (λ x. absurd (e.never (ap says_gone x)))
-          (λ x. absurd (e.never x)) (gave_none left (given_of lines)) (λ x. absurd (e.never (ap says_gone x))) (λ x. absurd (e.never (ap says_gone x))) e.store e.full (λ x. absurd (e.never (ap says_gone x)));
+      did = did_read g.B.Opening.origin c.args.hall.now.twin c.args.worker.now c.requires.ready (λ x. g.C.Clock.faults x) (λ x. g.C.Clock.told x) (λ x. g.K.Sink.faults x) (λ x. g.K.Sink.written x)
+          c.leave_unread.new.pass
+          lines lines clock clock c.in-Reader.end c.leave_unread.result c.in-Reader.is e.reader e.same (e.read (rest_of lines) left (g.C.Clock.told clock)) (omega arith)
+          (λ x. absurd (e.never (ap says_gone x))) (λ x. absurd (e.never (ap says_gone x)))
+          (λ x. absurd (e.never x)) (gave_none left (given_of lines)) (λ x. absurd (e.never (ap says_gone x))) (λ x. absurd (e.never (ap says_gone x))) e.store e.full
+          (λ x. absurd (e.never (ap says_gone x)));
     }
 
 pub returns-in-Writer : goal.returns-in-Writer
@@ -38,7 +41,8 @@ returns-in-Writer g c =
     let sink = c.in-Writer.field-0 in
     let may = may_write o c.args.hall.now.twin c.args.worker.now c.requires.ready sink c.in-Writer.why c.in-Writer.is in
     record {
-      did = did_write o c.args.hall.now.twin c.args.worker.now c.requires.ready (λ x. g.C.Clock.faults x) (λ x. g.C.Clock.told x) (λ x. g.K.Sink.faults x) (λ x. g.K.Sink.written x) c.writer_ended.new.pass
+      did = did_write o c.args.hall.now.twin c.args.worker.now c.requires.ready (λ x. g.C.Clock.faults x) (λ x. g.C.Clock.told x) (λ x. g.K.Sink.faults x) (λ x. g.K.Sink.written x)
+          c.writer_ended.new.pass
           sink sink c.in-Writer.why Memory c.in-Writer.is e.writer (record { at = e.same.0; host = e.same.1 })
           (speaks-none o p.host (number_of p.seat) (seen_of p.seat) (seen_of c.writer_ended.new.pass.seat) (g.K.Sink.written sink) (Memory ≡ WriteFault) may.writer.pass.owned e.ended)
           (λ x. absurd (cc x)) (omega arith) (λ x. absurd (cc x)) (λ x. absurd (cc x)) (λ x. absurd (cc x));

@@ -9,4 +9,7 @@ pub list-requires : goal.list-requires
 list-requires c = record { asks = held c.args.who.now }
 
 pub returns : goal.returns
-returns c = record { rows = subst (λ t. IfOk c.list.result (λ rows. rows.items ≡ affils_held c.args.who.now t.rows)) c.self.view_is (all_same_ok _ (λ x y k. search rules) (λ v. v.items) (affils_held c.args.who.now c.self.inside.rows.rows) c.list.result c.list.ensures.rows) }
+returns c = record {
+  rows = subst (λ t. IfOk c.list.result (λ rows. rows.items ≡ affils_held c.args.who.now t.rows)) c.self.view_is
+      (all_same_ok _ (λ x y k. search rules) (λ v. v.items) (affils_held c.args.who.now c.self.inside.rows.rows) c.list.result c.list.ensures.rows);
+}

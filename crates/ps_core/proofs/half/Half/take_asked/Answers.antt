@@ -14,7 +14,10 @@ returns c =
     let p = part_of c.args.self.now in
     let r = c.args.request.now in
     let done = change_after p c.args.host.now c.args.line c.args.moment c.args._tree.now r c.requires.asked in
-    record { state = on_ok c.take_request.result (λ (h : part_of c.take_request.new.self ≡ changed_part r c.args.moment c.args.host.now c.args.line p). h ∙ sym done) c.take_request.ensures.state; wants = c.take_request.ensures.wants }
+    record {
+      state = on_ok c.take_request.result (λ (h : part_of c.take_request.new.self ≡ changed_part r c.args.moment c.args.host.now c.args.line p). h ∙ sym done) c.take_request.ensures.state;
+      wants = c.take_request.ensures.wants;
+    }
 
 pub take_request-requires-clause-accepted : goal.take_request-requires-clause-accepted
 take_request-requires-clause-accepted c =

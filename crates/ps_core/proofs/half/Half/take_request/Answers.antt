@@ -11,5 +11,6 @@ change-requires-clause-accepted c = made_accepted (book_of c.args.self.now.table
 
 pub change-requires-clause-few : goal.change-requires-clause-few
 change-requires-clause-few c = λ node who.
-    let below : made_at node who c.args.self.now.tables.counts.rows ≤ c.args.self.now.count + 2 ^ 62 = below_made (c.args.self.now.count + 2 ^ 62) node who c.args.self.now.tables.counts.rows c.requires.counted in
+    let below : made_at node who c.args.self.now.tables.counts.rows ≤ c.args.self.now.count + 2 ^ 62 = below_made (c.args.self.now.count + 2 ^ 62) node who c.args.self.now.tables.counts.rows
+    c.requires.counted in
     omega (arith, below, c.requires.few)

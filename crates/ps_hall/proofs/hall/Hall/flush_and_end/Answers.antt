@@ -14,7 +14,8 @@ returns-clause-ok g c =
     let old = c.args.pass.now in
     let mid = c.flush-flushed.new.pass in
     let new = c.end_reader.new.pass in
-    let ended = adds_as o (number_of mid.seat) (number_of old.seat) (seen_of mid.seat) (seen_of mid.seat) (seen_of new.seat) (Ended mid.host Reader) (Ended old.host Reader) e.number refl (ap (λ h. Ended h Reader) e.same.1) c.end_reader.ensures.ended in
+    let ended = adds_as o (number_of mid.seat) (number_of old.seat) (seen_of mid.seat) (seen_of mid.seat) (seen_of new.seat) (Ended mid.host Reader) (Ended old.host Reader) e.number refl
+    (ap (λ h. Ended h Reader) e.same.1) c.end_reader.ensures.ended in
     ends_ok o (number_of old.seat) old.host (seen_of old.seat) (seen_of mid.seat) (seen_of new.seat) (Flushes o (number_of old.seat)) ended c.flush-flushed.result e.ok
 
 pub returns-clause-err : goal.returns-clause-err
@@ -24,5 +25,6 @@ returns-clause-err g c =
     let old = c.args.pass.now in
     let mid = c.flush-flushed.new.pass in
     let new = c.end_reader.new.pass in
-    let ended = adds_as o (number_of mid.seat) (number_of old.seat) (seen_of mid.seat) (seen_of mid.seat) (seen_of new.seat) (Ended mid.host Reader) (Ended old.host Reader) e.number refl (ap (λ h. Ended h Reader) e.same.1) c.end_reader.ensures.ended in
+    let ended = adds_as o (number_of mid.seat) (number_of old.seat) (seen_of mid.seat) (seen_of mid.seat) (seen_of new.seat) (Ended mid.host Reader) (Ended old.host Reader) e.number refl
+    (ap (λ h. Ended h Reader) e.same.1) c.end_reader.ensures.ended in
     ends_err o (number_of old.seat) old.host (seen_of old.seat) (seen_of mid.seat) (seen_of new.seat) (NotFlushed o (number_of old.seat)) ended c.flush-flushed.result e.err

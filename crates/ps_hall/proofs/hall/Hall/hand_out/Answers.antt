@@ -32,12 +32,16 @@ loop-name-preserved g c =
     let r = c.unwrap.result in
     let w = c.unwrap-in-loop-name.result in
     let split : c.loop-name.name-iterator.rest.items ≡ c.in-Some.name ∷ c.next.new.self.rest.items = search rules in
-    let one : c.loop-name.seats.rest.items ≡ r ∷ c.next-in-loop-name.new.self.rest.items = c.next-in-loop-name.ensures.items ∙ ap (λ x. option_to_list x ++ c.next-in-loop-name.new.self.rest.items) c.unwrap.ensures in
-    let other : c.next-in-loop-name.new.self.rest.items ≡ w ∷ c.next-in-loop-name-2.new.self.rest.items = c.next-in-loop-name-2.ensures.items ∙ ap (λ x. option_to_list x ++ c.next-in-loop-name-2.new.self.rest.items) c.unwrap-in-loop-name.ensures in
+    let one : c.loop-name.seats.rest.items ≡ r ∷ c.next-in-loop-name.new.self.rest.items = c.next-in-loop-name.ensures.items ∙ ap (λ x. option_to_list x ++ c.next-in-loop-name.new.self.rest.items)
+    c.unwrap.ensures in
+    let other : c.next-in-loop-name.new.self.rest.items ≡ w ∷ c.next-in-loop-name-2.new.self.rest.items = c.next-in-loop-name-2.ensures.items ∙ ap
+    (λ x. option_to_list x ++ c.next-in-loop-name-2.new.self.rest.items) c.unwrap-in-loop-name.ensures in
     let place : c.len-at.result ≡ length c.loop-name.passes.items = omega arith in
     let room = i.2 in
-    let on = dealt_on g.B.Opening.origin c.args.self.now.twin c.loop-name.name-iterator.rest.items c.next.new.self.rest.items c.in-Some.name c.loop-name.seats.rest.items c.next-in-loop-name-2.new.self.rest.items r w c.len-at.result _
-    c.loop-name.passes.items c.push_reserved.new.self.items split (one ∙ ap (λ l. r ∷ l) other) place (record { reader = c.pass_of-reader.ensures; writer = c.pass_of-writer.ensures }) c.push_reserved.ensures.items i.0 i.1 in
+    let on = dealt_on g.B.Opening.origin c.args.self.now.twin c.loop-name.name-iterator.rest.items c.next.new.self.rest.items c.in-Some.name c.loop-name.seats.rest.items
+    c.next-in-loop-name-2.new.self.rest.items r w c.len-at.result _
+    c.loop-name.passes.items c.push_reserved.new.self.items split (one ∙ ap (λ l. r ∷ l) other) place (record { reader = c.pass_of-reader.ensures; writer = c.pass_of-writer.ensures })
+    c.push_reserved.ensures.items i.0 i.1 in
     (on.0, on.1, omega (arith, c.push_reserved.ensures.capacity, room))
 
 pub returns : goal.returns

@@ -17,7 +17,8 @@ returns-in-Ok-clause-hand g c =
     let host = c.args.pass.now.host in
     let hand = c.args.pass.now.in_hand.items in
     subst (λ (h : List Jid). HandAt o h host new) (sym c.let_go.ensures)
-    (hand_landed o (number_of old) host hand (drop c.in_ok-count.count hand) (tt {0}) (seen_of old) (seen_of mid) (seen_of new) x.differ (c.args.pass.now.at, c.requires.writer.pass.here, c.requires.writer.number) c.requires.hand does
+    (hand_landed o (number_of old) host hand (drop c.in_ok-count.count hand) (tt {0}) (seen_of old) (seen_of mid) (seen_of new) x.differ
+    (c.args.pass.now.at, c.requires.writer.pass.here, c.requires.writer.number) c.requires.hand does
     (subst (λ (k : ℕ). Flushes o k (seen_of mid) (seen_of new)) x.number c.in-Ok.ensures.ok))
 
 pub returns-in-Ok-clause-handed : goal.returns-in-Ok-clause-handed

@@ -13,7 +13,8 @@ returns-in-Ok-clause-pass g c =
     let o = g.B.Opening.origin in
     let r = c.read_seat.ensures in
     let s = c.read_seat.new.seat in
-    pass_after o c.args.self.now.twin c.args.pass.now.at c.args.pass.now.host c.args.pass.now.seat s c.requires.pass r.call (read_owned o g.D.Disk.tells c.flush_seat-flushed.new.seat s c.read_seat.result r.ok r.err)
+    pass_after o c.args.self.now.twin c.args.pass.now.at c.args.pass.now.host c.args.pass.now.seat s c.requires.pass r.call
+    (read_owned o g.D.Disk.tells c.flush_seat-flushed.new.seat s c.read_seat.result r.ok r.err)
 
 pub returns-in-Ok-clause-ok : goal.returns-in-Ok-clause-ok
 returns-in-Ok-clause-ok g c =

@@ -14,7 +14,8 @@ use Rattle.ps_hall.proofs.Passing.{reader_on, reads_at}
 use Rattle.ps_hall.proofs.hall.Hall.lay.Goals as goal
 
 pub lay-outcome-requires-clause-here : goal.lay-outcome-requires-clause-here
-lay-outcome-requires-clause-here g c κs within = home_here g.B.Opening.origin c.enter-home.result.state (seen_of c.enter-home.new.seat) c.args.pass.now.at c.args.pass.now.host c.enter-home.ensures.value c.requires.reader.pass.here
+lay-outcome-requires-clause-here g c κs within = home_here g.B.Opening.origin c.enter-home.result.state (seen_of c.enter-home.new.seat) c.args.pass.now.at c.args.pass.now.host
+    c.enter-home.ensures.value c.requires.reader.pass.here
 
 pub lay-outcome-requires-clause-few : goal.lay-outcome-requires-clause-few
 lay-outcome-requires-clause-few g c κs within = home_few g.B.Opening.origin c.enter-home.result.state (seen_of c.enter-home.new.seat) c.enter-home.ensures.value c.enter-home.ensures.few
@@ -42,7 +43,8 @@ leave_laid-requires g c κs within =
         (
           e.twin,
           notes o c.args.self.now.twin s v now (lay_steps host arrival result) e.twin e.held e.value e.firm e.mark x.kept (lay_quiet host arrival result)
-              (lay_owned o.hosts (number_of s) (bytes_in now) host arrival result (reads_at o c.args.self.now.twin c.args.pass.now.at host c.args.pass.now.seat (number_of s) e.number c.requires.reader))
+              (lay_owned o.hosts (number_of s) (bytes_in now) host arrival result
+              (reads_at o c.args.self.now.twin c.args.pass.now.at host c.args.pass.now.seat (number_of s) e.number c.requires.reader))
               (lay_rooms o v now (seen_of s) e.value host arrival (number_of s) result ok) (lay_few host arrival result)
               (lay_stands o v now (seen_of s) e.value host arrival result ok err),
         ),
@@ -72,7 +74,8 @@ returns-clause-reader g c =
     let now = c.lay-outcome.new.self in
     let s = c.enter-home.new.seat in
     reader_on g.B.Opening.origin c.args.self.now.twin c.args.pass.now.at c.args.pass.now.host c.args.pass.now.seat s c.leave_laid.new.seat now
-    (deeds (number_of s) (bytes_in now) (lay_steps c.args.pass.now.host c.args.arrival.now c.lay-outcome.result)) c.requires.reader c.enter-home.ensures.number c.enter-home.ensures.hand c.leave_laid.ensures (returns-clause-does g c).owned
+    (deeds (number_of s) (bytes_in now) (lay_steps c.args.pass.now.host c.args.arrival.now c.lay-outcome.result)) c.requires.reader c.enter-home.ensures.number c.enter-home.ensures.hand
+    c.leave_laid.ensures (returns-clause-does g c).owned
 
 pub returns-clause-room : goal.returns-clause-room
 returns-clause-room g c =
@@ -89,7 +92,8 @@ returns-clause-room g c =
     let row = home_row o v (seen_of s) c.args.pass.now.at host e.value c.requires.reader.pass.here in
     let ok = subst (λ (h : List ℕ). IfOk result (λ r. Laid v now h arrival r)) row.2 (x.ok row.0 row.1) in
     let err = subst (λ (h : List ℕ). IfErr result (λ r. NotLaid v now h r)) row.2 (x.err row.0 row.1) in
-    let owned = lay_owned o.hosts (number_of s) (bytes_in now) host arrival result (reads_at o c.args.self.now.twin c.args.pass.now.at host c.args.pass.now.seat (number_of s) e.number c.requires.reader) in
+    let owned = lay_owned o.hosts (number_of s) (bytes_in now) host arrival result
+    (reads_at o c.args.self.now.twin c.args.pass.now.at host c.args.pass.now.seat (number_of s) e.number c.requires.reader) in
     let stands = lay_stands o v now (seen_of s) e.value host arrival result ok err in
     let grows = bytes_on o.boot v now (world_at o (seen_of s)) steps e.value.stands stands (calm_of o.hosts (number_of s) (bytes_in now) steps owned) x.kept.count x.kept.length_same in
     lay_room o v now (seen_of s) e.value host arrival x.kept.count x.kept.length_same (number_of s) result (seen_of c.leave_laid.new.seat) ok err grows c.leave_laid.ensures.seen

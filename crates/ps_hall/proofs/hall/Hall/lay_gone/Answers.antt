@@ -11,7 +11,8 @@ use Rattle.ps_hall.proofs.Recording.{bytes_grow, gone_does, gone_few, gone_over,
 use Rattle.ps_hall.proofs.hall.Hall.lay_gone.Goals as goal
 
 pub gone_or_end-outcome-requires-clause-here : goal.gone_or_end-outcome-requires-clause-here
-gone_or_end-outcome-requires-clause-here g c κs within = home_here g.B.Opening.origin c.enter-home.result.state (seen_of c.enter-home.new.seat) c.args.pass.now.at c.args.pass.now.host c.enter-home.ensures.value c.requires.reader.pass.here
+gone_or_end-outcome-requires-clause-here g c κs within = home_here g.B.Opening.origin c.enter-home.result.state (seen_of c.enter-home.new.seat) c.args.pass.now.at c.args.pass.now.host
+    c.enter-home.ensures.value c.requires.reader.pass.here
 
 pub gone_or_end-outcome-requires-clause-few : goal.gone_or_end-outcome-requires-clause-few
 gone_or_end-outcome-requires-clause-few g c κs within = home_few g.B.Opening.origin c.enter-home.result.state (seen_of c.enter-home.new.seat) c.enter-home.ensures.value c.enter-home.ensures.few
@@ -72,11 +73,13 @@ returns-clause-over g c =
     let row = home_row o v (seen_of s) c.args.pass.now.at host e.value c.requires.reader.pass.here in
     let did = subst (λ (h : List ℕ). LaysOrEnds v now h result) row.2 (x.does row.0 row.1) in
     let owned = gone_owned o.hosts (number_of s) (bytes_in now) host result (reads_at o c.args.self.now.twin c.args.pass.now.at host c.args.pass.now.seat (number_of s) e.number c.requires.reader) in
-    gone_over o v now (seen_of s) e.value (number_of s) host result (seen_of c.leave_gone.new.seat) did (bytes_grow o v now (seen_of s) e.value (number_of s) (gone_steps host result) (gone_stands o v now (seen_of s) e.value host result did) owned x.kept) c.leave_gone.ensures.seen
+    gone_over o v now (seen_of s) e.value (number_of s) host result (seen_of c.leave_gone.new.seat) did
+    (bytes_grow o v now (seen_of s) e.value (number_of s) (gone_steps host result) (gone_stands o v now (seen_of s) e.value host result did) owned x.kept) c.leave_gone.ensures.seen
 
 pub returns-clause-reader : goal.returns-clause-reader
 returns-clause-reader g c =
     let now = c.gone_or_end-outcome.new.state in
     let s = c.enter-home.new.seat in
     reader_on g.B.Opening.origin c.args.self.now.twin c.args.pass.now.at c.args.pass.now.host c.args.pass.now.seat s c.leave_gone.new.seat now
-    (deeds (number_of s) (bytes_in now) (gone_steps c.args.pass.now.host c.gone_or_end-outcome.result)) c.requires.reader c.enter-home.ensures.number c.enter-home.ensures.hand c.leave_gone.ensures (returns-clause-does g c).owned
+    (deeds (number_of s) (bytes_in now) (gone_steps c.args.pass.now.host c.gone_or_end-outcome.result)) c.requires.reader c.enter-home.ensures.number c.enter-home.ensures.hand c.leave_gone.ensures
+    (returns-clause-does g c).owned

@@ -10,7 +10,8 @@ use Rattle.ps_hall.proofs.Passing.{writer_on, writes_at}
 use Rattle.ps_hall.proofs.hall.Hall.writer_ended.Goals as goal
 
 pub writer_ended-requires-clause-here : goal.writer_ended-requires-clause-here
-writer_ended-requires-clause-here g c = home_here g.B.Opening.origin c.enter-home.result.state (seen_of c.enter-home.new.seat) c.args.pass.now.at c.args.pass.now.host c.enter-home.ensures.value c.requires.writer.pass.here
+writer_ended-requires-clause-here g c = home_here g.B.Opening.origin c.enter-home.result.state (seen_of c.enter-home.new.seat) c.args.pass.now.at c.args.pass.now.host c.enter-home.ensures.value
+    c.requires.writer.pass.here
 
 pub writer_ended-requires-clause-few : goal.writer_ended-requires-clause-few
 writer_ended-requires-clause-few g c = home_few g.B.Opening.origin c.enter-home.result.state (seen_of c.enter-home.new.seat) c.enter-home.ensures.value c.enter-home.ensures.few
@@ -44,7 +45,8 @@ returns-clause-ended g c =
     let e = c.enter-home.ensures in
     let s = c.enter-home.new.seat in
     let host = c.args.pass.now.host in
-    did_by o c.args.pass.now.seat s c.leave_ended.new.seat c.enter-home.result.state c.writer_ended.new.self (Ended host Writer ∷ []) (λ w steps. steps ≡ Ended host Writer ∷ []) e.number e.later e.value
+    did_by o c.args.pass.now.seat s c.leave_ended.new.seat c.enter-home.result.state c.writer_ended.new.self (Ended host Writer ∷ []) (λ w steps. steps ≡ Ended host Writer ∷ []) e.number e.later
+    e.value
     (writes_at o c.args.self.now.twin c.args.pass.now.at host c.args.pass.now.seat (number_of s) e.number c.requires.writer, tt) c.leave_ended.ensures.seen refl
 
 pub returns-clause-writer : goal.returns-clause-writer
@@ -52,4 +54,5 @@ returns-clause-writer g c =
     let now = c.writer_ended.new.self in
     let s = c.enter-home.new.seat in
     writer_on g.B.Opening.origin c.args.self.now.twin c.args.pass.now.at c.args.pass.now.host c.args.pass.now.seat s c.leave_ended.new.seat now
-    (deeds (number_of s) (bytes_in now) (Ended c.args.pass.now.host Writer ∷ [])) c.requires.writer c.enter-home.ensures.number c.enter-home.ensures.hand c.leave_ended.ensures (returns-clause-ended g c).owned
+    (deeds (number_of s) (bytes_in now) (Ended c.args.pass.now.host Writer ∷ [])) c.requires.writer c.enter-home.ensures.number c.enter-home.ensures.hand c.leave_ended.ensures
+    (returns-clause-ended g c).owned

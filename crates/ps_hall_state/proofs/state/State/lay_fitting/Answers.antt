@@ -43,7 +43,8 @@ returns-in-Ok-clause-kept g c =
     let k = c.say.ensures.on.rest in
     let mid = c.make_ready.new.self in
     let k' : KeepsRest mid c.say.new.self = record { count = k.count; length_same = k.length_same; broken = k.broken; flushed = k.flushed; durable_same = k.durable_same; limits = k.limits } in
-    numbers_kept c.args.self.now c.say.new.self c.args.at says.0 says.1 (subst (λ rows. RowChanged rows.items c.say.new.self.rows.items c.args.at says.0 says.1) r.rows says.2) says.3.host (keeps_then c.args.self.now mid c.say.new.self r.rest k')
+    numbers_kept c.args.self.now c.say.new.self c.args.at says.0 says.1 (subst (λ rows. RowChanged rows.items c.say.new.self.rows.items c.args.at says.0 says.1) r.rows says.2) says.3.host
+    (keeps_then c.args.self.now mid c.say.new.self r.rest k')
 
 pub returns-in-Ok-clause-ok : goal.returns-in-Ok-clause-ok
 returns-in-Ok-clause-ok g c = λ row was.

@@ -20,7 +20,8 @@ pub ready_within-requires-clause-sketch : goal.ready_within-requires-clause-sket
 ready_within-requires-clause-sketch g c κs within = handed_sketch c.args.self.now c.args.at c.args._a.now c.args.recording.entry c.requires.here c.requires.standing c.requires.held c.requires.is.entry
 
 pub ready_within-requires-clause-accepted : goal.ready_within-requires-clause-accepted
-ready_within-requires-clause-accepted g c κs within = handed_accepted c.args.self.now c.args.at c.args._a.now c.args.recording.entry c.requires.here c.requires.standing c.requires.held c.requires.is.entry
+ready_within-requires-clause-accepted g c κs within = handed_accepted c.args.self.now c.args.at c.args._a.now c.args.recording.entry c.requires.here c.requires.standing c.requires.held
+    c.requires.is.entry
 
 pub release-requires-clause-bare : goal.release-requires-clause-bare
 release-requires-clause-bare g c = ap (λ (j : Jid). j.resource) c.requires.is.held ∙ (held_there c.args.self.now c.args.at c.args._a.now c.requires.here c.requires.held).0
@@ -28,7 +29,8 @@ release-requires-clause-bare g c = ap (λ (j : Jid). j.resource) c.requires.is.h
 pub release-requires-clause-held : goal.release-requires-clause-held
 release-requires-clause-held g c =
     let known = (held_there c.args.self.now c.args.at c.args._a.now c.requires.here c.requires.held).1 in
-    ap (λ (j : Jid). is_known j c.drop_first.new.self.held) c.requires.is.held ∙ (ap (is_known c.args._a.now) (c.drop_first.ensures.held ∙ (c.take_entry.ensures.held ∙ c.in-Ok.ensures.ok.held)) ∙ known)
+    ap (λ (j : Jid). is_known j c.drop_first.new.self.held) c.requires.is.held ∙
+    (ap (is_known c.args._a.now) (c.drop_first.ensures.held ∙ (c.take_entry.ensures.held ∙ c.in-Ok.ensures.ok.held)) ∙ known)
 
 pub returns-in-Ok-clause-kept : goal.returns-in-Ok-clause-kept
 returns-in-Ok-clause-kept g c =
@@ -58,8 +60,11 @@ returns-in-Ok-clause-ok g c =
     c.release.ensures.waiting ∙ (c.drop_first.ensures.waiting ∙ (ap (λ (j : Jid). without_first (is_to j) c.take_entry.new.queues.waiting) own.to
     ∙ ap (without_first (is_to a)) (t.1 ∙ (ap (λ x. v.queues.waiting ++ notices_at v.service.state x) kind ∙ append-nil v.queues.waiting)))) in
     let held : now.queues.held ≡ without (same_bare a) v.queues.held =
-    c.release.ensures.held ∙ (ap (λ (j : Jid). without (same_bare j) c.drop_first.new.self.held) own.held ∙ ap (without (same_bare a)) (c.drop_first.ensures.held ∙ (c.take_entry.ensures.held ∙ r.held))) in
+    c.release.ensures.held ∙ (ap (λ (j : Jid). without (same_bare j) c.drop_first.new.self.held) own.held ∙ ap (without (same_bare a))
+    (c.drop_first.ensures.held ∙ (c.take_entry.ensures.held ∙ r.held))) in
     recorded_ok v now (Handed a) (Record a) c.requires.unbroken room
-    (record_ok v now c.args.at h.0 h.1 a changed.was (c.requires.held h.0 changed.was) (subst (λ (j : Jid). RowLandsBy j (v.steps + 1) h.0 h.1) own.to (subst (λ (n : ℕ). RowLandsBy c.args.recording.to (n + 1) h.0 h.1) r.steps h.3)) changed.is
+    (record_ok v now c.args.at h.0 h.1 a changed.was (c.requires.held h.0 changed.was)
+    (subst (λ (j : Jid). RowLandsBy j (v.steps + 1) h.0 h.1) own.to (subst (λ (n : ℕ). RowLandsBy c.args.recording.to (n + 1) h.0 h.1) r.steps h.3)) changed.is
     (t.0 ∙ ap (λ x. after v.service.state x) kind) queues held
-    (subst (λ (x : Entry). BatchOn v now (Some x)) kind (batch_more v now e t.0 r.batch kept (let l = c.requires.standing.1.within.whole in let m = c.in-Ok.ensures.room in omega (arith, m, l)))) kept (ap (λ n. n + 1) r.steps))
+    (subst (λ (x : Entry). BatchOn v now (Some x)) kind (batch_more v now e t.0 r.batch kept (let l = c.requires.standing.1.within.whole in let m = c.in-Ok.ensures.room in omega (arith, m, l)))) kept
+    (ap (λ n. n + 1) r.steps))

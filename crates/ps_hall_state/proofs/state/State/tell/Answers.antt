@@ -16,7 +16,16 @@ returns-in_err-hold-clause-err c =
     let v = c.args.self.now in
     let now : State = record v { queues = c.hold.new.self } in
     let goes : Goes v now [] = λ service some w is.
-    same_ok v now w (record { state = refl; queues = c.hold.ensures.waiting; held = c.in_err-hold.ensures.err; rows = refl; batch = refl; steps = refl; rest = record { count = refl; length_same = refl; broken = refl; flushed = refl; durable_same = refl; limits = refl } }) is in
+    same_ok v now w (record {
+      state = refl;
+      queues = c.hold.ensures.waiting;
+      held = c.in_err-hold.ensures.err;
+      rows = refl;
+      batch = refl;
+      steps = refl;
+      rest = record
+          { count = refl; length_same = refl; broken = refl; flushed = refl; durable_same = refl; limits = refl };
+    }) is in
     told c.from_residual.result goes
 
 pub returns-clause-ok : goal.returns-clause-ok

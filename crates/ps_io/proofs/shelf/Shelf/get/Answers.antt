@@ -5,7 +5,8 @@ use denote.Ref.{Bor}
 use Rattle.ps_io.proofs.Shelves.{at_place, at_none}
 use Rattle.ps_io.proofs.shelf.Shelf.get.Goals as goal
 
-seen : {T : Type 0} (o : Option (Bor T)) (held : Option T) (at : Option (Option T)) → at ≡ Some held → option_copied o ≡ held → IfSome o (λ x. at ≡ Some (Some x.now)) × IfNone o ((at ≡ None) ⊎ (at ≡ Some None))
+seen : {T : Type 0} (o : Option (Bor T)) (held : Option T) (at : Option (Option T)) → at ≡ Some held → option_copied o ≡ held
+    → IfSome o (λ x. at ≡ Some (Some x.now)) × IfNone o ((at ≡ None) ⊎ (at ≡ Some None))
 seen None held at stands is = (tt, inr (stands ∙ ap Some (sym is)))
 seen (Some x) held at stands is = (stands ∙ ap Some (sym is), tt)
 

@@ -7,8 +7,10 @@ unwrap-place-requires g c = has_place c.args.self.now.slots.items c.args.name.no
 
 pub returns-clause-here : goal.returns-clause-here
 returns-clause-here g c =
-    set_here c.args.self.now.slots.items c.args.name.now c.unwrap-place.result c.index_mut-slot.result.now (sym c.unwrap-place.ensures ∙ c.place_of.ensures) _ (ap (λ (s : _). s.name) c.index_mut-slot.ensures.value)
+    set_here c.args.self.now.slots.items c.args.name.now c.unwrap-place.result c.index_mut-slot.result.now (sym c.unwrap-place.ensures ∙ c.place_of.ensures) _
+    (ap (λ (s : _). s.name) c.index_mut-slot.ensures.value)
 
 pub returns-clause-others : goal.returns-clause-others
 returns-clause-others g c =
-    set_elsewhere c.args.self.now.slots.items c.args.name.now c.unwrap-place.result c.index_mut-slot.result.now (sym c.unwrap-place.ensures ∙ c.place_of.ensures) _ (ap (λ (s : _). s.name) c.index_mut-slot.ensures.value)
+    set_elsewhere c.args.self.now.slots.items c.args.name.now c.unwrap-place.result c.index_mut-slot.result.now (sym c.unwrap-place.ensures ∙ c.place_of.ensures) _
+    (ap (λ (s : _). s.name) c.index_mut-slot.ensures.value)

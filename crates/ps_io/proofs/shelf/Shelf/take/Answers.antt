@@ -12,7 +12,8 @@ returns-clause-taken g c =
 pub returns-clause-lent : goal.returns-clause-lent
 returns-clause-lent g c =
     let slot = c.index_mut-slot.result.now in
-    at_some _ _ (λ x is. set_here c.args.self.now.slots.items c.args.name.now c.in_ok-place.place slot c.in_ok-place.ensures _ (ap (λ (s : _). s.name) c.index_mut-slot.ensures.value) ∙ ap Some c.take.ensures.after)
+    at_some _ _ (λ x is. set_here c.args.self.now.slots.items c.args.name.now c.in_ok-place.place slot c.in_ok-place.ensures _ (ap (λ (s : _). s.name) c.index_mut-slot.ensures.value) ∙ ap Some
+    c.take.ensures.after)
 
 pub returns-clause-others : goal.returns-clause-others
 returns-clause-others g c =

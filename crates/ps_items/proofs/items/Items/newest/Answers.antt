@@ -10,4 +10,7 @@ pub newest-requires : goal.newest-requires
 newest-requires c = record { asks = at_node c.args.node.now }
 
 pub returns : goal.returns
-returns c = record { rows = subst (λ t. IfOk c.newest.result (λ rows. rows.items ≡ newest_of c.args.most (items_of c.args.node.now t.rows))) c.self.view_is (all_same_ok _ (λ x y k. search rules) (λ v. v.items) (newest_of c.args.most (items_of c.args.node.now c.self.inside.rows.rows)) c.newest.result c.newest.ensures.rows) }
+returns c = record {
+  rows = subst (λ t. IfOk c.newest.result (λ rows. rows.items ≡ newest_of c.args.most (items_of c.args.node.now t.rows))) c.self.view_is
+      (all_same_ok _ (λ x y k. search rules) (λ v. v.items) (newest_of c.args.most (items_of c.args.node.now c.self.inside.rows.rows)) c.newest.result c.newest.ensures.rows);
+}

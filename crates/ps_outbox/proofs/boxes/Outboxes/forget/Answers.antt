@@ -11,7 +11,8 @@ take_away-requires c = record { asks = address_of c.args.bare.now }
 
 pub invariant_of-self : goal.invariant_of-self
 invariant_of-self c =
-    one_forgotten c.self.inside.waiting.rows c.self.inside.free c.take_away.new.self c.self.inside.held.rows c.self.inside.last c.self.inside.in_order c.args.bare.now c.take_away.ensures.rows c.take_away.ensures.room
+    one_forgotten c.self.inside.waiting.rows c.self.inside.free c.take_away.new.self c.self.inside.held.rows c.self.inside.last c.self.inside.in_order c.args.bare.now c.take_away.ensures.rows
+    c.take_away.ensures.room
     (subst (λ (b : Boxes). find (is_to c.args.bare.now) b.waiting ≡ None) (sym c.self.view_is) (sym c.first.ensures ∙ copied_none c.first.result (c.if-is_none.ensures))) c.self.invariant
 
 pub returns-then-is_none-clause-kept : goal.returns-then-is_none-clause-kept

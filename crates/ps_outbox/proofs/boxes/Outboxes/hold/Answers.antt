@@ -23,5 +23,6 @@ returns-clause-kept c = λ who.
     let was : Boxes = record { waiting = c.self.inside.waiting.rows; free = c.self.inside.free.rows; held = c.self.inside.held.rows; room = c.self.inside.waiting.spare } in
     subst (λ (b : Boxes). spare_for who b ≤ spare_for who now) c.self.view_is
     (spare_kept was now who (omega arith)
-    (held_as c.self.inside.free.rows c.take_away.new.self.rows c.self.inside.held.rows c.add.new.self.rows c.args.bare who (c.take_away.ensures.rows ∙ ap (without (same_bare c.args.bare)) c.reserve.ensures.rows)
+    (held_as c.self.inside.free.rows c.take_away.new.self.rows c.self.inside.held.rows c.add.new.self.rows c.args.bare who
+    (c.take_away.ensures.rows ∙ ap (without (same_bare c.args.bare)) c.reserve.ensures.rows)
     (c.add.ensures.rows ∙ ap (λ (l : List Jid). l ++ c.args.bare ∷ []) c.reserve-2.ensures.rows)))

@@ -20,14 +20,16 @@ invariant_of-self c =
 pub invariant_of-self-else-waits : goal.invariant_of-self-else-waits
 invariant_of-self-else-waits c =
     one_gone c.self.inside.waiting.rows c.self.inside.free c.self.inside.held.rows c.take_away.new.self.rows c.self.inside.last c.self.inside.in_order c.args.bare c.take_away.ensures.rows
-    (subst (λ (b : Boxes). find (is_to c.args.bare) b.waiting ≡ None) (sym c.self.view_is) (sym c.first.ensures ∙ copied_none c.first.result (sym c.is_some-waits.ensures ∙ c.if-waits.false))) c.self.invariant
+    (subst (λ (b : Boxes). find (is_to c.args.bare) b.waiting ≡ None) (sym c.self.view_is) (sym c.first.ensures ∙ copied_none c.first.result (sym c.is_some-waits.ensures ∙ c.if-waits.false)))
+    c.self.invariant
 
 pub returns-then-waits-clause-kept : goal.returns-then-waits-clause-kept
 returns-then-waits-clause-kept c = λ who far.
     let now : Boxes = record { waiting = c.self.inside.waiting.rows; free = c.add.new.self.rows; held = c.take_away.new.self.rows; room = c.self.inside.waiting.spare } in
     let was : Boxes = record { waiting = c.self.inside.waiting.rows; free = c.self.inside.free.rows; held = c.self.inside.held.rows; room = c.self.inside.waiting.spare } in
     subst (λ (b : Boxes). spare_for who b ≤ spare_for who now) c.self.view_is
-    (spare_kept was now who (omega arith) (back_as c.self.inside.free.rows c.add.new.self.rows c.self.inside.held.rows c.take_away.new.self.rows c.args.bare who c.add.ensures.rows c.take_away.ensures.rows))
+    (spare_kept was now who (omega arith) (back_as c.self.inside.free.rows c.add.new.self.rows c.self.inside.held.rows c.take_away.new.self.rows c.args.bare who c.add.ensures.rows
+    c.take_away.ensures.rows))
 
 pub returns-then-waits-clause-own : goal.returns-then-waits-clause-own
 returns-then-waits-clause-own c = λ some.
@@ -35,7 +37,8 @@ returns-then-waits-clause-own c = λ some.
     let now : Boxes = record { waiting = c.self.inside.waiting.rows; free = c.add.new.self.rows; held = c.take_away.new.self.rows; room = c.self.inside.waiting.spare } in
     let was : Boxes = record { waiting = c.self.inside.waiting.rows; free = c.self.inside.free.rows; held = c.self.inside.held.rows; room = c.self.inside.waiting.spare } in
     subst (λ (b : Boxes). spare_for who b ≤ spare_for who now) c.self.view_is
-    (spare_kept was now who (omega arith) (back_as c.self.inside.free.rows c.add.new.self.rows c.self.inside.held.rows c.take_away.new.self.rows c.args.bare who c.add.ensures.rows c.take_away.ensures.rows))
+    (spare_kept was now who (omega arith) (back_as c.self.inside.free.rows c.add.new.self.rows c.self.inside.held.rows c.take_away.new.self.rows c.args.bare who c.add.ensures.rows
+    c.take_away.ensures.rows))
 
 pub returns-else-waits-clause-kept : goal.returns-else-waits-clause-kept
 returns-else-waits-clause-kept c = λ who far.

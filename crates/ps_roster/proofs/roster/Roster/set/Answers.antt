@@ -3,4 +3,10 @@ use Rattle.ps_roster.proofs.Keys.{contact_of, alike, kin}
 use Rattle.ps_roster.proofs.roster.Roster.set.Goals as goal
 
 pub put-requires : goal.put-requires
-put-requires c = record { asks = contact_of c.args.row.account c.args.row.contact; alike = λ seed index old h. alike seed c.args.row old index h; kin = λ old h. kin c.args.row old h; room = subst (λ t. 0 < t.spare) (sym c.self.view_is) c.requires.room }
+put-requires c = record {
+  asks = contact_of c.args.row.account c.args.row.contact;
+  alike = λ seed index old h. alike seed c.args.row old index h;
+  kin = λ old h. kin c.args.row old h;
+  room = subst
+      (λ t. 0 < t.spare) (sym c.self.view_is) c.requires.room;
+}

@@ -12,4 +12,7 @@ list_around-requires c = record { asks = among c.args.node.now c.args.others.now
 pub returns : goal.returns
 returns c =
     let own = is_among c.args.node.now c.args.others.now.rows in
-    record { rows = subst (λ t. IfOk c.list_around.result (λ rows. rows.items ≡ own_and_last own t.rows)) c.self.view_is (all_same_ok _ (λ x y k. search rules) (λ v. v.items) (own_and_last own c.self.inside.rows.rows) c.list_around.result c.list_around.ensures.rows) }
+    record {
+      rows = subst (λ t. IfOk c.list_around.result (λ rows. rows.items ≡ own_and_last own t.rows)) c.self.view_is
+          (all_same_ok _ (λ x y k. search rules) (λ v. v.items) (own_and_last own c.self.inside.rows.rows) c.list_around.result c.list_around.ensures.rows);
+    }
