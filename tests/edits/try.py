@@ -235,6 +235,7 @@ TRIED = [
     "ps_streams/notice_is_recorded_and_not_written",
     "ps_streams/read_fault_told_as_memory",
     "ps_streams/refusal_taken_as_the_end",
+    "ps_streams/stop_of_the_lines_told_as_memory",
     "ps_streams/waits_for_room_before_it_flushes",
     "ps_subs/pending_is_subscribed=ps_subs::asks::is_subscribed",
     "ps_turn/draws_two_tickets",

@@ -1,5 +1,5 @@
 // The reader of a stream.
-ghost use Rattle.std.specs.Prelude.{◌≡◌, ◌≢◌, ◌⊎◌, ◌<◌, ◌≤◌, ◌^◌, [], true, None, IfErr, IfOk, IfSome, IfNone, IsErrOf, IsFalse, OnOk};
+ghost use Rattle.std.specs.Prelude.{◌≡◌, ◌≢◌, ◌⊎◌, ◌<◌, ◌≤◌, ◌^◌, [], true, None, Some, IfErr, IfOk, IfSome, IfNone, IsErrOf, IsFalse, OnOk};
 ghost use Rattle.ps_base.specs.Causes.{Rose};
 ghost use Rattle.ps_wire.specs.AtEnd.{nothing_of};
 ghost use Rattle.ps_wire.specs.Reading.{Gave, IsWithoutLine, given_of, rest_of, source_of, stopped_of};
@@ -46,6 +46,7 @@ fn end_of_lines(why: NextLineRefusal) -> ReadEnd
     ensures from_fault { why ≡ NextLineRefusal.ReadFault → result ≡ ReadEnd.ReadFault }
     ensures long { result ≡ ReadEnd.Long → why ≡ NextLineRefusal.Long }
     ensures from_long { why ≡ NextLineRefusal.Long → result ≡ ReadEnd.Long }
+    ensures memory { result ≡ ReadEnd.Memory → why ≡ NextLineRefusal.Memory }
     ensures store { result ≡ ReadEnd.Store → ⊥ }
     ensures closed { result ≡ ReadEnd.Closed → ⊥ }
     ensures room { result ≡ ReadEnd.Full → ⊥ }
@@ -127,6 +128,7 @@ fn next_arrival<B: Opening, D: Disk, S: Source, C: Clock>(
     ensures closed { IsErrOf result ReadEnd.Closed → ⊥ }
     ensures room { IsErrOf result ReadEnd.Full → ⊥ }
     ensures asked { IfErr result (λ e. WasAsked (C.told clock.old) (C.told clock.new) []) }
+    ensures memory { IsErrOf result ReadEnd.Memory → stopped_of lines.new ≡ Some NextLineRefusal.Memory }
     ensures cut { IfErr result (λ e. (e ≡ ReadEnd.ReadFault) ⊎ (e ≡ ReadEnd.Long)
         → IsWithoutLine (rest_of lines.old) (S.left (source_of lines.new))) }
     ensures gave { Gave (S.left (source_of lines.old)) (S.left (source_of lines.new))

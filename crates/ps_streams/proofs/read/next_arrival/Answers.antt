@@ -1,7 +1,8 @@
-use Rattle.std.proofs.Common.{Err, ap, inl, inr, subst}
+use Rattle.std.proofs.Common.{Err, Some, ap, inl, inr, subst, ◌∙◌}
 use Rattle.ps_wire.specs.Reading.{IsNext, rest_of}
 use Rattle.ps_wire.specs.declared.lines.NextLine.{NextLine}
 use Rattle.ps_streams.proofs.Lines.{asked-line, asked-long, came-line, came-long}
+use Rattle.ps_streams.proofs.Looping.{err-same}
 use Rattle.ps_streams.proofs.read.next_arrival.Goals as goal
 
 pub returns-in-Ok-Line-clause-some : goal.returns-in-Ok-Line-clause-some
@@ -27,3 +28,6 @@ returns-in-Ok-TooLong-clause-some g c =
 pub returns-in-Err-clause-cut : goal.returns-in-Err-clause-cut
 returns-in-Err-clause-cut g c = λ e.
     c.in-Err.ensures.no_line (elim e [ inl x ↦ inl (ap Err (c.end_of_lines.ensures.fault x)) | inr x ↦ inr (ap Err (c.end_of_lines.ensures.long x)) ]) c.requires.going
+
+pub returns-in-Err-clause-memory : goal.returns-in-Err-clause-memory
+returns-in-Err-clause-memory g c = λ e. c.in-Err.ensures.stops ∙ ap Some (c.end_of_lines.ensures.memory (err-same c.end_of_lines.result _ e))
