@@ -1,44 +1,30 @@
 -- The bytes of entries, one after the other.
-use Rattle.std.proofs.Common.{◌≡◌, ℕ, zero, suc, ◌+◌, ◌<◌, ◌≤◌, ◌^◌, List, [], ◌∷◌, ◌++◌, Some, None, length, take, drop, get_or, refl, sym, ap, ◌∙◌, subst, arith, length-append, take-append-drop}
-use Rattle.std.proofs.lemmas.List.{take_more, take_all}
+use Rattle.std.proofs.Common.{◌≡◌, ℕ, zero, suc, ◌+◌, ◌<◌, ◌≤◌, ◌^◌, List, [], ◌∷◌, ◌++◌, Some, None, length, take, drop, get_or, sym, ap, ◌∙◌, subst, arith, length-append, take-append-drop}
+use Rattle.std.proofs.lemmas.List.{take_more}
 use Rattle.std.proofs.lemmas.List.Concat.{flat_map-append}
 use Rattle.ps_types.specs.declared.entry.Entry.{Entry}
 use Rattle.std.specs.Int.{w32, w64, to_be_bytes}
 use Rattle.ps_types.specs.Print.{print}
-use Rattle.ps_model.specs.Entries.{spelling, body, short, long, IsEntry, AreEntries}
+use Rattle.ps_model.specs.Entries.{spelling, body, short, long, IsEntry}
 use Rattle.ps_types.specs.declared.entry.Entry.TheVariants.{Boot, Change, Handed, Gone, Base}
 use Rattle.ps_record.specs.Formed.{IsFormed, AreFormed, HoldsForm}
 use Rattle.ps_record.specs.Texts.{print_in}
-use Rattle.ps_record.proofs.Batches.{are_entries_push, body_push}
+use Rattle.ps_record.proofs.Batches.{body_push}
 
--- these are the bytes of the entries, each of which has a spelling
-pub record AreBytesOf (es : List Entry) (bytes : List ℕ) : Type 0 where
-  pub are : bytes ≡ body es
-  pub each : AreEntries es
-  pub fits : length bytes ≤ 2 ^ 30
-
-pub none_yet : AreBytesOf [] []
-none_yet = record { are = refl; each = tt; fits = omega arith }
-
-pub one_more : (es : List Entry) (i : ℕ) (e : Entry) (old new : List ℕ) → i < length es → e ≡ get_or es i e → AreBytesOf (take i es) old → new ≡ old ++ spelling e → IsEntry e → length new ≤ 2 ^ 30 → AreBytesOf (take (i + 1) es) new
-one_more es i e old new within is so_far at entry fits =
+-- one entry more of a list
+pub one_more : (es : List Entry) (i : ℕ) (e : Entry) (old new : List Entry) → i < length es → e ≡ get_or es i e → old ≡ take i es → new ≡ old ++ e ∷ [] → new ≡ take (i + 1) es
+one_more es i e old new within is so_far at =
     let more : take (i + 1) es ≡ take i es ++ e ∷ [] = take_more es i e within ∙ ap (λ (x : Entry). take i es ++ x ∷ []) (sym is) in
-    record {
-      are = at ∙ ap (λ (b : List ℕ). b ++ spelling e) so_far.are ∙ sym (body_push (take i es) e) ∙ ap body (sym more);
-      each = subst AreEntries (sym more) (are_entries_push (take i es) e so_far.each entry);
-      fits = fits;
-    }
-
-pub all_of_them : (es : List Entry) (i : ℕ) (bytes : List ℕ) → length es ≤ i → AreBytesOf (take i es) bytes → AreBytesOf es bytes
-all_of_them es i bytes all are = subst (λ (l : List Entry). AreBytesOf l bytes) (take_all i es all) are
+    at ∙ ap (λ (l : List Entry). l ++ e ∷ []) so_far ∙ sym more
 
 -- with one entry more they are too long, and so they are with the rest
-pub too_long : (es : List Entry) (i : ℕ) (e : Entry) (old : List ℕ) → i < length es → e ≡ get_or es i e → AreBytesOf (take i es) old → 2 ^ 30 < length old + length (spelling e) → 2 ^ 30 < length (body es)
+pub too_long : (es : List Entry) (i : ℕ) (e : Entry) (old : List Entry) → i < length es → e ≡ get_or es i e → old ≡ take i es → 2 ^ 30 < length (body old) + length (spelling e) → 2 ^ 30 < length (body es)
 too_long es i e old within is so_far over =
     let more : take (i + 1) es ≡ take i es ++ e ∷ [] = take_more es i e within ∙ ap (λ (x : Entry). take i es ++ x ∷ []) (sym is) in
     let whole : body es ≡ body (take (i + 1) es) ++ body (drop (i + 1) es) = ap body (sym (take-append-drop (i + 1) es)) ∙ flat_map-append spelling (take (i + 1) es) (drop (i + 1) es) in
     let front : body (take (i + 1) es) ≡ body (take i es) ++ spelling e = ap body more ∙ body_push (take i es) e in
-    omega (arith, over, ap length so_far.are, ap length whole, ap length front, length-append (body (take (i + 1) es)) (body (drop (i + 1) es)), length-append (body (take i es)) (spelling e))
+    let same : length (body old) ≡ length (body (take i es)) = ap (λ (l : List Entry). length (body l)) so_far in
+    omega (arith, over, same, ap length whole, ap length front, length-append (body (take (i + 1) es)) (body (drop (i + 1) es)), length-append (body (take i es)) (spelling e))
 
 -- of formed entries the one at a place
 pub formed_here : (es : List Entry) (i : ℕ) (e : Entry) → AreFormed es → i < length es → e ≡ get_or es i e → IsFormed e

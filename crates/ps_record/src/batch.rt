@@ -3,20 +3,21 @@ ghost use Rattle.std.specs.Prelude.{◌≡◌, ◌++◌, ◌∷◌, ◌+◌, ◌
 ghost use Rattle.std.specs.Int.{w32, to_be_bytes};
 ghost use Rattle.ps_model.specs.Entries.{body, spelling, IsEntry, AreEntries};
 ghost use Rattle.ps_record.specs.Batch.{piece};
-ghost use Rattle.ps_record.specs.Formed.{AreFormed};
+ghost use Rattle.ps_record.specs.Formed.{AreFormed, IsFormed};
 ghost use Rattle.ps_record.specs.Texts.{print_in};
 
-use crate::bodies::{BatchRefusal, bytes_of};
+use crate::bodies::{BatchRefusal, MAX_BYTES, short_print};
+use crate::roll::Roll;
 use crate::writing::{print_of, put_printed};
 use ps_base::Memory;
 use ps_types::Entry;
 use std::alloc::Global;
 use std::marker::Model;
 
-/// Entries in order, with their bytes, 2^30 at most. A contract sees it as the list of its entries.
+/// Entries in order, as their bytes, 2^30 at most. A contract sees it as the list of its entries, which is not kept beside the bytes.
 pub struct Batch {
     alloc: Global,
-    entries: Vec<Entry>,
+    entries: Roll,
     frame: Vec<u8>,
 }
 
@@ -48,12 +49,6 @@ impl Model for Batch {
     ghost invariant = { λ b. IsFramed b.entries.items b.frame.items };
 }
 
-fn copy_of(entry: &Entry) -> Result<Entry, Memory>
-    ensures { IfOk result (λ e. e ≡ entry.now) }
-{
-    Ok(entry.clone()?)
-}
-
 // Writes over the first bytes.
 fn write_front(bytes: &mut [u8], front: &[u8])
     requires { length front.now ≤ length bytes.old }
@@ -77,16 +72,19 @@ fn lengthen(frame: &mut Vec<u8>, entry: &[u8])
     write_front(frame, &(len as u32).to_be_bytes());
 }
 
-// What a frame of these bytes has behind its gate.
-fn frame_of(alloc: Global, bytes: &[u8]) -> Result<Vec<u8>, Memory>
-    requires fits { length bytes.now ≤ 2 ^ 30 }
-    ensures { IfOk result (λ v. v.items ≡ to_be_bytes w32 (length bytes.now) ++ bytes.now ++ 0 ∷ []) }
+// Adds the entries to an empty batch.
+fn add_all(batch: &mut Batch, entries: &Vec<Entry>) -> Result<(), BatchRefusal>
+    requires formed { AreFormed entries.now.items }
+    requires empty { batch.old ≡ [] }
+    ensures ok { OnOk result (batch.new ≡ entries.now.items) }
+    ensures long { IsErrOf result BatchRefusal.Long → 2 ^ 30 < length (body entries.now.items) }
 {
-    let mut frame = Vec::with_capacity(alloc, bytes.len() + 5)?;
-    frame.extend_from_slice(&(bytes.len() as u32).to_be_bytes())?;
-    frame.extend_from_slice(bytes)?;
-    frame.push(0)?;
-    Ok(frame)
+    'entries: for entry in entries {
+        if let Err(why) = batch.add(entry) {
+            return Err(why);
+        }
+    }
+    Ok(())
 }
 
 impl Batch {
@@ -97,7 +95,7 @@ impl Batch {
         let frame = [0, 0, 0, 0, 0].to_vec(alloc)?;
         Ok(Batch {
             alloc,
-            entries: Vec::new(alloc),
+            entries: Roll::new(),
             frame,
         })
     }
@@ -108,13 +106,41 @@ impl Batch {
         ensures ok { IfOk result (λ b. b ≡ entries.items) }
         ensures long { IsErrOf result BatchRefusal.Long → 2 ^ 30 < length (body entries.items) }
     {
-        let bytes = bytes_of(alloc, &entries)?;
-        let frame = frame_of(alloc, &bytes)?;
-        Ok(Batch {
-            alloc,
-            entries,
-            frame,
-        })
+        let mut batch = Batch::new(alloc)?;
+        add_all(&mut batch, &entries)?;
+        Ok(batch)
+    }
+
+    // Adds an entry with these bytes.
+    fn append(&mut self, entry: &Entry, bytes: &[u8]) -> Result<(), Memory>
+        requires spelled { IsEntry entry.now }
+        requires bytes { bytes.now ≡ spelling entry.now }
+        requires fits { length (body self.old) + length (spelling entry.now) ≤ 2 ^ 30 }
+        ensures ok { OnOk result (self.new ≡ self.old ++ entry.now ∷ []) }
+        ensures err { OnErr result (self.new ≡ self.old) }
+    {
+        self.frame.try_reserve(bytes.len())?;
+        let entries = Roll::longer(&self.entries, entry);
+        lengthen(&mut self.frame, bytes);
+        self.entries = entries;
+        Ok(())
+    }
+
+    /// Adds an entry, if it fits, in time that grows as its bytes do. Where it answers an error, the batch is as before.
+    pub fn add(&mut self, entry: &Entry) -> Result<(), BatchRefusal>
+        requires formed { IsFormed entry.now }
+        ensures ok { OnOk result (self.new ≡ self.old ++ entry.now ∷ []) }
+        ensures err { OnErr result (self.new ≡ self.old) }
+        ensures long { IsErrOf result BatchRefusal.Long
+            → 2 ^ 30 < length (body self.old) + length (spelling entry.now) }
+    {
+        let print = short_print(self.alloc, entry)?;
+        let bytes = put_printed(self.alloc, entry, print.as_slice())?;
+        if self.len() + bytes.len() as u64 > MAX_BYTES {
+            return Err(BatchRefusal::Long);
+        }
+        self.append(entry, bytes.as_slice())?;
+        Ok(())
     }
 
     /// Adds an entry, in time that grows as its bytes do. Where memory runs out, the batch is as before.
@@ -137,11 +163,7 @@ impl Batch {
         ensures err { OnErr result (self.new ≡ self.old) }
     {
         let bytes = put_printed(self.alloc, entry, print)?;
-        let entry = copy_of(entry)?;
-        self.frame.try_reserve(bytes.len())?;
-        self.entries.push(entry)?;
-        lengthen(&mut self.frame, bytes.as_slice());
-        Ok(())
+        self.append(entry, bytes.as_slice())
     }
 
     /// How many bytes its entries have, each of which is spelled.

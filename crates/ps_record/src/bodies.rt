@@ -1,10 +1,11 @@
-// The bytes of many entries.
-ghost use Rattle.std.specs.Prelude.{◌≡◌, ◌++◌, ◌+◌, ◌<◌, ◌≤◌, ◌^◌, length, IfOk, OnOk, IsErrOf};
-ghost use Rattle.ps_model.specs.Entries.{body, spelling, IsEntry, AreEntries};
-ghost use Rattle.ps_record.specs.Formed.{IsFormed, AreFormed, HoldsForm};
+// Entries that may be too long.
+ghost use Rattle.std.specs.Prelude.{◌≡◌, ◌<◌, ◌^◌, length, IfOk, OnOk, IsErrOf};
+ghost use Rattle.ps_model.specs.Entries.{spelling, IsEntry};
+ghost use Rattle.ps_record.specs.Formed.{IsFormed, HoldsForm};
+ghost use Rattle.ps_record.specs.Texts.{print_in};
 
-use crate::writing::{print_of, put};
-use ps_base::Memory;
+use crate::writing::print_of;
+use ps_base::{Bytes, Memory};
 use ps_types::Entry;
 use std::alloc::Global;
 
@@ -41,40 +42,17 @@ fn know(entry: &Entry)
     }
 }
 
-// Adds the bytes of an entry, if they fit.
-fn put_one(alloc: Global, bytes: &mut Vec<u8>, entry: &Entry) -> Result<(), BatchRefusal>
+/// The print of the tree of an entry, if it is short enough for a spelling.
+pub(crate) fn short_print(alloc: Global, entry: &Entry) -> Result<Bytes, BatchRefusal>
     requires formed { IsFormed entry.now }
-    ensures bytes { OnOk result (bytes.new.items ≡ bytes.old.items ++ spelling entry.now) }
+    ensures print { IfOk result (λ b. b ≡ print_in entry.now) }
     ensures entry { OnOk result (IsEntry entry.now) }
-    ensures fits { OnOk result (length bytes.new.items ≤ 2 ^ 30) }
-    ensures long { IsErrOf result BatchRefusal.Long → 2 ^ 30 < length bytes.old.items + length (spelling entry.now) }
+    ensures long { IsErrOf result BatchRefusal.Long → 2 ^ 30 < length (spelling entry.now) }
 {
     let print = print_of(alloc, entry)?;
     if print.len() as u64 > MAX_BYTES {
         return Err(BatchRefusal::Long);
     }
     know(entry);
-    put(alloc, bytes, entry, print.as_slice())?;
-    if bytes.len() as u64 > MAX_BYTES {
-        Err(BatchRefusal::Long)
-    } else {
-        Ok(())
-    }
-}
-
-/// The bytes of the entries, back to back.
-pub(crate) fn bytes_of(alloc: Global, entries: &Vec<Entry>) -> Result<Vec<u8>, BatchRefusal>
-    requires formed { AreFormed entries.now.items }
-    ensures bytes { IfOk result (λ v. v.items ≡ body entries.now.items) }
-    ensures each { OnOk result (AreEntries entries.now.items) }
-    ensures fits { IfOk result (λ v. length v.items ≤ 2 ^ 30) }
-    ensures long { IsErrOf result BatchRefusal.Long → 2 ^ 30 < length (body entries.now.items) }
-{
-    let mut bytes = Vec::new(alloc);
-    'entries: for entry in entries {
-        if let Err(why) = put_one(alloc, &mut bytes, entry) {
-            return Err(why);
-        }
-    }
-    Ok(bytes)
+    Ok(print)
 }

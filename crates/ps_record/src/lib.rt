@@ -15,6 +15,7 @@ mod fields;
 mod laws;
 mod raw;
 mod reading;
+mod roll;
 mod writing;
 
 pub use batch::Batch;
