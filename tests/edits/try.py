@@ -168,6 +168,7 @@ TRIED = [
     "ps_mirror/purges_another_node",
     "ps_mirror/reports_no_newline",
     "ps_mirror/retracts_the_last",
+    "ps_mirror/stop_of_the_lines_told_as_memory",
     "ps_mirror/takes_a_repeat",
     "ps_mirror/takes_number_zero",
     "ps_mirror/takes_the_first_of_several",

@@ -1,6 +1,8 @@
 -- A mirror that took all lines of a source.
 use Rattle.std.specs.Prelude.{◌≡◌, ℕ, Bool, nat_le, List, [], length, filter, Option, Some, None}
 use Rattle.ps_types.specs.Lines.{lines_of}
+use Rattle.ps_wire.specs.declared.lines.NextLineRefusal.{NextLineRefusal}
+use Rattle.ps_wire.specs.declared.lines.NextLineRefusal.TheVariants.{Memory}
 use Rattle.ps_mirror.specs.Copy.{copy_from}
 use Rattle.ps_mirror.specs.Mirrored.{Mirrored}
 
@@ -27,3 +29,8 @@ IsOnTheWay (Some bytes) m (Some rest) now = all_taken (lines_of rest) now ≡ al
 abbrev pub IsReadWhole : Option (List ℕ) → Option (List ℕ) → Type 0
 IsReadWhole None left = Unit {0}
 IsReadWhole (Some bytes) left = left ≡ Some []
+
+-- why lines are no longer taken: for what stopped their reader, or for want of memory where nothing did
+abbrev pub IsCause : Option NextLineRefusal → NextLineRefusal → Type 0
+IsCause None why = why ≡ Memory
+IsCause (Some cause) why = why ≡ cause

@@ -1,9 +1,9 @@
 // All lines of a source.
-ghost use Rattle.std.specs.Prelude.{◌≡◌, ◌≤◌, ◌<◌, ◌^◌, Some, None, true, false, IfOk, OnOk, IsErrOf};
+ghost use Rattle.std.specs.Prelude.{◌≡◌, ◌≤◌, ◌<◌, ◌^◌, Some, None, true, false, IfErr, IfOk, OnOk, IsErrOf};
 ghost use Rattle.ps_base.specs.Causes.{Rose};
 ghost use Rattle.ps_wire.specs.Reading.{Gave, budget_of, given_of, rest_of, source_of, stopped_of};
 ghost use Rattle.ps_wire.specs.declared.lines.NextLineRefusal.TheVariants.{ReadFault, Long};
-ghost use Rattle.ps_mirror.specs.Filled.{HasTaken, IsOnTheWay, IsReadWhole};
+ghost use Rattle.ps_mirror.specs.Filled.{HasTaken, IsCause, IsOnTheWay, IsReadWhole};
 
 use crate::mirror::Mirror;
 use ps_wire::{Lines, NextLine, NextLineRefusal, Source};
@@ -30,6 +30,7 @@ fn take_next<S: Source>(
     ensures fault { IsErrOf result ReadFault
         → Rose (S.faults (source_of lines.old)) (S.faults (source_of lines.new)) }
     ensures long { IsErrOf result Long → given_of lines.new ≡ 2 ^ 40 }
+    ensures cause { IfErr result (IsCause (stopped_of lines.new)) }
 {
     match lines.next(alloc)? {
         NextLine::Line(line) => {
@@ -49,6 +50,7 @@ pub(crate) fn take_lines<S: Source>(
 ) -> Result<(), NextLineRefusal>
     requires going { stopped_of lines.old ≡ None }
     ensures taken { OnOk result (HasTaken (rest_of lines.old) mirror.old mirror.new) }
+    ensures going { OnOk result (stopped_of lines.new ≡ None) }
     ensures gave { Gave (S.left (source_of lines.old)) (S.left (source_of lines.new)) (given_of lines.old)
         (given_of lines.new) }
     ensures whole { OnOk result (IsReadWhole (rest_of lines.old) (S.left (source_of lines.new))) }
@@ -56,6 +58,7 @@ pub(crate) fn take_lines<S: Source>(
     ensures fault { IsErrOf result ReadFault
         → Rose (S.faults (source_of lines.old)) (S.faults (source_of lines.new)) }
     ensures long { IsErrOf result Long → given_of lines.new ≡ 2 ^ 40 }
+    ensures cause { IfErr result (IsCause (stopped_of lines.new)) }
 {
     while take_next(alloc, mirror, lines)? {}
     Ok(())

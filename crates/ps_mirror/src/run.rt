@@ -1,6 +1,7 @@
 // A source, mirrored and reported.
-ghost use Rattle.std.specs.Prelude.{◌≡◌, ◌≤◌, IfOk};
-ghost use Rattle.ps_wire.specs.Reading.{IsFresh, source_of};
+ghost use Rattle.std.specs.Prelude.{◌≡◌, ◌≤◌, IfErr, IfOk};
+ghost use Rattle.ps_wire.specs.Reading.{IsFresh, source_of, stopped_of};
+ghost use Rattle.ps_mirror.specs.Filled.{IsCause};
 ghost use Rattle.ps_mirror.specs.Report.{RanMirror, reported_line, reported_lines};
 
 use crate::copied::Copied;
@@ -54,6 +55,7 @@ fn mirror_lines<S: Source>(
     ensures ran { RanMirror (record { service = service.now; name = node.now }) who.now max
         (S.left (source_of lines.old)) (S.left (source_of lines.new)) (S.faults (source_of lines.old))
         (S.faults (source_of lines.new)) result }
+    ensures cause { IfErr result (IsCause (stopped_of lines.new)) }
 {
     let mut mirror = Mirror::new(alloc, service, node, who, max)?;
     take_lines(alloc, &mut mirror, lines)?;
