@@ -1,5 +1,5 @@
 // The lines of an input, answered one after another.
-ghost use Rattle.std.specs.Prelude.{◌≡◌, ◌≢◌, ◌⊎◌, ◌+◌, ◌<◌, ◌≤◌, ◌^◌, ◌∷◌, [], List, ℕ, None, IfErr, IfNone, IfOk, IfSome, IsErrOf, IsSome, IsTrue, OnErr, OnOk, false};
+ghost use Rattle.std.specs.Prelude.{◌≡◌, ◌≢◌, ◌⊎◌, ◌+◌, ◌<◌, ◌≤◌, ◌^◌, ◌∷◌, [], List, ℕ, None, Some, IfErr, IfNone, IfOk, IfSome, IsErrOf, IsSome, IsTrue, OnErr, OnOk, false};
 ghost use Rattle.std.specs.Io.KnownBytes.{Appends, Keeps};
 ghost use Rattle.ps_base.specs.Causes.{Rose};
 ghost use Rattle.ps_types.specs.declared.entry.Entry.{Entry};
@@ -27,6 +27,7 @@ fn end_of_lines(why: NextLineRefusal) -> FollowEnd
     ensures from_fault { why ≡ NextLineRefusal.ReadFault → result ≡ FollowEnd.Fault }
     ensures long { result ≡ FollowEnd.Long → why ≡ NextLineRefusal.Long }
     ensures from_long { why ≡ NextLineRefusal.Long → result ≡ FollowEnd.Long }
+    ensures memory { result ≡ FollowEnd.Memory → why ≡ NextLineRefusal.Memory }
     ensures only { (result ≡ FollowEnd.Fault) ⊎ ((result ≡ FollowEnd.Long) ⊎ (result ≡ FollowEnd.Memory)) }
 {
     match why {
@@ -49,6 +50,7 @@ fn next_arrival<S: Source>(
     ensures whole { IfOk result (λ next. IfNone next (IsEnd (S.left (source_of lines.new)))) }
     ensures early { IfOk result (λ next. IfNone next (given_of lines.new < 2 ^ 40)) }
     ensures only { IfErr result (λ e. (e ≡ FollowEnd.Fault) ⊎ ((e ≡ FollowEnd.Long) ⊎ (e ≡ FollowEnd.Memory))) }
+    ensures memory { IsErrOf result FollowEnd.Memory → stopped_of lines.new ≡ Some NextLineRefusal.Memory }
     ensures going { OnOk result (stopped_of lines.new ≡ None) }
     ensures later { S.faults (source_of lines.old) ≤ S.faults (source_of lines.new) }
     ensures fault { IsErrOf result FollowEnd.Fault
