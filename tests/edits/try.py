@@ -111,6 +111,7 @@ TRIED = [
     "ps_follow_command/nothing_is_written_from_the_first",
     "ps_follow_run/first_byte_is_left_out",
     "ps_follow_run/place_plays_no_part",
+    "ps_follow_run/place_stops_at_the_last",
     "ps_follow_run/stop_of_the_lines_told_as_memory",
     "ps_forms/form_of_any_type",
     "ps_gen/hosts_in_one_stream",

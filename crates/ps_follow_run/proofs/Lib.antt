@@ -6,4 +6,5 @@ mod Finishing
 mod Recorded
 mod Resting
 mod Rising
+mod Wrapping
 pub mod OfTheFeed

@@ -1,5 +1,5 @@
 -- The entries of a store, written as a feed.
-use Rattle.std.specs.Prelude.{◌≡◌, ℕ, ◌≤◌, List, length}
+use Rattle.std.specs.Prelude.{◌≡◌, ℕ, ◌≤◌, ◌-◌, ◌%◌, ◌^◌, List, length}
 use Rattle.std.specs.Io.KnownBytes.{Appends}
 use Rattle.ps_base.specs.Causes.{Rose}
 use Rattle.ps_types.specs.declared.entry.Entry.{Entry}
@@ -13,8 +13,8 @@ use Rattle.ps_follow_run.specs.declared.feeding.Records.{Records}
 
 -- these are the records of the entries from that place on
 pub record AreRecords (from : ℕ) (E : List Entry) (r : Records) : Type 0 where
-  pub from_is : r.from ≡ from
-  pub next_is : r.next ≡ length E
+  pub before_is : r.before ≡ from - length E
+  pub place_is : r.place ≡ length E % 2 ^ 64
   pub bytes_are : r.bytes.items ≡ feed_of (records_from from E)
 
 -- The records from that place on were written, or a front of them. The count of faults doesn't fall, and it rose where the sink failed.

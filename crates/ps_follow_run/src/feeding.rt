@@ -1,5 +1,5 @@
 // The records of a store's entries, written as a feed.
-ghost use Rattle.std.specs.Prelude.{◌<◌, ◌∷◌, ◌++◌, ◌^◌, [], List, ℕ, OnOk, length};
+ghost use Rattle.std.specs.Prelude.{◌<◌, ◌∷◌, ◌++◌, ◌^◌, [], List, ℕ, OnErr, OnOk, length};
 ghost use Rattle.ps_model.specs.Entries.{IsEntry, spelling};
 ghost use Rattle.ps_types.specs.declared.entry.Entry.{Entry};
 ghost use Rattle.ps_follow_run.specs.Feeding.{AreRecords, FedOut};
@@ -16,8 +16,10 @@ use std::alloc::Global;
 #[derive(Drop)]
 pub struct Records {
     alloc: Global,
-    from: u64,
-    next: u64,
+    /// How many entries still come before the first that has a record.
+    before: u64,
+    /// The place of the next entry, in the 64 bits in which a record tells it.
+    place: u64,
     bytes: Vec<u8>,
 }
 
@@ -28,30 +30,31 @@ impl Records {
     {
         Records {
             alloc,
-            from,
-            next: 0,
+            before: from,
+            place: 0,
             bytes: Vec::new(alloc),
         }
     }
 
-    /// Takes the next entry, which has a record if it stands at that place or behind it.
+    /// Takes the next entry, which has a record if it stands at that place or behind it. Where memory runs out, the records stay as they are.
     pub fn push(&mut self, entry: &Entry) -> Result<(), Memory>
         requires entry { IsEntry entry.now }
         requires short { length (spelling entry.now) < 2 ^ 32 }
-        ensures { (from : ℕ) (E : List Entry) → AreRecords from E self.old
+        ensures taken { (from : ℕ) (E : List Entry) → AreRecords from E self.old
             → OnOk result (AreRecords from (E ++ entry.now ∷ []) self.new) }
+        ensures stays { (from : ℕ) (E : List Entry) → AreRecords from E self.old
+            → OnErr result (AreRecords from E self.new) }
     {
-        let place = self.next;
-        let Some(next) = place.checked_add(1) else {
-            return Err(Memory);
-        };
-        if place < self.from {
-            self.next = next;
+        let place = self.place;
+        let next = place.wrapping_add(1);
+        if self.before > 0 {
+            self.before -= 1;
+            self.place = next;
             return Ok(());
         }
         let record = put_record(self.alloc, place, entry)?;
         self.bytes.extend_from_slice(record.as_slice())?;
-        self.next = next;
+        self.place = next;
         Ok(())
     }
 }
