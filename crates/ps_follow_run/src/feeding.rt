@@ -36,7 +36,8 @@ impl Records {
         }
     }
 
-    /// Takes the next entry, which has a record if it stands at that place or behind it. Where memory runs out, the records stay as they are.
+    /// Takes the next entry, which has a record if it stands at that place or behind it. Where memory runs out, the records
+    /// stay as they are.
     pub fn push(&mut self, entry: &Entry) -> Result<(), Memory>
         requires entry { IsEntry entry.now }
         requires short { length (spelling entry.now) < 2 ^ 32 }

@@ -11,7 +11,7 @@ returns-clause-taken c from E are =
     let e = c.args.entry.now in
     let behind : from ≤ length E = omega (arith, c.if-self-gt0.false, are.before_is) in
     let wrapped : record_at (length E % 2 ^ 64) e ≡ record_at (length E) e =
-        ap (λ (bytes : List ℕ). bytes ++ (to_be_bytes w32 (length (spelling e)) ++ spelling e)) (wrapped-bytes (length E))
+    ap (λ (bytes : List ℕ). bytes ++ (to_be_bytes w32 (length (spelling e)) ++ spelling e)) (wrapped-bytes (length E))
     in
     let place : record_at c.args.self.now.place e ≡ record_at (length E) e = ap (λ (n : ℕ). record_at n e) are.place_is ∙ wrapped in
     record {
