@@ -20,6 +20,8 @@ mod laws;
 mod listing;
 mod loading;
 mod opening;
+mod pieces;
+mod reading;
 mod taker;
 mod trail;
 mod upgrading;
