@@ -87,7 +87,7 @@ pub fn look_giving<D: Disk, T: Taker>(
     match settle(alloc, disk, taker) {
         Err(LoadRefusal::Store) => Err(JournalWhy::Store),
         Err(LoadRefusal::Memory) => Err(JournalWhy::Memory),
-        Ok((judgement, _)) => match judgement {
+        Ok((judgement, _front)) => match judgement {
             Judgement::Memory => Err(JournalWhy::Memory),
             Judgement::Bad(at) => Err(JournalWhy::Damaged {
                 at,

@@ -1,7 +1,7 @@
 use Rattle.std.proofs.Common.{◌-◌, []}
 use Rattle.ps_journal.specs.Judged.{Follows}
 use Rattle.ps_journal.specs.Pieces.{IsHeld, OnlyReads}
-use Rattle.ps_journal.proofs.Pieces.{PiecesSoFar}
+use Rattle.ps_journal.proofs.Readings.{PiecesSoFar}
 use Rattle.ps_journal.proofs.reading.frames_on.Given as goal
 
 abbrev pub invariant-frames : goal.invariant-frames

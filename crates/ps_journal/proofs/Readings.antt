@@ -1,18 +1,21 @@
 -- Reading a store piece by piece.
 use Rattle.std.proofs.Common.{◌≡◌, ◌≢◌, ℕ, zero, suc, ◌+◌, ◌-◌, ◌<◌, ◌≤◌, Bool, true, false, List, [], ◌∷◌, ◌++◌, length, take, drop, Option, Some, None, inl, inr, refl, sym, ap, subst, ◌∙◌, append_assoc, arith, length-append, length-take, length-drop}
-use Rattle.std.specs.Prelude.{min, nat_le, ◌||◌, ◌==◌, if◌then◌else◌}
+use Rattle.std.specs.Str.{bytes_eq}
+use Rattle.std.specs.Prelude.{codes, min, nat_le, ◌||◌, ◌==◌, if◌then◌else◌}
 use Rattle.std.proofs.lemmas.List.{append-nil, take_at, drop_at, take-append-drop, take_all, take-take, drop-drop, drop-append-le, take-append-le}
 use Rattle.ps_disk.specs.Disk.{LeavesOnly, MayLeave, Elapses}
 use Rattle.ps_disk.proofs.Moments.{started, goes_on, then_on}
 use Rattle.ps_model.specs.Store.{is_header, is_second, is_unbegun, frames, AreBodies, gate_at}
-use Rattle.ps_record.specs.Raw.{number_at}
+use Rattle.std.specs.Int.{w32}
+use Rattle.ps_record.specs.Raw.{◌>>=◌, number_at}
 use Rattle.ps_journal.specs.Beginning.{has_zero_first}
 use Rattle.ps_journal.specs.Judged.{Judged, Stride, shut, bad, whole, stride_of, stride_at, whole_at}
 use Rattle.ps_journal.specs.Pieces.{front_of, StandAt, IsHeld, Reaches, behind_in, extent_at, onward, StrideStands, OnlyReads, AreSound}
 use Rattle.ps_journal.specs.declared.judging.Placed.{Placed}
 use Rattle.ps_journal.specs.declared.pieces.Piece.{Piece}
-use Rattle.ps_journal.proofs.Bodies.{header_size}
-use Rattle.ps_journal.proofs.Verdicts.{FramesSoFar}
+use Rattle.ps_record.proofs.Pieces.{IsBytes}
+use Rattle.ps_journal.proofs.Bodies.{header_size, are_bodies_push, gate_at_push}
+use Rattle.ps_journal.proofs.Verdicts.{FramesSoFar, AtFrame, IsWhole, at_frame, whole_takes}
 
 -- ---- nothing but reads
 
@@ -53,14 +56,33 @@ pub front_header : (seen : List ℕ) → is_header (take 8 (front_of seen)) ≡ 
 front_header seen = ap is_header (take-take 8 10 seen (omega arith))
 
 pub front_second : (seen : List ℕ) → is_second (front_of seen) ≡ is_second seen
-front_second seen = ap (λ (l : List ℕ). is_second l) refl ∙ same
-  where
-    same : is_second (front_of seen) ≡ is_second seen
-    same = ap (λ (l : List ℕ). Rattle.std.specs.Str.bytes_eq (drop 7 l) (Rattle.std.specs.Prelude.codes "2")) (take-take 8 10 seen (omega arith))
+front_second seen = ap (λ (l : List ℕ). bytes_eq (drop 7 l) (codes "2")) (take-take 8 10 seen (omega arith))
 
 pub front_zero : (seen : List ℕ) → has_zero_first (front_of seen) ≡ has_zero_first seen
 front_zero [] = refl
 front_zero (b ∷ rest) = refl
+
+pub front_unbegun : (seen : List ℕ) → is_unbegun (front_of seen) ≡ is_unbegun seen
+front_unbegun [] = refl
+front_unbegun (b ∷ []) = refl
+front_unbegun (b ∷ c ∷ []) = refl
+front_unbegun (b ∷ c ∷ d ∷ []) = refl
+front_unbegun (b ∷ c ∷ d ∷ e ∷ []) = refl
+front_unbegun (b ∷ c ∷ d ∷ e ∷ f ∷ []) = refl
+front_unbegun (b ∷ c ∷ d ∷ e ∷ f ∷ g ∷ []) = refl
+front_unbegun (b ∷ c ∷ d ∷ e ∷ f ∷ g ∷ h ∷ []) = refl
+front_unbegun (b ∷ c ∷ d ∷ e ∷ f ∷ g ∷ h ∷ i ∷ []) = refl
+front_unbegun (b ∷ c ∷ d ∷ e ∷ f ∷ g ∷ h ∷ i ∷ j ∷ []) = refl
+front_unbegun (b ∷ c ∷ d ∷ e ∷ f ∷ g ∷ h ∷ i ∷ j ∷ k ∷ rest) = refl
+
+-- ---- what stands at a gate
+
+number_on : (x more : List ℕ) → 4 ≤ length x → number_at w32 (x ++ more) ≡ (number_at w32 x >>= λ n. Some (n.0, n.1 ++ more))
+number_on [] more long = absurd (omega (arith, long))
+number_on (a ∷ []) more long = absurd (omega (arith, long))
+number_on (a ∷ b ∷ []) more long = absurd (omega (arith, long))
+number_on (a ∷ b ∷ c ∷ []) more long = absurd (omega (arith, long))
+number_on (a ∷ b ∷ c ∷ d ∷ x) more long = refl
 
 -- ---- the frames so far
 
@@ -71,3 +93,24 @@ pub record PiecesSoFar (tells : Type 0) (refused : List Placed → Placed → Ty
   pub stands : at ≡ gate_at bodies
   pub split : tells → seen ≡ take 8 seen ++ frames bodies ++ drop at seen
   pub followed : tells → bodies ≢ [] → drop at seen ≢ []
+
+pub at_start : (tells : Type 0) (refused : List Placed → Placed → Type 0) (seen : List ℕ) (second : Bool) → PiecesSoFar tells refused seen second [] None 8
+at_start tells refused seen second = record {
+  bodies = [];
+  each = tt;
+  judged = record { parts = []; each = tt; are = refl; places = refl };
+  stands = refl;
+  split = λ t. sym (take-append-drop 8 seen) ∙ ap (λ (l : List ℕ). l ++ drop 8 seen) (sym (append-nil (take 8 seen)));
+  followed = λ t some. absurd (some refl);
+}
+
+-- where the disk tells its content, they are what the bytes have
+pub so_far : (tells : Type 0) (refused : List Placed → Placed → Type 0) (seen : List ℕ) (found : List Placed) (stop : Option ℕ) (at : ℕ) (second : Bool) → tells → second ≡ is_second seen
+    → PiecesSoFar tells refused seen second found stop at → FramesSoFar refused seen found stop (drop at seen)
+so_far tells refused seen found stop at second t is s = record {
+  bodies = s.bodies;
+  each = s.each;
+  split = s.split t;
+  followed = s.followed t;
+  judged = subst (λ (b : Bool). Judged refused b s.bodies found stop) is s.judged;
+}
