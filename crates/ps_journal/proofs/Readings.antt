@@ -67,7 +67,7 @@ front_zero (b ∷ rest) = refl
 pub front_unbegun : (seen : List ℕ) → is_unbegun (front_of seen) ≡ is_unbegun seen
 front_unbegun [] = refl
 front_unbegun (b ∷ rest) = elim (cases_lt (length rest) 9) [
-  inl short ↦ ap (λ (l : List ℕ). is_unbegun (b ∷ l)) (take_all rest 9 (omega (arith, short)))
+  inl short ↦ ap (λ (l : List ℕ). is_unbegun (b ∷ l)) (take_all 9 rest (omega (arith, short)))
   | inr long ↦ rw (not_eq (length (take 9 rest)) 0 (omega (arith, length-take 9 rest, long)), not_eq (length (take 9 rest)) 8 (omega (arith, length-take 9 rest, long)), not_eq (length rest) 0 (omega (arith, long)), not_eq (length rest) 8 (omega (arith, long))) refl
 ]
   where
@@ -143,7 +143,7 @@ module _ (tells : Type 0) (seen : List ℕ) (total at : ℕ) where
   pub behind : (p : Piece) → IsHeld tells seen total at p → tells → StandAt seen at (behind_in p at)
   behind p held t =
       let stands = held.stands t in
-      let there : drop at seen ≡ drop (at - p.from) (drop p.from seen) = ap (λ (n : ℕ). drop n seen) (omega (arith, held.from)) ∙ sym (drop-drop p.from (at - p.from) seen) in
+      let there : drop at seen ≡ drop (at - p.from) (drop p.from seen) = ap (λ (n : ℕ). drop n seen) (omega (arith, held.from)) ∙ sym (drop-drop (at - p.from) p.from seen) in
       record { more = stands.more; split = there ∙ ap (λ (l : List ℕ). drop (at - p.from) l) stands.split ∙ drop-append-le (at - p.from) p.bytes.items stands.more (omega (arith, held.from, held.within)) }
 
   reached : (p : Piece) (n : ℕ) (held : IsHeld tells seen total at p) (t : tells) → total ≡ length seen → Reaches total at n p → (n ≤ length (behind_in p at)) ⊎ ((behind p held t).more ≡ [])

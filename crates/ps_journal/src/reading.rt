@@ -1,8 +1,8 @@
 // Reading a store in pieces, and giving its entries to a taker.
-ghost use Rattle.std.specs.Prelude.{◌≡◌, ◌≤◌, ◌<◌, ◌+◌, ◌^◌, [], List, ℕ, true, length, take, IfOk, IfErr, IsErrOf};
+ghost use Rattle.std.specs.Prelude.{◌≡◌, ◌≤◌, ◌<◌, ◌+◌, ◌^◌, [], List, ℕ, true, length, take, slice_index, IfOk, IfErr, IsErrOf};
 ghost use Rattle.ps_base.specs.Causes.{Rose};
 ghost use Rattle.ps_model.specs.Store.{is_header};
-ghost use Rattle.ps_journal.specs.Judged.{Follows, FramesRead, IsJudgement, Stands};
+ghost use Rattle.ps_journal.specs.Judged.{Follows, FramesRead, IsJudgement, Stands, stride, stride_at};
 ghost use Rattle.ps_journal.specs.Pieces.{AreSound, IfBegun, IsHaltAt, IsSound, OnlyReads, front_of};
 
 use crate::frames::{Step, step_of};
@@ -19,6 +19,14 @@ use std::alloc::Global;
 enum Halt {
     Frame(u64),
     Load(LoadRefusal),
+}
+
+// What stands at a gate of which these are the bytes, which are bytes indeed.
+fn step_on(rest: &[u8]) -> Step<'_>
+    ensures value { stride result ≡ stride_at rest.now }
+    ensures fits { (i : ℕ) → slice_index rest.now i < 256 }
+{
+    step_of(rest)
 }
 
 // Goes through the frames up to the closed gate, a piece at a time, and reads their entries for the taker.
@@ -54,7 +62,7 @@ fn frames_on<D: Disk, T: Taker>(
             Ok(piece) => piece,
             Err(refusal) => return Err(Halt::Load(refusal)),
         };
-        match step_of(piece.behind(at)) {
+        match step_on(piece.behind(at)) {
             Step::Bad => return Err(Halt::Frame(at)),
             Step::Frame(body, _) => {
                 let next = more_entries(alloc, second, body, at + 5, taker, &mut trail, stop);
