@@ -67,7 +67,7 @@ front_zero (b ∷ rest) = refl
 pub front_unbegun : (seen : List ℕ) → is_unbegun (front_of seen) ≡ is_unbegun seen
 front_unbegun [] = refl
 front_unbegun (b ∷ rest) = elim (cases_lt (length rest) 9) [
-  inl short ↦ ap (λ (l : List ℕ). is_unbegun (b ∷ l)) (take_all 9 rest (omega (arith, short)))
+  | inl short ↦ ap (λ (l : List ℕ). is_unbegun (b ∷ l)) (take_all 9 rest (omega (arith, short)))
   | inr long ↦ rw (not_eq (length (take 9 rest)) 0 (omega (arith, length-take 9 rest, long)), not_eq (length (take 9 rest)) 8 (omega (arith, length-take 9 rest, long)), not_eq (length rest) 0 (omega (arith, long)), not_eq (length rest) 8 (omega (arith, long))) refl
 ]
   where

@@ -40,7 +40,12 @@ fn fill<D: Disk>(disk: &mut D, at: u64, room: &mut Vec<u8>) -> Result<(), Failed
 }
 
 /// So many bytes from the offset on, or all up to the end.
-pub(crate) fn fetch<D: Disk>(alloc: Global, disk: &mut D, at: u64, count: u64) -> Result<Vec<u8>, LoadRefusal>
+pub(crate) fn fetch<D: Disk>(
+    alloc: Global,
+    disk: &mut D,
+    at: u64,
+    count: u64,
+) -> Result<Vec<u8>, LoadRefusal>
     ensures bytes { D.tells → IfOk result (λ v. v.items ≡ take count (drop at (D.seen disk.old))) }
     ensures size { IfOk result (λ v. length v.items ≤ count) }
     ensures reads { OnlyReads D.tells D.seen D.synced D.written D.moment D.left_since D.faults disk.old disk.new }
