@@ -11,3 +11,4 @@ pub mod Opens
 pub mod Damage
 pub mod Placing
 pub mod Floors
+pub mod Readings

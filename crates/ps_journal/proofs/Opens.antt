@@ -8,7 +8,7 @@ use Rattle.ps_model.specs.Entries.{IsEntry, AreEntries, AreEntriesIn, spelling, 
 use Rattle.ps_model.specs.Damage.{BadFrame, BadHeader, NoEntry}
 use Rattle.ps_model.specs.Store.{is_header, is_second, is_unbegun, gate_at, Begun, Lists, spelled, joined, AreBodies, AreParts}
 use Rattle.ps_journal.specs.Settled.{IsSettledAt, IsSettled, IsUpgrading}
-use Rattle.ps_journal.specs.Judged.{IsDamaged, IsFound, IsStopped, StopsBefore, FramesRead, BadEntry, StoppedAt}
+use Rattle.ps_journal.specs.Judged.{IsDamaged, IsFound, IsStopped, StopsBefore, FramesRead, BadEntry, StoppedAt, AllRead, Stopped}
 use Rattle.ps_journal.specs.Opened.{ArePlaced, HasLength, IsWhyDamaged, IsWhyStopped}
 use Rattle.ps_journal.specs.declared.opening.JournalWhy.{JournalWhy}
 use Rattle.ps_journal.specs.declared.opening.JournalWhy.TheVariants as whys
@@ -172,3 +172,17 @@ stopped_before taken refused bytes at before (inr (inr bad)) =
     let read = bad.read in
     let second = is_second bytes in
     subst AreEntries (sym read.are) (all_append IsEntry (joined read.parts) read.entries (in_parts second read.parts read.each) (in_body second read.entries read.each_entry))
+
+-- ---- the same, of frames whose bytes needn't be known
+
+pub all_placed : (second : Bool) (bs : List (List ℕ)) (found : List Placed) → AreBodies bs → AllRead second bs found → ArePlaced found
+all_placed second bs found each all =
+    are_placed found
+    (subst (λ (l : List Placed). AllByRecursion (λ (p : Placed). IsShort p.entry) l) (sym all.places) (short_in_parts second 8 all.parts all.each (subst AreBodies all.are each)))
+
+pub before_stop : (refused : List Placed → Placed → Type 0) (second : Bool) (bs : List (List ℕ)) (found : List Placed) (stop : ℕ) → Stopped refused second bs found stop → AreEntries (entries_in found)
+before_stop refused second bs found stop s =
+    let before = places 8 s.parts in
+    let last = places_in (gate_at (map body s.parts) + 5) s.entries in
+    let are = ap entries_in s.places ∙ map-append (λ p. p.entry) before last ∙ (λ i. entries_in_parts 8 s.parts i ++ entries_in_body (gate_at (map body s.parts) + 5) s.entries i) in
+    subst AreEntries (sym are) (all_append IsEntry (joined s.parts) s.entries (in_parts second s.parts s.each) (in_body second s.entries s.each_entry))

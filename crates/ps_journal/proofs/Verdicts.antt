@@ -21,7 +21,7 @@ use Rattle.ps_journal.proofs.Lists.{are_parts_push}
 tests : (n k : ℕ) (b : Bool) → b ≡ (eqb n 0 || nat_le k n) → b ≡ false → (n ≢ 0) × (n < k)
 tests n k b is fails = grind (arith, nat_tests)
 
-passes : (n k : ℕ) → 0 < n → n < k → (eqb n 0 || nat_le k n) ≡ false
+pub passes : (n k : ℕ) → 0 < n → n < k → (eqb n 0 || nat_le k n) ≡ false
 passes n k some more = grind (arith, nat_tests)
 
 guard_some : {A : Type 0} (b : Bool) (x y : A) → cond b None (Some x) ≡ Some y → (b ≡ false) × (x ≡ y)

@@ -4,4 +4,5 @@ pub mod Left
 pub mod Places
 pub mod Judged
 pub mod Opened
+pub mod Pieces
 pub mod Journal

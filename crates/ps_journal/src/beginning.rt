@@ -4,6 +4,7 @@ ghost use Rattle.ps_base.specs.Causes.{HasCause};
 ghost use Rattle.ps_disk.specs.Disk.{Holds, LeavesOnly, MayLeave};
 ghost use Rattle.ps_model.specs.Store.{is_unbegun, spelled};
 ghost use Rattle.ps_journal.specs.Beginning.{beginning, BeginsWithZero};
+ghost use Rattle.ps_journal.specs.Pieces.{front_of};
 ghost use Rattle.ps_journal.specs.Settled.{IsSettledAt, IsQuiet};
 
 use ps_base::Failed;
@@ -41,7 +42,7 @@ fn has_zero_first(bytes: &[u8]) -> bool
 
 // Makes the first byte 0, where it isn't.
 fn zero_first<D: Disk>(disk: &mut D, bytes: &[u8]) -> Result<(), Failed>
-    requires { D.tells → bytes.now ≡ D.seen disk.old }
+    requires { D.tells → bytes.now ≡ front_of (D.seen disk.old) }
     ensures zero { D.tells → IsQuiet (D.seen disk.old) (D.synced disk.old) (D.written disk.old)
         → OnOk result (BeginsWithZero (D.seen disk.old) (D.seen disk.new)) }
     ensures quiet { D.tells → IsQuiet (D.seen disk.old) (D.synced disk.old) (D.written disk.old)
@@ -60,9 +61,9 @@ fn zero_first<D: Disk>(disk: &mut D, bytes: &[u8]) -> Result<(), Failed>
     }
 }
 
-/// Begins an unbegun store of which these are the bytes, with nothing pending.
+/// Begins an unbegun store of which these bytes are the first, with nothing pending.
 pub fn begin<D: Disk>(disk: &mut D, bytes: &[u8]) -> Result<(), Failed>
-    requires seen { D.tells → bytes.now ≡ D.seen disk.old }
+    requires seen { D.tells → bytes.now ≡ front_of (D.seen disk.old) }
     requires quiet { D.tells → IsQuiet (D.seen disk.old) (D.synced disk.old) (D.written disk.old) }
     ensures kept { D.tells → OnOk result (IsSettledAt [] (D.seen disk.new) (D.synced disk.new) (D.written disk.new) 9) }
     // The first nine bytes are those of a begun store, and all others are as before.

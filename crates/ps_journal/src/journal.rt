@@ -91,7 +91,8 @@ impl<D: Disk> Journal<D> {
         ensures durable { D.tells → IfOk result (λ r. Keeps r.0 (entries_in r.1.items)) }
         ensures whole { IfOk result (λ r. IsWhole r.0) }
         // A damaged store is as before, and one of which an entry is refused.
-        ensures stopped { D.tells → IfErr result (λ e. IsWhyStopped (T.stands taker.old taker.new) T.refused (D.seen disk) e.why) }
+        ensures stopped { D.tells → IfErr result
+            (λ e. IsWhyStopped (T.stands taker.old taker.new) T.refused (D.seen disk) e.why) }
         // The entries before are such as a store may hold.
         ensures before { IfErr result (λ e. IfWhyDamaged e.why (λ at before. AreEntries (entries_in before))) }
         ensures untouched { D.tells → IfErr result (λ e. StaysIfDamaged e.why (D.seen disk) (D.seen e.disk)) }

@@ -75,8 +75,8 @@ fn entries_of<T: Taker>(
     Ok(None)
 }
 
-// Reads the entries of one frame more, unless one before wasn't spelled, or wasn't taken.
-fn more_entries<T: Taker>(
+/// Reads the entries of one frame more, unless one before wasn't spelled, or wasn't taken.
+pub(crate) fn more_entries<T: Taker>(
     alloc: Global,
     second: bool,
     body: &[u8],
@@ -120,7 +120,7 @@ fn is_headless(rest: &[u8]) -> bool
     rest.len() == 8 && &rest[..6] == b"UBSUBJ".as_slice() && &rest[7..] == [0].as_slice()
 }
 
-fn is_unbegun(bytes: &[u8]) -> bool
+pub(crate) fn is_unbegun(bytes: &[u8]) -> bool
     ensures { result ≡ Rattle.ps_model.specs.Store.is_unbegun bytes.now }
 {
     match bytes {
@@ -163,7 +163,7 @@ fn frames_of<T: Taker>(
     }
 }
 
-fn has_header(bytes: &[u8]) -> bool
+pub(crate) fn has_header(bytes: &[u8]) -> bool
     ensures value { result ≡ is_header (take 8 bytes.now) }
     ensures long { IsTrue result → 8 ≤ length bytes.now }
 {

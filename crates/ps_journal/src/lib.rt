@@ -6,6 +6,8 @@
 //! its content: a crash leaves the entries before, or those and the whole batch, and once `append` has answered Ok it leaves the batch.
 //! Entries are given to a [`Taker`] one after the other, as they are read ([`Journal::open_giving`], [`look_giving`]), and none is kept; a contract names those
 //! that were given by a [`Trail`], a list that takes no memory. A taker may refuse one: the store isn't opened then, and its bytes stay.
+//! A store is opened in pieces of a mebibyte, or of a frame where one is longer (`pieces.rt`), so that a long one takes no more memory than
+//! the taker does.
 //! After a fault of the disk the journal answers `Store` for good, and the store is opened again.
 //!
 //! `specs/Judged.antt` says where a store is damaged, `specs/Left.antt` what a crash leaves of a journal, and `specs/Journal.antt` what
@@ -20,6 +22,8 @@ mod laws;
 mod listing;
 mod loading;
 mod opening;
+mod pieces;
+mod reading;
 mod taker;
 mod trail;
 mod upgrading;

@@ -1,7 +1,7 @@
-// All the bytes of a disk.
-ghost use Rattle.std.specs.Prelude.{◌≡◌, ◌⊎◌, ◌≤◌, [], List, ℕ, length, IfOk, OnOk, OnErr, IsErrOf};
+// Bytes of a disk.
+ghost use Rattle.std.specs.Prelude.{◌≡◌, ◌≤◌, length, take, drop, IfOk, OnOk, OnErr, IsErr, IsErrOf};
 ghost use Rattle.ps_base.specs.Causes.{Rose};
-ghost use Rattle.ps_disk.specs.Disk.{LeavesOnly, MayLeave};
+ghost use Rattle.ps_journal.specs.Pieces.{OnlyReads};
 
 use ps_base::{Failed, Memory};
 use ps_disk::Disk;
@@ -22,19 +22,15 @@ fn zeros(alloc: Global, count: u64) -> Result<Vec<u8>, Memory>
     Ok(room)
 }
 
-// Reads from the offset 0 on, and leaves of the room what was read.
-fn fill<D: Disk>(disk: &mut D, room: &mut Vec<u8>) -> Result<(), Failed>
-    ensures bytes { D.tells → length room.old.items ≡ length (D.seen disk.old)
-        → OnOk result (room.new.items ≡ D.seen disk.old) }
-    ensures seen { D.seen disk.new ≡ D.seen disk.old }
-    ensures synced { D.synced disk.new ≡ D.synced disk.old }
-    ensures written { D.written disk.new ≡ D.written disk.old }
-    ensures time { D.tells → LeavesOnly D.moment D.left_since disk.old disk.new
-        (MayLeave (D.synced disk.old) (D.written disk.old)) }
-    ensures later { D.faults disk.old ≤ D.faults disk.new }
+// Reads from the offset on, and leaves of the room what was read.
+fn fill<D: Disk>(disk: &mut D, at: u64, room: &mut Vec<u8>) -> Result<(), Failed>
+    ensures bytes { D.tells → OnOk result
+        (room.new.items ≡ take (length room.old.items) (drop at (D.seen disk.old))) }
+    ensures size { OnOk result (length room.new.items ≤ length room.old.items) }
+    ensures reads { OnlyReads D.tells D.seen D.synced D.written D.moment D.left_since D.faults disk.old disk.new }
     ensures failed { OnErr result (Rose (D.faults disk.old) (D.faults disk.new)) }
 {
-    match disk.read_at(0, room) {
+    match disk.read_at(at, room) {
         Ok(count) => {
             room.truncate(count);
             Ok(())
@@ -43,27 +39,51 @@ fn fill<D: Disk>(disk: &mut D, room: &mut Vec<u8>) -> Result<(), Failed>
     }
 }
 
-/// All the bytes.
-pub fn load<D: Disk>(alloc: Global, disk: &mut D) -> Result<Vec<u8>, LoadRefusal>
-    ensures bytes { D.tells → IfOk result (λ v. v.items ≡ D.seen disk.old) }
-    ensures seen { D.seen disk.new ≡ D.seen disk.old }
-    ensures synced { D.synced disk.new ≡ D.synced disk.old }
-    ensures written { D.written disk.new ≡ D.written disk.old }
-    ensures time { D.tells → LeavesOnly D.moment D.left_since disk.old disk.new
-        (MayLeave (D.synced disk.old) (D.written disk.old)) }
-    ensures later { D.faults disk.old ≤ D.faults disk.new }
+/// So many bytes from the offset on, or all up to the end.
+pub(crate) fn fetch<D: Disk>(
+    alloc: Global,
+    disk: &mut D,
+    at: u64,
+    count: u64,
+) -> Result<Vec<u8>, LoadRefusal>
+    ensures bytes { D.tells → IfOk result (λ v. v.items ≡ take count (drop at (D.seen disk.old))) }
+    ensures size { IfOk result (λ v. length v.items ≤ count) }
+    ensures reads { OnlyReads D.tells D.seen D.synced D.written D.moment D.left_since D.faults disk.old disk.new }
     ensures failed { IsErrOf result LoadRefusal.Store → Rose (D.faults disk.old) (D.faults disk.new) }
 {
-    let count = match disk.len() {
-        Ok(count) => count,
-        Err(Failed) => return Err(LoadRefusal::Store),
-    };
     let mut room = match zeros(alloc, count) {
         Ok(room) => room,
         Err(Memory) => return Err(LoadRefusal::Memory),
     };
-    match fill(disk, &mut room) {
+    match fill(disk, at, &mut room) {
         Ok(()) => Ok(room),
         Err(Failed) => Err(LoadRefusal::Store),
+    }
+}
+
+/// How many bytes there are.
+pub(crate) fn size<D: Disk>(disk: &mut D) -> Result<u64, Failed>
+    ensures total { D.tells → IfOk result (λ n. n ≡ length (D.seen disk.old)) }
+    ensures reads { OnlyReads D.tells D.seen D.synced D.written D.moment D.left_since D.faults disk.old disk.new }
+    ensures failed { IsErr result → Rose (D.faults disk.old) (D.faults disk.new) }
+{
+    match disk.len() {
+        Ok(count) => Ok(count),
+        Err(Failed) => Err(Failed),
+    }
+}
+
+/// All the bytes.
+pub(crate) fn load<D: Disk>(alloc: Global, disk: &mut D) -> Result<Vec<u8>, LoadRefusal>
+    ensures bytes { D.tells → IfOk result (λ v. v.items ≡ D.seen disk.old) }
+    ensures reads { OnlyReads D.tells D.seen D.synced D.written D.moment D.left_since D.faults disk.old disk.new }
+    ensures failed { IsErrOf result LoadRefusal.Store → Rose (D.faults disk.old) (D.faults disk.new) }
+{
+    match size(disk) {
+        Err(Failed) => Err(LoadRefusal::Store),
+        Ok(count) => match fetch(alloc, disk, 0, count) {
+            Ok(bytes) => Ok(bytes),
+            Err(refusal) => Err(refusal),
+        },
     }
 }

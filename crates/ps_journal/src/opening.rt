@@ -8,11 +8,13 @@ ghost use Rattle.ps_model.specs.Store.{is_header, is_second, is_unbegun, spelled
 ghost use Rattle.ps_journal.specs.Places.{entries_in};
 ghost use Rattle.ps_journal.specs.Settled.{IsSettled, IsQuiet};
 ghost use Rattle.ps_journal.specs.Opened.{IfOpened, IfDamaged, IfWhyDamaged, IsStoreFault, IsOpened, IsWhyDamaged, IsWhyStopped, IsBegunAnew, ArePlaced, HasLength};
-ghost use Rattle.ps_journal.specs.Judged.{IsStopped};
+ghost use Rattle.ps_journal.specs.Judged.{IsJudgement, IsStopped};
+ghost use Rattle.ps_journal.specs.Pieces.{IfBegun, IsSound, front_of};
 
 use crate::beginning::begin;
-use crate::judging::{Judgement, Placed, judge_giving};
-use crate::loading::{LoadRefusal, load};
+use crate::judging::{Judgement, Placed};
+use crate::loading::LoadRefusal;
+use crate::reading::read_store;
 use crate::taker::Taker;
 use crate::trail::Trail;
 use crate::upgrading::upgrade;
@@ -36,9 +38,18 @@ pub(crate) enum Opening {
     Refused(JournalWhy),
 }
 
-// Syncs, and then reads all the bytes.
-fn settle<D: Disk>(alloc: Global, disk: &mut D) -> Result<Vec<u8>, LoadRefusal>
-    ensures bytes { D.tells → IfOk result (λ v. v.items ≡ D.seen disk.old) }
+// Syncs, and then judges the store, and answers its first bytes as well.
+fn settle<D: Disk, T: Taker>(
+    alloc: Global,
+    disk: &mut D,
+    taker: &mut T,
+) -> Result<(Judgement, Vec<u8>), LoadRefusal>
+    requires stands { T.stands taker.old taker.old [] }
+    ensures front { D.tells → IfOk result (λ r. r.1.items ≡ front_of (D.seen disk.old)) }
+    ensures found { D.tells
+        → IfOk result (λ r. IsJudgement (T.stands taker.old taker.new) T.refused (D.seen disk.old) r.0) }
+    ensures header { IfOk result (λ r. IfBegun (is_header (take 8 r.1.items) ≡ true) r.0) }
+    ensures sound { IfOk result (λ r. IsSound (T.stands taker.old taker.new) r.0) }
     ensures seen { D.tells → D.seen disk.new ≡ D.seen disk.old }
     ensures quiet { D.tells → OnOk result (IsQuiet (D.seen disk.new) (D.synced disk.new) (D.written disk.new)) }
     ensures any_moment { D.tells → LeavesOnly D.moment D.left_since disk.old disk.new
@@ -48,7 +59,7 @@ fn settle<D: Disk>(alloc: Global, disk: &mut D) -> Result<Vec<u8>, LoadRefusal>
 {
     match disk.sync() {
         Err(Failed) => Err(LoadRefusal::Store),
-        Ok(()) => load(alloc, disk),
+        Ok(()) => read_store(alloc, disk, taker),
     }
 }
 
@@ -73,10 +84,10 @@ pub fn look_giving<D: Disk, T: Taker>(
     ensures any_moment { D.tells → LeavesOnly D.moment D.left_since disk.old disk.new
         (MayLeave (D.synced disk.old) (D.written disk.old)) }
 {
-    match settle(alloc, disk) {
+    match settle(alloc, disk, taker) {
         Err(LoadRefusal::Store) => Err(JournalWhy::Store),
         Err(LoadRefusal::Memory) => Err(JournalWhy::Memory),
-        Ok(bytes) => match judge_giving(alloc, &bytes, taker) {
+        Ok((judgement, _front)) => match judgement {
             Judgement::Memory => Err(JournalWhy::Memory),
             Judgement::Bad(at) => Err(JournalWhy::Damaged {
                 at,
@@ -139,21 +150,21 @@ pub(crate) fn open_store<D: Disk, T: Taker>(alloc: Global, disk: &mut D, taker: 
         → LeavesOnly D.moment D.left_since disk.old disk.new
         (λ c. MayLeave (D.synced disk.old) (D.written disk.old) c ⊎ spelled c E) }
 {
-    match settle(alloc, disk) {
+    match settle(alloc, disk, taker) {
         Err(LoadRefusal::Store) => Opening::Refused(JournalWhy::Store),
         Err(LoadRefusal::Memory) => Opening::Refused(JournalWhy::Memory),
-        Ok(bytes) => match judge_giving(alloc, &bytes, taker) {
+        Ok((judgement, front)) => match judgement {
             Judgement::Memory => Opening::Refused(JournalWhy::Memory),
             Judgement::Bad(at) => Opening::Refused(JournalWhy::Damaged {
                 at,
                 before: Trail::new(),
             }),
             Judgement::Stopped(at, before) => Opening::Refused(JournalWhy::Damaged { at, before }),
-            Judgement::Begun(trail, gate) => match upgrade(disk, &bytes) {
+            Judgement::Begun(trail, gate) => match upgrade(disk, &front) {
                 Err(Failed) => Opening::Refused(JournalWhy::Store),
                 Ok(()) => Opening::Opened(trail, gate + 1),
             },
-            Judgement::Unbegun => match begin(disk, &bytes) {
+            Judgement::Unbegun => match begin(disk, &front) {
                 Err(Failed) => Opening::Refused(JournalWhy::Store),
                 Ok(()) => Opening::Opened(Trail::new(), 9),
             },

@@ -3,16 +3,17 @@ ghost use Rattle.std.specs.Prelude.{◌≡◌, ◌∷◌, ◌+◌, [], List, ℕ
 ghost use Rattle.ps_base.specs.Causes.{HasCause};
 ghost use Rattle.ps_disk.specs.Disk.{Holds, LeavesOnly};
 ghost use Rattle.ps_model.specs.Store.{is_header, gate_at, Begun};
+ghost use Rattle.ps_journal.specs.Pieces.{front_of};
 ghost use Rattle.ps_journal.specs.Settled.{IsSettledAt, IsQuiet, IsUpgrading};
 
 use crate::judging::is_second;
 use ps_base::Failed;
 use ps_disk::{Disk, write_kept};
 
-/// Makes the store of these bytes one of version 2. It has a header, and nothing is pending.
+/// Makes the store of which these bytes are the first one of version 2. It has a header, and nothing is pending.
 pub(crate) fn upgrade<D: Disk>(disk: &mut D, bytes: &[u8]) -> Result<(), Failed>
     requires header { is_header (take 8 bytes.now) ≡ true }
-    requires seen { D.tells → bytes.now ≡ D.seen disk.old }
+    requires seen { D.tells → bytes.now ≡ front_of (D.seen disk.old) }
     requires quiet { D.tells → IsQuiet (D.seen disk.old) (D.synced disk.old) (D.written disk.old) }
     // The eighth byte is the digit 2, and all others are as before.
     ensures written { D.tells → OnOk result (Holds (D.seen disk.old) 7 (50 ∷ []) (D.seen disk.new)) }

@@ -3,6 +3,7 @@ use Rattle.ps_disk.proofs.Moments.{started, weaker}
 use Rattle.ps_model.specs.Store.{is_unbegun, spelled}
 use Rattle.ps_journal.specs.Beginning.{has_zero_first}
 use Rattle.ps_journal.proofs.Begins.{unbegun_spells, zero_unbegun, first_zero, not_zero, zero_written, quiet_failed, quiet_done, quiet_rest}
+use Rattle.ps_journal.proofs.Readings.{front_zero}
 use Rattle.ps_journal.proofs.beginning.zero_first.Goals as goal
 
 pub returns-in-Err-clause-any_moment : goal.returns-in-Err-clause-any_moment
@@ -10,7 +11,7 @@ returns-in-Err-clause-any_moment g c tells unbegun quiet =
     let D = g.D.Disk in
     let old = c.args.disk.now in
     let failed = c.in-Err.ensures.failed tells in
-    let none = sym (ap has_zero_first (c.requires tells)) ∙ sym c.has_zero_first.ensures ∙ c.if-has_zero_first.false in
+    let none = sym (front_zero (D.seen old)) ∙ sym (ap has_zero_first (c.requires tells)) ∙ sym c.has_zero_first.ensures ∙ c.if-has_zero_first.false in
     weaker D.moment D.left_since old c.write_kept.new.disk _ (λ f. spelled f []) (c.in-Err.ensures.grows tells)
     (λ f left. unbegun_spells f (quiet_failed (D.seen old) (D.synced old) (D.written old) 0 1 (λ f. is_unbegun f ≡ true) quiet
     (λ f leaves. first_zero (D.seen old) f unbegun (λ t. not_zero (D.seen old) t none) leaves) _ _ f failed.0 failed.1 left))
@@ -20,7 +21,7 @@ returns-in-Ok-clause-any_moment g c tells unbegun quiet =
     let D = g.D.Disk in
     let old = c.args.disk.now in
     let new = c.write_kept.new.disk in
-    let none = sym (ap has_zero_first (c.requires tells)) ∙ sym c.has_zero_first.ensures ∙ c.if-has_zero_first.false in
+    let none = sym (front_zero (D.seen old)) ∙ sym (ap has_zero_first (c.requires tells)) ∙ sym c.has_zero_first.ensures ∙ c.if-has_zero_first.false in
     let written = zero_written (D.seen old) (D.seen new) (c.in-Ok.ensures.ok tells) in
     weaker D.moment D.left_since old new _ (λ f. spelled f []) (c.in-Ok.ensures.during tells)
     (λ f left. unbegun_spells f (quiet_done (D.seen old) (D.synced old) (D.written old) 0 1 (λ f. is_unbegun f ≡ true) quiet

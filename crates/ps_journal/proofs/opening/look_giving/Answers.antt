@@ -1,8 +1,9 @@
-use Rattle.std.proofs.Common.{◌≡◌, ◌⊎◌, inl, inr, List, ℕ, sym, subst, ◌∙◌}
+use Rattle.std.proofs.Common.{◌≡◌, ◌⊎◌, inl, inr, List, ℕ, sym, subst}
 use Rattle.ps_disk.specs.Disk.{LeavesOnly, MayLeave}
 use Rattle.ps_disk.proofs.Moments.{weaker}
-use Rattle.ps_journal.specs.Judged.{IsStopped, StoppedAt}
-use Rattle.ps_journal.proofs.Opens.{bad_stopped, found_placed, stopped_before}
+use Rattle.ps_journal.specs.Judged.{IsJudgement}
+use Rattle.ps_journal.specs.Pieces.{IsSound}
+use Rattle.ps_journal.proofs.Opens.{bad_stopped}
 use Rattle.ps_journal.proofs.opening.look_giving.Goals as goal
 
 -- what is seen is one of the contents that a crash may leave
@@ -15,23 +16,21 @@ only-old moment left_since old new seen synced written may run =
 pub returns-in-Bad-clause-stopped : goal.returns-in-Bad-clause-stopped
 returns-in-Bad-clause-stopped g c tells =
     let t = g.T.Taker in
-    let same = c.deref.ensures.value ∙ c.in-Ok.ensures.bytes tells in
-    subst (λ (l : List ℕ). IsStopped (t.stands c.args.taker.now c.judge_giving.new.taker) t.refused l c.in-Bad.at c.new.result.items) same
-    (bad_stopped (t.stands c.args.taker.now c.judge_giving.new.taker) t.refused c.deref.result.now c.in-Bad.at c.new.result.items c.new.ensures c.in-Bad.ensures)
+    let taken = t.stands c.args.taker.now c.settle.new.taker in
+    let seen = g.D.Disk.seen c.args.disk.now in
+    bad_stopped taken t.refused seen c.in-Bad.at c.new.result.items c.new.ensures (subst (IsJudgement taken t.refused seen) c.in-Bad.is (c.in-Ok.ensures.found tells))
 
 pub returns-in-Stopped-clause-stopped : goal.returns-in-Stopped-clause-stopped
 returns-in-Stopped-clause-stopped g c tells =
     let t = g.T.Taker in
-    let same = c.deref.ensures.value ∙ c.in-Ok.ensures.bytes tells in
-    inr (inr (subst (λ (l : List ℕ). StoppedAt (t.stands c.args.taker.now c.judge_giving.new.taker) t.refused l c.in-Stopped.at c.in-Stopped.before.items) same c.in-Stopped.ensures))
+    let taken = t.stands c.args.taker.now c.settle.new.taker in
+    inr (inr (subst (IsJudgement taken t.refused (g.D.Disk.seen c.args.disk.now)) c.in-Stopped.is (c.in-Ok.ensures.found tells)))
 
 pub returns-in-Stopped-clause-before : goal.returns-in-Stopped-clause-before
-returns-in-Stopped-clause-before g c =
-    let t = g.T.Taker in
-    stopped_before (t.stands c.args.taker.now c.judge_giving.new.taker) t.refused c.deref.result.now c.in-Stopped.at c.in-Stopped.before.items (inr (inr c.in-Stopped.ensures))
+returns-in-Stopped-clause-before g c = subst (IsSound (g.T.Taker.stands c.args.taker.now c.settle.new.taker)) c.in-Stopped.is c.in-Ok.ensures.sound
 
 pub returns-in-Begun-clause-each : goal.returns-in-Begun-clause-each
-returns-in-Begun-clause-each g c = found_placed c.deref.result.now c.in-Begun.trail.items c.in-Begun.field-1 c.in-Begun.ensures.0
+returns-in-Begun-clause-each g c = (subst (IsSound (g.T.Taker.stands c.args.taker.now c.settle.new.taker)) c.in-Begun.is c.in-Ok.ensures.sound).0
 
 pub returns-in-Stopped-clause-any_moment : goal.returns-in-Stopped-clause-any_moment
 returns-in-Stopped-clause-any_moment g c tells =

@@ -14,4 +14,4 @@ returns-in-Ok-clause-any_moment g c tells =
     let same = λ (f : List ℕ) (leaves : MayLeave (D.synced mid) (D.written mid) f). only_synced (D.synced mid) f (subst (λ (w : List (ℕ × ℕ)). MayLeave (D.synced mid) w f) kept.1 leaves) ∙ kept.0 in
     let at_start = started D.moment D.left_since old P (λ f left. inl (g.met.D.Disk.only_now old f left)) in
     let synced = goes_on D.moment D.left_since old old mid P _ at_start (c.sync.ensures.time tells) (λ f now. inr (same f now)) in
-    then_on D.moment D.left_since old mid c.load.new.disk P _ P synced (c.load.ensures.time tells) (λ f before. before) (λ f now. inr (same f now))
+    then_on D.moment D.left_since old mid c.read_store.new.disk P _ P synced (c.read_store.ensures.reads.time tells) (λ f before. before) (λ f now. inr (same f now))

@@ -4,6 +4,7 @@ use Rattle.ps_model.specs.Store.{is_second}
 use Rattle.ps_journal.specs.Settled.{IsUpgrading}
 use Rattle.ps_journal.proofs.Begins.{quiet_failed, quiet_done, quiet_rest}
 use Rattle.ps_journal.proofs.Upgrades.{long_enough, written_stores, upgrading_same, upgrading_torn, upgrading_done}
+use Rattle.ps_journal.proofs.Readings.{front_second}
 use Rattle.ps_journal.proofs.upgrading.upgrade.Goals as goal
 
 pub returns-then-is_second-clause-any_moment : goal.returns-then-is_second-clause-any_moment
@@ -18,7 +19,7 @@ returns-in-Err-clause-any_moment g c tells bs begun =
     let D = g.D.Disk in
     let old = c.args.disk.now in
     let failed = c.in-Err.ensures.failed tells in
-    let first = sym (ap is_second (c.requires.seen tells)) ∙ sym c.is_second.ensures ∙ c.if-is_second.false in
+    let first = sym (front_second (D.seen old)) ∙ sym (ap is_second (c.requires.seen tells)) ∙ sym c.is_second.ensures ∙ c.if-is_second.false in
     weaker D.moment D.left_since old c.write_kept.new.disk _ (IsUpgrading (D.seen old) bs) (c.in-Err.ensures.grows tells)
     (λ f left. quiet_failed (D.seen old) (D.synced old) (D.written old) 7 1 (IsUpgrading (D.seen old) bs) (c.requires.quiet tells) (λ f. upgrading_torn (D.seen old) f bs begun first) _ _ f failed.0 failed.1 left)
 
@@ -27,7 +28,7 @@ returns-in-Ok-clause-any_moment g c tells bs begun =
     let D = g.D.Disk in
     let old = c.args.disk.now in
     let new = c.write_kept.new.disk in
-    let first = sym (ap is_second (c.requires.seen tells)) ∙ sym c.is_second.ensures ∙ c.if-is_second.false in
+    let first = sym (front_second (D.seen old)) ∙ sym (ap is_second (c.requires.seen tells)) ∙ sym c.is_second.ensures ∙ c.if-is_second.false in
     weaker D.moment D.left_since old new _ (IsUpgrading (D.seen old) bs) (c.in-Ok.ensures.during tells)
     (λ f left. quiet_done (D.seen old) (D.synced old) (D.written old) 7 1 (IsUpgrading (D.seen old) bs) (c.requires.quiet tells) (λ f. upgrading_torn (D.seen old) f bs begun first)
     (D.seen new) f (upgrading_done (D.seen old) (D.seen new) bs begun (c.in-Ok.ensures.ok tells)) left)

@@ -7,12 +7,12 @@ use Rattle.ps_journal.proofs.journal.Journal.entries.Goals as goal
 pub invariant_of-self-in-Err-Memory : goal.invariant_of-self-in-Err-Memory
 invariant_of-self-in-Err-Memory g c =
     let e = c.in-Err-Memory.ensures in
-    record { some = c.args.self.now.some; settled = λ none tells. settled_same _ _ _ _ _ _ _ e.seen e.synced e.written (c.args.self.now.settled none tells); floor = λ tells. floor_same _ _ _ _ _ e.synced e.written (c.args.self.now.floor tells) }
+    record { some = c.args.self.now.some; settled = λ none tells. settled_same _ _ _ _ _ _ _ e.reads.same_seen e.reads.same_synced e.reads.same_written (c.args.self.now.settled none tells); floor = λ tells. floor_same _ _ _ _ _ e.reads.same_synced e.reads.same_written (c.args.self.now.floor tells) }
 
 pub invariant_of-self-in-Ok-1 : goal.invariant_of-self-in-Ok-1
 invariant_of-self-in-Ok-1 g c =
     let e = c.load.ensures in
-    record { some = c.args.self.now.some; settled = λ none tells. settled_same _ _ _ _ _ _ _ e.seen e.synced e.written (c.args.self.now.settled none tells); floor = λ tells. floor_same _ _ _ _ _ e.synced e.written (c.args.self.now.floor tells) }
+    record { some = c.args.self.now.some; settled = λ none tells. settled_same _ _ _ _ _ _ _ e.reads.same_seen e.reads.same_synced e.reads.same_written (c.args.self.now.settled none tells); floor = λ tells. floor_same _ _ _ _ _ e.reads.same_synced e.reads.same_written (c.args.self.now.floor tells) }
 
 pub returns-in-Ok-entries_of-clause-entries : goal.returns-in-Ok-entries_of-clause-entries
 returns-in-Ok-entries_of-clause-entries g c tells E spells =
@@ -20,4 +20,4 @@ returns-in-Ok-entries_of-clause-entries g c tells E spells =
     c.in-Ok-entries_of.ensures.entries E (subst (λ (l : List ℕ). spelled l E) (sym same) spells)
 
 pub invariant_of-self-clause-floor : goal.invariant_of-self-clause-floor
-invariant_of-self-clause-floor g c tells = let e = c.load.ensures in floor_same _ _ _ _ _ e.synced e.written (c.args.self.now.floor tells)
+invariant_of-self-clause-floor g c tells = let e = c.load.ensures in floor_same _ _ _ _ _ e.reads.same_synced e.reads.same_written (c.args.self.now.floor tells)
