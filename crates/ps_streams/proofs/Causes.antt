@@ -18,8 +18,9 @@ use Rattle.ps_trace.specs.Own.{AllDiffer, IsWriterOf}
 use Rattle.ps_trace.proofs.Doing.{did-between, did-world, world-append}
 use Rattle.ps_trace.proofs.Flying.{still-run}
 use Rattle.ps_trace.proofs.Passing.{did-follows, passed-follows}
+use Rattle.ps_hall_state.specs.Arrive.{IsOpen}
 use Rattle.ps_hall_state.specs.declared.answers.ArriveRefusal.{ArriveRefusal}
-use Rattle.ps_hall_state.specs.declared.answers.ArriveRefusal.TheVariants.{Store as NoStore}
+use Rattle.ps_hall_state.specs.declared.answers.ArriveRefusal.TheVariants.{Memory as NoMemory, Store as NoStore}
 use Rattle.ps_hall_state.specs.declared.answers.HandedRefusal.{HandedRefusal}
 use Rattle.ps_hall_state.specs.declared.answers.HandedRefusal.TheVariants.{Store}
 use Rattle.ps_hall.specs.Calls.{FoundOver, HasGone, HasHanded, IsGone, LayDoes, OfFirst}
@@ -94,6 +95,12 @@ module _ (o : Origin) (k : ℕ) (h : List ℕ) where
 
   pub laid-store : (a : Arrival) (old new : List Deed) (e : ArriveRefusal) → e ≡ NoStore → Does o k old new (LayDoes o h a (Err e)) → (world_at o new).broken ≡ true
   laid-store a old new e same did = refused-broken a old new (subst (λ (x : ArriveRefusal). Does o k old new (LayDoes o h a (Err x))) same did)
+
+  refused-open : (a : Arrival) (old new : List Deed) → Does o k old new (LayDoes o h a (Err NoMemory)) → IsOpen (world_at o new) h
+  refused-open a old new did = subst (λ (w : World). IsOpen w h) (sym (quiet-world o k old new did did.does.1)) did.does.0
+
+  pub laid-memory : (a : Arrival) (old new : List Deed) (e : ArriveRefusal) → e ≡ NoMemory → Does o k old new (LayDoes o h a (Err e)) → IsOpen (world_at o new) h
+  laid-memory a old new e same did = refused-open a old new (subst (λ (x : ArriveRefusal). Does o k old new (LayDoes o h a (Err x))) same did)
 
   passed-broken : (old new : List Deed) → Passes o k old new → (world_at o old).broken ≡ true → (world_at o new).broken ≡ true
   passed-broken old new p e = (passed-follows the_core the-laws o.boot o.list o.hosts k old new p).broken e

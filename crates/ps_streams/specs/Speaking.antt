@@ -17,6 +17,7 @@ use Rattle.ps_trace.specs.declared.deed.Deed.{Deed}
 use Rattle.ps_trace.specs.Over.{IsOver, WriterDone}
 use Rattle.ps_trace.specs.Own.{AreOwned, own_steps, words_by}
 use Rattle.ps_trace.specs.Words.{Word, bytes_of, notes_in, records_in}
+use Rattle.ps_hall_state.specs.Arrive.{IsOpen}
 use Rattle.ps_hall.specs.Calls.{FoundOver, HandAt, IsWriter}
 use Rattle.ps_hall_flush.specs.Homes.{world_at}
 use Rattle.ps_hall_flush.specs.Origin.{Origin}
@@ -165,6 +166,10 @@ module _ {V J : Type 0} where
   -- by what it has seen the disk has failed
   abbrev pub FindsBroken : Origin → TwinSeat V J Deed → Type 0
   FindsBroken o s = (world_at o (seen_of s)).broken ≡ true
+
+  -- by what it has seen the host's lines are taken: its writer runs, the disk has not failed, and there is room for a reply
+  abbrev pub FindsOpen : Origin → List ℕ → TwinSeat V J Deed → Type 0
+  FindsOpen o host s = IsOpen (world_at o (seen_of s)) host
 
   -- it found that a Record of a notice to an address of the host would pass the limit
   abbrev pub FoundNoRoom : Origin → List ℕ → TwinSeat V J Deed → Type 0

@@ -9,7 +9,7 @@ ghost use Rattle.ps_hall_state.specs.Shape.{IsArrival};
 ghost use Rattle.ps_twin.specs.Seats.{number_of, seen_of};
 ghost use Rattle.ps_hall_flush.specs.Flush.{SeatFlushes};
 ghost use Rattle.ps_hall.specs.Calls.{FoundOver, IsReader};
-ghost use Rattle.ps_streams.specs.Speaking.{FindsBroken, IsSamePass};
+ghost use Rattle.ps_streams.specs.Speaking.{FindsBroken, FindsOpen, IsSamePass};
 ghost use Rattle.ps_streams.specs.Reading.{ClockGives, Comes, HoldsLine, NoneComes, SaidGone, SeatBrings, SeatFoundClosed, SeatIsKept, SeatNextRead, SeatReads, SeatStreamRead, SeatTakes, WasAsked, brings_all, says_gone};
 
 use crate::idle::{FOR_ROOM, await_news};
@@ -66,6 +66,7 @@ fn end_of_line(refusal: ArriveRefusal) -> ReadEnd
     ensures from_store { result ≡ ReadEnd.Store → refusal ≡ ArriveRefusal.Store }
     ensures closed { refusal ≡ ArriveRefusal.Closed → result ≡ ReadEnd.Closed }
     ensures from_closed { result ≡ ReadEnd.Closed → refusal ≡ ArriveRefusal.Closed }
+    ensures from_memory { result ≡ ReadEnd.Memory → refusal ≡ ArriveRefusal.Memory }
     ensures room { result ≡ ReadEnd.Full → ⊥ }
 {
     match refusal {
@@ -214,6 +215,7 @@ fn take_line<B: Opening, D: Disk, R: Wait + Threads + Sync>(
     ensures closed { IsErrOf result ReadEnd.Closed
         → SeatFoundClosed B.origin pass.old.host pass.old.seat pass.new.seat }
     ensures room { IsErrOf result ReadEnd.Full → ⊥ }
+    ensures memory { IsErrOf result ReadEnd.Memory → FindsOpen B.origin pass.old.host pass.new.seat }
 {
     for _ in rt.forever() {
         match hall.lay(rt, pass, arrival) {
@@ -270,6 +272,8 @@ fn read_next<B: Opening, D: Disk, R: Wait + Threads + Sync, S: Source, C: Clock>
     ensures closed { IsErrOf result ReadEnd.Closed
         → SeatFoundClosed B.origin pass.old.host pass.old.seat pass.new.seat }
     ensures room { IsErrOf result ReadEnd.Full → ⊥ }
+    ensures memory { IsErrOf result ReadEnd.Memory
+        → (stopped_of lines.new ≡ Some NextLineRefusal.Memory) ⊎ FindsOpen B.origin pass.old.host pass.new.seat }
     ensures gave { Gave (S.left (source_of lines.old)) (S.left (source_of lines.new))
         (given_of lines.old) (given_of lines.new) }
     ensures early { IfOk result (λ more. IsFalse more → given_of lines.new < 2 ^ 40) }
@@ -309,6 +313,8 @@ fn read_lines<B: Opening, D: Disk, R: Wait + Threads + Sync, S: Source, C: Clock
     ensures store { result ≡ ReadEnd.Store → FindsBroken B.origin pass.new.seat }
     ensures closed { result ≡ ReadEnd.Closed → SeatFoundClosed B.origin pass.old.host pass.old.seat pass.new.seat }
     ensures room { result ≡ ReadEnd.Full → ⊥ }
+    ensures memory { result ≡ ReadEnd.Memory
+        → (stopped_of lines.new ≡ Some NextLineRefusal.Memory) ⊎ FindsOpen B.origin pass.old.host pass.new.seat }
     ensures gave { Gave (S.left (source_of lines.old)) (S.left (source_of lines.new))
         (given_of lines.old) (given_of lines.new) }
     ensures early { result ≡ ReadEnd.Ended → given_of lines.new < 2 ^ 40 }

@@ -112,6 +112,7 @@ fn say_next<B: Opening, D: Disk, R: Wait, K: Sink>(
     ensures full { IsErrOf result EndCause.Full → ⊥ }
     ensures later { K.faults sink.old ≤ K.faults sink.new }
     ensures cause { IsErrOf result EndCause.WriteFault → Rose (K.faults sink.old) (K.faults sink.new) }
+    ensures memory { IsErrOf result EndCause.Memory → K.faults sink.new ≡ K.faults sink.old }
     ensures going { SeatGoesOn pass.old.seat pass.new.seat }
 {
     match hall.next(rt, pass) {

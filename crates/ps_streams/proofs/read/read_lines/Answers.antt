@@ -118,3 +118,11 @@ returns-in-Err-clause-early g c = λ e. absurd (c.in-Err.ensures.ended (ap (λ (
 
 pub returns-in-Err-clause-whole : goal.returns-in-Err-clause-whole
 returns-in-Err-clause-whole g c = λ e. absurd (c.in-Err.ensures.ended (ap (λ (w : ReadEnd). the_err Bool w) e))
+
+pub returns-in-Err-clause-memory : goal.returns-in-Err-clause-memory
+returns-in-Err-clause-memory g c = λ e.
+    let new = seen_of c.read_next.new.pass.seat in
+    elim (c.in-Err.ensures.memory (ap (λ (w : ReadEnd). the_err Bool w) e)) [
+      | inl stopped ↦ inl stopped
+      | inr found ↦ inr (subst (λ (h : List ℕ). IsOpen (world_at g.B.Opening.origin new) h) c.loop.invariant.1.host found)
+    ]

@@ -1,9 +1,11 @@
-use Rattle.std.proofs.Common.{◌+◌, [], ◌∷◌, Option, sym, ap, ◌∙◌, subst}
+use Rattle.std.proofs.Common.{◌+◌, ℕ, List, [], ◌∷◌, Option, inl, inr, sym, ap, ◌∙◌, subst}
 use Rattle.std.proofs.lemmas.Result.{err_from_is_err_and}
 use Rattle.std.specs.Prelude.{IfNone, IfSome}
 use Rattle.ps_types.specs.declared.entry.Arrival.{Arrival}
 use Rattle.ps_twin.specs.Seats.{number_of, seen_of}
 use Rattle.ps_wire.specs.Reading.{rest_of, source_of}
+use Rattle.ps_hall_state.specs.Arrive.{IsOpen}
+use Rattle.ps_hall_flush.specs.Homes.{world_at}
 use Rattle.ps_streams.specs.declared.read.ReadEnd.{ReadEnd}
 use Rattle.ps_streams.specs.Reading.{Comes, NoneComes, brings_all}
 use Rattle.ps_streams.proofs.Bringing.{brought-later}
@@ -103,3 +105,12 @@ returns-in-Ok-Some-clause-ended g c = λ e. c.in-Err-take_line.ensures.some (ap 
 
 pub returns-clause-ended : goal.returns-clause-ended
 returns-clause-ended g c = λ e. c.in-Err.ensures.ended (ap (λ (w : ReadEnd). the_err (Option Arrival) w) (err-same c.in-Err.end _ e))
+
+pub returns-in-Ok-Some-clause-memory : goal.returns-in-Ok-Some-clause-memory
+returns-in-Ok-Some-clause-memory g c = λ e. inr (
+    let new = seen_of c.take_line.new.pass.seat in
+    subst (λ (h : List ℕ). IsOpen (world_at g.B.Opening.origin new) h) c.flush_to_wait.ensures.same.host
+    (c.in-Err-take_line.ensures.memory (ap (λ (x : ReadEnd). the_err (Unit {0}) x) (err-same c.in-Err-take_line.end _ e))))
+
+pub returns-clause-memory : goal.returns-clause-memory
+returns-clause-memory g c = λ e. inl (c.in-Err.ensures.memory (ap (λ (w : ReadEnd). the_err (Option Arrival) w) (err-same c.in-Err.end _ e)))

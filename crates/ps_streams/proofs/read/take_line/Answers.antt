@@ -1,8 +1,10 @@
-use Rattle.std.proofs.Common.{◌+◌, [], ◌∷◌, refl, sym, ap, ◌∙◌}
+use Rattle.std.proofs.Common.{◌+◌, ℕ, List, [], ◌∷◌, refl, sym, ap, ◌∙◌, subst}
 use Rattle.std.proofs.lemmas.Result.{err_from_is_err_and}
 use Rattle.ps_twin.specs.Seats.{number_of, seen_of}
+use Rattle.ps_hall_state.specs.Arrive.{IsOpen}
+use Rattle.ps_hall_flush.specs.Homes.{world_at}
 use Rattle.ps_streams.proofs.Bringing.{brought-later, brought-none, laid-err, laid-ok}
-use Rattle.ps_streams.proofs.Causes.{laid-store}
+use Rattle.ps_streams.proofs.Causes.{laid-memory, laid-store}
 use Rattle.ps_streams.proofs.Fronts.{closed-later, laid-closed}
 use Rattle.ps_streams.proofs.Looping.{err-same}
 use Rattle.ps_streams.proofs.read.take_line.Goals as goal
@@ -93,3 +95,11 @@ returns-in-Err-clause-closed g c = λ e none. (
     let same = i.0.number ∙ (ap (λ n. n + n) i.1.at ∙ sym c.requires.reader.number) in
     closed-later o j k c.loop.pass.host c.args.pass.now.host old mid new [] same i.1.host i.2
     (λ mine. laid-closed o j c.loop.pass.host c.args.arrival.now mid new c.in-Err.refusal (c.end_of_line.ensures.from_closed (err-same c.end_of_line.result _ e)) mine c.in-Err.ensures.does) none)
+
+pub returns-in-Err-clause-memory : goal.returns-in-Err-clause-memory
+returns-in-Err-clause-memory g c = λ e.
+    let o = g.B.Opening.origin in
+    let new = seen_of c.lay.new.pass.seat in
+    subst (λ (h : List ℕ). IsOpen (world_at o new) h) c.loop.invariant.1.host
+    (laid-memory o (number_of c.loop.pass.seat) c.loop.pass.host c.args.arrival.now (seen_of c.loop.pass.seat) new c.in-Err.refusal
+    (c.end_of_line.ensures.from_memory (err-same c.end_of_line.result _ e)) c.in-Err.ensures.does)
