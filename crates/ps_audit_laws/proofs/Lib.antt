@@ -1,5 +1,5 @@
 mod Lists
-mod Texts
+pub mod Texts
 pub mod Telling
 mod PlacedKinds
 mod Placed

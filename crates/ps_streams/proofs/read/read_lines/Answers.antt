@@ -1,7 +1,9 @@
-use Rattle.std.proofs.Common.{◌+◌, Bool, Ok, refl, sym, ap, ◌∙◌, subst, arith}
+use Rattle.std.proofs.Common.{◌+◌, Bool, Ok, refl, sym, ap, ◌∙◌, subst, arith, ℕ, List, inl, inr}
 use Rattle.ps_twin.specs.Seats.{number_of, seen_of}
 use Rattle.ps_wire.specs.Reading.{given_of, rest_of, source_of}
 use Rattle.ps_wire.proofs.Gaining.{gave_none}
+use Rattle.ps_hall_state.specs.Arrive.{IsOpen}
+use Rattle.ps_hall_flush.specs.Homes.{world_at}
 use Rattle.ps_streams.specs.declared.read.ReadEnd.{ReadEnd}
 use Rattle.ps_streams.specs.Reading.{NextRead}
 use Rattle.ps_streams.proofs.Fronts.{closed-later}
