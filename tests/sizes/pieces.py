@@ -80,17 +80,17 @@ def an_edge(room):
     """A gate stands in the last bytes of the first piece, or right behind it."""
     for beside in range(-6, 3):
         edge = len(HEADER) + PIECE + beside
-        filled = [[BOOT], [CREATED], *([published(number, 60_000)] for number in range(2, 18))]
-        sizes = {number: 60_000 for number in range(2, 18)}
+        filled = [[BOOT], [CREATED], *([published(number, 60_000)] for number in range(2, 19))]
+        sizes = {number: 60_000 for number in range(2, 19)}
         begun = store_of(filled)[1][-1]
-        text = edge - begun - len(frame(published(18, 0))) - len('"c":["",],')
+        text = edge - begun - len(frame(published(19, 0))) - len('"c":["",],')
         for size in range(max(0, text - 40), text + 40):
-            made, gates = store_of([*filled, [published(18, size)], [published(19, 50)]])
+            made, gates = store_of([*filled, [published(19, size)], [published(20, 50)]])
             if gates[-2] == edge:
                 break
         else:
             raise Wrong(f"no text leads to a gate at {edge}")
-        serves(room, made, {**sizes, 18: size, 19: 50})
+        serves(room, made, {**sizes, 19: size, 20: 50})
         refuses(room, too_long(made, edge), edge)
         refuses(room, with_byte(made, edge + 5, 9), edge + 5)
         refuses(room, made[: edge + 3], edge)
