@@ -6,7 +6,7 @@
 
 conditions, refusals   from crates/ps_types/src/denial.rt: each variant's doc comment
 config                 from crates/ps_types/specs/Config.antt and Defaults.antt
-features               from crates/ps_model/specs/Discovery.antt
+features               from crates/ps_model/specs/requests/Discovery.antt
 laws                   from the crates' laws, those that the page names by hand left out: claims.py
 """
 import pathlib
@@ -109,7 +109,7 @@ def config():
 
 
 def features():
-    text = (MODEL / "specs/Discovery.antt").read_text()
+    text = (MODEL / "specs/requests/Discovery.antt").read_text()
     body = re.search(r"^pubsub_features =\n(.*?)\n\n", text, re.M | re.S)[1]
     accounts = re.findall(r'codes "([^"]+)"', re.search(r"^is_of_account name = (.*)$", text, re.M)[1])
     names = re.findall(r'codes "([^"]+)"', body)

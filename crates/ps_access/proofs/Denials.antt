@@ -4,7 +4,7 @@ use Rattle.std.specs.Prelude.{Option, Some, None, Result, Ok, Err}
 use Rattle.ps_types.specs.declared.denial.Condition.{Condition}
 use Rattle.ps_types.specs.declared.plan.PlanRefusal.{PlanRefusal}
 use Rattle.ps_types.specs.declared.plan.PlanRefusal.TheVariants.{Denied, Memory}
-use Rattle.ps_model.specs.Steps.{first_denial}
+use Rattle.ps_model.specs.requests.Steps.{first_denial}
 use Rattle.ps_access.specs.Plans.{Passes}
 
 -- where the first steps pass the others decide

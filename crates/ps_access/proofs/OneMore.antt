@@ -9,7 +9,7 @@ use Rattle.ps_types.specs.declared.rows.SubState.{SubState}
 use Rattle.ps_types.specs.declared.rows.SubState.TheVariants.{Nothing}
 use Rattle.ps_types.specs.Affils.{affils_with}
 use Rattle.ps_types.specs.Subs.{subs_with}
-use Rattle.ps_model.specs.ChangeOwner.{asked_affil, affils_asked, sub_with, subs_asked}
+use Rattle.ps_model.specs.requests.ChangeOwner.{asked_affil, affils_asked, sub_with, subs_asked}
 use Rattle.ps_model.specs.Words.{sub_of}
 
 pub affils-push : (node : NodeKey) (rows : List AskRow) (row : AskRow) (affils : List AffilRow)

@@ -7,10 +7,10 @@ use Rattle.ps_types.specs.declared.plan.PlanRefusal.{PlanRefusal}
 use Rattle.ps_types.specs.declared.plan.PlanRefusal.TheVariants.{Denied, Memory}
 use Rattle.ps_types.specs.declared.request.Request.{Request}
 use Rattle.ps_model.specs.Book.{Book}
-use Rattle.ps_model.specs.Changes.{changed}
-use Rattle.ps_model.specs.Check.{check}
-use Rattle.ps_model.specs.Commits.{commits_by}
-use Rattle.ps_model.specs.Outcome.{Outcome, denied, accepted}
+use Rattle.ps_model.specs.requests.Changes.{changed}
+use Rattle.ps_model.specs.requests.Check.{check}
+use Rattle.ps_model.specs.requests.Commits.{commits_by}
+use Rattle.ps_model.specs.requests.Outcome.{Outcome, denied, accepted}
 
 -- a denied request is refused by its condition, an accepted one has the child and says whether it makes an entry
 abbrev pub Agrees : Result Plan PlanRefusal → Outcome → Bool → Type 0

@@ -2,7 +2,7 @@
 ghost use Rattle.std.specs.Prelude.{◌≡◌, IfOk, unwrap_or};
 ghost use Rattle.ps_types.specs.declared.rows.Affil.TheVariants as affil;
 ghost use Rattle.ps_types.specs.declared.rows.SubState.TheVariants as sub;
-ghost use Rattle.ps_model.specs.ChangeOwner as model;
+ghost use Rattle.ps_model.specs.requests.ChangeOwner as model;
 ghost use Rattle.ps_model.specs.Words as words;
 
 use crate::words::{affil_of, sub_of};

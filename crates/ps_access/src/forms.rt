@@ -3,8 +3,8 @@ ghost use Rattle.std.specs.Prelude.{◌≡◌, ◌&&◌, IfOk};
 ghost use Rattle.ps_types.specs.Config.{config_type, read_config as read_of};
 ghost use Rattle.ps_types.specs.Forms.{form_of, has_form_type, is_submit};
 ghost use Rattle.ps_types.specs.declared.denial.Condition.TheVariants.{C14};
-ghost use Rattle.ps_model.specs.CheckForms as model;
-ghost use Rattle.ps_model.specs.CheckForms.{config_or, is_collection as is_collection_kind};
+ghost use Rattle.ps_model.specs.requests.CheckForms as model;
+ghost use Rattle.ps_model.specs.requests.CheckForms.{config_or, is_collection as is_collection_kind};
 ghost use Rattle.ps_access.specs.Plans.{Gives};
 
 use crate::addresses::is_account_address;

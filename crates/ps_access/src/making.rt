@@ -1,11 +1,11 @@
 // The steps that keep a node from being made (XEP-0060 §8.1, XEP-0248), and the limits of an address and of a node.
 ghost use Rattle.std.specs.Prelude.{◌≡◌, Some, IsErrOf};
 ghost use Rattle.ps_model.specs.Access.{own_by};
-ghost use Rattle.ps_model.specs.CheckCreate as model;
-ghost use Rattle.ps_model.specs.CheckCreate.{node_limit_step};
-ghost use Rattle.ps_model.specs.CheckForms.{collection_step, collection_by};
-ghost use Rattle.ps_model.specs.CheckOwner as limits;
-ghost use Rattle.ps_model.specs.Steps.{first_denial};
+ghost use Rattle.ps_model.specs.requests.CheckCreate as model;
+ghost use Rattle.ps_model.specs.requests.CheckCreate.{node_limit_step};
+ghost use Rattle.ps_model.specs.requests.CheckForms.{collection_step, collection_by};
+ghost use Rattle.ps_model.specs.requests.CheckOwner as limits;
+ghost use Rattle.ps_model.specs.requests.Steps.{first_denial};
 ghost use Rattle.ps_nodes.specs.NodeRows.{row_seen};
 ghost use Rattle.ps_access.specs.Plans.{Passes};
 ghost use Rattle.ps_access.specs.Tables.{book_of};

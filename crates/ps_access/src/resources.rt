@@ -1,7 +1,7 @@
 // What resources show (XEP-0115 §5.4).
 ghost use Rattle.std.specs.Prelude.{◌≡◌};
 ghost use Rattle.ps_types.specs.Resources.{caps_in, resource_at};
-ghost use Rattle.ps_model.specs.ChangeRouter as model;
+ghost use Rattle.ps_model.specs.requests.ChangeRouter as model;
 ghost use Rattle.ps_access.specs.Tables.{book_of};
 
 use crate::tables::Tables;

@@ -1,8 +1,8 @@
 // How affiliations and subscriptions are set (XEP-0060 §6, §8.8.2, §8.9.2).
 ghost use Rattle.std.specs.Prelude.{◌≡◌, IfOk, OnOk};
 ghost use Rattle.ps_types.specs.Subs.{sub_row, subs_with};
-ghost use Rattle.ps_model.specs.ChangeOwner as model;
-ghost use Rattle.ps_model.specs.ChangeOwner.{affils_asked, sub_with, subs_asked};
+ghost use Rattle.ps_model.specs.requests.ChangeOwner as model;
+ghost use Rattle.ps_model.specs.requests.ChangeOwner.{affils_asked, sub_with, subs_asked};
 
 use crate::asked::{asked_affil_row, asked_state};
 use ps_affil::Affils;

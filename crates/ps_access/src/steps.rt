@@ -2,9 +2,9 @@
 ghost use Rattle.std.specs.Prelude.{◌≡◌, true, IfOk, OnOk, IsErrOf};
 ghost use Rattle.ps_types.specs.Nodes.{node_at, stands};
 ghost use Rattle.ps_types.specs.declared.denial.Condition.TheVariants.{C12};
-ghost use Rattle.ps_model.specs.CheckForms.{node_of};
-ghost use Rattle.ps_model.specs.CheckNode.{leaf_by};
-ghost use Rattle.ps_model.specs.Steps.{denied_by, unless};
+ghost use Rattle.ps_model.specs.requests.CheckForms.{node_of};
+ghost use Rattle.ps_model.specs.requests.CheckNode.{leaf_by};
+ghost use Rattle.ps_model.specs.requests.Steps.{denied_by, unless};
 ghost use Rattle.ps_access.specs.Plans.{Passes};
 
 use crate::tables::Tables;

@@ -2,8 +2,8 @@
 ghost use Rattle.std.specs.Prelude.{◌≡◌, true, IsErrOf};
 ghost use Rattle.ps_types.specs.Nodes.{stands};
 ghost use Rattle.ps_types.specs.Options as table;
-ghost use Rattle.ps_model.specs.ChangeEntity as model;
-ghost use Rattle.ps_model.specs.Steps.{denial_of};
+ghost use Rattle.ps_model.specs.requests.ChangeEntity as model;
+ghost use Rattle.ps_model.specs.requests.Steps.{denial_of};
 ghost use Rattle.ps_access.specs.Plans.{PassesWith};
 ghost use Rattle.ps_access.specs.Tables.{book_of};
 

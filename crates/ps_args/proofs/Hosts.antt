@@ -4,8 +4,8 @@ use Rattle.std.proofs.lemmas.Bool.Decides.{nat_tests}
 use Rattle.ps_types.specs.Address.{IsAddress, IsLabel, Spells, dotted, lower}
 use Rattle.ps_types.specs.declared.jid.Jid.{Jid}
 use Rattle.ps_types.proofs.Lowered.{spelled-is}
-use Rattle.ps_model.specs.Entries.{IsHostName, of_host}
-use Rattle.ps_model.specs.Stanza.{jid_of}
+use Rattle.ps_model.specs.store.Entries.{IsHostName, of_host}
+use Rattle.ps_model.specs.requests.Stanza.{jid_of}
 use Rattle.ps_model.proofs.Splits.{jid-spelled}
 use Rattle.ps_args.specs.Words.{host_in, host_of}
 

@@ -7,7 +7,7 @@ use Rattle.std.proofs.lemmas.Bool.{and_parts, or_parts, true≢false}
 use Rattle.std.proofs.lemmas.Bool.Decides.{nat_tests}
 use Rattle.std.proofs.lemmas.Option.{slice_get-map}
 use Rattle.std.proofs.lemmas.Slice.Eq.{bytes_eq-Decides}
-use Rattle.ps_model.specs.Entries.{IsHostName}
+use Rattle.ps_model.specs.store.Entries.{IsHostName}
 use Rattle.ps_args.specs.Words.{all_differ, are_hosts, are_names, are_two, compacted, host_of, hosts_of, is_few, names_of, served, stream_of, streams_of, with_first}
 use Rattle.ps_args.specs.Well.{AreApart, IsWell, IsWellServed}
 use Rattle.ps_args.specs.declared.command.Command.{Command}

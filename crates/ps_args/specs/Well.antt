@@ -1,7 +1,7 @@
 -- What a caller has of a command.
 use Rattle.std.specs.Prelude.{◌≡◌, ◌≢◌, ◌<◌, ◌≤◌, ◌^◌, ℕ, List, [], length, Some}
 use Rattle.std.specs.List.{slice_get}
-use Rattle.ps_model.specs.Entries.{IsHostName}
+use Rattle.ps_model.specs.store.Entries.{IsHostName}
 use Rattle.ps_args.specs.declared.command.Command.{Command}
 use Rattle.ps_args.specs.declared.command.Command.TheVariants.{Serve, Rehearse, Compact}
 use Rattle.ps_args.specs.declared.command.Stream.{Stream}

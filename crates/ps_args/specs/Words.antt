@@ -5,7 +5,7 @@ use Rattle.std.specs.Str.{bytes_eq}
 use Rattle.std.specs.Str.Parse.{digits_value}
 use Rattle.ps_types.specs.Values.{are_digits}
 use Rattle.ps_types.specs.declared.jid.Jid.{Jid}
-use Rattle.ps_model.specs.Stanza.{jid_of}
+use Rattle.ps_model.specs.requests.Stanza.{jid_of}
 use Rattle.ps_args.specs.declared.command.Command.{Command}
 use Rattle.ps_args.specs.declared.command.Command.TheVariants.{Serve, Rehearse, Compact}
 use Rattle.ps_args.specs.declared.command.Stream.{Stream}

@@ -1,6 +1,6 @@
 // The addresses that words are.
 ghost use Rattle.std.specs.Prelude.{◌≡◌, Some, None, IfOk, IsErrOf};
-ghost use Rattle.ps_model.specs.Stanza.{jid_of};
+ghost use Rattle.ps_model.specs.requests.Stanza.{jid_of};
 ghost use Rattle.ps_args.specs.Words.{host_in as host_in_address, host_of};
 
 use crate::refusal::WordsRefusal;

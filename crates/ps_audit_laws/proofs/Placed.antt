@@ -17,16 +17,16 @@ use Rattle.ps_types.specs.Print.{print}
 use Rattle.ps_types.specs.Shape.{attr_text}
 use Rattle.ps_types.specs.Tree.{Tree, is_named}
 use Rattle.ps_model.specs.After as step
-use Rattle.ps_model.specs.BaseAfter.{book_with, in_collection}
-use Rattle.ps_model.specs.BaseFields.{◌>>=◌, jid_at, key_at, key_of}
-use Rattle.ps_model.specs.BaseRead.{row_of}
-use Rattle.ps_model.specs.BaseRows as base
-use Rattle.ps_model.specs.BaseRows.{BaseRow}
+use Rattle.ps_model.specs.store.BaseAfter.{book_with, in_collection}
+use Rattle.ps_model.specs.store.BaseFields.{◌>>=◌, jid_at, key_at, key_of}
+use Rattle.ps_model.specs.store.BaseRead.{row_of}
+use Rattle.ps_model.specs.store.BaseRows as base
+use Rattle.ps_model.specs.store.BaseRows.{BaseRow}
 use Rattle.ps_model.specs.Book.{Book, State, empty_state}
-use Rattle.ps_model.specs.Changes.{changed}
+use Rattle.ps_model.specs.requests.Changes.{changed}
 use Rattle.ps_model.specs.Replay.{replay_from}
-use Rattle.ps_model.specs.Taken.{Taken, silent, refused, denied, asked}
-use Rattle.ps_model.specs.Taking.{request_in, tree_taken}
+use Rattle.ps_model.specs.requests.Taken.{Taken, silent, refused, denied, asked}
+use Rattle.ps_model.specs.requests.Taking.{request_in, tree_taken}
 use Rattle.ps_book_laws.specs.Addressed.{AsksOfAddresses}
 use Rattle.ps_book_laws.proofs.AddressedTaken.{jid-is, taken-addresses}
 use Rattle.ps_book_laws.proofs.Keys.{each-push}

@@ -26,14 +26,14 @@ use Rattle.ps_types.specs.Resources.{caps_in, resource_at}
 use Rattle.ps_types.specs.Subs.{sub_at}
 use Rattle.ps_types.specs.Tree.{Tree}
 use Rattle.ps_model.specs.Book.{Book}
-use Rattle.ps_model.specs.ChangeEntity.{base_options, new_state, sub_options, subscribed_by}
-use Rattle.ps_model.specs.ChangeNodes.{created, created_by, deleted, new_node}
-use Rattle.ps_model.specs.ChangeOwner.{configured, configured_by}
-use Rattle.ps_model.specs.ChangePublish.{published, published_by, published_new, retract_change}
-use Rattle.ps_model.specs.ChangeRouter.{answer_by, is_usable, roster_by, usable_answer}
-use Rattle.ps_model.specs.Changes.{changed_by}
-use Rattle.ps_model.specs.CheckForms.{config_given, new_config, node_of}
-use Rattle.ps_model.specs.CheckOptions.{options_config}
+use Rattle.ps_model.specs.requests.ChangeEntity.{base_options, new_state, sub_options, subscribed_by}
+use Rattle.ps_model.specs.requests.ChangeNodes.{created, created_by, deleted, new_node}
+use Rattle.ps_model.specs.requests.ChangeOwner.{configured, configured_by}
+use Rattle.ps_model.specs.requests.ChangePublish.{published, published_by, published_new, retract_change}
+use Rattle.ps_model.specs.requests.ChangeRouter.{answer_by, is_usable, roster_by, usable_answer}
+use Rattle.ps_model.specs.requests.Changes.{changed_by}
+use Rattle.ps_model.specs.requests.CheckForms.{config_given, new_config, node_of}
+use Rattle.ps_model.specs.requests.CheckOptions.{options_config}
 use Rattle.ps_model.specs.Words.{RosterAsk, set, remove, roster_of}
 use Rattle.ps_book_laws.specs.Addressed.{IsAskOfAddresses}
 use Rattle.ps_book_laws.proofs.Keys.{each-change, each-filter, each-put, each-push}

@@ -25,7 +25,7 @@ use Rattle.ps_types.specs.Subs.{is_sub_at, is_subscribed, subs_of}
 use Rattle.ps_types.proofs.Same.{same_node-Decides}
 use Rattle.ps_model.specs.Access.{account_of, affil_or, affiliation, granted_if, is_account, is_own_account, read, read_at, read_by, read_by_model}
 use Rattle.ps_model.specs.Book.{Book, empty_state}
-use Rattle.ps_model.specs.Entries.{IsBare}
+use Rattle.ps_model.specs.store.Entries.{IsBare}
 use Rattle.ps_model.specs.Replay.{lawful, replay_from}
 use Rattle.ps_model.specs.Sorted.{sorted}
 use Rattle.ps_book_laws.specs.Addressed.{NamesAddresses}

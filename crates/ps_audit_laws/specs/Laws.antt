@@ -9,8 +9,8 @@ use Rattle.ps_types.specs.Nodes.{node_at}
 use Rattle.ps_types.specs.Same.{same_bare}
 use Rattle.ps_model.specs.Access.{read}
 use Rattle.ps_model.specs.Book.{Book}
-use Rattle.ps_model.specs.CoreLaws.{AreSame}
-use Rattle.ps_model.specs.Entries.{IsBare}
+use Rattle.ps_model.specs.machine.CoreLaws.{AreSame}
+use Rattle.ps_model.specs.store.Entries.{IsBare}
 use Rattle.ps_model.specs.Replay.{lawful, replay}
 use Rattle.ps_audit_laws.specs.History.{history, is_told, told_at, verdicts_after}
 use Rattle.ps_audit_laws.specs.Order.{Ascend}

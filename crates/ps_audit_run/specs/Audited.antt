@@ -3,8 +3,8 @@ use Rattle.std.specs.Prelude.{◌≡◌, ◌≤◌, ℕ, List, Result, Ok, Err, 
 use Rattle.ps_disk.specs.declared.device.Disk.{Ghosts}
 use Rattle.ps_types.specs.declared.entry.Entry.{Entry}
 use Rattle.ps_io.specs.Held.{HeldStore}
-use Rattle.ps_model.specs.At.{IsStore}
-use Rattle.ps_model.specs.Store.{spelled}
+use Rattle.ps_model.specs.store.At.{IsStore}
+use Rattle.ps_model.specs.store.Store.{spelled}
 use Rattle.ps_journal.specs.Left.{LeavesList}
 use Rattle.ps_journal.specs.Opened.{HasHeader, IsShortIfUnbegun, LeftOrHas, Upgrades}
 use Rattle.ps_hall_open.specs.OpenRead.{IfFoundDamaged, StaysOrUpgrades}

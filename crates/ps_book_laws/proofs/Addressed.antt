@@ -13,16 +13,16 @@ use Rattle.ps_types.specs.Resources.{is_resource_on}
 use Rattle.ps_types.specs.Tree.{Tree}
 use Rattle.ps_model.specs.Addressed.{AreEarly, AreNamed}
 use Rattle.ps_model.specs.After as step
-use Rattle.ps_model.specs.BaseAfter.{book_with, has_place, is_early, is_shallow, is_well_formed, takes_item}
-use Rattle.ps_model.specs.BaseRead.{row_of}
-use Rattle.ps_model.specs.BaseRows as base
-use Rattle.ps_model.specs.BaseRows.{BaseRow}
+use Rattle.ps_model.specs.store.BaseAfter.{book_with, has_place, is_early, is_shallow, is_well_formed, takes_item}
+use Rattle.ps_model.specs.store.BaseRead.{row_of}
+use Rattle.ps_model.specs.store.BaseRows as base
+use Rattle.ps_model.specs.store.BaseRows.{BaseRow}
 use Rattle.ps_model.specs.Book.{Book, State, empty_book, empty_state}
-use Rattle.ps_model.specs.Changes.{changed}
-use Rattle.ps_model.specs.CheckForms.{is_collection}
+use Rattle.ps_model.specs.requests.Changes.{changed}
+use Rattle.ps_model.specs.requests.CheckForms.{is_collection}
 use Rattle.ps_model.specs.Replay.{IsLawfulFrom, accepted, is_booted, lawful, replay_from, row_accepted}
-use Rattle.ps_model.specs.Taken.{Taken, silent, refused, denied, asked}
-use Rattle.ps_model.specs.Taking.{request_in, tree_taken}
+use Rattle.ps_model.specs.requests.Taken.{Taken, silent, refused, denied, asked}
+use Rattle.ps_model.specs.requests.Taking.{request_in, tree_taken}
 use Rattle.ps_book_laws.specs.Addressed.{HasEarlyItems, IsTimely, NamesAddresses}
 use Rattle.ps_book_laws.proofs.AddressedKinds.{AffilIs, IsNamed, ResourceIs, SubIs, addresses-changed, asked-named, names-of, rows-named}
 use Rattle.ps_book_laws.proofs.AddressedTaken.{IsRowOfAddresses, row-addresses, taken-addresses}

@@ -41,18 +41,18 @@ use Rattle.ps_types.specs.Values.{is_true}
 use Rattle.ps_model.specs.Access.{is_account}
 use Rattle.ps_model.specs.Addressed.{AreNamed, named}
 use Rattle.ps_model.specs.Book.{Book}
-use Rattle.ps_model.specs.ChangeEntity.{base_options, new_state, sub_options, subscribed_by}
-use Rattle.ps_model.specs.ChangeNodes.{created, created_by, deleted, owner_row}
-use Rattle.ps_model.specs.ChangeOwner.{affils_asked, approved, asked_affil, configured, configured_by, sub_with, subs_asked}
-use Rattle.ps_model.specs.ChangePublish.{published, published_by, published_new, retract_change}
-use Rattle.ps_model.specs.ChangeRouter.{answer_by, features_known, is_usable, roster_by, usable_answer, with_features}
-use Rattle.ps_model.specs.Changes.{changed, changed_by}
-use Rattle.ps_model.specs.CheckForms.{config_given, new_config, node_of}
-use Rattle.ps_model.specs.CheckOptions.{options_config}
-use Rattle.ps_model.specs.EventNodes.{associated, item_asked, made_events, retract_events}
-use Rattle.ps_model.specs.EventPresence.{is_newly_wanted, question_events, wanted_events}
-use Rattle.ps_model.specs.EventSubs.{is_other_owner, is_same, last_event, owners, row_asked, rows_events, subscribe_events, told_events}
-use Rattle.ps_model.specs.Events.{events_by, events_of}
+use Rattle.ps_model.specs.requests.ChangeEntity.{base_options, new_state, sub_options, subscribed_by}
+use Rattle.ps_model.specs.requests.ChangeNodes.{created, created_by, deleted, owner_row}
+use Rattle.ps_model.specs.requests.ChangeOwner.{affils_asked, approved, asked_affil, configured, configured_by, sub_with, subs_asked}
+use Rattle.ps_model.specs.requests.ChangePublish.{published, published_by, published_new, retract_change}
+use Rattle.ps_model.specs.requests.ChangeRouter.{answer_by, features_known, is_usable, roster_by, usable_answer, with_features}
+use Rattle.ps_model.specs.requests.Changes.{changed, changed_by}
+use Rattle.ps_model.specs.requests.CheckForms.{config_given, new_config, node_of}
+use Rattle.ps_model.specs.requests.CheckOptions.{options_config}
+use Rattle.ps_model.specs.notices.EventNodes.{associated, item_asked, made_events, retract_events}
+use Rattle.ps_model.specs.notices.EventPresence.{is_newly_wanted, question_events, wanted_events}
+use Rattle.ps_model.specs.notices.EventSubs.{is_other_owner, is_same, last_event, owners, row_asked, rows_events, subscribe_events, told_events}
+use Rattle.ps_model.specs.notices.Events.{events_by, events_of}
 use Rattle.ps_model.specs.Words.{RosterAsk, set, remove, roster_of}
 use Rattle.ps_book_laws.specs.Addressed.{AsksOfAddresses, IsAskOfAddresses, NamesAddresses}
 use Rattle.ps_book_laws.proofs.Keys.{each-both, each-change, each-cond, each-filter, each-map, each-mapped, each-put}

@@ -13,15 +13,15 @@ use Rattle.ps_types.specs.Shape.{attr_text}
 use Rattle.ps_types.specs.Print.{print}
 use Rattle.ps_types.specs.Tree.{Tree, is_named}
 use Rattle.ps_types.proofs.Lowered.{spelled-is}
-use Rattle.ps_model.specs.BaseFields.{◌>>=◌}
-use Rattle.ps_model.specs.BaseRead.{row_of}
-use Rattle.ps_model.specs.BaseRows as base
-use Rattle.ps_model.specs.BaseRows.{BaseRow}
-use Rattle.ps_model.specs.Spelled.{IsAsk, SpellsRequest}
-use Rattle.ps_model.specs.SpelledOwner.{AreRows}
-use Rattle.ps_model.specs.Stanza.{jid_of, target_by}
-use Rattle.ps_model.specs.Taken.{asked}
-use Rattle.ps_model.specs.Taking.{tree_taken}
+use Rattle.ps_model.specs.store.BaseFields.{◌>>=◌}
+use Rattle.ps_model.specs.store.BaseRead.{row_of}
+use Rattle.ps_model.specs.store.BaseRows as base
+use Rattle.ps_model.specs.store.BaseRows.{BaseRow}
+use Rattle.ps_model.specs.requests.Spelled.{IsAsk, SpellsRequest}
+use Rattle.ps_model.specs.requests.SpelledOwner.{AreRows}
+use Rattle.ps_model.specs.requests.Stanza.{jid_of, target_by}
+use Rattle.ps_model.specs.requests.Taken.{asked}
+use Rattle.ps_model.specs.requests.Taking.{tree_taken}
 use Rattle.ps_model.proofs.AskedStanza.{taken-spelled}
 use Rattle.ps_model.proofs.Splits.{jid-spelled}
 use Rattle.ps_book_laws.specs.Addressed.{AsksOfAddresses, IsAskOfAddresses}

@@ -35,20 +35,20 @@ use Rattle.ps_types.specs.Subs.{is_pending, is_subscribed, sub_at, subs_with}
 use Rattle.ps_types.specs.Tree.{Tree}
 use Rattle.ps_types.specs.Values.{is_true}
 use Rattle.ps_model.specs.Addressed.{AreEarly, is_early_event}
-use Rattle.ps_model.specs.BaseAfter.{is_early}
+use Rattle.ps_model.specs.store.BaseAfter.{is_early}
 use Rattle.ps_model.specs.Book.{Book}
-use Rattle.ps_model.specs.ChangeEntity.{base_options, new_state, sub_options, subscribed_by}
-use Rattle.ps_model.specs.ChangeNodes.{created, created_by}
-use Rattle.ps_model.specs.ChangeOwner.{approved, configured, configured_by, sub_with}
-use Rattle.ps_model.specs.ChangePublish.{item_row, published, published_by, published_new, retract_change}
-use Rattle.ps_model.specs.ChangeRouter.{answer_by, is_usable, roster_by, usable_answer}
-use Rattle.ps_model.specs.Changes.{changed, changed_by}
-use Rattle.ps_model.specs.CheckForms.{config_given, new_config, node_of}
-use Rattle.ps_model.specs.CheckOptions.{options_config}
-use Rattle.ps_model.specs.EventNodes.{associated, item_asked, made_events, retract_events}
-use Rattle.ps_model.specs.EventPresence.{is_newly_wanted, question_events, wanted_events}
-use Rattle.ps_model.specs.EventSubs.{is_same, last_event, moment_in, owners, row_asked, rows_events, subscribe_events, told_events}
-use Rattle.ps_model.specs.Events.{events_by, events_of}
+use Rattle.ps_model.specs.requests.ChangeEntity.{base_options, new_state, sub_options, subscribed_by}
+use Rattle.ps_model.specs.requests.ChangeNodes.{created, created_by}
+use Rattle.ps_model.specs.requests.ChangeOwner.{approved, configured, configured_by, sub_with}
+use Rattle.ps_model.specs.requests.ChangePublish.{item_row, published, published_by, published_new, retract_change}
+use Rattle.ps_model.specs.requests.ChangeRouter.{answer_by, is_usable, roster_by, usable_answer}
+use Rattle.ps_model.specs.requests.Changes.{changed, changed_by}
+use Rattle.ps_model.specs.requests.CheckForms.{config_given, new_config, node_of}
+use Rattle.ps_model.specs.requests.CheckOptions.{options_config}
+use Rattle.ps_model.specs.notices.EventNodes.{associated, item_asked, made_events, retract_events}
+use Rattle.ps_model.specs.notices.EventPresence.{is_newly_wanted, question_events, wanted_events}
+use Rattle.ps_model.specs.notices.EventSubs.{is_same, last_event, moment_in, owners, row_asked, rows_events, subscribe_events, told_events}
+use Rattle.ps_model.specs.notices.Events.{events_by, events_of}
 use Rattle.ps_model.specs.ItemIds.{item_id}
 use Rattle.ps_model.specs.Words.{RosterAsk, set, remove, roster_of}
 use Rattle.ps_book_laws.specs.Addressed.{HasEarlyItems}

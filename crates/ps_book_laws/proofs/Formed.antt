@@ -20,17 +20,17 @@ use Rattle.ps_types.specs.Tree.{Tree}
 use Rattle.ps_types.proofs.Same.{same_jid-Decides}
 use Rattle.ps_model.specs.Access.{is_account}
 use Rattle.ps_model.specs.After as step
-use Rattle.ps_model.specs.Base.{book_rows, counter_by, counter_rows, notice_rows, rows_of, told_addresses, unhanded, unlinked}
-use Rattle.ps_model.specs.BaseAfter.{book_with, has_place, in_collection, is_bare, is_well_formed}
-use Rattle.ps_model.specs.BaseRead.{row_of}
-use Rattle.ps_model.specs.BaseRows as base
-use Rattle.ps_model.specs.BaseRows.{BaseRow}
+use Rattle.ps_model.specs.store.Base.{book_rows, counter_by, counter_rows, notice_rows, rows_of, told_addresses, unhanded, unlinked}
+use Rattle.ps_model.specs.store.BaseAfter.{book_with, has_place, in_collection, is_bare, is_well_formed}
+use Rattle.ps_model.specs.store.BaseRead.{row_of}
+use Rattle.ps_model.specs.store.BaseRows as base
+use Rattle.ps_model.specs.store.BaseRows.{BaseRow}
 use Rattle.ps_model.specs.Book.{Book, State, empty_state}
 use Rattle.ps_model.specs.Replay.{IsLawfulFrom, accepted, is_booted, lawful, replay_from, row_accepted}
-use Rattle.ps_model.specs.Spelled.{IsAsk, SpellsRequest}
-use Rattle.ps_model.specs.Stanza.{host_jid, is_served}
-use Rattle.ps_model.specs.Taken.{Taken, silent, refused, denied, asked}
-use Rattle.ps_model.specs.Taking.{request_in, tree_taken}
+use Rattle.ps_model.specs.requests.Spelled.{IsAsk, SpellsRequest}
+use Rattle.ps_model.specs.requests.Stanza.{host_jid, is_served}
+use Rattle.ps_model.specs.requests.Taken.{Taken, silent, refused, denied, asked}
+use Rattle.ps_model.specs.requests.Taking.{request_in, tree_taken}
 use Rattle.ps_model.specs.Tallies.{handed_to}
 use Rattle.ps_model.proofs.AskedStanza.{taken-spelled}
 use Rattle.ps_book_laws.proofs.FormedKinds.{AreFormed, IsFormed, IsNamedAsk, changed-formed, nodes-formed}

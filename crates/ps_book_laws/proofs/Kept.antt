@@ -20,14 +20,14 @@ use Rattle.ps_types.specs.Nodes.{config_at, is_node, node_at, stands}
 use Rattle.ps_types.specs.Same.{same_node}
 use Rattle.ps_types.proofs.Same.{same_node-Decides, same_node-itself}
 use Rattle.ps_model.specs.After as step
-use Rattle.ps_model.specs.BaseAfter.{book_with, has_place, is_collection_at, is_early, is_shallow, is_well_formed, takes_item}
-use Rattle.ps_model.specs.BaseRead.{row_of}
-use Rattle.ps_model.specs.BaseRows.{BaseRow, node, affiliation, subscription, item, link, contact, ver, made, counter, notice}
+use Rattle.ps_model.specs.store.BaseAfter.{book_with, has_place, is_collection_at, is_early, is_shallow, is_well_formed, takes_item}
+use Rattle.ps_model.specs.store.BaseRead.{row_of}
+use Rattle.ps_model.specs.store.BaseRows.{BaseRow, node, affiliation, subscription, item, link, contact, ver, made, counter, notice}
 use Rattle.ps_model.specs.Book.{Book, State, empty_book, empty_state}
 use Rattle.ps_model.specs.Bounds.{IsBounded, item_bound}
-use Rattle.ps_model.specs.CheckForms.{is_collection}
+use Rattle.ps_model.specs.requests.CheckForms.{is_collection}
 use Rattle.ps_model.specs.Replay.{IsLawfulFrom, accepted, is_booted, lawful, request_accepted, row_accepted, replay_from}
-use Rattle.ps_model.specs.Taking.{request_in, tree_taken}
+use Rattle.ps_model.specs.requests.Taking.{request_in, tree_taken}
 use Rattle.ps_model.specs.Tallies.{is_next_line}
 use Rattle.ps_model.proofs.ChangedBounded.{changed-bounded}
 use Rattle.ps_book_laws.specs.Linked.{named}

@@ -21,7 +21,7 @@ use Rattle.ps_types.specs.Nodes.{is_node, nodes_with, with_config}
 use Rattle.ps_types.specs.Subs.{is_sub_of, subs_by, subs_with}
 use Rattle.ps_types.specs.Vers.{ver_at, vers_by, vers_with}
 use Rattle.ps_base.specs.Rows.{without}
-use Rattle.ps_model.specs.ChangeOwner.{affils_asked, asked_affil, sub_with, subs_asked}
+use Rattle.ps_model.specs.requests.ChangeOwner.{affils_asked, asked_affil, sub_with, subs_asked}
 use Rattle.ps_model.specs.Words.{sub_of}
 use Rattle.ps_book_laws.specs.Keys.{AreApart, affil_key, count_key, item_key, node_key, sub_key, ver_key}
 use Rattle.ps_book_laws.proofs.Keys.{affil-key, apart-change, apart-filter, apart-keep, apart-push, apart-put, count-key, gone, sub-key}

@@ -39,19 +39,19 @@ use Rattle.ps_types.specs.Tree.{Tree}
 use Rattle.ps_types.specs.Vers.{vers_with}
 use Rattle.ps_types.proofs.Same.{same_node-Decides, same_node-itself}
 use Rattle.ps_model.specs.Book.{Book, empty_book}
-use Rattle.ps_model.specs.ChangeEntity.{subscribed_by, sub_options, base_options, new_state}
-use Rattle.ps_model.specs.ChangeNodes.{created, created_by, deleted, linked, new_node, owner_row}
-use Rattle.ps_model.specs.ChangeOwner.{approved, configured, configured_by, sub_with}
-use Rattle.ps_model.specs.ChangePublish.{counted, count_row, item_row, published, published_by, published_new, retract_change}
-use Rattle.ps_model.specs.ChangeRouter.{answer_by, is_usable, is_verified, roster_by, usable_answer}
-use Rattle.ps_model.specs.Changes.{changed_by}
-use Rattle.ps_model.specs.Check.{steps_of}
-use Rattle.ps_model.specs.CheckCreate.{new_node_step, node_limit_step}
-use Rattle.ps_model.specs.CheckForms.{collection_by, collection_step, config_given, is_collection, new_config, node_of}
-use Rattle.ps_model.specs.CheckOptions.{made_step, options_config}
-use Rattle.ps_model.specs.CheckPublish.{made_item_steps, publish_by, publish_new_steps}
+use Rattle.ps_model.specs.requests.ChangeEntity.{subscribed_by, sub_options, base_options, new_state}
+use Rattle.ps_model.specs.requests.ChangeNodes.{created, created_by, deleted, linked, new_node, owner_row}
+use Rattle.ps_model.specs.requests.ChangeOwner.{approved, configured, configured_by, sub_with}
+use Rattle.ps_model.specs.requests.ChangePublish.{counted, count_row, item_row, published, published_by, published_new, retract_change}
+use Rattle.ps_model.specs.requests.ChangeRouter.{answer_by, is_usable, is_verified, roster_by, usable_answer}
+use Rattle.ps_model.specs.requests.Changes.{changed_by}
+use Rattle.ps_model.specs.requests.Check.{steps_of}
+use Rattle.ps_model.specs.requests.CheckCreate.{new_node_step, node_limit_step}
+use Rattle.ps_model.specs.requests.CheckForms.{collection_by, collection_step, config_given, is_collection, new_config, node_of}
+use Rattle.ps_model.specs.requests.CheckOptions.{made_step, options_config}
+use Rattle.ps_model.specs.requests.CheckPublish.{made_item_steps, publish_by, publish_new_steps}
 use Rattle.ps_model.specs.ItemIds.{item_id, next_made}
-use Rattle.ps_model.specs.Steps.{first_denial, unless}
+use Rattle.ps_model.specs.requests.Steps.{first_denial, unless}
 use Rattle.ps_model.specs.Words.{RosterAsk, set, remove, roster_of}
 use Rattle.ps_types.specs.Values.{is_true}
 use Rattle.ps_model.specs.Access.{is_account, is_own_account}

@@ -38,22 +38,22 @@ use Rattle.ps_types.specs.Subs.{sub_at}
 use Rattle.ps_types.specs.Tree.{Tree}
 use Rattle.ps_types.proofs.Same.{same_node-Decides}
 use Rattle.ps_model.specs.Access.{is_account, is_own_account, own}
-use Rattle.ps_model.specs.BaseAfter.{is_collection_at}
+use Rattle.ps_model.specs.store.BaseAfter.{is_collection_at}
 use Rattle.ps_model.specs.Book.{Book}
-use Rattle.ps_model.specs.ChangeEntity.{subscribed_by, sub_options, base_options, new_state}
-use Rattle.ps_model.specs.ChangeNodes.{created, created_by, deleted, linked, new_node}
-use Rattle.ps_model.specs.ChangeOwner.{configured, configured_by}
-use Rattle.ps_model.specs.ChangePublish.{published, published_by, published_new, retract_change}
-use Rattle.ps_model.specs.ChangeRouter.{answer_by, is_usable, roster_by, usable_answer}
-use Rattle.ps_model.specs.Changes.{changed_by}
-use Rattle.ps_model.specs.Check.{steps_of}
-use Rattle.ps_model.specs.CheckConfig.{config_by, given_step, is_cancelled}
-use Rattle.ps_model.specs.CheckCreate.{new_node_step, node_limit_step}
-use Rattle.ps_model.specs.CheckForms.{collection_by, collection_step, config_given, is_collection, is_unmoved, new_config, node_of, same_kind}
-use Rattle.ps_model.specs.CheckOptions.{made_step, options_config}
-use Rattle.ps_model.specs.CheckNode.{stands_step}
-use Rattle.ps_model.specs.CheckPublish.{made_item_steps, publish_by, publish_new_steps}
-use Rattle.ps_model.specs.Steps.{denied_by, first_denial, unless}
+use Rattle.ps_model.specs.requests.ChangeEntity.{subscribed_by, sub_options, base_options, new_state}
+use Rattle.ps_model.specs.requests.ChangeNodes.{created, created_by, deleted, linked, new_node}
+use Rattle.ps_model.specs.requests.ChangeOwner.{configured, configured_by}
+use Rattle.ps_model.specs.requests.ChangePublish.{published, published_by, published_new, retract_change}
+use Rattle.ps_model.specs.requests.ChangeRouter.{answer_by, is_usable, roster_by, usable_answer}
+use Rattle.ps_model.specs.requests.Changes.{changed_by}
+use Rattle.ps_model.specs.requests.Check.{steps_of}
+use Rattle.ps_model.specs.requests.CheckConfig.{config_by, given_step, is_cancelled}
+use Rattle.ps_model.specs.requests.CheckCreate.{new_node_step, node_limit_step}
+use Rattle.ps_model.specs.requests.CheckForms.{collection_by, collection_step, config_given, is_collection, is_unmoved, new_config, node_of, same_kind}
+use Rattle.ps_model.specs.requests.CheckOptions.{made_step, options_config}
+use Rattle.ps_model.specs.requests.CheckNode.{stands_step}
+use Rattle.ps_model.specs.requests.CheckPublish.{made_item_steps, publish_by, publish_new_steps}
+use Rattle.ps_model.specs.requests.Steps.{denied_by, first_denial, unless}
 use Rattle.ps_model.specs.Words.{RosterAsk, set, remove, roster_of}
 use Rattle.ps_model.proofs.NodeRows.{node_at-configured, node_at-with, node_at-without}
 use Rattle.std.specs.List.{AllByRecursion as Each}

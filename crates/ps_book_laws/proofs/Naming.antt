@@ -15,7 +15,7 @@ use Rattle.ps_types.specs.Links.{is_link_at, is_link_of, is_link_to}
 use Rattle.ps_types.specs.Nodes.{config_at, is_node, node_at, stands, with_config}
 use Rattle.ps_types.specs.Same.{same_node}
 use Rattle.ps_types.proofs.Same.{same_node-Decides}
-use Rattle.ps_model.specs.BaseAfter.{in_collection, is_collection_at}
+use Rattle.ps_model.specs.store.BaseAfter.{in_collection, is_collection_at}
 use Rattle.std.specs.List.{AllByRecursion as Each}
 use Rattle.ps_book_laws.specs.Keys.{AreApart, node_key}
 use Rattle.ps_book_laws.specs.Rows.{IsAffilRow, IsSubRow}

@@ -20,17 +20,17 @@ use Rattle.ps_types.specs.Same.{same_node}
 use Rattle.ps_types.specs.Subs.{is_pending, is_subscribed, sub_row}
 use Rattle.ps_types.specs.declared.rows.ItemRow.{ItemRow}
 use Rattle.ps_model.specs.After as step
-use Rattle.ps_model.specs.BaseAfter.{book_with, has_place, in_collection, is_bare, is_collection_at, is_early, is_number, is_shallow, is_some_affil, is_well_formed, takes_item}
-use Rattle.ps_model.specs.BaseRead.{row_of}
-use Rattle.ps_model.specs.BaseRows.{BaseRow, node, affiliation, subscription, item, link, contact, ver, made, counter, notice}
+use Rattle.ps_model.specs.store.BaseAfter.{book_with, has_place, in_collection, is_bare, is_collection_at, is_early, is_number, is_shallow, is_some_affil, is_well_formed, takes_item}
+use Rattle.ps_model.specs.store.BaseRead.{row_of}
+use Rattle.ps_model.specs.store.BaseRows.{BaseRow, node, affiliation, subscription, item, link, contact, ver, made, counter, notice}
 use Rattle.ps_model.specs.Book.{Book, State, empty_book, empty_state}
-use Rattle.ps_model.specs.CheckForms.{is_collection}
-use Rattle.ps_model.specs.Check.{check, child_of, steps_of}
-use Rattle.ps_model.specs.Commits.{commits, makes_entry}
-use Rattle.ps_model.specs.Outcome.{is_accepted, outcome}
-use Rattle.ps_model.specs.Steps.{first_denial}
+use Rattle.ps_model.specs.requests.CheckForms.{is_collection}
+use Rattle.ps_model.specs.requests.Check.{check, child_of, steps_of}
+use Rattle.ps_model.specs.requests.Commits.{commits, makes_entry}
+use Rattle.ps_model.specs.requests.Outcome.{is_accepted, outcome}
+use Rattle.ps_model.specs.requests.Steps.{first_denial}
 use Rattle.ps_model.specs.Tallies.{is_next_line}
-use Rattle.ps_model.specs.Taking.{request_in, tree_taken}
+use Rattle.ps_model.specs.requests.Taking.{request_in, tree_taken}
 use Rattle.ps_types.specs.Tree.{Tree}
 use Rattle.ps_types.specs.Resources.{resources_off}
 use Rattle.ps_types.specs.declared.rows.ResourceRow.{ResourceRow}

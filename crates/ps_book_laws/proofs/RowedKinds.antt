@@ -28,17 +28,17 @@ use Rattle.ps_types.specs.Subs.{sub_at}
 use Rattle.ps_types.specs.Tree.{Tree}
 use Rattle.ps_model.specs.Access.{own, subscribe}
 use Rattle.ps_model.specs.Book.{Book}
-use Rattle.ps_model.specs.ChangeEntity.{subscribed_by, sub_options, base_options, new_state}
-use Rattle.ps_model.specs.ChangeNodes.{created, created_by, deleted, new_node}
-use Rattle.ps_model.specs.ChangeOwner.{configured, configured_by}
-use Rattle.ps_model.specs.ChangePublish.{published, published_by, published_new, retract_change}
-use Rattle.ps_model.specs.ChangeRouter.{answer_by, is_usable, roster_by, usable_answer}
-use Rattle.ps_model.specs.Changes.{changed_by}
-use Rattle.ps_model.specs.Check.{steps_of}
-use Rattle.ps_model.specs.CheckForms.{config_given, new_config, node_of}
-use Rattle.ps_model.specs.CheckOptions.{options_config}
-use Rattle.ps_model.specs.CheckNode.{stands_step}
-use Rattle.ps_model.specs.Steps.{denial_of, denied_by, first_denial, unless}
+use Rattle.ps_model.specs.requests.ChangeEntity.{subscribed_by, sub_options, base_options, new_state}
+use Rattle.ps_model.specs.requests.ChangeNodes.{created, created_by, deleted, new_node}
+use Rattle.ps_model.specs.requests.ChangeOwner.{configured, configured_by}
+use Rattle.ps_model.specs.requests.ChangePublish.{published, published_by, published_new, retract_change}
+use Rattle.ps_model.specs.requests.ChangeRouter.{answer_by, is_usable, roster_by, usable_answer}
+use Rattle.ps_model.specs.requests.Changes.{changed_by}
+use Rattle.ps_model.specs.requests.Check.{steps_of}
+use Rattle.ps_model.specs.requests.CheckForms.{config_given, new_config, node_of}
+use Rattle.ps_model.specs.requests.CheckOptions.{options_config}
+use Rattle.ps_model.specs.requests.CheckNode.{stands_step}
+use Rattle.ps_model.specs.requests.Steps.{denial_of, denied_by, first_denial, unless}
 use Rattle.ps_model.specs.Words.{RosterAsk, set, remove, roster_of}
 use Rattle.ps_types.specs.declared.request.AskRow.{AskRow}
 use Rattle.ps_types.specs.declared.rows.Affil.{Affil}
@@ -51,12 +51,12 @@ use Rattle.ps_types.specs.Affils.{affils_by, affils_with, affils_without, is_aff
 use Rattle.ps_types.specs.Counts.{counts_without, made_at, is_count_of}
 use Rattle.ps_types.specs.Subs.{is_sub_of, is_pending, is_subscribed, subs_by, subs_with, subs_without}
 use Rattle.ps_types.specs.Values.{boolean_of, is_true}
-use Rattle.ps_model.specs.BaseAfter.{is_bare, is_some_affil}
-use Rattle.ps_model.specs.ChangeNodes.{owner_row}
-use Rattle.ps_model.specs.ChangeOwner.{affils_asked, approved, asked_affil, sub_with, subs_asked}
-use Rattle.ps_model.specs.ChangePublish.{count_row, counted}
-use Rattle.ps_model.specs.CheckEntity.{sub_limit_step, row_step}
-use Rattle.ps_model.specs.CheckOwner.{is_affil_word, is_sub_word, is_unconfigured, keeps_owner, max_subs}
+use Rattle.ps_model.specs.store.BaseAfter.{is_bare, is_some_affil}
+use Rattle.ps_model.specs.requests.ChangeNodes.{owner_row}
+use Rattle.ps_model.specs.requests.ChangeOwner.{affils_asked, approved, asked_affil, sub_with, subs_asked}
+use Rattle.ps_model.specs.requests.ChangePublish.{count_row, counted}
+use Rattle.ps_model.specs.requests.CheckEntity.{sub_limit_step, row_step}
+use Rattle.ps_model.specs.requests.CheckOwner.{is_affil_word, is_sub_word, is_unconfigured, keeps_owner, max_subs}
 use Rattle.std.specs.Prelude.{nat_le, nat_lt, ◌==◌}
 use Rattle.std.proofs.Common.{◌+◌, arith}
 use Rattle.std.proofs.lemmas.Bool.Decides.{nat_tests}

@@ -3,8 +3,8 @@ use Rattle.std.proofs.Common.{◌≡◌, ℕ, true, Option, Some, None, refl}
 use Rattle.std.proofs.lemmas.Bool.{lt-ltb}
 use Rattle.ps_types.specs.declared.entry.Entry.{Entry}
 use Rattle.ps_types.specs.declared.entry.Entry.TheVariants.{Boot, Change, Handed, Gone, Base}
-use Rattle.ps_model.specs.BaseAfter.{is_early}
-use Rattle.ps_model.specs.Entries.{IsEntry, IsMoment, end_of_time}
+use Rattle.ps_model.specs.store.BaseAfter.{is_early}
+use Rattle.ps_model.specs.store.Entries.{IsEntry, IsMoment, end_of_time}
 use Rattle.ps_book_laws.specs.Addressed.{IsTimely}
 
 pub early : (moment : Option ℕ) → IsMoment moment → is_early moment ≡ true

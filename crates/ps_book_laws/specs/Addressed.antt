@@ -8,7 +8,7 @@ use Rattle.ps_types.specs.declared.request.Ask.{Ask}
 use Rattle.ps_types.specs.declared.request.Ask.TheVariants as ask
 use Rattle.ps_types.specs.declared.request.Request.{Request}
 use Rattle.ps_model.specs.Addressed.{AreAddresses}
-use Rattle.ps_model.specs.BaseAfter.{is_early}
+use Rattle.ps_model.specs.store.BaseAfter.{is_early}
 use Rattle.ps_model.specs.Book.{Book}
 
 -- those with subscriptions and those that are present, and those with affiliations

@@ -2,8 +2,8 @@
 use Rattle.std.specs.Prelude.{◌≡◌, true, List}
 use Rattle.std.specs.List.{AllByRecursion}
 use Rattle.ps_types.specs.declared.entry.Entry.{Entry}
-use Rattle.ps_model.specs.Base.{rows_of}
-use Rattle.ps_model.specs.BaseAfter.{is_well_formed}
+use Rattle.ps_model.specs.store.Base.{rows_of}
+use Rattle.ps_model.specs.store.BaseAfter.{is_well_formed}
 use Rattle.ps_model.specs.Replay.{lawful, replay}
 use Rattle.ps_book_laws.specs.Addressed.{HasEarlyItems, IsTimely, NamesAddresses}
 use Rattle.ps_book_laws.specs.Sound.{HoldsItems, IsSound}

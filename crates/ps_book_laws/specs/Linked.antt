@@ -5,7 +5,7 @@ use Rattle.ps_types.specs.declared.rows.NodeRow.{NodeRow}
 use Rattle.ps_types.specs.Links.{is_link_of}
 use Rattle.ps_types.specs.Nodes.{config_at, stands}
 use Rattle.ps_types.specs.Same.{same_node}
-use Rattle.ps_model.specs.BaseAfter.{is_collection_at}
+use Rattle.ps_model.specs.store.BaseAfter.{is_collection_at}
 
 -- a link stands where both its ends do, and its collection is a collection node and not the child (XEP-0248 §4)
 pub record IsLinkRow (nodes : List NodeRow) (l : LinkRow) : Type 0 where

@@ -8,8 +8,8 @@ use Rattle.ps_types.specs.declared.rows.NodeRow.{NodeRow}
 use Rattle.ps_types.specs.declared.rows.SubRow.{SubRow}
 use Rattle.ps_types.specs.Nodes.{config_at, stands}
 use Rattle.ps_types.specs.Subs.{is_pending, is_subscribed}
-use Rattle.ps_model.specs.BaseAfter.{is_bare, is_some_affil}
-use Rattle.ps_model.specs.CheckForms.{is_collection}
+use Rattle.ps_model.specs.store.BaseAfter.{is_bare, is_some_affil}
+use Rattle.ps_model.specs.requests.CheckForms.{is_collection}
 
 -- an affiliation of a bare address, which is not "none" (XEP-0060 §4.1)
 pub record IsAffilRow (nodes : List NodeRow) (r : AffilRow) : Type 0 where

@@ -25,14 +25,18 @@ emptied n s l c l' c' e f h k t = omega arith
 itself : (n : ℕ) → n ≤ n
 itself n = omega arith
 
-pub pushed : (m lr cr lr' cr' ln cn ln' cn' lp cp lp' cp' ce ce' : ℕ) → lr' ≡ lr + 1 → cr ≤ cr' → ln' ≡ ln + 1 → cn ≤ cn' → lp' ≡ lp + 1 → cp ≤ cp' → ce ≤ ce' → five (cr - lr) (m - lr) (cn - ln) (cp - lp) (ce - lr) ≤ five (cr' - lr') (m - lr') (cn' - ln') (cp' - lp') (ce' - lr') + 1
+pub pushed : (m lr cr lr' cr' ln cn ln' cn' lp cp lp' cp' ce ce' : ℕ) → lr' ≡ lr + 1 → cr ≤ cr' → ln' ≡ ln + 1 → cn ≤ cn' → lp' ≡ lp + 1 → cp ≤ cp' → ce ≤ ce'
+    → five (cr - lr) (m - lr) (cn - ln) (cp - lp) (ce - lr) ≤ five (cr' - lr') (m - lr') (cn' - ln') (cp' - lp') (ce' - lr') + 1
 pushed m lr cr lr' cr' ln cn ln' cn' lp cp lp' cp' ce ce' r rc n nc p pc ec =
     let s = five (cr - lr) (m - lr) (cn - ln) (cp - lp) (ce - lr) in
     let f = of_five (cr - lr) (m - lr) (cn - ln) (cp - lp) (ce - lr) in
-    more_five s (cr' - lr') (m - lr') (cn' - ln') (cp' - lp') (ce' - lr') (grown s lr cr lr' cr' r rc f.0) (grown s lr m lr' m r (itself m) f.1) (grown s ln cn ln' cn' n nc f.2) (grown s lp cp lp' cp' p pc f.3) (grown s lr ce lr' ce' r ec f.4)
+    more_five s (cr' - lr') (m - lr') (cn' - ln') (cp' - lp') (ce' - lr') (grown s lr cr lr' cr' r rc f.0) (grown s lr m lr' m r (itself m) f.1) (grown s ln cn ln' cn' n nc f.2)
+    (grown s lp cp lp' cp' p pc f.3) (grown s lr ce lr' ce' r ec f.4)
 
-pub cleared : (n m lr cr lr' cr' ln cn ln' cn' lp cp lp' cp' ce ce' : ℕ) → lr ≡ n → ln ≡ n → lp ≡ n → n ≤ cr → n ≤ m → n ≤ cn → n ≤ cp → n ≤ ce → lr' ≡ 0 → ln' ≡ 0 → lp' ≡ 0 → cr ≤ cr' → cn ≤ cn' → cp ≤ cp' → ce ≤ ce' → n + five (cr - lr) (m - lr) (cn - ln) (cp - lp) (ce - lr) ≤ five (cr' - lr') (m - lr') (cn' - ln') (cp' - lp') (ce' - lr')
+pub cleared : (n m lr cr lr' cr' ln cn ln' cn' lp cp lp' cp' ce ce' : ℕ) → lr ≡ n → ln ≡ n → lp ≡ n → n ≤ cr → n ≤ m → n ≤ cn → n ≤ cp → n ≤ ce → lr' ≡ 0 → ln' ≡ 0 → lp' ≡ 0 → cr ≤ cr' → cn ≤ cn'
+    → cp ≤ cp' → ce ≤ ce' → n + five (cr - lr) (m - lr) (cn - ln) (cp - lp) (ce - lr) ≤ five (cr' - lr') (m - lr') (cn' - ln') (cp' - lp') (ce' - lr')
 cleared n m lr cr lr' cr' ln cn ln' cn' lp cp lp' cp' ce ce' r nx p kr km kn kp ke zr zn zp cr-le cn-le cp-le ce-le =
     let s = five (cr - lr) (m - lr) (cn - ln) (cp - lp) (ce - lr) in
     let f = of_five (cr - lr) (m - lr) (cn - ln) (cp - lp) (ce - lr) in
-    all_five (n + s) (cr' - lr') (m - lr') (cn' - ln') (cp' - lp') (ce' - lr') (emptied n s lr cr lr' cr' r kr zr cr-le f.0) (emptied n s lr m lr' m r km zr (itself m) f.1) (emptied n s ln cn ln' cn' nx kn zn cn-le f.2) (emptied n s lp cp lp' cp' p kp zp cp-le f.3) (emptied n s lr ce lr' ce' r ke zr ce-le f.4)
+    all_five (n + s) (cr' - lr') (m - lr') (cn' - ln') (cp' - lp') (ce' - lr') (emptied n s lr cr lr' cr' r kr zr cr-le f.0) (emptied n s lr m lr' m r km zr (itself m) f.1)
+    (emptied n s ln cn ln' cn' nx kn zn cn-le f.2) (emptied n s lp cp lp' cp' p kp zp cp-le f.3) (emptied n s lr ce lr' ce' r ke zr ce-le f.4)

@@ -21,7 +21,10 @@ module _ {S : Type 0} (rows nexts priors : List (Option ℕ)) (before after : In
   at = ends_at digest before.entries
 
   -- a place is marked at the end
-  module _ (rows' nexts' priors' : List (Option ℕ)) (r : rows' ≡ rows ++ Some digest ∷ []) (n : nexts' ≡ set_at (ends_at digest before.entries).last (Some (length rows)) nexts ++ None ∷ []) (p : priors' ≡ priors ++ (ends_at digest before.entries).last ∷ []) (e : (q : ℕ) → ends_at q after.entries ≡ cond (nat_eq digest q) (ends_with (length rows) (ends_at digest before.entries)) (ends_at q before.entries)) (few : length after.entries ≤ length before.entries + 1) (cap : capacity before ≤ capacity after) (room : length rows < capacity before) (most : length rows < most_places) where
+  module _ (rows' nexts' priors' : List (Option ℕ)) (r : rows' ≡ rows ++ Some digest ∷ []) (n : nexts' ≡ set_at (ends_at digest before.entries).last (Some (length rows)) nexts ++ None ∷ [])
+      (p : priors' ≡ priors ++ (ends_at digest before.entries).last ∷ [])
+      (e : (q : ℕ) → ends_at q after.entries ≡ cond (nat_eq digest q) (ends_with (length rows) (ends_at digest before.entries)) (ends_at q before.entries))
+      (few : length after.entries ≤ length before.entries + 1) (cap : capacity before ≤ capacity after) (room : length rows < capacity before) (most : length rows < most_places) where
     more : (q : ℕ) → mark_at rows' q ≡ cond (nat_eq (length rows) q) (Some digest) (mark_at rows q)
     more q = ap (λ x. mark_at x q) r ∙ mark_at-push rows (length rows) q (Some digest) refl
 
@@ -51,12 +54,14 @@ module _ {S : Type 0} (rows nexts priors : List (Option ℕ)) (before after : In
 
     links : IsLinked (mark_at rows') (mark_at nexts') (mark_at priors') (λ d. ends_at d after.entries) (length rows + 1)
     links =
-        pushed (mark_at rows) (mark_at rows') (mark_at nexts) (mark_at nexts') (mark_at priors) (mark_at priors') (λ d. ends_at d before.entries) (λ d. ends_at d after.entries) (length rows) digest is.linked (λ q d h. within rows q d h) more old_next (next_at (length rows) ∙ rw (is_itself (length rows)) refl) old_prior (prior_at (length rows) ∙ rw (is_itself (length rows)) refl) e
+        pushed (mark_at rows) (mark_at rows') (mark_at nexts) (mark_at nexts') (mark_at priors) (mark_at priors') (λ d. ends_at d before.entries) (λ d. ends_at d after.entries) (length rows) digest
+        is.linked (λ q d h. within rows q d h) more old_next (next_at (length rows) ∙ rw (is_itself (length rows)) refl) old_prior (prior_at (length rows) ∙ rw (is_itself (length rows)) refl) e
 
     counts : (q : ℕ) → (ends_at q after.entries).count ≡ count_of q rows'
     counts q = ap (λ x. x.count) (e q) ∙ (by (same_or digest q) ∙ ap (count_of q) (sym r))
       where
-        by : (digest ≡ q) ⊎ (nat_eq digest q ≡ false) → (cond (nat_eq digest q) (ends_with (length rows) (ends_at digest before.entries)) (ends_at q before.entries)).count ≡ count_of q (rows ++ Some digest ∷ [])
+        by : (digest ≡ q) ⊎ (nat_eq digest q ≡ false) → (cond (nat_eq digest q) (ends_with (length rows) (ends_at digest before.entries)) (ends_at q before.entries)).count ≡ count_of q
+            (rows ++ Some digest ∷ [])
         by (inl s) =
             let here : (cond (nat_eq digest digest) (ends_with (length rows) (ends_at digest before.entries)) (ends_at digest before.entries)).count ≡ count_of digest (rows ++ Some digest ∷ []) = (
             let c = count-push digest digest rows in
@@ -105,7 +110,10 @@ module _ {S : Type 0} (rows nexts priors : List (Option ℕ)) (before after : In
         let k = is.counted digest in
         omega (arith, c, k)
 
-    module _ (rows' nexts' priors' : List (Option ℕ)) (r : rows' ≡ slice_set rows place None) (n : nexts' ≡ set_at (mark_at priors place) (mark_at nexts place) nexts) (p : priors' ≡ set_at (mark_at nexts place) (mark_at priors place) priors) (e : (q : ℕ) → ends_at q after.entries ≡ cond (nat_eq digest q) (ends_without (mark_at priors place) (mark_at nexts place) (ends_at digest before.entries)) (ends_at q before.entries)) (few : length after.entries ≤ length before.entries) (cap : capacity before ≤ capacity after) where
+    module _ (rows' nexts' priors' : List (Option ℕ)) (r : rows' ≡ slice_set rows place None) (n : nexts' ≡ set_at (mark_at priors place) (mark_at nexts place) nexts)
+        (p : priors' ≡ set_at (mark_at nexts place) (mark_at priors place) priors)
+        (e : (q : ℕ) → ends_at q after.entries ≡ cond (nat_eq digest q) (ends_without (mark_at priors place) (mark_at nexts place) (ends_at digest before.entries)) (ends_at q before.entries))
+        (few : length after.entries ≤ length before.entries) (cap : capacity before ≤ capacity after) where
       gone : (q : ℕ) → mark_at rows' q ≡ cond (nat_eq place q) None (mark_at rows q)
       gone q = ap (λ x. mark_at x q) r ∙ mark_at-set rows place q None (within rows place digest here)
 
@@ -125,19 +133,24 @@ module _ {S : Type 0} (rows nexts priors : List (Option ℕ)) (before after : In
 
       links' : IsLinked (mark_at rows') (mark_at nexts') (mark_at priors') (λ d. ends_at d after.entries) (length rows)
       links' =
-          removed (mark_at rows) (mark_at rows') (mark_at nexts) (mark_at nexts') (mark_at priors) (mark_at priors') (λ d. ends_at d before.entries) (λ d. ends_at d after.entries) (length rows) place digest is.linked (λ q d h. within rows q d h) here gone (λ q. ap (λ x. mark_at x q) n ∙ mark_at-set_at nexts (mark_at priors place) (mark_at nexts place) q prior_within) (λ q. ap (λ x. mark_at x q) p ∙ mark_at-set_at priors (mark_at nexts place) (mark_at priors place) q next_within) e
+          removed (mark_at rows) (mark_at rows') (mark_at nexts) (mark_at nexts') (mark_at priors) (mark_at priors') (λ d. ends_at d before.entries) (λ d. ends_at d after.entries) (length rows) place
+          digest is.linked (λ q d h. within rows q d h) here gone (λ q. ap (λ x. mark_at x q) n ∙ mark_at-set_at nexts (mark_at priors place) (mark_at nexts place) q prior_within)
+          (λ q. ap (λ x. mark_at x q) p ∙ mark_at-set_at priors (mark_at nexts place) (mark_at priors place) q next_within) e
 
       counts' : (q : ℕ) → (ends_at q after.entries).count ≡ count_of q rows'
       counts' q = ap (λ x. x.count) (e q) ∙ (by (same_or digest q) ∙ ap (count_of q) (sym r))
         where
-          by : (digest ≡ q) ⊎ (nat_eq digest q ≡ false) → (cond (nat_eq digest q) (ends_without (mark_at priors place) (mark_at nexts place) (ends_at digest before.entries)) (ends_at q before.entries)).count ≡ count_of q (slice_set rows place None)
+          by : (digest ≡ q) ⊎ (nat_eq digest q ≡ false) → (cond (nat_eq digest q) (ends_without (mark_at priors place) (mark_at nexts place) (ends_at digest before.entries))
+              (ends_at q before.entries)).count ≡ count_of q (slice_set rows place None)
           by (inl s) =
-              let there : (cond (nat_eq digest digest) (ends_without (mark_at priors place) (mark_at nexts place) (ends_at digest before.entries)) (ends_at digest before.entries)).count ≡ count_of digest (slice_set rows place None) = (
+              let there : (cond (nat_eq digest digest) (ends_without (mark_at priors place) (mark_at nexts place) (ends_at digest before.entries)) (ends_at digest before.entries)).count ≡ count_of
+              digest (slice_set rows place None) = (
               let y = is_itself digest in
               let c = rw y at (count-remove digest digest rows place here) in
               let k = is.counted digest in
               rw y (omega (arith, c, k))) in
-              subst (λ x. (cond (nat_eq digest x) (ends_without (mark_at priors place) (mark_at nexts place) (ends_at digest before.entries)) (ends_at x before.entries)).count ≡ count_of x (slice_set rows place None)) s there
+              subst (λ x. (cond (nat_eq digest x) (ends_without (mark_at priors place) (mark_at nexts place) (ends_at digest before.entries)) (ends_at x before.entries)).count ≡ count_of x
+              (slice_set rows place None)) s there
           by (inr s) =
               let t = tells q digest (λ u. apart digest q s (sym u)) in
               let c = rw t at (count-remove q digest rows place here) in

@@ -38,7 +38,7 @@ use Rattle.ps_types.specs.Address.{IsAddress}
 use Rattle.ps_types.specs.declared.jid.Jid.{Jid}
 use Rattle.ps_types.specs.declared.node.NodeKey.{NodeKey}
 use Rattle.ps_types.proofs.Lowered.{spelled-is}
-use Rattle.ps_model.specs.Stanza.{jid_of}
+use Rattle.ps_model.specs.requests.Stanza.{jid_of}
 use Rattle.ps_model.proofs.Splits.{jid-spelled}
 use Rattle.ps_args.specs.Words.{are_two, command_of as first_of, host_of, if_between, number_between, number_in}
 use Rattle.ps_commands.specs.Words.{

@@ -2,7 +2,7 @@
 use Rattle.std.specs.Prelude.{◌≡◌, ◌≢◌, ◌<◌, ◌≤◌, ◌^◌, ℕ, []}
 use Rattle.ps_types.specs.Address.{IsAddress}
 use Rattle.ps_types.specs.declared.node.NodeKey.{NodeKey}
-use Rattle.ps_model.specs.Entries.{IsHostName}
+use Rattle.ps_model.specs.store.Entries.{IsHostName}
 use Rattle.ps_args.specs.Well.{IsWellCompacted, IsWellRehearsed, IsWellServed}
 use Rattle.ps_commands.specs.declared.command.Command.{Command}
 use Rattle.ps_commands.specs.declared.command.Command.TheVariants.{Serve, Rehearse, Compact, Explain, Readers, Feed, Follow, Mirror}

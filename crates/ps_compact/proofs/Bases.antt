@@ -18,13 +18,13 @@ use Rattle.ps_compact_laws.proofs.ServesOn.{base-serves-on}
 use Rattle.ps_model.proofs.Ordered.{each-sorted}
 use Rattle.ps_compact_laws.proofs.Sorting.{told-apart}
 use Rattle.ps_compact_laws.proofs.TallyRows.{lawful-bares}
-use Rattle.ps_model.specs.Base.{base, book_rows, counter_rows, told_addresses, unhanded}
+use Rattle.ps_model.specs.store.Base.{base, book_rows, counter_rows, told_addresses, unhanded}
 use Rattle.ps_types.specs.Address.{IsAddress}
-use Rattle.ps_model.specs.BaseAfter.{is_notice_line}
+use Rattle.ps_model.specs.store.BaseAfter.{is_notice_line}
 use Rattle.ps_model.specs.Book.{State}
-use Rattle.ps_model.specs.Entries.{AreEntries}
+use Rattle.ps_model.specs.store.Entries.{AreEntries}
 use Rattle.ps_model.specs.Replay.{lawful, replay}
-use Rattle.ps_model.specs.TheCore.{the_core}
+use Rattle.ps_model.specs.machine.TheCore.{the_core}
 use Rattle.ps_outbox.specs.Boxes.{queue}
 use Rattle.ps_record.specs.Formed.{AreFormed}
 use Rattle.ps_compact_export.specs.Written.{written}

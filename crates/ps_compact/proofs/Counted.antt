@@ -40,7 +40,7 @@ use Rattle.ps_types.specs.declared.jid.Jid.{Jid}
 use Rattle.ps_types.specs.declared.rows.CountRow.{CountRow}
 use Rattle.ps_types.specs.declared.rows.TallyRow.{TallyRow}
 use Rattle.ps_book_laws.proofs.Keys.{each-both}
-use Rattle.ps_model.specs.BaseRows.{BaseRow}
+use Rattle.ps_model.specs.store.BaseRows.{BaseRow}
 use Rattle.ps_model.specs.Tallies.{handed_in, is_tally_of}
 use Rattle.ps_compact_export.specs.Written.{written}
 use Rattle.ps_rows.specs.Standing.{standing}

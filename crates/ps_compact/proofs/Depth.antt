@@ -17,14 +17,14 @@ use Rattle.ps_types.specs.declared.rows.ItemRow.{ItemRow}
 use Rattle.ps_types.specs.declared.rows.NodeRow.{NodeRow}
 use Rattle.ps_types.specs.declared.rows.TallyRow.{TallyRow}
 use Rattle.ps_book_laws.proofs.Keys.{each-both}
-use Rattle.ps_model.specs.Base.{base, book_rows, counter_by, counter_rows, notice_rows, rows_of, told_addresses, unhanded, unlinked}
+use Rattle.ps_model.specs.store.Base.{base, book_rows, counter_by, counter_rows, notice_rows, rows_of, told_addresses, unhanded, unlinked}
 use Rattle.ps_model.specs.Tallies.{handed_to}
 use Rattle.ps_types.specs.declared.entry.Entry.TheVariants.{Base}
-use Rattle.ps_model.specs.BaseAfter.{is_early, is_shallow}
-use Rattle.ps_model.specs.BaseRows as kind
-use Rattle.ps_model.specs.BaseRows.{BaseRow, feature_nodes, group_nodes, group_words, row_tree}
+use Rattle.ps_model.specs.store.BaseAfter.{is_early, is_shallow}
+use Rattle.ps_model.specs.store.BaseRows as kind
+use Rattle.ps_model.specs.store.BaseRows.{BaseRow, feature_nodes, group_nodes, group_words, row_tree}
 use Rattle.ps_model.specs.Book.{Book, empty_state}
-use Rattle.ps_model.specs.NoticeTrees.{payload_nodes}
+use Rattle.ps_model.specs.notices.NoticeTrees.{payload_nodes}
 use Rattle.ps_model.specs.Replay.{replay_from}
 use Rattle.ps_record.specs.Formed.{AreFormed}
 

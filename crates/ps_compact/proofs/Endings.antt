@@ -7,9 +7,9 @@ use Rattle.ps_disk.proofs.Moments.{weaker}
 use Rattle.ps_types.specs.declared.entry.Entry.{Entry}
 use Rattle.ps_compact_laws.specs.Laws.{ServesOn}
 use Rattle.ps_journal.specs.Left.{LeavesList}
-use Rattle.ps_model.specs.At.{IsDamagedAt, IsStore}
-use Rattle.ps_model.specs.Base.{base}
-use Rattle.ps_model.specs.Entries.{AreEntries}
+use Rattle.ps_model.specs.store.At.{IsDamagedAt, IsStore}
+use Rattle.ps_model.specs.store.Base.{base}
+use Rattle.ps_model.specs.store.Entries.{AreEntries}
 use Rattle.ps_model.proofs.OneList.{one_list}
 use Rattle.ps_hall_open.specs.Reads.{ReadNot}
 use Rattle.ps_hall_open.specs.declared.opened.ReadWhy.{ReadWhy}

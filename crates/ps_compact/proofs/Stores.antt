@@ -7,8 +7,8 @@ use Rattle.ps_disk.specs.Disk.{LeavesOnly, MayLeave}
 use Rattle.ps_disk.proofs.TornWrites.{only_synced}
 use Rattle.ps_journal.specs.Settled.{IsQuiet}
 use Rattle.ps_disk.proofs.Moments.{then_on, weaker}
-use Rattle.ps_model.specs.Entries.{body, spelling}
-use Rattle.ps_model.specs.Store.{AreBodies, gate_at, joined, spelled}
+use Rattle.ps_model.specs.store.Entries.{body, spelling}
+use Rattle.ps_model.specs.store.Store.{AreBodies, gate_at, joined, spelled}
 use Rattle.ps_model.proofs.OneList.{one_frames, one_list, starts}
 use Rattle.ps_journal.specs.declared.judging.Placed.{Placed}
 use Rattle.ps_journal.specs.declared.opening.JournalWhy.{JournalWhy}

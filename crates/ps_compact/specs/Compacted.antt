@@ -4,10 +4,10 @@ use Rattle.ps_disk.specs.Disk.{MayLeave}
 use Rattle.ps_types.specs.declared.entry.Entry.{Entry}
 use Rattle.ps_compact_laws.specs.Laws.{ServesOn}
 use Rattle.ps_journal.specs.Left.{LeavesList}
-use Rattle.ps_model.specs.At.{IsStore}
-use Rattle.ps_model.specs.Base.{base}
-use Rattle.ps_model.specs.Entries.{AreEntries, body}
-use Rattle.ps_model.specs.Store.{spelled}
+use Rattle.ps_model.specs.store.At.{IsStore}
+use Rattle.ps_model.specs.store.Base.{base}
+use Rattle.ps_model.specs.store.Entries.{AreEntries, body}
+use Rattle.ps_model.specs.store.Store.{spelled}
 use Rattle.ps_compact.specs.declared.compacting.CompactOutcome.{CompactOutcome}
 use Rattle.ps_compact.specs.declared.compacting.CompactOutcome.TheVariants.{Done, Damaged, Store, Occupied, Full, Memory}
 

@@ -8,8 +8,8 @@ use Rattle.ps_types.specs.declared.entry.Notice.{Notice}
 use Rattle.ps_types.specs.declared.jid.Jid.{Jid}
 use Rattle.ps_types.specs.declared.rows.TallyRow.{TallyRow}
 use Rattle.ps_book_laws.specs.Keys.{AreApart}
-use Rattle.ps_model.specs.Base.{book_rows, counter_by, counter_rows, told_addresses}
-use Rattle.ps_model.specs.BaseRows.{BaseRow, notice}
+use Rattle.ps_model.specs.store.Base.{book_rows, counter_by, counter_rows, told_addresses}
+use Rattle.ps_model.specs.store.BaseRows.{BaseRow, notice}
 use Rattle.ps_model.specs.Book.{State}
 use Rattle.ps_model.specs.Tallies.{handed_to}
 use Rattle.ps_outbox.specs.Boxes.{queue}

@@ -2,7 +2,7 @@
 use Rattle.std.specs.Prelude.{◌≡◌, ℕ, ◌⊎◌, ◌≤◌, ◌^◌, List, []}
 use Rattle.ps_types.specs.declared.entry.Entry.{Entry}
 use Rattle.ps_disk.specs.Disk.{MayLeave}
-use Rattle.ps_model.specs.Store.{spelled}
+use Rattle.ps_model.specs.store.Store.{spelled}
 use Rattle.ps_compact.specs.Compacted.{IsStillEmpty, bytes_with}
 use Rattle.ps_compact.specs.declared.writing.WriteWhy.{WriteWhy}
 use Rattle.ps_compact.specs.declared.writing.WriteWhy.TheVariants.{Full, Memory, Occupied, Store}

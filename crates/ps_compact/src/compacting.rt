@@ -8,9 +8,9 @@ ghost use Rattle.ps_compact.specs.Stores.{IsWrittenNew, KeepsNew, LeftEmptyOrWho
 ghost use Rattle.ps_disk.specs.Disk.{LeavesOnly, MayLeave};
 ghost use Rattle.ps_journal.specs.Left.{LeavesList};
 ghost use Rattle.ps_journal.specs.Opened.{IsShortIfUnbegun};
-ghost use Rattle.ps_model.specs.At.{IsDamagedAt};
-ghost use Rattle.ps_model.specs.Base.{base};
-ghost use Rattle.ps_model.specs.Store.{spelled};
+ghost use Rattle.ps_model.specs.store.At.{IsDamagedAt};
+ghost use Rattle.ps_model.specs.store.Base.{base};
+ghost use Rattle.ps_model.specs.store.Store.{spelled};
 ghost use Rattle.ps_hall_open.specs.Reads.{ListIsKept, entries_of};
 
 use crate::listing::base_batch;

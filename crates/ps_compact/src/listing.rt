@@ -3,8 +3,8 @@ ghost use Rattle.std.specs.Prelude.{◌≡◌, ◌<◌, ◌^◌, IfOk, IsErrOf, 
 ghost use Rattle.ps_compact_laws.specs.Laws.{ServesOn};
 ghost use Rattle.ps_compact.specs.Few.{AreHanded};
 ghost use Rattle.ps_compact.specs.Rows.{AreListed, rows_left};
-ghost use Rattle.ps_model.specs.Base.{base};
-ghost use Rattle.ps_model.specs.Entries.{body};
+ghost use Rattle.ps_model.specs.store.Base.{base};
+ghost use Rattle.ps_model.specs.store.Entries.{body};
 ghost use Rattle.ps_hall_open.specs.Reads.{ListIsKept, entries_of};
 ghost use Rattle.ps_compact_export.specs.Written.{written};
 

@@ -7,11 +7,11 @@ use Rattle.ps_types.specs.Items.{item_at, item_count}
 use Rattle.ps_types.specs.Nodes.{config_at, stands}
 use Rattle.ps_types.specs.declared.config.NodeConfig.{NodeConfig}
 use Rattle.ps_types.specs.declared.rows.ItemRow.{ItemRow}
-use Rattle.ps_model.specs.BaseAfter.{accepts_row, has_place, is_bare, is_early, is_number, is_shallow, is_well_formed, takes_item}
-use Rattle.ps_model.specs.BaseRead.{row_of}
-use Rattle.ps_model.specs.BaseRows.{BaseRow, node, affiliation, subscription, item, link, contact, ver, made, counter, notice}
+use Rattle.ps_model.specs.store.BaseAfter.{accepts_row, has_place, is_bare, is_early, is_number, is_shallow, is_well_formed, takes_item}
+use Rattle.ps_model.specs.store.BaseRead.{row_of}
+use Rattle.ps_model.specs.store.BaseRows.{BaseRow, node, affiliation, subscription, item, link, contact, ver, made, counter, notice}
 use Rattle.ps_model.specs.Book.{Book, State}
-use Rattle.ps_model.specs.CheckForms.{is_collection}
+use Rattle.ps_model.specs.requests.CheckForms.{is_collection}
 use Rattle.ps_model.specs.Replay.{row_accepted}
 use Rattle.ps_model.specs.Tallies.{made_for}
 use Rattle.ps_compact_codec.specs.Held.{has_held_numbers, if_held, is_held, is_held_moment}

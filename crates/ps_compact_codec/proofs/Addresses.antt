@@ -4,7 +4,7 @@ use Rattle.ps_types.specs.Address.{Parts, Spells, address_of}
 use Rattle.ps_types.specs.Cutting.{parts_from}
 use Rattle.ps_types.specs.declared.jid.Jid.{Jid}
 use Rattle.ps_types.proofs.AddressLaws.{spells-from}
-use Rattle.ps_model.specs.Stanza.{jid_of}
+use Rattle.ps_model.specs.requests.Stanza.{jid_of}
 use Rattle.ps_model.proofs.Spelling.{spells-jid}
 
 none-step : (text : List ℕ) (found : Option Parts) → parts_from text ≡ found → ((j : Jid) → Spells text j → ⊥) → option_map address_of found ≡ None

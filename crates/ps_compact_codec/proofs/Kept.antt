@@ -6,8 +6,8 @@ use Rattle.std.specs.Str.Parse.{digits_value}
 use Rattle.ps_types.specs.Print.{print}
 use Rattle.ps_types.specs.Shape.{attr_text, children_of, tree_text, trees_of}
 use Rattle.ps_types.specs.Tree.{Tree, attr_of, is_named}
-use Rattle.ps_model.specs.BaseFields.{◌>>=◌, roster_choices, depth_choices, type_choices, chosen, jid_at, number_at, key_at, config_at, first_in}
-use Rattle.ps_model.specs.BaseRows.{BaseRow, node, affiliation, subscription, item, link, contact, ver, made, counter, notice, base_ns, row_tree}
+use Rattle.ps_model.specs.store.BaseFields.{◌>>=◌, roster_choices, depth_choices, type_choices, chosen, jid_at, number_at, key_at, config_at, first_in}
+use Rattle.ps_model.specs.store.BaseRows.{BaseRow, node, affiliation, subscription, item, link, contact, ver, made, counter, notice, base_ns, row_tree}
 use Rattle.ps_model.specs.Words.{affil_of, sub_of}
 use Rattle.ps_compact_codec.specs.Held.{has_held_numbers, held_row_of, if_held, is_held, is_held_moment}
 use Rattle.ps_compact_codec.specs.Kinds.{features_in, held_moment, held_number, if_written_as, row_in}

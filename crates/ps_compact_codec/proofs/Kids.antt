@@ -2,7 +2,7 @@
 use Rattle.std.proofs.Common.{◌≡◌, ℕ, List, [], ◌∷◌, map, refl, ap}
 use Rattle.ps_types.specs.Shape.{holding}
 use Rattle.ps_types.specs.Tree.{Nodes, branch}
-use Rattle.ps_model.specs.BaseRows.{feature_nodes, group_nodes}
+use Rattle.ps_model.specs.store.BaseRows.{feature_nodes, group_nodes}
 use Rattle.ps_compact_codec.specs.Trees.{feature_tree, group_tree}
 
 pub groups-held : (gs : List (List ℕ)) → holding (map group_tree gs) ≡ group_nodes gs

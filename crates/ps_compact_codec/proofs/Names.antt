@@ -4,7 +4,7 @@ use Rattle.std.specs.Prelude.{codes, ◌&&◌}
 use Rattle.std.specs.Str.{bytes_eq}
 use Rattle.std.proofs.lemmas.Slice.Eq.{bytes_eq-Decides}
 use Rattle.ps_types.specs.Tree.{Tree, name_of, ns_of, is_named}
-use Rattle.ps_model.specs.BaseRows.{BaseRow, base_ns}
+use Rattle.ps_model.specs.store.BaseRows.{BaseRow, base_ns}
 use Rattle.ps_compact_codec.specs.Kinds.{row_in}
 
 differs : (b : Bool) (x y : List ℕ) → bytes_eq x y ≡ b → x ≢ y → b ≡ false

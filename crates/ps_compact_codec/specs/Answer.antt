@@ -1,6 +1,6 @@
 -- What a reader of a row, or of a part of one, answers. Where memory ran out it says nothing.
 use Rattle.std.specs.Prelude.{◌≡◌, Option, Some, None, Result, Ok, Err}
-use Rattle.ps_model.specs.BaseRows.{BaseRow}
+use Rattle.ps_model.specs.store.BaseRows.{BaseRow}
 use Rattle.ps_config.specs.declared.read.ConfigRefusal.{ConfigRefusal}
 use Rattle.ps_config.specs.declared.read.ConfigRefusal.TheVariants as config
 use Rattle.ps_forms.specs.declared.read.FormRefusal.{FormRefusal}

@@ -1,8 +1,8 @@
 -- The row that a tree is, where its numbers are such as the program holds: below 2^64.
 use Rattle.std.specs.Prelude.{ℕ, Bool, true, ◌^◌, nat_lt, Option, Some, None, option_and_then, if◌then◌else◌}
 use Rattle.ps_types.specs.Tree.{Tree}
-use Rattle.ps_model.specs.BaseRead.{row_of}
-use Rattle.ps_model.specs.BaseRows.{BaseRow, node, affiliation, subscription, item, link, contact, ver, made, counter, notice}
+use Rattle.ps_model.specs.store.BaseRead.{row_of}
+use Rattle.ps_model.specs.store.BaseRows.{BaseRow, node, affiliation, subscription, item, link, contact, ver, made, counter, notice}
 
 abbrev pub is_held : ℕ → Bool
 is_held n = nat_lt n (2 ^ 64)

@@ -1,7 +1,7 @@
 -- No State accepts a row whose numbers aren't below 2^64.
 use Rattle.std.specs.Prelude.{◌≡◌, true}
 use Rattle.ps_types.specs.Tree.{Tree}
-use Rattle.ps_model.specs.BaseRead.{row_of}
+use Rattle.ps_model.specs.store.BaseRead.{row_of}
 use Rattle.ps_model.specs.Book.{State}
 use Rattle.ps_model.specs.Replay.{row_accepted}
 use Rattle.ps_compact_codec.specs.Held.{held_row_of}

@@ -1,6 +1,6 @@
 -- The row of the model that a row is.
-use Rattle.ps_model.specs.BaseRows as base
-use Rattle.ps_model.specs.BaseRows.{BaseRow}
+use Rattle.ps_model.specs.store.BaseRows as base
+use Rattle.ps_model.specs.store.BaseRows.{BaseRow}
 use Rattle.ps_compact_codec.specs.declared.row.StoredRow.{StoredRow}
 use Rattle.ps_compact_codec.specs.declared.row.StoredRow.TheVariants.{Node, Affiliation, Subscription, Item, Link, Contact, Ver, Made, Counter, Notice}
 

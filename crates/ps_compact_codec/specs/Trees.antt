@@ -3,8 +3,8 @@ use Rattle.std.specs.Prelude.{ℕ, List, [], Option, Some, None, codes, decimal}
 use Rattle.ps_types.specs.declared.attrs.Attr.{Attr}
 use Rattle.ps_types.specs.Attrs.{with_attr}
 use Rattle.ps_types.specs.Tree.{Tree, none}
-use Rattle.ps_model.specs.BaseRows.{group_words, row}
-use Rattle.ps_model.specs.NoticeTrees.{one}
+use Rattle.ps_model.specs.store.BaseRows.{group_words, row}
+use Rattle.ps_model.specs.notices.NoticeTrees.{one}
 
 -- the attributes with the moment, if there is one
 abbrev pub with_moment : Option ℕ → List Attr → List Attr

@@ -3,7 +3,7 @@ ghost use Rattle.std.specs.Prelude.{◌≡◌, ◌≢◌, [], IfOk, OnOk, decima
 ghost use Rattle.ps_types.specs.Address.{jid_text};
 ghost use Rattle.ps_types.specs.Attrs.{with_attr};
 ghost use Rattle.ps_types.specs.Elem.{nodes};
-ghost use Rattle.ps_model.specs.BaseRows as model;
+ghost use Rattle.ps_model.specs.store.BaseRows as model;
 
 use ps_base::Memory;
 use ps_names::{element, put};

@@ -3,9 +3,9 @@ ghost use Rattle.std.specs.Prelude.{◌≡◌, IfOk, OnOk};
 ghost use Rattle.ps_types.specs.Config as configs;
 ghost use Rattle.ps_types.specs.Elem.{nodes};
 ghost use Rattle.ps_types.specs.Forms as forms;
-ghost use Rattle.ps_model.specs.BaseRows as base;
-ghost use Rattle.ps_model.specs.BaseRows.{row_tree};
-ghost use Rattle.ps_model.specs.NoticeTrees.{payload_nodes};
+ghost use Rattle.ps_model.specs.store.BaseRows as base;
+ghost use Rattle.ps_model.specs.store.BaseRows.{row_tree};
+ghost use Rattle.ps_model.specs.notices.NoticeTrees.{payload_nodes};
 ghost use Rattle.ps_compact_codec.specs.Trees.{with_moment};
 
 use crate::build::{put_jid, put_number, row};

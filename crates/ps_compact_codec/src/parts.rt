@@ -3,7 +3,7 @@ ghost use Rattle.std.specs.Prelude.{◌≡◌, codes, option_map, IfOk, IsErrOf}
 ghost use Rattle.ps_types.specs.Elem.{nodes};
 ghost use Rattle.ps_types.specs.Shape.{trees_in, trees_of};
 ghost use Rattle.ps_types.specs.Tree.{attr_of};
-ghost use Rattle.ps_model.specs.BaseFields as fields;
+ghost use Rattle.ps_model.specs.store.BaseFields as fields;
 ghost use Rattle.ps_compact_codec.specs.Answer.{Gives};
 ghost use Rattle.ps_compact_codec.specs.Kinds.{features_in, held_moment, held_number};
 

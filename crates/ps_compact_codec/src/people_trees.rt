@@ -1,8 +1,8 @@
 // The rows of people, as trees: contacts, verified capability strings, and what is told beside the tables.
 ghost use Rattle.std.specs.Prelude.{◌≡◌, IfOk};
 ghost use Rattle.ps_types.specs.Elem.{nodes};
-ghost use Rattle.ps_model.specs.BaseRows as base;
-ghost use Rattle.ps_model.specs.BaseRows.{feature_nodes, group_nodes, group_words, row_tree};
+ghost use Rattle.ps_model.specs.store.BaseRows as base;
+ghost use Rattle.ps_model.specs.store.BaseRows.{feature_nodes, group_nodes, group_words, row_tree};
 ghost use Rattle.ps_compact_codec.specs.Trees as trees;
 
 use crate::build::{put_jid, put_number, row};

@@ -2,7 +2,7 @@
 ghost use Rattle.std.specs.Prelude.{◌≡◌, option_map, IfOk};
 ghost use Rattle.std.specs.Str.{bytes_eq};
 ghost use Rattle.ps_types.specs.Print.{print};
-ghost use Rattle.ps_model.specs.BaseRows as base;
+ghost use Rattle.ps_model.specs.store.BaseRows as base;
 ghost use Rattle.ps_compact_codec.specs.Answer.{Tells};
 ghost use Rattle.ps_compact_codec.specs.Held.{held_row_of};
 ghost use Rattle.ps_compact_codec.specs.Kinds.{row_in};

@@ -1,6 +1,6 @@
 // A row of any kind, as a tree.
 ghost use Rattle.std.specs.Prelude.{◌≡◌, IfOk};
-ghost use Rattle.ps_model.specs.BaseRows as base;
+ghost use Rattle.ps_model.specs.store.BaseRows as base;
 ghost use Rattle.ps_compact_codec.specs.Said.{row_said};
 
 use crate::node_trees::{affil_tree, count_tree, item_tree, link_tree, node_tree, sub_tree};

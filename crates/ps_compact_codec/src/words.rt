@@ -1,8 +1,8 @@
 // The words of a row, and what they stand for.
 ghost use Rattle.std.specs.Prelude.{◌≡◌};
 ghost use Rattle.ps_types.specs.Values.{choice_of};
-ghost use Rattle.ps_model.specs.BaseFields.{depth_choices, roster_choices, type_choices};
-ghost use Rattle.ps_model.specs.BaseRows as model;
+ghost use Rattle.ps_model.specs.store.BaseFields.{depth_choices, roster_choices, type_choices};
+ghost use Rattle.ps_model.specs.store.BaseRows as model;
 ghost use Rattle.ps_model.specs.Words as words;
 
 use ps_types::{Affil, RosterState, SubState};

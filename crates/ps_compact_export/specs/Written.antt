@@ -2,7 +2,7 @@
 use Rattle.std.specs.Prelude.{List, [], ◌∷◌, map, Option, Some, None}
 use Rattle.ps_types.specs.declared.entry.Entry.{Entry}
 use Rattle.ps_types.specs.declared.entry.Entry.TheVariants as entry
-use Rattle.ps_model.specs.BaseRows.{BaseRow, row_tree}
+use Rattle.ps_model.specs.store.BaseRows.{BaseRow, row_tree}
 
 abbrev pub written : BaseRow → Entry
 written r = entry.Base (row_tree r)

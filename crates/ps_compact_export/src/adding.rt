@@ -1,8 +1,8 @@
 // The rows of a table, added to the entries.
 ghost use Rattle.std.specs.Prelude.{◌≡◌, ◌++◌, ◌∷◌, [], IfOk, OnOk, slice_get};
 ghost use Rattle.ps_types.specs.declared.entry.Entry.TheVariants as entry;
-ghost use Rattle.ps_model.specs.Base.{unlinked};
-ghost use Rattle.ps_model.specs.BaseRows as base;
+ghost use Rattle.ps_model.specs.store.Base.{unlinked};
+ghost use Rattle.ps_model.specs.store.BaseRows as base;
 ghost use Rattle.ps_nodes.specs.NodeRows.{row_seen};
 ghost use Rattle.ps_rows.specs.Standing.{standing};
 ghost use Rattle.ps_compact_export.specs.Written.{all_written, if_written};

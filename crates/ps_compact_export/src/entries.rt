@@ -1,7 +1,7 @@
 // The entries of all rows, and of what is told beside them.
 ghost use Rattle.std.specs.Prelude.{◌≡◌, IfOk, map};
-ghost use Rattle.ps_model.specs.Base.{book_rows};
-ghost use Rattle.ps_model.specs.BaseRows as base;
+ghost use Rattle.ps_model.specs.store.Base.{book_rows};
+ghost use Rattle.ps_model.specs.store.BaseRows as base;
 ghost use Rattle.ps_access.specs.Tables.{book_of};
 ghost use Rattle.ps_compact_export.specs.Written.{written};
 

@@ -1,6 +1,6 @@
 // The rows of the tables, each as the row of a compacted store that it is.
 ghost use Rattle.std.specs.Prelude.{◌≡◌, IfOk};
-ghost use Rattle.ps_model.specs.BaseRows as base;
+ghost use Rattle.ps_model.specs.store.BaseRows as base;
 
 use ps_base::Memory;
 use ps_compact_codec::{
@@ -12,7 +12,7 @@ use std::alloc::Global;
 /// A row of a table, of one kind of the rows of a compacted store.
 pub(crate) trait Rowed {
     ghost use Rattle.std.specs.Prelude.{◌≡◌, IfOk};
-    ghost use Rattle.ps_model.specs.BaseRows.{BaseRow, row_tree};
+    ghost use Rattle.ps_model.specs.store.BaseRows.{BaseRow, row_tree};
 
     ghost kind: { Self → BaseRow };
 

@@ -6,8 +6,8 @@ use Rattle.ps_types.specs.Tree.{Tree}
 use Rattle.ps_types.specs.declared.denial.LineRefusal.{LineRefusal}
 use Rattle.ps_types.specs.declared.jid.Jid.{Jid}
 use Rattle.ps_types.specs.declared.rows.TallyRow.{TallyRow}
-use Rattle.ps_model.specs.BaseAfter.{accepts_row, is_notice_line}
-use Rattle.ps_model.specs.BaseRows.{notice}
+use Rattle.ps_model.specs.store.BaseAfter.{accepts_row, is_notice_line}
+use Rattle.ps_model.specs.store.BaseRows.{notice}
 use Rattle.ps_model.specs.Book.{Book}
 use Rattle.ps_model.specs.Tallies.{made_for}
 use Rattle.ps_compact_import.specs.States.{state_at}

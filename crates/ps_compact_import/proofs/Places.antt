@@ -1,8 +1,8 @@
 -- What acceptance looks at, and what it gives.
 use Rattle.std.proofs.Common.{◌≡◌, Bool, true, false, refl}
 use Rattle.std.specs.Prelude.{◌&&◌}
-use Rattle.ps_model.specs.BaseAfter.{accepts_row, is_well_formed}
-use Rattle.ps_model.specs.BaseRows.{BaseRow, node, affiliation, subscription, item, link, contact, ver, made, counter, notice}
+use Rattle.ps_model.specs.store.BaseAfter.{accepts_row, is_well_formed}
+use Rattle.ps_model.specs.store.BaseRows.{BaseRow, node, affiliation, subscription, item, link, contact, ver, made, counter, notice}
 use Rattle.ps_model.specs.Book.{State}
 use Rattle.ps_compact_import.specs.States.{has_own_key, state_at}
 

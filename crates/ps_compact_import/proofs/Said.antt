@@ -3,8 +3,8 @@ use Rattle.std.proofs.Common.{◌≡◌, ℕ, List, Bool, sym, ap, ◌∙◌}
 use Rattle.std.specs.Prelude.{Result, Ok, Err, IfOk, OnOk}
 use Rattle.ps_types.specs.declared.jid.Jid.{Jid}
 use Rattle.ps_types.specs.declared.rows.TallyRow.{TallyRow}
-use Rattle.ps_model.specs.BaseAfter.{accepts_row, tallies_after_row}
-use Rattle.ps_model.specs.BaseRows as base
+use Rattle.ps_model.specs.store.BaseAfter.{accepts_row, tallies_after_row}
+use Rattle.ps_model.specs.store.BaseRows as base
 use Rattle.ps_model.specs.Book.{Book}
 use Rattle.ps_compact_codec.specs.Said.{row_said}
 use Rattle.ps_compact_codec.specs.declared.row.StoredRow.{StoredRow}

@@ -3,8 +3,8 @@ use Rattle.std.specs.Prelude.{◌≡◌, ◌+◌, ◌<◌, ◌^◌, Bool, true, 
 use Rattle.ps_types.specs.Nodes.{stands}
 use Rattle.ps_types.specs.declared.jid.Jid.{Jid}
 use Rattle.ps_types.specs.declared.rows.TallyRow.{TallyRow}
-use Rattle.ps_model.specs.BaseAfter.{accepts_row}
-use Rattle.ps_model.specs.BaseRows.{BaseRow, node}
+use Rattle.ps_model.specs.store.BaseAfter.{accepts_row}
+use Rattle.ps_model.specs.store.BaseRows.{BaseRow, node}
 use Rattle.ps_model.specs.Book.{Book, State}
 use Rattle.ps_model.specs.Tallies.{made_for}
 

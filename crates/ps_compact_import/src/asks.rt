@@ -1,7 +1,7 @@
 // What is asked of addresses, texts and numbers.
 ghost use Rattle.std.specs.Prelude.{◌≡◌, ◌<◌, ◌==◌, length, nat_lt};
-ghost use Rattle.ps_model.specs.BaseAfter as model;
-ghost use Rattle.ps_model.specs.Steps as steps;
+ghost use Rattle.ps_model.specs.store.BaseAfter as model;
+ghost use Rattle.ps_model.specs.requests.Steps as steps;
 
 use ps_types::{Jid, Text};
 

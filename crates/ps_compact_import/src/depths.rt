@@ -2,7 +2,7 @@
 ghost use Rattle.std.specs.Prelude.{◌≡◌, nat_le};
 ghost use Rattle.ps_types.specs.Elem.{nodes};
 ghost use Rattle.ps_types.specs.Tree.{levels, nodes_levels};
-ghost use Rattle.ps_model.specs.BaseAfter as model;
+ghost use Rattle.ps_model.specs.store.BaseAfter as model;
 
 use ps_types::{Child, Elem};
 

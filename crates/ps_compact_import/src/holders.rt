@@ -4,9 +4,9 @@ ghost use Rattle.ps_types.specs.Affils.{is_affil_of};
 ghost use Rattle.ps_types.specs.Counts.{is_count_of};
 ghost use Rattle.ps_types.specs.Subs.{is_pending, is_subscribed, sub_row};
 ghost use Rattle.ps_types.specs.declared.rows.TallyRow.{TallyRow};
-ghost use Rattle.ps_model.specs.BaseAfter as model;
-ghost use Rattle.ps_model.specs.BaseAfter.{accepts_row, book_with};
-ghost use Rattle.ps_model.specs.BaseRows as base;
+ghost use Rattle.ps_model.specs.store.BaseAfter as model;
+ghost use Rattle.ps_model.specs.store.BaseAfter.{accepts_row, book_with};
+ghost use Rattle.ps_model.specs.store.BaseRows as base;
 ghost use Rattle.ps_access.specs.Tables.{book_of};
 ghost use Rattle.ps_compact_import.specs.States.{state_at};
 

@@ -3,9 +3,9 @@ ghost use Rattle.std.specs.Prelude.{◌≡◌, ◌&&◌, nat_lt, is_none, List, 
 ghost use Rattle.ps_types.specs.Items.{item_at, item_count};
 ghost use Rattle.ps_types.specs.Nodes.{config_at};
 ghost use Rattle.ps_types.specs.declared.rows.TallyRow.{TallyRow};
-ghost use Rattle.ps_model.specs.BaseAfter as model;
-ghost use Rattle.ps_model.specs.BaseAfter.{accepts_row, book_with, is_well_formed};
-ghost use Rattle.ps_model.specs.BaseRows as base;
+ghost use Rattle.ps_model.specs.store.BaseAfter as model;
+ghost use Rattle.ps_model.specs.store.BaseAfter.{accepts_row, book_with, is_well_formed};
+ghost use Rattle.ps_model.specs.store.BaseRows as base;
 ghost use Rattle.ps_access.specs.Tables.{book_of};
 ghost use Rattle.ps_compact_import.specs.States.{state_at};
 

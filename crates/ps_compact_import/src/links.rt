@@ -2,9 +2,9 @@
 ghost use Rattle.std.specs.Prelude.{◌≡◌, IfOk, List, OnOk, OnErr};
 ghost use Rattle.ps_types.specs.Nodes.{config_at};
 ghost use Rattle.ps_types.specs.declared.rows.TallyRow.{TallyRow};
-ghost use Rattle.ps_model.specs.BaseAfter as model;
-ghost use Rattle.ps_model.specs.BaseAfter.{accepts_row, book_with};
-ghost use Rattle.ps_model.specs.BaseRows as base;
+ghost use Rattle.ps_model.specs.store.BaseAfter as model;
+ghost use Rattle.ps_model.specs.store.BaseAfter.{accepts_row, book_with};
+ghost use Rattle.ps_model.specs.store.BaseRows as base;
 ghost use Rattle.ps_access.specs.Tables.{book_of};
 ghost use Rattle.ps_compact_import.specs.Linked.{linked_config, nodes_given};
 ghost use Rattle.ps_compact_import.specs.States.{state_at};

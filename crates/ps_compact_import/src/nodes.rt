@@ -2,8 +2,8 @@
 ghost use Rattle.std.specs.Prelude.{◌≡◌, ◌==◌, false, not, ◌&&◌, length, List, OnOk, OnErr};
 ghost use Rattle.ps_types.specs.Nodes.{stands};
 ghost use Rattle.ps_types.specs.declared.rows.TallyRow.{TallyRow};
-ghost use Rattle.ps_model.specs.BaseAfter.{accepts_row, book_with, is_well_formed};
-ghost use Rattle.ps_model.specs.BaseRows as base;
+ghost use Rattle.ps_model.specs.store.BaseAfter.{accepts_row, book_with, is_well_formed};
+ghost use Rattle.ps_model.specs.store.BaseRows as base;
 ghost use Rattle.ps_access.specs.Tables.{book_of};
 ghost use Rattle.ps_compact_import.specs.States.{state_at};
 

@@ -1,11 +1,11 @@
 // How many notices were handed to an address, and notices that aren't handed.
 ghost use Rattle.std.specs.Prelude.{◌≡◌, ℕ, List, Ok, IfOk, OnOk, OnErr, string_bytes};
 ghost use Rattle.std.specs.Str.{bytes_eq};
-ghost use Rattle.ps_model.specs.BaseAfter.{accepts_row, is_notice_line, tallies_after_row};
-ghost use Rattle.ps_model.specs.BaseRows as base;
+ghost use Rattle.ps_model.specs.store.BaseAfter.{accepts_row, is_notice_line, tallies_after_row};
+ghost use Rattle.ps_model.specs.store.BaseRows as base;
 ghost use Rattle.ps_model.specs.Book.{Book};
-ghost use Rattle.ps_model.specs.NoticeTrees.{notice_id};
-ghost use Rattle.ps_model.specs.Streams.{is_reply as is_reply_tree};
+ghost use Rattle.ps_model.specs.notices.NoticeTrees.{notice_id};
+ghost use Rattle.ps_model.specs.machine.Streams.{is_reply as is_reply_tree};
 ghost use Rattle.ps_compact_import.specs.States.{FitsMore, state_at};
 
 use crate::asks::{is_bare, is_number};

@@ -3,8 +3,8 @@ ghost use Rattle.std.specs.Prelude.{◌≡◌, is_none, List, OnOk, OnErr};
 ghost use Rattle.ps_types.specs.Rosters.{contact_at};
 ghost use Rattle.ps_types.specs.Vers.{ver_at};
 ghost use Rattle.ps_types.specs.declared.rows.TallyRow.{TallyRow};
-ghost use Rattle.ps_model.specs.BaseAfter.{accepts_row, book_with, is_well_formed};
-ghost use Rattle.ps_model.specs.BaseRows as base;
+ghost use Rattle.ps_model.specs.store.BaseAfter.{accepts_row, book_with, is_well_formed};
+ghost use Rattle.ps_model.specs.store.BaseRows as base;
 ghost use Rattle.ps_access.specs.Tables.{book_of};
 ghost use Rattle.ps_compact_import.specs.States.{state_at};
 

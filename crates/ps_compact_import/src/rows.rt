@@ -1,7 +1,7 @@
 // Rows of any kind.
 ghost use Rattle.std.specs.Prelude.{◌≡◌, true, IfOk, OnOk, OnErr};
-ghost use Rattle.ps_model.specs.BaseAfter as model;
-ghost use Rattle.ps_model.specs.BaseAfter.{book_with, tallies_after_row};
+ghost use Rattle.ps_model.specs.store.BaseAfter as model;
+ghost use Rattle.ps_model.specs.store.BaseAfter.{book_with, tallies_after_row};
 ghost use Rattle.ps_access.specs.Tables.{book_of};
 ghost use Rattle.ps_compact_codec.specs.Said.{row_said};
 ghost use Rattle.ps_compact_import.specs.States.{FitMore, has_own_key, state_at};

@@ -31,8 +31,8 @@ use Rattle.ps_types.specs.Print.{print}
 use Rattle.ps_types.specs.Shape.{attr_text, trees_in, tree_text}
 use Rattle.ps_types.specs.Tree.{Tree, is_named}
 use Rattle.ps_types.proofs.AddressLaws.{parts-again}
-use Rattle.ps_model.specs.BaseFields.{◌>>=◌, roster_choices, depth_choices, type_choices, config_in, key_of}
-use Rattle.ps_model.specs.BaseRows.{
+use Rattle.ps_model.specs.store.BaseFields.{◌>>=◌, roster_choices, depth_choices, type_choices, config_in, key_of}
+use Rattle.ps_model.specs.store.BaseRows.{
   BaseRow,
   node,
   affiliation,
@@ -53,7 +53,7 @@ use Rattle.ps_model.specs.BaseRows.{
   row_tree,
   type_text,
 }
-use Rattle.ps_model.specs.Stanza.{jid_of}
+use Rattle.ps_model.specs.requests.Stanza.{jid_of}
 use Rattle.ps_model.specs.Words.{affil_of, affil_text, sub_of, sub_text}
 use Rattle.ps_types.specs.Values.{choice_of}
 use Rattle.ps_compact_laws.proofs.Facts.{ReadBack}

@@ -10,13 +10,13 @@ use Rattle.ps_types.specs.declared.jid.Jid.{Jid}
 use Rattle.ps_types.specs.declared.rows.LineRow.{LineRow}
 use Rattle.ps_types.specs.declared.rows.TallyRow.{TallyRow}
 use Rattle.ps_model.specs.After as step
-use Rattle.ps_model.specs.BaseAfter.{accepts_row, is_bare, is_number, is_notice_line}
-use Rattle.ps_model.specs.BaseRead.{row_of}
-use Rattle.ps_model.specs.BaseRows.{BaseRow, node, affiliation, subscription, item, link, contact, ver, made, counter, notice}
+use Rattle.ps_model.specs.store.BaseAfter.{accepts_row, is_bare, is_number, is_notice_line}
+use Rattle.ps_model.specs.store.BaseRead.{row_of}
+use Rattle.ps_model.specs.store.BaseRows.{BaseRow, node, affiliation, subscription, item, link, contact, ver, made, counter, notice}
 use Rattle.ps_model.specs.Book.{Book, State}
-use Rattle.ps_model.specs.Numbered.{numbered, tallied, row_notices, row_tallies, notice_of}
+use Rattle.ps_model.specs.notices.Numbered.{numbered, tallied, row_notices, row_tallies, notice_of}
 use Rattle.ps_model.specs.Replay.{IsLawfulFrom, accepted, notices_from, of_bare, replay_from, request_accepted, row_accepted, to_address}
-use Rattle.ps_model.specs.Taking.{request_in, tree_taken}
+use Rattle.ps_model.specs.requests.Taking.{request_in, tree_taken}
 use Rattle.ps_model.specs.Tallies.{handed_to, made_for, more_made, one_handed, tallies_with, is_next_line}
 use Rattle.ps_model.proofs.TallyLaws.{handed-kept, handed-made, handed-one, handed-set, made-handed, made-kept, made-more, made-set}
 use Rattle.ps_types.specs.LineTree.{line_tree}

@@ -14,14 +14,14 @@ use Rattle.ps_types.specs.Forms.{field_by, field_of, fields_of, first_of, form_o
 use Rattle.ps_types.specs.Namespaces.{caps_ns, data_ns, pubsub_ns}
 use Rattle.ps_types.specs.Shape.{attr_text, children_of, tree_text}
 use Rattle.ps_types.specs.Tree.{Tree, Nodes, child_of, is_named, nodes_of}
-use Rattle.ps_model.specs.Asking.{value_in}
-use Rattle.ps_model.specs.AskPublish.{item_in}
-use Rattle.ps_model.specs.AskRouter.{caps_by, caps_of}
+use Rattle.ps_model.specs.requests.Asking.{value_in}
+use Rattle.ps_model.specs.requests.AskPublish.{item_in}
+use Rattle.ps_model.specs.requests.AskRouter.{caps_by, caps_of}
 use Rattle.ps_model.specs.Grammar.{form_in, id_in, node_in}
-use Rattle.ps_model.specs.Spelled.{IsAsk}
-use Rattle.ps_model.specs.SpelledOwner.{IsApprove}
-use Rattle.ps_model.specs.SpelledParts.{IsNode, IsPubsub}
-use Rattle.ps_model.specs.SpelledRouter.{IsPresent}
+use Rattle.ps_model.specs.requests.Spelled.{IsAsk}
+use Rattle.ps_model.specs.requests.SpelledOwner.{IsApprove}
+use Rattle.ps_model.specs.requests.SpelledParts.{IsNode, IsPubsub}
+use Rattle.ps_model.specs.requests.SpelledRouter.{IsPresent}
 use Rattle.ps_book_laws.proofs.Keys.{each-by, each-map}
 use Rattle.ps_compact_laws.proofs.Fitting.{Fits, FoundFits, attr-utf8, child-fits, children-fit, first-fits, fit-kids, text-utf8, trees-fit}
 use Rattle.ps_compact_laws.proofs.Printable.{AskItemIs, CapsAre, IsAskText, IsName}

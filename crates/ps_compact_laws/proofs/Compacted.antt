@@ -7,12 +7,12 @@ use Rattle.ps_types.specs.declared.entry.Entry.TheVariants.{Boot, Base}
 use Rattle.ps_types.specs.declared.entry.Notice.{Notice}
 use Rattle.ps_types.specs.declared.jid.Jid.{Jid}
 use Rattle.ps_model.specs.After as step
-use Rattle.ps_model.specs.Base.{base, rows_of, told_addresses, unhanded}
-use Rattle.ps_model.specs.BaseAfter.{is_well_formed}
-use Rattle.ps_model.specs.BaseRows.{BaseRow, row_tree}
+use Rattle.ps_model.specs.store.Base.{base, rows_of, told_addresses, unhanded}
+use Rattle.ps_model.specs.store.BaseAfter.{is_well_formed}
+use Rattle.ps_model.specs.store.BaseRows.{BaseRow, row_tree}
 use Rattle.ps_model.specs.Book.{Book, State, empty_state}
-use Rattle.ps_model.specs.Core.{handed}
-use Rattle.ps_model.specs.Numbered.{row_notices}
+use Rattle.ps_model.specs.machine.Core.{handed}
+use Rattle.ps_model.specs.notices.Numbered.{row_notices}
 use Rattle.ps_model.specs.Replay.{lawful, notices_from, of_bare, replay_from, to_address}
 use Rattle.ps_model.specs.Replies.{reply_to, entry_of}
 use Rattle.ps_model.proofs.Going.{notices-append, replay-append}

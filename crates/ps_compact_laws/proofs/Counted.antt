@@ -10,13 +10,13 @@ use Rattle.ps_types.specs.declared.jid.Jid.{Jid}
 use Rattle.ps_types.specs.declared.rows.TallyRow.{TallyRow}
 use Rattle.ps_types.proofs.Same.{same_jid-Decides, same_parts}
 use Rattle.ps_model.specs.After as step
-use Rattle.ps_model.specs.BaseAfter.{is_bare, is_number}
-use Rattle.ps_model.specs.BaseRead.{row_of}
-use Rattle.ps_model.specs.BaseRows.{BaseRow, node, affiliation, subscription, item, link, contact, ver, made, counter, notice}
+use Rattle.ps_model.specs.store.BaseAfter.{is_bare, is_number}
+use Rattle.ps_model.specs.store.BaseRead.{row_of}
+use Rattle.ps_model.specs.store.BaseRows.{BaseRow, node, affiliation, subscription, item, link, contact, ver, made, counter, notice}
 use Rattle.ps_model.specs.Book.{State, empty_state}
-use Rattle.ps_model.specs.Core.{handed}
-use Rattle.ps_model.specs.Numbered.{row_tallies, tallied}
-use Rattle.ps_model.specs.Numbers.{counter_in, counter_of}
+use Rattle.ps_model.specs.machine.Core.{handed}
+use Rattle.ps_model.specs.notices.Numbered.{row_tallies, tallied}
+use Rattle.ps_model.specs.notices.Numbers.{counter_in, counter_of}
 use Rattle.ps_model.specs.Replay.{IsLawfulFrom, accepted, is_booted, lawful, replay, replay_from, row_accepted}
 use Rattle.ps_model.specs.Tallies.{handed_to, made_for, more_made, one_handed}
 use Rattle.ps_model.proofs.NumberLaws.{handed-has-one, handed-is-bare}

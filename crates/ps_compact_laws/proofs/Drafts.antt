@@ -29,13 +29,13 @@ use Rattle.ps_types.specs.Tree.{Tree, Nodes, none, words}
 use Rattle.ps_types.proofs.Same.{same_jid-Decides, same_node-Decides}
 use Rattle.ps_model.specs.Access.{read_at}
 use Rattle.ps_model.specs.Addressed.{is_early_event}
-use Rattle.ps_model.specs.Asking.{authorization}
-use Rattle.ps_model.specs.BaseAfter.{is_early}
+use Rattle.ps_model.specs.requests.Asking.{authorization}
+use Rattle.ps_model.specs.store.BaseAfter.{is_early}
 use Rattle.ps_model.specs.Book.{Book}
-use Rattle.ps_model.specs.Due.{About, about_new, about_node, always, delivered, delivers, is_granted, items_inside, may_pass, may_read, node_message, node_notice, one_way, told_about}
-use Rattle.ps_model.specs.Given.{given, to_one}
-use Rattle.ps_model.specs.Last.{is_leaf, last_notice, sends_last}
-use Rattle.ps_model.specs.NoticeTrees.{
+use Rattle.ps_model.specs.notices.Due.{About, about_new, about_node, always, delivered, delivers, is_granted, items_inside, may_pass, may_read, node_message, node_notice, one_way, told_about}
+use Rattle.ps_model.specs.notices.Given.{given, to_one}
+use Rattle.ps_model.specs.notices.Last.{is_leaf, last_notice, sends_last}
+use Rattle.ps_model.specs.notices.NoticeTrees.{
   approval_form,
   associate_tree,
   delay_nodes,
@@ -55,9 +55,9 @@ use Rattle.ps_model.specs.NoticeTrees.{
   told_tree,
   with_id,
 }
-use Rattle.ps_model.specs.Stanza.{host_jid}
-use Rattle.ps_model.specs.Streams.{is_reply}
-use Rattle.ps_model.specs.Ways.{Way, NoWay, OwnRow, Through, is_interested}
+use Rattle.ps_model.specs.requests.Stanza.{host_jid}
+use Rattle.ps_model.specs.machine.Streams.{is_reply}
+use Rattle.ps_model.specs.notices.Ways.{Way, NoWay, OwnRow, Through, is_interested}
 use Rattle.ps_model.specs.Words.{sub_text}
 use Rattle.ps_book_laws.proofs.Keys.{each-push}
 use Rattle.ps_compact_laws.proofs.Fitting.{FitIn, Fits, fit-branch, fit-none, fit-only, fit-tree, fit-words}

@@ -10,10 +10,10 @@ use Rattle.ps_types.specs.declared.jid.Jid.{Jid}
 use Rattle.ps_types.specs.declared.rows.CountRow.{CountRow}
 use Rattle.ps_types.specs.declared.rows.ItemRow.{ItemRow}
 use Rattle.ps_types.specs.declared.rows.TallyRow.{TallyRow}
-use Rattle.ps_model.specs.Base.{rows_of, told_addresses, unhanded}
-use Rattle.ps_model.specs.BaseAfter.{is_early, is_notice_line, is_shallow}
-use Rattle.ps_model.specs.BaseRead.{row_of}
-use Rattle.ps_model.specs.BaseRows.{BaseRow, row_tree}
+use Rattle.ps_model.specs.store.Base.{rows_of, told_addresses, unhanded}
+use Rattle.ps_model.specs.store.BaseAfter.{is_early, is_notice_line, is_shallow}
+use Rattle.ps_model.specs.store.BaseRead.{row_of}
+use Rattle.ps_model.specs.store.BaseRows.{BaseRow, row_tree}
 use Rattle.ps_model.specs.Book.{empty_state}
 use Rattle.ps_model.specs.Replay.{replay_from}
 use Rattle.ps_model.specs.Tallies.{handed_to}

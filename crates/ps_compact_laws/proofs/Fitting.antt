@@ -12,7 +12,7 @@ use Rattle.ps_types.specs.Form.{AreTexts, HasForm, HaveForm, IsTree}
 use Rattle.ps_types.specs.Shape.{attr_text, children_of, text_in, tree_text, trees_in, trees_of}
 use Rattle.ps_types.specs.Tree.{Tree, tree, Nodes, none, branch, words, child_at, child_of, is_named, levels, nodes_levels, nodes_of}
 use Rattle.ps_model.specs.Grammar.{first_tree}
-use Rattle.ps_model.specs.NoticeTrees.{only}
+use Rattle.ps_model.specs.notices.NoticeTrees.{only}
 use Rattle.ps_book_laws.proofs.Keys.{each-filter}
 use Rattle.ps_compact_laws.proofs.Texts.{is_word, word-some, word-utf8}
 

@@ -7,10 +7,10 @@ use Rattle.ps_types.specs.declared.entry.Entry.TheVariants.{Base}
 use Rattle.ps_types.specs.declared.rows.AffilRow.{AffilRow}
 use Rattle.ps_types.specs.declared.rows.TallyRow.{TallyRow}
 use Rattle.ps_model.specs.After as step
-use Rattle.ps_model.specs.BaseAfter.{book_with, has_place, is_well_formed, tallies_after_row}
-use Rattle.ps_model.specs.BaseRows.{BaseRow, node, affiliation, subscription, item, link, contact, ver, made, counter, notice, row_tree}
+use Rattle.ps_model.specs.store.BaseAfter.{book_with, has_place, is_well_formed, tallies_after_row}
+use Rattle.ps_model.specs.store.BaseRows.{BaseRow, node, affiliation, subscription, item, link, contact, ver, made, counter, notice, row_tree}
 use Rattle.ps_model.specs.Book.{Book, State}
-use Rattle.ps_model.specs.Numbered.{row_tallies}
+use Rattle.ps_model.specs.notices.Numbered.{row_tallies}
 use Rattle.ps_model.specs.Replay.{IsLawfulFrom, replay_from, row_accepted}
 use Rattle.std.specs.List.{AllByRecursion as Each}
 use Rattle.ps_compact_laws.proofs.Placed.{AreFresh}

@@ -7,8 +7,8 @@ use Rattle.ps_types.specs.declared.rows.LinkRow.{LinkRow}
 use Rattle.ps_types.specs.declared.rows.NodeRow.{NodeRow}
 use Rattle.ps_types.specs.Links.{is_link_at, is_link_of}
 use Rattle.ps_types.specs.Nodes.{stands}
-use Rattle.ps_model.specs.BaseAfter.{book_with, takes_link}
-use Rattle.ps_model.specs.BaseRows.{link}
+use Rattle.ps_model.specs.store.BaseAfter.{book_with, takes_link}
+use Rattle.ps_model.specs.store.BaseRows.{link}
 use Rattle.ps_model.specs.Book.{Book, State}
 use Rattle.std.specs.List.{AllByRecursion as Each}
 use Rattle.ps_compact_laws.proofs.Placed.{AreFresh}

@@ -22,19 +22,19 @@ use Rattle.ps_types.specs.Tree.{Tree}
 use Rattle.ps_types.proofs.PrintLaws.{print_reads}
 use Rattle.ps_model.specs.Addressed.{AreEarly}
 use Rattle.ps_model.specs.After as step
-use Rattle.ps_model.specs.BaseAfter.{has_place, is_early, is_notice_line, is_well_formed}
-use Rattle.ps_model.specs.BaseRead.{row_of}
-use Rattle.ps_model.specs.BaseRows as base
-use Rattle.ps_model.specs.BaseRows.{BaseRow}
+use Rattle.ps_model.specs.store.BaseAfter.{has_place, is_early, is_notice_line, is_well_formed}
+use Rattle.ps_model.specs.store.BaseRead.{row_of}
+use Rattle.ps_model.specs.store.BaseRows as base
+use Rattle.ps_model.specs.store.BaseRows.{BaseRow}
 use Rattle.ps_model.specs.Book.{Book, State, empty_state}
-use Rattle.ps_model.specs.Entries.{AreEntries, IsEntry}
-use Rattle.ps_model.specs.Given.{given, asked as asked_by}
-use Rattle.ps_model.specs.NoticeTrees.{notice_id, with_id}
-use Rattle.ps_model.specs.Numbered.{numbered, row_notices, row_tallies, tallied}
+use Rattle.ps_model.specs.store.Entries.{AreEntries, IsEntry}
+use Rattle.ps_model.specs.notices.Given.{given, asked as asked_by}
+use Rattle.ps_model.specs.notices.NoticeTrees.{notice_id, with_id}
+use Rattle.ps_model.specs.notices.Numbered.{numbered, row_notices, row_tallies, tallied}
 use Rattle.ps_model.specs.Replay.{IsLawfulFrom, accepted, is_booted, lawful, notices_from, of_bare, replay_from, row_accepted, to_address}
 use Rattle.ps_model.specs.Sorted.{sorted}
 use Rattle.ps_model.specs.Tallies.{handed_to, is_tally_of, made_for, more_made, tallies_with}
-use Rattle.ps_model.specs.Streams.{is_reply}
+use Rattle.ps_model.specs.machine.Streams.{is_reply}
 use Rattle.ps_model.proofs.LineLaws.{reads-line}
 use Rattle.ps_book_laws.proofs.Addressed.{addresses-after, empty-addresses, events-early, events-named}
 use Rattle.ps_book_laws.proofs.AddressedKinds.{bare-is}

@@ -9,11 +9,11 @@ use Rattle.ps_types.specs.Same.{same_bare}
 use Rattle.ps_types.specs.declared.entry.Notice.{Notice}
 use Rattle.ps_types.specs.declared.jid.Jid.{Jid}
 use Rattle.ps_types.specs.declared.rows.TallyRow.{TallyRow}
-use Rattle.ps_model.specs.Base.{counter_by}
-use Rattle.ps_model.specs.BaseAfter.{is_bare, is_notice_line}
-use Rattle.ps_model.specs.BaseRows.{BaseRow, counter, notice}
+use Rattle.ps_model.specs.store.Base.{counter_by}
+use Rattle.ps_model.specs.store.BaseAfter.{is_bare, is_notice_line}
+use Rattle.ps_model.specs.store.BaseRows.{BaseRow, counter, notice}
 use Rattle.ps_model.specs.Book.{State}
-use Rattle.ps_model.specs.Numbered.{row_notices}
+use Rattle.ps_model.specs.notices.Numbered.{row_notices}
 use Rattle.ps_model.specs.Tallies.{handed_to, made_for, tallies_with}
 use Rattle.ps_model.proofs.NumberLaws.{RiseFrom}
 use Rattle.ps_model.proofs.TallyLaws.{handed-kept, handed-made, handed-set, handed-like, made-kept, made-like, made-more, made-set, same_bare-like, same_bare-turned}

@@ -8,8 +8,8 @@ use Rattle.ps_types.specs.declared.entry.Notice.{Notice}
 use Rattle.ps_types.specs.declared.jid.Jid.{Jid}
 use Rattle.ps_types.proofs.Same.{same_jid-Decides}
 use Rattle.ps_model.specs.Book.{State, empty_state}
-use Rattle.ps_model.specs.Core.{handed}
-use Rattle.ps_model.specs.Numbers.{counter_of}
+use Rattle.ps_model.specs.machine.Core.{handed}
+use Rattle.ps_model.specs.notices.Numbers.{counter_of}
 use Rattle.ps_model.specs.Replay.{IsLawfulFrom, accepted, lawful, notices, notices_from, replay}
 use Rattle.ps_model.specs.Tallies.{handed_to, made_for}
 use Rattle.ps_compact_laws.proofs.Placed.{lawful-join}

@@ -44,10 +44,10 @@ use Rattle.ps_types.specs.declared.rows.VerRow.{VerRow}
 use Rattle.ps_types.specs.Items.{is_item_at, item_count}
 use Rattle.ps_types.specs.Nodes.{config_at}
 use Rattle.ps_types.proofs.Same.{same_node-itself}
-use Rattle.ps_model.specs.BaseAfter.{has_place, is_early, is_shallow, takes_item}
-use Rattle.ps_model.specs.BaseRows.{node, subscription, item, contact, ver, made}
+use Rattle.ps_model.specs.store.BaseAfter.{has_place, is_early, is_shallow, takes_item}
+use Rattle.ps_model.specs.store.BaseRows.{node, subscription, item, contact, ver, made}
 use Rattle.ps_model.specs.Book.{Book, State}
-use Rattle.ps_model.specs.CheckForms.{is_collection}
+use Rattle.ps_model.specs.requests.CheckForms.{is_collection}
 use Rattle.std.specs.List.{AllByRecursion as Each}
 use Rattle.ps_compact_laws.proofs.Placed.{AreFresh, IsNumbered, IsItemRow, keeps_items}
 use Rattle.ps_book_laws.specs.Keys.{AreApart, count_key, item_key, node_key, roster_key, sub_key, ver_key}

@@ -9,10 +9,10 @@ use Rattle.ps_types.specs.declared.rows.ItemRow.{ItemRow}
 use Rattle.ps_types.specs.declared.rows.NodeRow.{NodeRow}
 use Rattle.ps_types.specs.Nodes.{config_at, stands}
 use Rattle.ps_model.specs.After as step
-use Rattle.ps_model.specs.BaseAfter.{book_with, has_place, is_bare, is_early, is_number, is_shallow, tallies_after_row}
-use Rattle.ps_model.specs.BaseRows.{BaseRow, row_tree}
+use Rattle.ps_model.specs.store.BaseAfter.{book_with, has_place, is_bare, is_early, is_number, is_shallow, tallies_after_row}
+use Rattle.ps_model.specs.store.BaseRows.{BaseRow, row_tree}
 use Rattle.ps_model.specs.Book.{State}
-use Rattle.ps_model.specs.CheckForms.{is_collection}
+use Rattle.ps_model.specs.requests.CheckForms.{is_collection}
 use Rattle.ps_model.specs.Replay.{IsLawfulFrom, replay_from}
 
 -- the entries of these rows

@@ -16,9 +16,9 @@ use Rattle.ps_types.specs.declared.rows.RosterRow.{RosterRow}
 use Rattle.ps_types.specs.Address.{IsAddress, jid_text}
 use Rattle.ps_types.specs.Tree.{Tree}
 use Rattle.ps_config.specs.Bounds.{IsConfig}
-use Rattle.ps_model.specs.BaseAfter.{is_early}
+use Rattle.ps_model.specs.store.BaseAfter.{is_early}
 use Rattle.ps_model.specs.Book.{Book}
-use Rattle.ps_model.specs.Stanza.{host_jid}
+use Rattle.ps_model.specs.requests.Stanza.{host_jid}
 use Rattle.ps_compact_laws.proofs.Fitting.{Fits}
 
 -- ---- rows

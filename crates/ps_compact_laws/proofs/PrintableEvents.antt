@@ -18,14 +18,14 @@ use Rattle.ps_types.specs.Links.{collection_of}
 use Rattle.ps_types.specs.Nodes.{stands}
 use Rattle.ps_types.specs.Subs.{is_pending, is_subscribed, sub_at, subs_with}
 use Rattle.ps_types.specs.Values.{is_true}
-use Rattle.ps_model.specs.BaseAfter.{is_early}
+use Rattle.ps_model.specs.store.BaseAfter.{is_early}
 use Rattle.ps_model.specs.Book.{Book}
-use Rattle.ps_model.specs.ChangeOwner.{approved, sub_with}
-use Rattle.ps_model.specs.CheckForms.{node_of}
-use Rattle.ps_model.specs.EventNodes.{associated, item_asked, made_events, retract_events}
-use Rattle.ps_model.specs.EventPresence.{is_newly_wanted, question_events, wanted_events}
-use Rattle.ps_model.specs.EventSubs.{is_same, last_event, owners, row_asked, rows_events, subscribe_events, told_events}
-use Rattle.ps_model.specs.Events.{events_by}
+use Rattle.ps_model.specs.requests.ChangeOwner.{approved, sub_with}
+use Rattle.ps_model.specs.requests.CheckForms.{node_of}
+use Rattle.ps_model.specs.notices.EventNodes.{associated, item_asked, made_events, retract_events}
+use Rattle.ps_model.specs.notices.EventPresence.{is_newly_wanted, question_events, wanted_events}
+use Rattle.ps_model.specs.notices.EventSubs.{is_same, last_event, owners, row_asked, rows_events, subscribe_events, told_events}
+use Rattle.ps_model.specs.notices.Events.{events_by}
 use Rattle.ps_book_laws.proofs.Keys.{each-both, each-cond}
 use Rattle.ps_book_laws.specs.Addressed.{IsAskOfAddresses}
 use Rattle.ps_compact_laws.proofs.Printable.{AskItemIs, CapsAre, IsAskText, IsEventText, IsKeyText, ItemOr}

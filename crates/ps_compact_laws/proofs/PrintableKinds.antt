@@ -38,16 +38,16 @@ use Rattle.ps_types.specs.Tree.{Tree}
 use Rattle.ps_config.specs.Bounds.{IsConfig}
 use Rattle.ps_config.proofs.Kept.{config-kept}
 use Rattle.ps_model.specs.Access.{is_account}
-use Rattle.ps_model.specs.BaseAfter.{is_early}
+use Rattle.ps_model.specs.store.BaseAfter.{is_early}
 use Rattle.ps_model.specs.Book.{Book}
-use Rattle.ps_model.specs.ChangeEntity.{base_options, new_state, sub_options, subscribed_by}
-use Rattle.ps_model.specs.ChangeNodes.{created, created_by, deleted, linked, new_node}
-use Rattle.ps_model.specs.ChangeOwner.{configured, configured_by}
-use Rattle.ps_model.specs.ChangePublish.{counted, count_row, item_row, payload_of, published, published_by, published_new, retract_change}
-use Rattle.ps_model.specs.ChangeRouter.{answer_by, is_usable, roster_by, usable_answer}
-use Rattle.ps_model.specs.Changes.{changed_by}
-use Rattle.ps_model.specs.CheckForms.{config_given, config_or, new_config, node_of}
-use Rattle.ps_model.specs.CheckOptions.{form_options, is_known, known_options, options_config, publish_type}
+use Rattle.ps_model.specs.requests.ChangeEntity.{base_options, new_state, sub_options, subscribed_by}
+use Rattle.ps_model.specs.requests.ChangeNodes.{created, created_by, deleted, linked, new_node}
+use Rattle.ps_model.specs.requests.ChangeOwner.{configured, configured_by}
+use Rattle.ps_model.specs.requests.ChangePublish.{counted, count_row, item_row, payload_of, published, published_by, published_new, retract_change}
+use Rattle.ps_model.specs.requests.ChangeRouter.{answer_by, is_usable, roster_by, usable_answer}
+use Rattle.ps_model.specs.requests.Changes.{changed_by}
+use Rattle.ps_model.specs.requests.CheckForms.{config_given, config_or, new_config, node_of}
+use Rattle.ps_model.specs.requests.CheckOptions.{form_options, is_known, known_options, options_config, publish_type}
 use Rattle.ps_model.specs.ItemIds.{item_id, next_made}
 use Rattle.ps_model.specs.Words.{RosterAsk, set, remove, roster_of}
 use Rattle.ps_book_laws.proofs.AddressedKinds.{bare-is}

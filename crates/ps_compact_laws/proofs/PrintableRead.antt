@@ -19,10 +19,10 @@ use Rattle.ps_types.specs.Shape.{attr_text, tree_text, trees_of}
 use Rattle.ps_types.specs.Tree.{Tree, child_of, is_named}
 use Rattle.ps_config.specs.Bounds.{IsConfig}
 use Rattle.ps_config.proofs.Kept.{config-kept}
-use Rattle.ps_model.specs.BaseFields.{◌>>=◌, config_at, config_in, first_in, jid_at, key_at, key_of, number_at}
-use Rattle.ps_model.specs.BaseRead.{row_of}
-use Rattle.ps_model.specs.BaseRows as base
-use Rattle.ps_model.specs.BaseRows.{BaseRow}
+use Rattle.ps_model.specs.store.BaseFields.{◌>>=◌, config_at, config_in, first_in, jid_at, key_at, key_of, number_at}
+use Rattle.ps_model.specs.store.BaseRead.{row_of}
+use Rattle.ps_model.specs.store.BaseRows as base
+use Rattle.ps_model.specs.store.BaseRows.{BaseRow}
 use Rattle.ps_book_laws.proofs.AddressedTaken.{jid-is}
 use Rattle.ps_compact_laws.proofs.Fitting.{Fits, attr-utf8, trees-fit}
 use Rattle.ps_compact_laws.proofs.Printable.{ContactIs, CountIs, LinkIs}

@@ -24,13 +24,13 @@ use Rattle.ps_types.specs.Tree.{Tree}
 use Rattle.ps_config.proofs.Again.{config-again}
 use Rattle.ps_forms.proofs.Printed.{form-again}
 use Rattle.ps_forms.specs.Vars.{HaveVars}
-use Rattle.ps_model.specs.Base.{book_rows, counter_by, counter_rows, notice_rows, told_addresses, unhanded, unlinked}
-use Rattle.ps_model.specs.BaseAfter.{is_early, is_shallow}
-use Rattle.ps_model.specs.BaseRows as base
-use Rattle.ps_model.specs.BaseRows.{BaseRow}
+use Rattle.ps_model.specs.store.Base.{book_rows, counter_by, counter_rows, notice_rows, told_addresses, unhanded, unlinked}
+use Rattle.ps_model.specs.store.BaseAfter.{is_early, is_shallow}
+use Rattle.ps_model.specs.store.BaseRows as base
+use Rattle.ps_model.specs.store.BaseRows.{BaseRow}
 use Rattle.ps_model.specs.Book.{Book, empty_state}
-use Rattle.ps_model.specs.Core.{handed}
-use Rattle.ps_model.specs.Entries.{AreEntries}
+use Rattle.ps_model.specs.machine.Core.{handed}
+use Rattle.ps_model.specs.store.Entries.{AreEntries}
 use Rattle.ps_model.specs.Replay.{lawful, replay_from}
 use Rattle.ps_model.specs.Tallies.{handed_to}
 use Rattle.ps_book_laws.proofs.Kept.{lawful-kept}

@@ -10,7 +10,7 @@ use Rattle.ps_types.specs.Nodes.{config_at, node_at}
 use Rattle.ps_types.proofs.Same.{same_node-itself}
 use Rattle.ps_model.specs.Book.{Book}
 use Rattle.ps_model.specs.Bounds.{IsBounded, item_bound}
-use Rattle.ps_model.specs.CheckForms.{is_collection}
+use Rattle.ps_model.specs.requests.CheckForms.{is_collection}
 use Rattle.ps_book_laws.specs.Rows.{IsAtLeaf, is_leaf_at}
 use Rattle.ps_book_laws.specs.Sound.{HoldsItems}
 use Rattle.ps_compact_laws.proofs.Others.{most_at}

@@ -14,10 +14,10 @@ use Rattle.ps_types.specs.declared.rows.NodeRow.{NodeRow}
 use Rattle.ps_types.specs.declared.rows.TallyRow.{TallyRow}
 use Rattle.ps_types.proofs.Same.{same_jid-Decides, same_parts}
 use Rattle.ps_model.specs.After as step
-use Rattle.ps_model.specs.Base.{base, told_addresses, unhanded}
-use Rattle.ps_model.specs.BaseAfter.{is_early, is_shallow}
+use Rattle.ps_model.specs.store.Base.{base, told_addresses, unhanded}
+use Rattle.ps_model.specs.store.BaseAfter.{is_early, is_shallow}
 use Rattle.ps_model.specs.Book.{State, empty_state}
-use Rattle.ps_model.specs.Core.{handed}
+use Rattle.ps_model.specs.machine.Core.{handed}
 use Rattle.ps_model.specs.Replay.{IsLawfulFrom, lawful, notices_from, of_bare, replay_from, to_address}
 use Rattle.ps_model.specs.Tallies.{made_for, made_in}
 use Rattle.ps_model.proofs.TallyLaws.{same_bare-Decides, same_bare-like, same_bare-turned}

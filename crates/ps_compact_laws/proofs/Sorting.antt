@@ -11,8 +11,8 @@ use Rattle.ps_types.specs.declared.entry.Notice.{Notice}
 use Rattle.ps_types.specs.declared.jid.Jid.{Jid}
 use Rattle.ps_types.specs.declared.rows.TallyRow.{TallyRow}
 use Rattle.ps_types.proofs.Same.{same_parts}
-use Rattle.ps_model.specs.Base.{told_addresses, unhanded}
-use Rattle.ps_model.specs.BaseAfter.{is_bare}
+use Rattle.ps_model.specs.store.Base.{told_addresses, unhanded}
+use Rattle.ps_model.specs.store.BaseAfter.{is_bare}
 use Rattle.ps_model.specs.Book.{empty_state}
 use Rattle.ps_model.specs.Replay.{lawful, replay_from}
 use Rattle.ps_model.specs.Sorted.{sorted}

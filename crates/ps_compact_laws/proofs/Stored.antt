@@ -23,19 +23,19 @@ use Rattle.ps_types.specs.Same.{same_node}
 use Rattle.ps_types.specs.Tree.{Tree}
 use Rattle.ps_model.specs.Addressed.{AreAddresses, AreNamed, named}
 use Rattle.ps_model.specs.After as step
-use Rattle.ps_model.specs.BaseAfter.{book_with, has_place, in_collection, is_bare, is_collection_at, is_early, is_shallow, is_well_formed, takes_item, takes_link}
-use Rattle.ps_model.specs.BaseRead.{row_of}
-use Rattle.ps_model.specs.BaseRows as base
-use Rattle.ps_model.specs.BaseRows.{BaseRow}
+use Rattle.ps_model.specs.store.BaseAfter.{book_with, has_place, in_collection, is_bare, is_collection_at, is_early, is_shallow, is_well_formed, takes_item, takes_link}
+use Rattle.ps_model.specs.store.BaseRead.{row_of}
+use Rattle.ps_model.specs.store.BaseRows as base
+use Rattle.ps_model.specs.store.BaseRows.{BaseRow}
 use Rattle.ps_model.specs.Book.{Book, State, empty_book}
-use Rattle.ps_model.specs.CheckForms.{is_collection}
-use Rattle.ps_model.specs.Entries.{IsEntry, IsMoment}
-use Rattle.ps_model.specs.Given.{asked as asked_by}
+use Rattle.ps_model.specs.requests.CheckForms.{is_collection}
+use Rattle.ps_model.specs.store.Entries.{IsEntry, IsMoment}
+use Rattle.ps_model.specs.notices.Given.{asked as asked_by}
 use Rattle.ps_model.specs.Replay.{accepted, is_booted, row_accepted}
-use Rattle.ps_model.specs.Stanza.{host_jid}
-use Rattle.ps_model.specs.Steps.{is_short}
-use Rattle.ps_model.specs.Taken.{Taken, silent, refused, denied, asked}
-use Rattle.ps_model.specs.Taking.{request_in, tree_taken}
+use Rattle.ps_model.specs.requests.Stanza.{host_jid}
+use Rattle.ps_model.specs.requests.Steps.{is_short}
+use Rattle.ps_model.specs.requests.Taken.{Taken, silent, refused, denied, asked}
+use Rattle.ps_model.specs.requests.Taking.{request_in, tree_taken}
 use Rattle.ps_model.proofs.AskedStanza.{taken-spelled}
 use Rattle.ps_book_laws.proofs.AddressedTaken.{spelled-addresses}
 use Rattle.ps_book_laws.proofs.Keys.{each-both, each-push}

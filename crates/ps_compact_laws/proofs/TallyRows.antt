@@ -7,10 +7,10 @@ use Rattle.ps_types.specs.declared.jid.Jid.{Jid}
 use Rattle.ps_types.specs.declared.rows.TallyRow.{TallyRow}
 use Rattle.ps_types.specs.Address.{bare}
 use Rattle.ps_model.specs.After as step
-use Rattle.ps_model.specs.BaseRead.{row_of}
-use Rattle.ps_model.specs.BaseRows.{BaseRow, node, affiliation, subscription, item, link, contact, ver, made, counter, notice}
+use Rattle.ps_model.specs.store.BaseRead.{row_of}
+use Rattle.ps_model.specs.store.BaseRows.{BaseRow, node, affiliation, subscription, item, link, contact, ver, made, counter, notice}
 use Rattle.ps_model.specs.Book.{State, empty_state}
-use Rattle.ps_model.specs.Numbered.{row_tallies, tallied}
+use Rattle.ps_model.specs.notices.Numbered.{row_tallies, tallied}
 use Rattle.ps_model.specs.Replay.{replay_from}
 use Rattle.ps_model.specs.Tallies.{handed_to, is_tally_of, made_for, more_made, tallies_with}
 use Rattle.std.specs.List.{AllByRecursion as Each}

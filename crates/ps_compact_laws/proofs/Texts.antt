@@ -9,8 +9,8 @@ use Rattle.json.proofs.Printed.Utf8.{are_ascii, IsUtf8-are_ascii}
 use Rattle.ps_types.specs.Address.{IsAddress, after_slash, before_at, jid_text}
 use Rattle.ps_types.specs.declared.jid.Jid.{Jid}
 use Rattle.ps_types.proofs.AddressLaws.{host-again, host-ascii, local-ascii, resource-ascii}
-use Rattle.ps_model.specs.BaseAfter.{is_early}
-use Rattle.ps_model.specs.Entries.{end_of_time}
+use Rattle.ps_model.specs.store.BaseAfter.{is_early}
+use Rattle.ps_model.specs.store.Entries.{end_of_time}
 use Rattle.ps_model.specs.Stamp.{date_text, day_text, days_in_month, days_in_year, is_leap_year, month_from, pad2, pad4, stamp, time_text, year_from, year_text}
 
 -- ---- ASCII

@@ -1,7 +1,7 @@
 -- The rows of a sound State are all accepted, and leave a State that serves as it from the next boot on.
 use Rattle.std.proofs.Common.{◌≡◌, ℕ, ◌+◌, ◌<◌, ◌≤◌, ◌^◌, Bool, true, false, cond, List, [], ◌∷◌, ◌++◌, map, Option, Some, None, option_map, refl, sym, ap, subst, ◌∙◌, arith}
 use Rattle.std.specs.Prelude.{◌==◌}
-use Rattle.ps_model.specs.Numbered.{row_notices}
+use Rattle.ps_model.specs.notices.Numbered.{row_notices}
 use Rattle.std.specs.List.{flat_map}
 use Rattle.ps_types.specs.Same.{same_bare}
 use Rattle.ps_types.specs.declared.entry.Notice.{Notice}
@@ -13,9 +13,9 @@ use Rattle.ps_types.specs.declared.rows.NodeRow.{NodeRow}
 use Rattle.ps_types.specs.declared.rows.TallyRow.{TallyRow}
 use Rattle.ps_types.specs.Items.{item_count}
 use Rattle.ps_types.specs.Nodes.{config_at, node_at}
-use Rattle.ps_model.specs.Base.{book_rows, counter_rows, told_addresses, unlinked}
-use Rattle.ps_model.specs.BaseAfter.{is_bare, tallies_after_row}
-use Rattle.ps_model.specs.BaseRows.{BaseRow, node, affiliation, subscription, item, link, contact, ver, made, counter, notice}
+use Rattle.ps_model.specs.store.Base.{book_rows, counter_rows, told_addresses, unlinked}
+use Rattle.ps_model.specs.store.BaseAfter.{is_bare, tallies_after_row}
+use Rattle.ps_model.specs.store.BaseRows.{BaseRow, node, affiliation, subscription, item, link, contact, ver, made, counter, notice}
 use Rattle.ps_model.specs.Book.{Book, State, empty_book, empty_state}
 use Rattle.ps_model.specs.Tallies.{handed_to, made_for}
 use Rattle.ps_model.proofs.NumberLaws.{RiseFrom}

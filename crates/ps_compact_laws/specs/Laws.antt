@@ -6,10 +6,10 @@ use Rattle.ps_types.specs.declared.entry.Entry.{Entry}
 use Rattle.ps_types.specs.declared.entry.Entry.TheVariants.{Boot}
 use Rattle.ps_types.specs.declared.jid.Jid.{Jid}
 use Rattle.ps_types.specs.declared.rows.CountRow.{CountRow}
-use Rattle.ps_model.specs.Base.{base}
+use Rattle.ps_model.specs.store.Base.{base}
 use Rattle.ps_model.specs.Book.{empty_state}
-use Rattle.ps_model.specs.Core.{handed}
-use Rattle.ps_model.specs.Entries.{AreEntries}
+use Rattle.ps_model.specs.machine.Core.{handed}
+use Rattle.ps_model.specs.store.Entries.{AreEntries}
 use Rattle.ps_model.specs.Replay.{lawful, notices_from, replay, replay_from}
 use Rattle.ps_model.specs.Replies.{reply_to, entry_of}
 use Rattle.ps_model.specs.Tallies.{handed_to}

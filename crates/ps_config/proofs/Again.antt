@@ -19,7 +19,25 @@ use Rattle.ps_types.specs.declared.config.PublishModel.TheVariants as model
 use Rattle.ps_types.specs.declared.config.SendLast.{SendLast}
 use Rattle.ps_types.specs.declared.config.SendLast.TheVariants as send
 use Rattle.ps_types.specs.declared.config.SubOptions.{SubOptions}
-use Rattle.ps_types.specs.Config.{ConfigRow, after_row, read_rows, read_config, config_form, access_choices, access_text, model_choices, model_text, send_choices, send_text, notice_choices, notice_text, kind_choices, kind_text, most_of, name_of}
+use Rattle.ps_types.specs.Config.{
+  ConfigRow,
+  after_row,
+  read_rows,
+  read_config,
+  config_form,
+  access_choices,
+  access_text,
+  model_choices,
+  model_text,
+  send_choices,
+  send_text,
+  notice_choices,
+  notice_text,
+  kind_choices,
+  kind_text,
+  most_of,
+  name_of,
+}
 use Rattle.ps_types.specs.Options.{read_options, options_form}
 use Rattle.ps_types.specs.Values.{boolean_in, boolean_text, are_digits, number_of, choice_in}
 use Rattle.ps_config.specs.Bounds.{IsConfig}

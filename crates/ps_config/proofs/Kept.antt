@@ -72,23 +72,36 @@ set-kept set (Some x) c each e = subst IsConfig (same_Some (set x) c e) (each x 
 
 row-kept : (r : Setting) (d c : NodeConfig) (values : List (List ℕ)) → IsConfig d → (row_of r).change d values ≡ Some c → IsConfig c
 unfolding row_of
-row-kept row.Title d c values is e = set-kept (λ (x : List ℕ). record d { title = x }) (option_and_then (λ t. Some t) (single values)) c (λ x h. same-bounds (record d { title = x }) d refl refl refl is) e
-row-kept row.DeliverNotifications d c values is e = set-kept (λ (x : Bool). record d { deliver_notifications = x }) (boolean_in values) c (λ x h. same-bounds (record d { deliver_notifications = x }) d refl refl refl is) e
-row-kept row.DeliverPayloads d c values is e = set-kept (λ (x : Bool). record d { deliver_payloads = x }) (boolean_in values) c (λ x h. same-bounds (record d { deliver_payloads = x }) d refl refl refl is) e
+row-kept row.Title d c values is e = set-kept (λ (x : List ℕ). record d { title = x }) (option_and_then (λ t. Some t) (single values)) c
+    (λ x h. same-bounds (record d { title = x }) d refl refl refl is) e
+row-kept row.DeliverNotifications d c values is e = set-kept (λ (x : Bool). record d { deliver_notifications = x }) (boolean_in values) c
+    (λ x h. same-bounds (record d { deliver_notifications = x }) d refl refl refl is) e
+row-kept row.DeliverPayloads d c values is e = set-kept (λ (x : Bool). record d { deliver_payloads = x }) (boolean_in values) c
+    (λ x h. same-bounds (record d { deliver_payloads = x }) d refl refl refl is) e
 row-kept row.NotifyConfig d c values is e = set-kept (λ (x : Bool). record d { notify_config = x }) (boolean_in values) c (λ x h. same-bounds (record d { notify_config = x }) d refl refl refl is) e
 row-kept row.NotifyDelete d c values is e = set-kept (λ (x : Bool). record d { notify_delete = x }) (boolean_in values) c (λ x h. same-bounds (record d { notify_delete = x }) d refl refl refl is) e
 row-kept row.NotifyRetract d c values is e = set-kept (λ (x : Bool). record d { notify_retract = x }) (boolean_in values) c (λ x h. same-bounds (record d { notify_retract = x }) d refl refl refl is) e
 row-kept row.PersistItems d c values is e = set-kept (λ (x : Bool). record d { persist_items = x }) (boolean_in values) c (λ x h. same-bounds (record d { persist_items = x }) d refl refl refl is) e
-row-kept row.MaxItems d c values is e = set-kept (λ (x : ℕ). record d { max_items = x }) (option_and_then most_of (single values)) c (λ x h. let b : (1 ≤ x) × (x ≤ 1000) = most-bounds (single values) x h in record { some_items = b.0; most_items = b.1; some_bytes = is.some_bytes; most_bytes = is.most_bytes; name = is.name }) e
-row-kept row.AccessModel d c values is e = set-kept (λ (x : Access). record d { access_model = x }) (choice_in access_choices values) c (λ x h. same-bounds (record d { access_model = x }) d refl refl refl is) e
-row-kept row.PublishModel d c values is e = set-kept (λ (x : PublishModel). record d { publish_model = x }) (choice_in model_choices values) c (λ x h. same-bounds (record d { publish_model = x }) d refl refl refl is) e
-row-kept row.RosterGroupsAllowed d c values is e = let x : List (List ℕ) = values in subst IsConfig (same_Some (record d { roster_groups_allowed = x }) c e) (same-bounds (record d { roster_groups_allowed = x }) d refl refl refl is)
-row-kept row.SendLastPublishedItem d c values is e = set-kept (λ (x : SendLast). record d { send_last_published_item = x }) (choice_in send_choices values) c (λ x h. same-bounds (record d { send_last_published_item = x }) d refl refl refl is) e
-row-kept row.PresenceBasedDelivery d c values is e = set-kept (λ (x : Bool). record d { presence_based_delivery = x }) (boolean_in values) c (λ x h. same-bounds (record d { presence_based_delivery = x }) d refl refl refl is) e
-row-kept row.NotificationType d c values is e = set-kept (λ (x : NoticeKind). record d { notification_type = x }) (choice_in notice_choices values) c (λ x h. same-bounds (record d { notification_type = x }) d refl refl refl is) e
-row-kept row.MaxPayloadSize d c values is e = set-kept (λ (x : ℕ). record d { max_payload_size = x }) (option_and_then (number_of 131072) (single values)) c (λ x h. let b : (1 ≤ x) × (x ≤ 131072) = size-bounds (single values) x h in record { some_items = is.some_items; most_items = is.most_items; some_bytes = b.0; most_bytes = b.1; name = is.name }) e
-row-kept row.NodeType d c values is e = set-kept (λ (x : NodeKind). record d { node_type = x }) (choice_in kind_choices values) c (λ x h. same-bounds (record d { node_type = x }) d refl refl refl is) e
-row-kept row.Collection d c values is e = set-kept (λ (x : List ℕ). record d { collection = x }) (option_and_then name_of (single values)) c (λ x h. record { some_items = is.some_items; most_items = is.most_items; some_bytes = is.some_bytes; most_bytes = is.most_bytes; name = name-bounds (single values) x h }) e
+row-kept row.MaxItems d c values is e = set-kept (λ (x : ℕ). record d { max_items = x }) (option_and_then most_of (single values)) c
+    (λ x h. let b : (1 ≤ x) × (x ≤ 1000) = most-bounds (single values) x h in record { some_items = b.0; most_items = b.1; some_bytes = is.some_bytes; most_bytes = is.most_bytes; name = is.name }) e
+row-kept row.AccessModel d c values is e = set-kept (λ (x : Access). record d { access_model = x }) (choice_in access_choices values) c
+    (λ x h. same-bounds (record d { access_model = x }) d refl refl refl is) e
+row-kept row.PublishModel d c values is e = set-kept (λ (x : PublishModel). record d { publish_model = x }) (choice_in model_choices values) c
+    (λ x h. same-bounds (record d { publish_model = x }) d refl refl refl is) e
+row-kept row.RosterGroupsAllowed d c values is e = let x : List (List ℕ) = values in subst IsConfig (same_Some (record d { roster_groups_allowed = x }) c e)
+    (same-bounds (record d { roster_groups_allowed = x }) d refl refl refl is)
+row-kept row.SendLastPublishedItem d c values is e = set-kept (λ (x : SendLast). record d { send_last_published_item = x }) (choice_in send_choices values) c
+    (λ x h. same-bounds (record d { send_last_published_item = x }) d refl refl refl is) e
+row-kept row.PresenceBasedDelivery d c values is e = set-kept (λ (x : Bool). record d { presence_based_delivery = x }) (boolean_in values) c
+    (λ x h. same-bounds (record d { presence_based_delivery = x }) d refl refl refl is) e
+row-kept row.NotificationType d c values is e = set-kept (λ (x : NoticeKind). record d { notification_type = x }) (choice_in notice_choices values) c
+    (λ x h. same-bounds (record d { notification_type = x }) d refl refl refl is) e
+row-kept row.MaxPayloadSize d c values is e = set-kept (λ (x : ℕ). record d { max_payload_size = x }) (option_and_then (number_of 131072) (single values)) c
+    (λ x h. let b : (1 ≤ x) × (x ≤ 131072) = size-bounds (single values) x h in record { some_items = is.some_items; most_items = is.most_items; some_bytes = b.0; most_bytes = b.1; name = is.name }) e
+row-kept row.NodeType d c values is e = set-kept (λ (x : NodeKind). record d { node_type = x }) (choice_in kind_choices values) c (λ x h. same-bounds (record d { node_type = x }) d refl refl refl is)
+    e
+row-kept row.Collection d c values is e = set-kept (λ (x : List ℕ). record d { collection = x }) (option_and_then name_of (single values)) c
+    (λ x h. record { some_items = is.some_items; most_items = is.most_items; some_bytes = is.some_bytes; most_bytes = is.most_bytes; name = name-bounds (single values) x h }) e
 
 given-kept : (r : Setting) (given : Option (List (List ℕ))) (d c : NodeConfig) → IsConfig d → row_change (row_of r) d given ≡ Some c → IsConfig c
 given-kept r None d c is e = subst IsConfig (same_Some d c e) is

@@ -7,7 +7,7 @@ use Rattle.ps_types.specs.declared.plan.Plan.{Plan}
 use Rattle.ps_types.specs.declared.plan.PlanRefusal.TheVariants.{Denied}
 use Rattle.ps_types.specs.declared.request.Request.{Request}
 use Rattle.ps_types.specs.Tree.{Tree}
-use Rattle.ps_model.specs.Outcome.{Outcome, denied, accepted}
+use Rattle.ps_model.specs.requests.Outcome.{Outcome, denied, accepted}
 use Rattle.ps_model.specs.Replies.{outcome_reply, outcome_entry, accepted_reply, full_reply}
 use Rattle.ps_core.specs.Answers.{full_by}
 use Rattle.ps_access.specs.Plans.{Agrees}

@@ -19,21 +19,21 @@ use Rattle.ps_types.specs.declared.form.Info.{Info}
 use Rattle.ps_types.specs.declared.request.AskContact.{AskContact}
 use Rattle.ps_types.specs.declared.rows.Caps.{Caps}
 use Rattle.ps_types.specs.declared.rows.SubState.{SubState}
-use Rattle.ps_model.specs.ChangeEntity.{subscribed_by}
-use Rattle.ps_model.specs.ChangeNodes.{created, created_by}
-use Rattle.ps_model.specs.ChangeOwner.{configured, configured_by}
-use Rattle.ps_model.specs.ChangeRouter.{answer_by, is_usable, roster_by, usable_answer}
-use Rattle.ps_model.specs.CheckForms.{node_of}
+use Rattle.ps_model.specs.requests.ChangeEntity.{subscribed_by}
+use Rattle.ps_model.specs.requests.ChangeNodes.{created, created_by}
+use Rattle.ps_model.specs.requests.ChangeOwner.{configured, configured_by}
+use Rattle.ps_model.specs.requests.ChangeRouter.{answer_by, is_usable, roster_by, usable_answer}
+use Rattle.ps_model.specs.requests.CheckForms.{node_of}
 use Rattle.ps_types.specs.Counts.{counts_without, is_count_at, is_count_of, made_at, made_in}
 use Rattle.ps_types.specs.Tree.{Tree}
 use Rattle.ps_model.specs.After.{book_after, book_based, book_changed, request_on}
-use Rattle.ps_model.specs.BaseAfter.{book_with}
-use Rattle.ps_model.specs.BaseRead.{row_of}
-use Rattle.ps_model.specs.BaseRows as base
-use Rattle.ps_model.specs.BaseRows.{BaseRow}
+use Rattle.ps_model.specs.store.BaseAfter.{book_with}
+use Rattle.ps_model.specs.store.BaseRead.{row_of}
+use Rattle.ps_model.specs.store.BaseRows as base
+use Rattle.ps_model.specs.store.BaseRows.{BaseRow}
 use Rattle.ps_model.specs.Book.{Book}
-use Rattle.ps_model.specs.ChangePublish.{count_row, counted, published, published_by, published_new, retract_change}
-use Rattle.ps_model.specs.Changes.{changed, changed_by}
+use Rattle.ps_model.specs.requests.ChangePublish.{count_row, counted, published, published_by, published_new, retract_change}
+use Rattle.ps_model.specs.requests.Changes.{changed, changed_by}
 use Rattle.ps_model.specs.ItemIds.{next_made}
 use Rattle.ps_model.specs.Words.{RosterAsk, set, remove}
 use Rattle.ps_compact_codec.specs.Held.{has_held_numbers}

@@ -11,15 +11,15 @@ use Rattle.ps_types.specs.declared.rows.TallyRow.{TallyRow}
 use Rattle.ps_types.specs.Resources.{is_resource_on}
 use Rattle.ps_types.specs.Tree.{Tree}
 use Rattle.ps_model.specs.After.{book_after, book_based, book_changed}
-use Rattle.ps_model.specs.BaseAfter.{book_with}
-use Rattle.ps_model.specs.BaseRead.{row_of}
-use Rattle.ps_model.specs.BaseRows as base
-use Rattle.ps_model.specs.BaseRows.{BaseRow}
+use Rattle.ps_model.specs.store.BaseAfter.{book_with}
+use Rattle.ps_model.specs.store.BaseRead.{row_of}
+use Rattle.ps_model.specs.store.BaseRows as base
+use Rattle.ps_model.specs.store.BaseRows.{BaseRow}
 use Rattle.ps_model.specs.Book.{Book, empty_state}
-use Rattle.ps_model.specs.Changes.{changed}
+use Rattle.ps_model.specs.requests.Changes.{changed}
 use Rattle.ps_model.specs.Replay.{request_accepted}
-use Rattle.ps_model.specs.Taken.{Taken, silent, refused, denied, asked}
-use Rattle.ps_model.specs.Taking.{request_in, tree_taken}
+use Rattle.ps_model.specs.requests.Taken.{Taken, silent, refused, denied, asked}
+use Rattle.ps_model.specs.requests.Taking.{request_in, tree_taken}
 use Rattle.ps_book_laws.specs.Addressed.{HasEarlyItems, IsTimely, NamesAddresses}
 use Rattle.ps_book_laws.proofs.Addressed.{base-named}
 use Rattle.ps_book_laws.proofs.AddressedKinds.{addresses-changed, asked-named}

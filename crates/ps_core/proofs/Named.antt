@@ -10,10 +10,10 @@ use Rattle.ps_types.specs.declared.request.Ask.{Ask}
 use Rattle.ps_types.specs.Shape.{attr_text}
 use Rattle.ps_types.specs.Form.{HasForm}
 use Rattle.ps_types.specs.Tree.{Tree, name_of, tree}
-use Rattle.ps_model.specs.Asking.{ask_of}
-use Rattle.ps_model.specs.Stanza.{host_jid, is_served, is_stanza, jid_of, target_of}
-use Rattle.ps_model.specs.Taken.{Head, refused, denied}
-use Rattle.ps_model.specs.Taking.{ask_taken, head_of, sender_taken, target_taken, tree_taken}
+use Rattle.ps_model.specs.requests.Asking.{ask_of}
+use Rattle.ps_model.specs.requests.Stanza.{host_jid, is_served, is_stanza, jid_of, target_of}
+use Rattle.ps_model.specs.requests.Taken.{Head, refused, denied}
+use Rattle.ps_model.specs.requests.Taking.{ask_taken, head_of, sender_taken, target_taken, tree_taken}
 
 by_ask : (o : Result Ask Condition) (t : Tree) (from target : Jid) (head : Head) (why : Condition) → ask_taken t from target o ≡ denied head why → head.name ≡ name_of t
 by_ask (Err given) t from target head why e = (let h : head_of t from target ≡ head = cc e in ap (λ (x : Head). x.name) (sym h))

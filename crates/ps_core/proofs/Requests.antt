@@ -6,12 +6,12 @@ use Rattle.ps_types.specs.declared.entry.Entry.TheVariants.{Change}
 use Rattle.ps_types.specs.declared.request.Request.{Request}
 use Rattle.ps_types.specs.Tree.{Tree}
 use Rattle.ps_model.specs.Book.{Book}
-use Rattle.ps_model.specs.Check.{check}
-use Rattle.ps_model.specs.Commits.{commits}
-use Rattle.ps_model.specs.Outcome.{Outcome, denied, accepted}
+use Rattle.ps_model.specs.requests.Check.{check}
+use Rattle.ps_model.specs.requests.Commits.{commits}
+use Rattle.ps_model.specs.requests.Outcome.{Outcome, denied, accepted}
 use Rattle.ps_model.specs.Replies.{entry_by, outcome_entry}
-use Rattle.ps_model.specs.Taken.{asked}
-use Rattle.ps_model.specs.Taking.{tree_taken}
+use Rattle.ps_model.specs.requests.Taken.{asked}
+use Rattle.ps_model.specs.requests.Taking.{tree_taken}
 use Rattle.ps_core.specs.Requests.{IsRequestOf}
 
 -- the entry that a line makes has the request that its tree was taken as

@@ -28,14 +28,14 @@ use Rattle.ps_types.specs.Same.{same_jid}
 use Rattle.ps_types.specs.Subs.{sub_at}
 use Rattle.ps_types.proofs.Same.{same_jid-Decides}
 use Rattle.ps_model.specs.Book.{Book}
-use Rattle.ps_model.specs.ChangeEntity.{sub_options, base_options, new_state, subscribed_by}
-use Rattle.ps_model.specs.ChangeNodes.{created_by}
-use Rattle.ps_model.specs.ChangeOwner.{configured, configured_by}
-use Rattle.ps_model.specs.ChangePublish.{published, published_by, published_new, retract_change}
-use Rattle.ps_model.specs.ChangeRouter.{answer_by, features_known, is_usable, roster_by, usable_answer, with_features}
-use Rattle.ps_model.specs.Changes.{changed, changed_by}
-use Rattle.ps_model.specs.CheckForms.{config_given, new_config, node_of}
-use Rattle.ps_model.specs.CheckOptions.{options_config}
+use Rattle.ps_model.specs.requests.ChangeEntity.{sub_options, base_options, new_state, subscribed_by}
+use Rattle.ps_model.specs.requests.ChangeNodes.{created_by}
+use Rattle.ps_model.specs.requests.ChangeOwner.{configured, configured_by}
+use Rattle.ps_model.specs.requests.ChangePublish.{published, published_by, published_new, retract_change}
+use Rattle.ps_model.specs.requests.ChangeRouter.{answer_by, features_known, is_usable, roster_by, usable_answer, with_features}
+use Rattle.ps_model.specs.requests.Changes.{changed, changed_by}
+use Rattle.ps_model.specs.requests.CheckForms.{config_given, new_config, node_of}
+use Rattle.ps_model.specs.requests.CheckOptions.{options_config}
 use Rattle.ps_model.specs.Words.{RosterAsk, set, remove, roster_of}
 use Rattle.ps_core.specs.Wants.{DiffersAt, is_of_resource}
 

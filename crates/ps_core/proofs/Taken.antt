@@ -9,13 +9,13 @@ use Rattle.ps_types.specs.declared.request.Request.{Request}
 use Rattle.ps_types.specs.Tree.{Tree}
 use Rattle.ps_model.specs.After.{all_due, book_after, book_changed, events_by, notices_at}
 use Rattle.ps_model.specs.Book.{Book, State}
-use Rattle.ps_model.specs.Changes.{changed}
-use Rattle.ps_model.specs.Commits.{makes_entry}
-use Rattle.ps_model.specs.Numbered.{numbered}
-use Rattle.ps_model.specs.BaseRead.{row_of}
+use Rattle.ps_model.specs.requests.Changes.{changed}
+use Rattle.ps_model.specs.requests.Commits.{makes_entry}
+use Rattle.ps_model.specs.notices.Numbered.{numbered}
+use Rattle.ps_model.specs.store.BaseRead.{row_of}
 use Rattle.ps_model.specs.Replay.{accepted, is_booted, request_accepted, row_accepted}
-use Rattle.ps_model.specs.Taken.{Head, Taken, silent, refused, denied, asked}
-use Rattle.ps_model.specs.Taking.{request_in, tree_taken}
+use Rattle.ps_model.specs.requests.Taken.{Head, Taken, silent, refused, denied, asked}
+use Rattle.ps_model.specs.requests.Taking.{request_in, tree_taken}
 use Rattle.ps_model.specs.Tallies.{is_next_line, lines_with}
 use Rattle.ps_core.specs.Rows.{is_held}
 use Rattle.ps_core.specs.States.{Part, changed_part, fits_book, part_after}

@@ -8,9 +8,9 @@ use Rattle.ps_types.specs.Tree.{Tree}
 use Rattle.ps_types.specs.declared.entry.Entry.TheVariants.{Base}
 use Rattle.ps_types.specs.declared.rows.ItemRow.{ItemRow}
 use Rattle.ps_model.specs.After.{book_based}
-use Rattle.ps_model.specs.BaseAfter.{accepts_row, book_with, has_place, is_bare, is_early, is_number, is_shallow, is_well_formed, takes_item}
-use Rattle.ps_model.specs.BaseRead.{row_of}
-use Rattle.ps_model.specs.BaseRows.{BaseRow, node, affiliation, subscription, item, link, contact, ver, made, counter, notice}
+use Rattle.ps_model.specs.store.BaseAfter.{accepts_row, book_with, has_place, is_bare, is_early, is_number, is_shallow, is_well_formed, takes_item}
+use Rattle.ps_model.specs.store.BaseRead.{row_of}
+use Rattle.ps_model.specs.store.BaseRows.{BaseRow, node, affiliation, subscription, item, link, contact, ver, made, counter, notice}
 use Rattle.ps_model.specs.Book.{Book, State}
 use Rattle.ps_model.specs.Replay.{row_accepted}
 use Rattle.ps_model.specs.Tallies.{made_for}

@@ -9,12 +9,12 @@ use Rattle.ps_types.specs.declared.jid.Jid.{Jid}
 use Rattle.ps_types.specs.declared.rows.TallyRow.{TallyRow}
 use Rattle.ps_types.specs.Same.{same_bare}
 use Rattle.ps_model.specs.After.{handed_out, notices_at, tallies_after}
-use Rattle.ps_model.specs.BaseAfter.{is_number}
+use Rattle.ps_model.specs.store.BaseAfter.{is_number}
 use Rattle.ps_model.specs.Book.{Book}
-use Rattle.ps_model.specs.BaseRead.{row_of}
-use Rattle.ps_model.specs.BaseRows as base
-use Rattle.ps_model.specs.BaseRows.{BaseRow}
-use Rattle.ps_model.specs.Numbered.{row_notices, row_tallies}
+use Rattle.ps_model.specs.store.BaseRead.{row_of}
+use Rattle.ps_model.specs.store.BaseRows as base
+use Rattle.ps_model.specs.store.BaseRows.{BaseRow}
+use Rattle.ps_model.specs.notices.Numbered.{row_notices, row_tallies}
 use Rattle.ps_model.specs.Replay.{accepted}
 use Rattle.ps_model.specs.Tallies.{handed_to, made_for, more_made, one_handed, tallies_with}
 use Rattle.ps_model.proofs.TallyLaws.{made-handed, made-kept, made-more, made-set}

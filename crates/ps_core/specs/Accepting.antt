@@ -7,8 +7,8 @@ use Rattle.ps_types.specs.declared.request.Request.{Request}
 use Rattle.ps_model.specs.After.{notices_at}
 use Rattle.ps_model.specs.Book.{Book, State}
 use Rattle.ps_model.specs.Replay.{accepted, request_accepted}
-use Rattle.ps_model.specs.Taken.{asked}
-use Rattle.ps_model.specs.Taking.{request_in, tree_taken}
+use Rattle.ps_model.specs.requests.Taken.{asked}
+use Rattle.ps_model.specs.requests.Taking.{request_in, tree_taken}
 use Rattle.ps_core.specs.Requests.{IsRequestOf}
 use Rattle.ps_core.specs.Stages.{Held}
 use Rattle.ps_core.specs.declared.accepting.Acceptance.{Acceptance}

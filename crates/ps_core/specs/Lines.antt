@@ -2,9 +2,9 @@
 use Rattle.std.specs.Prelude.{◌≡◌, ◌≢◌, ℕ, List, [], Result, Ok, Err}
 use Rattle.ps_types.specs.declared.denial.LineRefusal.{LineRefusal}
 use Rattle.ps_types.specs.Tree.{Tree}
-use Rattle.ps_model.specs.Taken as model
-use Rattle.ps_model.specs.Taken.{Taken}
-use Rattle.ps_model.specs.Taking.{tree_taken}
+use Rattle.ps_model.specs.requests.Taken as model
+use Rattle.ps_model.specs.requests.Taken.{Taken}
+use Rattle.ps_model.specs.requests.Taking.{tree_taken}
 use Rattle.ps_request.specs.Heads.{head_view}
 use Rattle.ps_core.specs.declared.taking.TakenLine.{TakenLine}
 use Rattle.ps_core.specs.declared.taking.TakenLine.TheVariants as line

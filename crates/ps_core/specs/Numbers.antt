@@ -5,8 +5,8 @@ use Rattle.ps_types.specs.declared.entry.Entry.TheVariants as entry
 use Rattle.ps_types.specs.declared.entry.Notice.{Notice}
 use Rattle.ps_types.specs.declared.jid.Jid.{Jid}
 use Rattle.ps_types.specs.declared.rows.TallyRow.{TallyRow}
-use Rattle.ps_model.specs.BaseRead.{row_of}
-use Rattle.ps_model.specs.BaseRows.{BaseRow, counter}
+use Rattle.ps_model.specs.store.BaseRead.{row_of}
+use Rattle.ps_model.specs.store.BaseRows.{BaseRow, counter}
 use Rattle.ps_model.specs.Tallies.{handed_to, made_for, one_handed, tallies_with}
 use Rattle.ps_notices.specs.Due.{tallied_by}
 use Rattle.ps_core.specs.declared.numbers.NumberChange.{NumberChange}

@@ -3,8 +3,8 @@ use Rattle.std.specs.Prelude.{◌≡◌, ℕ, List, Option, Some, None}
 use Rattle.ps_types.specs.declared.entry.Entry.{Entry}
 use Rattle.ps_types.specs.declared.entry.Entry.TheVariants.{Boot, Change, Handed, Gone, Base}
 use Rattle.ps_types.specs.declared.request.Request.{Request}
-use Rattle.ps_model.specs.Taken.{asked}
-use Rattle.ps_model.specs.Taking.{tree_taken}
+use Rattle.ps_model.specs.requests.Taken.{asked}
+use Rattle.ps_model.specs.requests.Taking.{tree_taken}
 
 -- the request is the one that the entry's tree is taken as by that service; of an entry without such a tree nothing is said
 abbrev pub IsRequestOf : List ℕ → Entry → Option Request → Type 0

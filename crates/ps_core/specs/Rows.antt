@@ -2,9 +2,9 @@
 use Rattle.std.specs.Prelude.{Bool, true, false, ◌&&◌, Option, Some, None}
 use Rattle.ps_types.specs.declared.entry.Entry.{Entry}
 use Rattle.ps_types.specs.declared.entry.Entry.TheVariants.{Base}
-use Rattle.ps_model.specs.BaseAfter.{is_early, is_number}
-use Rattle.ps_model.specs.BaseRead.{row_of}
-use Rattle.ps_model.specs.BaseRows.{BaseRow, item, made, counter}
+use Rattle.ps_model.specs.store.BaseAfter.{is_early, is_number}
+use Rattle.ps_model.specs.store.BaseRead.{row_of}
+use Rattle.ps_model.specs.store.BaseRows.{BaseRow, item, made, counter}
 use Rattle.ps_model.specs.Book.{Book}
 use Rattle.ps_compact_codec.specs.Held.{has_held_numbers}
 use Rattle.ps_compact_import.specs.States.{has_own_key}

@@ -6,11 +6,11 @@ use Rattle.ps_types.specs.declared.request.Request.{Request}
 use Rattle.ps_types.specs.declared.rows.LineRow.{LineRow}
 use Rattle.ps_types.specs.declared.rows.TallyRow.{TallyRow}
 use Rattle.ps_model.specs.After.{book_after, lines_after}
-use Rattle.ps_model.specs.BaseRead.{row_of}
+use Rattle.ps_model.specs.store.BaseRead.{row_of}
 use Rattle.ps_model.specs.Book.{Book, State}
-use Rattle.ps_model.specs.Changes.{changed}
+use Rattle.ps_model.specs.requests.Changes.{changed}
 use Rattle.ps_model.specs.Replay.{request_accepted}
-use Rattle.ps_model.specs.Taking.{request_in, tree_taken}
+use Rattle.ps_model.specs.requests.Taking.{request_in, tree_taken}
 use Rattle.ps_model.specs.Tallies.{lines_with}
 use Rattle.ps_access.specs.Tables.{book_of}
 use Rattle.ps_core.specs.Rows.{fits_row}

@@ -5,8 +5,8 @@ use Rattle.ps_types.specs.declared.request.Request.{Request}
 use Rattle.ps_types.specs.declared.rows.TallyRow.{TallyRow}
 use Rattle.ps_model.specs.Addressed.{AreAddresses, AreEarly, AreNamed}
 use Rattle.ps_model.specs.After.{all_due}
-use Rattle.ps_model.specs.Events.{events_of}
-use Rattle.ps_model.specs.Numbered.{numbered}
+use Rattle.ps_model.specs.notices.Events.{events_of}
+use Rattle.ps_model.specs.notices.Numbered.{numbered}
 use Rattle.ps_notices.specs.Due.{AreFew}
 use Rattle.ps_core.specs.States.{Part}
 

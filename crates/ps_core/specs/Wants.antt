@@ -8,7 +8,7 @@ use Rattle.ps_types.specs.declared.rows.ResourceRow.{ResourceRow}
 use Rattle.ps_types.specs.Resources.{resource_at}
 use Rattle.ps_types.specs.Same.{same_jid}
 use Rattle.ps_model.specs.Book.{Book}
-use Rattle.ps_model.specs.Changes.{changed}
+use Rattle.ps_model.specs.requests.Changes.{changed}
 use Rattle.ps_filter.specs.declared.want.Want.{Want}
 use Rattle.ps_filter.specs.Wants.{AreWants}
 use Rattle.ps_core.specs.declared.half.Half.{Half}

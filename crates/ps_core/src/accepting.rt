@@ -1,7 +1,7 @@
 // Whether an entry is accepted at a State, and the request that it is then.
 ghost use Rattle.std.specs.Prelude.{◌≡◌, None, IfOk};
-ghost use Rattle.ps_model.specs.Commits.{makes_entry as makes_entry_at};
-ghost use Rattle.ps_model.specs.BaseRead.{row_of};
+ghost use Rattle.ps_model.specs.requests.Commits.{makes_entry as makes_entry_at};
+ghost use Rattle.ps_model.specs.store.BaseRead.{row_of};
 ghost use Rattle.ps_model.specs.Book.{State};
 ghost use Rattle.ps_model.specs.Replay.{accepted as accepted_in, row_accepted};
 ghost use Rattle.ps_types.specs.declared.entry.Entry.{Entry};

@@ -1,11 +1,11 @@
 // What a line is answered at a State.
 ghost use Rattle.std.specs.Prelude.{◌≡◌, ◌≢◌, ℕ, List, [], true, false, cond, IfOk, IfSome, Some, None};
 ghost use Rattle.ps_types.specs.declared.entry.Entry.TheVariants.{Change};
-ghost use Rattle.ps_model.specs.Outcome.{denied};
+ghost use Rattle.ps_model.specs.requests.Outcome.{denied};
 ghost use Rattle.ps_model.specs.Replies as model;
 ghost use Rattle.ps_model.specs.Replies.{reply_to, entry_of, reply_by, entry_by, if_answered, moment_of, outcome_reply, feature_of};
-ghost use Rattle.ps_model.specs.Taken.{asked};
-ghost use Rattle.ps_model.specs.Taking.{tree_taken};
+ghost use Rattle.ps_model.specs.requests.Taken.{asked};
+ghost use Rattle.ps_model.specs.requests.Taking.{tree_taken};
 ghost use Rattle.ps_access.specs.Tables.{book_of};
 ghost use Rattle.ps_request.specs.Heads.{head_view};
 ghost use Rattle.ps_core.specs.Answers.{full_by, AnswersStanza};

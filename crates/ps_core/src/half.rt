@@ -2,9 +2,9 @@
 ghost use Rattle.std.specs.Prelude.{◌≡◌, ◌<◌, ◌^◌, [], true, IfOk, OnOk};
 ghost use Rattle.ps_types.specs.declared.entry.Entry.TheVariants.{Base, Boot, Change, Gone};
 ghost use Rattle.ps_model.specs.Book.{empty_state};
-ghost use Rattle.ps_model.specs.Commits.{makes_entry};
-ghost use Rattle.ps_model.specs.Taken.{asked};
-ghost use Rattle.ps_model.specs.Taking.{tree_taken};
+ghost use Rattle.ps_model.specs.requests.Commits.{makes_entry};
+ghost use Rattle.ps_model.specs.requests.Taken.{asked};
+ghost use Rattle.ps_model.specs.requests.Taking.{tree_taken};
 ghost use Rattle.ps_access.specs.Tables.{book_of};
 ghost use Rattle.ps_core.specs.Counted.{AreCounted};
 ghost use Rattle.ps_core.specs.Requests.{IsRequestOf};

@@ -1,6 +1,6 @@
 // What an entry does to the numbers of notices.
 ghost use Rattle.std.specs.Prelude.{◌≡◌, ◌≤◌, true, IfOk, OnOk, Some, map};
-ghost use Rattle.ps_model.specs.BaseRead.{row_of};
+ghost use Rattle.ps_model.specs.store.BaseRead.{row_of};
 ghost use Rattle.ps_core.specs.Numbers.{Fit, IsCountOf, IsCountOfRow, numbers_after, rows_set};
 ghost use Rattle.ps_core.specs.Rows.{is_held, is_held_row};
 ghost use Rattle.ps_compact_codec.specs.Said.{row_said};

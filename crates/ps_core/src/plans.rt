@@ -1,7 +1,7 @@
 // The check of a request: its kind's plan.
 ghost use Rattle.std.specs.Prelude.{◌≡◌, false, None};
-ghost use Rattle.ps_model.specs.Check.{check};
-ghost use Rattle.ps_model.specs.Commits.{commits};
+ghost use Rattle.ps_model.specs.requests.Check.{check};
+ghost use Rattle.ps_model.specs.requests.Commits.{commits};
 ghost use Rattle.ps_access.specs.Plans.{Agrees};
 ghost use Rattle.ps_access.specs.Tables.{book_of};
 

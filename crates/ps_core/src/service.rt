@@ -1,7 +1,7 @@
 // The service: what it answers, and the entry that it prepares and commits.
 ghost use Rattle.std.specs.Prelude.{◌≡◌, ◌<◌, ◌^◌, [], true, false, IfOk, OnOk, OnErr, IfSome, IsSome, Some, None, map, option_copied, option_map};
 ghost use Rattle.ps_model.specs.After.{after, notices_at};
-ghost use Rattle.ps_model.specs.Base.{book_rows};
+ghost use Rattle.ps_model.specs.store.Base.{book_rows};
 ghost use Rattle.ps_model.specs.Book.{empty_state};
 ghost use Rattle.ps_model.specs.Replay.{accepted};
 ghost use Rattle.ps_model.specs.Replies.{reply_to, entry_of};

@@ -2,7 +2,7 @@
 ghost use Rattle.std.specs.Prelude.{◌≡◌, IfOk};
 ghost use Rattle.std.specs.List.{list_all};
 ghost use Rattle.ps_types.specs.LineTree.{line_tree};
-ghost use Rattle.ps_model.specs.Taking.{taken, tree_taken, line_taken, is_white};
+ghost use Rattle.ps_model.specs.requests.Taking.{taken, tree_taken, line_taken, is_white};
 ghost use Rattle.ps_request.specs.Taking.{taken_of, taken_view};
 ghost use Rattle.ps_core.specs.Lines.{line_view, read_view, HasName, IsOfTree};
 

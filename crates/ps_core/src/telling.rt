@@ -1,8 +1,8 @@
 // What an entry has told.
 ghost use Rattle.std.specs.Prelude.{◌≡◌, true, IfOk, Some};
 ghost use Rattle.ps_model.specs.After.{notices_at};
-ghost use Rattle.ps_model.specs.BaseRead.{row_of};
-ghost use Rattle.ps_model.specs.Numbered.{row_notices};
+ghost use Rattle.ps_model.specs.store.BaseRead.{row_of};
+ghost use Rattle.ps_model.specs.notices.Numbered.{row_notices};
 ghost use Rattle.ps_core.specs.Counted.{AreFewMade};
 ghost use Rattle.ps_core.specs.Rows.{is_held_row};
 ghost use Rattle.ps_core.specs.Stages.{Follows};

@@ -6,7 +6,7 @@ use Rattle.ps_types.specs.declared.node.NodeKey.{NodeKey}
 use Rattle.ps_types.specs.declared.rows.NodeRow.{NodeRow}
 use Rattle.ps_model.specs.Access.{read_at}
 use Rattle.ps_model.specs.Book.{Book}
-use Rattle.ps_model.specs.Discovery.{is_granted}
+use Rattle.ps_model.specs.requests.Discovery.{is_granted}
 
 -- a node that doesn't stand is read by nobody
 pub none_reads : (o : Option NodeRow) (book : Book) (node : NodeKey) (who : Jid) → is_some o ≡ false → false ≡ is_granted (read_at o book node who)

@@ -7,7 +7,7 @@ use Rattle.ps_types.specs.declared.tree.Child.TheVariants as child
 use Rattle.ps_types.specs.Elem.{nodes}
 use Rattle.ps_types.specs.Shape.{holding}
 use Rattle.ps_types.specs.Tree.{branch}
-use Rattle.ps_model.specs.Discovery.{all_features, entity_type, feature_tree, identity_tree}
+use Rattle.ps_model.specs.requests.Discovery.{all_features, entity_type, feature_tree, identity_tree}
 use Rattle.ps_disco.specs.Features.{children_of, entity_trees, is_offered, offered_children}
 use Rattle.ps_disco.proofs.Trees.{nodes-made}
 

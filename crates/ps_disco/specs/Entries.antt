@@ -14,7 +14,7 @@ use Rattle.ps_types.specs.Shape.{element, holding}
 use Rattle.ps_types.specs.Tree.{Tree}
 use Rattle.ps_model.specs.Access.{read, is_account}
 use Rattle.ps_model.specs.Book.{Book}
-use Rattle.ps_model.specs.Discovery.{is_granted, is_held_by, is_listed, item_entry, node_entries, node_entry}
+use Rattle.ps_model.specs.requests.Discovery.{is_granted, is_held_by, is_listed, item_entry, node_entries, node_entry}
 
 abbrev pub entry_at : List ℕ → List ℕ → List ℕ → Tree
 entry_at jid attr value = element (codes "item") items_ns ((codes "jid", jid) ∷ (attr, value) ∷ []) []

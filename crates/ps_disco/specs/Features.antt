@@ -6,7 +6,7 @@ use Rattle.ps_types.specs.declared.tree.Child.TheVariants as child
 use Rattle.ps_types.specs.declared.config.NodeKind.{NodeKind}
 use Rattle.ps_types.specs.Namespaces.{pubsub_ns}
 use Rattle.ps_types.specs.Tree.{Tree}
-use Rattle.ps_model.specs.Discovery.{all_features, entity_type, feature_tree, identity_tree, kind_type}
+use Rattle.ps_model.specs.requests.Discovery.{all_features, entity_type, feature_tree, identity_tree, kind_type}
 
 abbrev pub children_of : List (List ℕ) → List Child
 children_of vars = map (λ var. child.Tree (feature_tree var)) vars

@@ -7,7 +7,7 @@ use Rattle.ps_types.specs.declared.rows.NodeRow.{NodeRow}
 use Rattle.ps_types.specs.declared.tree.Child.{Child}
 use Rattle.ps_disco.specs.Entries.{row_children}
 use Rattle.ps_model.specs.Book.{Book}
-use Rattle.ps_model.specs.Discovery.{is_held_by}
+use Rattle.ps_model.specs.requests.Discovery.{is_held_by}
 use Rattle.ps_nodes.specs.NodeRows.{is_there}
 use Rattle.ps_nodes.specs.Places.{is_place, ArePlaces, option_list}
 

@@ -8,10 +8,10 @@ use Rattle.ps_types.specs.Elem.{nodes}
 use Rattle.ps_types.specs.Shape.{attrs_with}
 use Rattle.ps_types.specs.Tree.{Tree, tree}
 use Rattle.ps_model.specs.Book.{Book}
-use Rattle.ps_model.specs.CheckEntity.{mine_steps, nodes_get_steps}
-use Rattle.ps_model.specs.Discovery.{info_child, nodes_child}
-use Rattle.ps_model.specs.Outcome.{Outcome, outcome}
-use Rattle.ps_model.specs.Steps.{first_denial}
+use Rattle.ps_model.specs.requests.CheckEntity.{mine_steps, nodes_get_steps}
+use Rattle.ps_model.specs.requests.Discovery.{info_child, nodes_child}
+use Rattle.ps_model.specs.requests.Outcome.{Outcome, outcome}
+use Rattle.ps_model.specs.requests.Steps.{first_denial}
 
 abbrev pub is_planned : Ask → Bool
 is_planned (ask.InfoGet node) = true

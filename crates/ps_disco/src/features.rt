@@ -1,6 +1,6 @@
 // What an entity is, and which features it has (XEP-0030 §3.1, XEP-0060 §5.1, XEP-0163 §6).
 ghost use Rattle.std.specs.Prelude.{◌≡◌, ◌++◌, ◌∷◌, [], IfOk, OnOk, map};
-ghost use Rattle.ps_model.specs.Discovery as model;
+ghost use Rattle.ps_model.specs.requests.Discovery as model;
 ghost use Rattle.ps_disco.specs.Entries.{Hold};
 ghost use Rattle.ps_disco.specs.Features.{entity_trees, is_offered, node_trees, offered_children};
 

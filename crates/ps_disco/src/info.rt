@@ -1,9 +1,9 @@
 // What an entity is (XEP-0030 §3, XEP-0060 §5.3).
 ghost use Rattle.std.specs.Prelude.{◌≡◌, false, IfOk};
 ghost use Rattle.ps_types.specs.Nodes.{node_at};
-ghost use Rattle.ps_model.specs.CheckEntity.{mine_steps};
-ghost use Rattle.ps_model.specs.Discovery as model;
-ghost use Rattle.ps_model.specs.Steps.{first_denial};
+ghost use Rattle.ps_model.specs.requests.CheckEntity.{mine_steps};
+ghost use Rattle.ps_model.specs.requests.Discovery as model;
+ghost use Rattle.ps_model.specs.requests.Steps.{first_denial};
 ghost use Rattle.ps_access.specs.Plans.{Agrees, Passes};
 ghost use Rattle.ps_access.specs.Tables.{book_of};
 ghost use Rattle.ps_disco.specs.Entries.{Hold};

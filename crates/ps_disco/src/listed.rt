@@ -2,9 +2,9 @@
 ghost use Rattle.std.specs.Prelude.{◌≡◌, false, filter, IfOk};
 ghost use Rattle.ps_types.specs.Address.{jid_text};
 ghost use Rattle.ps_model.specs.Access.{read};
-ghost use Rattle.ps_model.specs.CheckEntity.{nodes_get_steps};
-ghost use Rattle.ps_model.specs.Discovery as model;
-ghost use Rattle.ps_model.specs.Steps.{first_denial};
+ghost use Rattle.ps_model.specs.requests.CheckEntity.{nodes_get_steps};
+ghost use Rattle.ps_model.specs.requests.Discovery as model;
+ghost use Rattle.ps_model.specs.requests.Steps.{first_denial};
 ghost use Rattle.ps_access.specs.Plans.{Agrees, Passes};
 ghost use Rattle.ps_access.specs.Tables.{book_of};
 ghost use Rattle.ps_disco.specs.Entries.{Hold, entries_in, is_shown, items_in, nodes_in, shown_entries};

@@ -48,7 +48,8 @@ only_synced synced c leaves =
     same_number_lists c synced (omega (arith, leaves.no_shorter, leaves.no_longer)) (λ k less. leaves.elsewhere k (omega (arith, leaves.no_longer)) (λ none. none))
 
 -- after a write that may have failed, a crash leaves what it left before, or more in its range
-pub after_write : (synced now : List ℕ) (written then_written : List (ℕ × ℕ)) (range : ℕ × ℕ) (c : List ℕ) → now ≡ synced → (then_written ≡ written) ⊎ (then_written ≡ range ∷ written) → MayLeave now then_written c → MayLeave synced (range ∷ written) c
+pub after_write : (synced now : List ℕ) (written then_written : List (ℕ × ℕ)) (range : ℕ × ℕ) (c : List ℕ) → now ≡ synced → (then_written ≡ written) ⊎ (then_written ≡ range ∷ written)
+    → MayLeave now then_written c → MayLeave synced (range ∷ written) c
 after_write synced now written then_written range c same (inl none) leaves =
     grows synced c written range (subst (λ (l : List ℕ). MayLeave l written c) same (subst (λ (w : List (ℕ × ℕ)). MayLeave now w c) none leaves))
 after_write synced now written then_written range c same (inr one) leaves =

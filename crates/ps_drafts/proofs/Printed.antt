@@ -7,7 +7,7 @@ use Rattle.json.specs.Token as token
 use Rattle.ps_types.specs.Print.{print}
 use Rattle.ps_types.specs.declared.config.NoticeKind.{NoticeKind}
 use Rattle.ps_types.specs.declared.config.NoticeKind.TheVariants.{Normal, Headline}
-use Rattle.ps_model.specs.NoticeTrees.{headers, notice_id, with_id}
+use Rattle.ps_model.specs.notices.NoticeTrees.{headers, notice_id, with_id}
 use Rattle.ps_drafts.specs.Parts.{Shape, message_of, line_of, rest_of}
 
 -- the text of one token that is a string

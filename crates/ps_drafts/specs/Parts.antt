@@ -7,7 +7,7 @@ use Rattle.ps_types.specs.Print.{client, print}
 use Rattle.ps_types.specs.Tree.{Tree, tree, Nodes, none, branch, words}
 use Rattle.ps_types.specs.declared.config.NoticeKind.{NoticeKind}
 use Rattle.ps_types.specs.declared.config.NoticeKind.TheVariants.{Normal, Headline}
-use Rattle.ps_model.specs.NoticeTrees.{headers, kind_attr, one, only}
+use Rattle.ps_model.specs.notices.NoticeTrees.{headers, kind_attr, one, only}
 
 -- what such messages have in common: the text of the address from which they come, their kind, and the event
 pub record Shape : Type 0 where

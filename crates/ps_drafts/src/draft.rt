@@ -1,7 +1,7 @@
 // The notice of one address, without its id.
 ghost use Rattle.std.specs.Prelude.{◌≡◌, ◌++◌, IfOk};
 ghost use Rattle.std.specs.Arc.{arc_value};
-ghost use Rattle.ps_model.specs.NoticeTrees as trees;
+ghost use Rattle.ps_model.specs.notices.NoticeTrees as trees;
 ghost use Rattle.ps_types.specs.Print.{print};
 ghost use Rattle.ps_drafts.specs.Parts as parts;
 

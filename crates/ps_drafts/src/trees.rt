@@ -2,7 +2,7 @@
 ghost use Rattle.std.specs.Prelude.{◌≡◌, IfOk};
 ghost use Rattle.ps_types.specs.Elem.{nodes};
 ghost use Rattle.ps_types.specs.Tree.{branch};
-ghost use Rattle.ps_model.specs.NoticeTrees as model;
+ghost use Rattle.ps_model.specs.notices.NoticeTrees as model;
 ghost use Rattle.ps_drafts.specs.Parts as parts;
 
 use ps_base::Memory;

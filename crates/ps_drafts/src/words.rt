@@ -1,7 +1,7 @@
 // Text in a line.
 ghost use Rattle.std.specs.Prelude.{◌≡◌, ◌++◌, IfOk, string_bytes};
 ghost use Rattle.json.specs.Print.{quoted};
-ghost use Rattle.ps_model.specs.NoticeTrees.{notice_id};
+ghost use Rattle.ps_model.specs.notices.NoticeTrees.{notice_id};
 
 use json::Writer;
 use ps_base::Memory;

@@ -9,10 +9,10 @@ use Rattle.ps_types.specs.declared.request.Request.{Request}
 use Rattle.ps_types.specs.Nodes.{stands}
 use Rattle.ps_types.specs.Tree.{Tree}
 use Rattle.ps_model.specs.Book.{Book}
-use Rattle.ps_model.specs.Check.{check}
-use Rattle.ps_model.specs.CheckForms.{node_of}
-use Rattle.ps_model.specs.Outcome.{outcome, is_accepted}
-use Rattle.ps_model.specs.Steps.{first_denial, unless}
+use Rattle.ps_model.specs.requests.Check.{check}
+use Rattle.ps_model.specs.requests.CheckForms.{node_of}
+use Rattle.ps_model.specs.requests.Outcome.{outcome, is_accepted}
+use Rattle.ps_model.specs.requests.Steps.{first_denial, unless}
 
 with_ask : Request → Ask → Request
 with_ask r a = record r { ask = a }

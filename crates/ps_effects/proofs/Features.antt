@@ -6,7 +6,7 @@ use Rattle.ps_types.specs.declared.rows.Caps.{Caps}
 use Rattle.ps_types.specs.declared.rows.ResourceRow.{ResourceRow}
 use Rattle.ps_types.specs.Resources.{caps_in, is_resource_of, resource_at, resources_with}
 use Rattle.ps_types.proofs.Same.{same_jid-Decides}
-use Rattle.ps_model.specs.ChangeRouter.{with_features}
+use Rattle.ps_model.specs.requests.ChangeRouter.{with_features}
 
 row : Jid → Option Caps → List (List ℕ) → ResourceRow
 row who caps features = record { who = who; caps = caps; features = features }

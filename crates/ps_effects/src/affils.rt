@@ -1,6 +1,6 @@
 // What an owner's affiliations do (XEP-0060 §8.9.2).
 ghost use Rattle.std.specs.Prelude.{◌≡◌, OnOk};
-ghost use Rattle.ps_model.specs.ChangeOwner.{affils_change};
+ghost use Rattle.ps_model.specs.requests.ChangeOwner.{affils_change};
 ghost use Rattle.ps_access.specs.Tables.{book_of};
 
 use ps_access::{Tables, set_asked_affils};

@@ -4,7 +4,7 @@ ghost use Rattle.ps_base.specs.Rows.{change_row};
 ghost use Rattle.ps_types.specs.CapString.{info_of};
 ghost use Rattle.ps_types.specs.Resources.{caps_in, is_resource_of, resource_at};
 ghost use Rattle.ps_types.specs.Vers.{vers_with};
-ghost use Rattle.ps_model.specs.ChangeRouter.{answer_by, answer_change, with_features};
+ghost use Rattle.ps_model.specs.requests.ChangeRouter.{answer_by, answer_change, with_features};
 ghost use Rattle.ps_access.specs.Tables.{book_of};
 ghost use Rattle.ps_request_parts.specs.Answers.{answer_taken};
 

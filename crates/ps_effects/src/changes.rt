@@ -1,8 +1,8 @@
 // The change of a request, by its kind.
 ghost use Rattle.std.specs.Prelude.{◌≡◌, true, OnOk};
-ghost use Rattle.ps_model.specs.Changes.{changed};
-ghost use Rattle.ps_model.specs.Check.{check};
-ghost use Rattle.ps_model.specs.Outcome.{is_accepted};
+ghost use Rattle.ps_model.specs.requests.Changes.{changed};
+ghost use Rattle.ps_model.specs.requests.Check.{check};
+ghost use Rattle.ps_model.specs.requests.Outcome.{is_accepted};
 ghost use Rattle.ps_access.specs.Tables.{book_of};
 ghost use Rattle.ps_effects.specs.Kinds.{AreFew, is_of_nodes, is_of_subs, is_of_router};
 

@@ -5,8 +5,8 @@ ghost use Rattle.ps_types.specs.declared.denial.Condition.{Condition};
 ghost use Rattle.ps_types.specs.Config.{config_type};
 ghost use Rattle.ps_types.specs.Forms.{form_of};
 ghost use Rattle.ps_types.specs.Nodes.{node_at};
-ghost use Rattle.ps_model.specs.ChangeOwner.{config_change, configured, configured_by, items_under};
-ghost use Rattle.ps_model.specs.CheckForms as model;
+ghost use Rattle.ps_model.specs.requests.ChangeOwner.{config_change, configured, configured_by, items_under};
+ghost use Rattle.ps_model.specs.requests.CheckForms as model;
 ghost use Rattle.ps_access.specs.Plans.{Gives};
 ghost use Rattle.ps_access.specs.Tables.{book_of};
 

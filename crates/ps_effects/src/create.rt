@@ -1,8 +1,8 @@
 // How a node is made (XEP-0060 §8.1).
 ghost use Rattle.std.specs.Prelude.{◌≡◌, false, IfOk, OnOk};
 ghost use Rattle.ps_types.specs.Nodes.{stands};
-ghost use Rattle.ps_model.specs.ChangeNodes.{created, created_by, new_node, linked, owner_row as owner_row_of};
-ghost use Rattle.ps_model.specs.CheckForms as model;
+ghost use Rattle.ps_model.specs.requests.ChangeNodes.{created, created_by, new_node, linked, owner_row as owner_row_of};
+ghost use Rattle.ps_model.specs.requests.CheckForms as model;
 ghost use Rattle.ps_access.specs.Tables.{book_of};
 
 use ps_access::{Tables, new_config};

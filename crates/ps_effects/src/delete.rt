@@ -1,6 +1,6 @@
 // How a node goes (XEP-0060 §8.4).
 ghost use Rattle.std.specs.Prelude.{◌≡◌};
-ghost use Rattle.ps_model.specs.ChangeNodes.{deleted};
+ghost use Rattle.ps_model.specs.requests.ChangeNodes.{deleted};
 ghost use Rattle.ps_access.specs.Tables.{book_of};
 
 use ps_access::Tables;

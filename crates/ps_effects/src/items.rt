@@ -4,7 +4,7 @@ ghost use Rattle.ps_types.specs.Counts.{made_at};
 ghost use Rattle.ps_types.specs.declared.request.AskItem.{AskItem};
 ghost use Rattle.ps_types.specs.Nodes.{node_at, stands};
 ghost use Rattle.ps_types.specs.Tree.{Tree};
-ghost use Rattle.ps_model.specs.ChangePublish.{item_row as item_row_of, counted, published_by, retract_change};
+ghost use Rattle.ps_model.specs.requests.ChangePublish.{item_row as item_row_of, counted, published_by, retract_change};
 ghost use Rattle.ps_model.specs.ItemIds.{item_id as item_id_of};
 ghost use Rattle.ps_access.specs.Tables.{book_of};
 

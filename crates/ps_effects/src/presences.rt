@@ -1,8 +1,8 @@
 // What presences do (RFC 6121 §4).
 ghost use Rattle.std.specs.Prelude.{◌≡◌, IfOk, OnOk};
 ghost use Rattle.ps_types.specs.Resources.{resource_at, resources_with};
-ghost use Rattle.ps_model.specs.ChangeRouter as model;
-ghost use Rattle.ps_model.specs.ChangeRouter.{absent_change, present_change};
+ghost use Rattle.ps_model.specs.requests.ChangeRouter as model;
+ghost use Rattle.ps_model.specs.requests.ChangeRouter.{absent_change, present_change};
 ghost use Rattle.ps_access.specs.Tables.{book_of};
 
 use ps_access::Tables;

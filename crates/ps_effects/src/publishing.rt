@@ -5,9 +5,9 @@ ghost use Rattle.ps_types.specs.declared.denial.Condition.{Condition};
 ghost use Rattle.ps_types.specs.Counts.{made_at};
 ghost use Rattle.ps_types.specs.Defaults as defaults;
 ghost use Rattle.ps_types.specs.Nodes.{node_at, stands};
-ghost use Rattle.ps_model.specs.ChangeNodes.{created};
-ghost use Rattle.ps_model.specs.ChangePublish.{published, published_by, published_new};
-ghost use Rattle.ps_model.specs.CheckOptions as model;
+ghost use Rattle.ps_model.specs.requests.ChangeNodes.{created};
+ghost use Rattle.ps_model.specs.requests.ChangePublish.{published, published_by, published_new};
+ghost use Rattle.ps_model.specs.requests.CheckOptions as model;
 ghost use Rattle.ps_access.specs.Plans.{Gives};
 ghost use Rattle.ps_access.specs.Tables.{book_of};
 

@@ -2,7 +2,7 @@
 ghost use Rattle.std.specs.Prelude.{◌≡◌, IfOk, OnOk};
 ghost use Rattle.ps_types.specs.Address.{bare};
 ghost use Rattle.ps_types.specs.Rosters.{roster_with};
-ghost use Rattle.ps_model.specs.ChangeRouter.{roster_change};
+ghost use Rattle.ps_model.specs.requests.ChangeRouter.{roster_change};
 ghost use Rattle.ps_access.specs.Tables.{book_of};
 
 use ps_access::Tables;

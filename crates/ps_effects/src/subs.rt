@@ -4,10 +4,10 @@ ghost use Rattle.ps_types.specs.declared.config.SubOptions.{SubOptions};
 ghost use Rattle.ps_types.specs.declared.denial.Condition.{Condition};
 ghost use Rattle.ps_types.specs.Nodes.{stands};
 ghost use Rattle.ps_types.specs.Values.{is_true};
-ghost use Rattle.ps_model.specs.ChangeEntity.{options_change, subscribe_change, subscribed_by, unsubscribe_change};
-ghost use Rattle.ps_model.specs.ChangeOwner as model;
-ghost use Rattle.ps_model.specs.ChangeOwner.{approve_change, subs_change};
-ghost use Rattle.ps_model.specs.Steps.{denial_of};
+ghost use Rattle.ps_model.specs.requests.ChangeEntity.{options_change, subscribe_change, subscribed_by, unsubscribe_change};
+ghost use Rattle.ps_model.specs.requests.ChangeOwner as model;
+ghost use Rattle.ps_model.specs.requests.ChangeOwner.{approve_change, subs_change};
+ghost use Rattle.ps_model.specs.requests.Steps.{denial_of};
 ghost use Rattle.ps_access.specs.Plans.{PassesWith};
 ghost use Rattle.ps_access.specs.Tables.{book_of};
 

@@ -15,7 +15,7 @@ use Rattle.ps_types.specs.Resources.{caps_in, is_resource_of, resource_at}
 use Rattle.ps_types.specs.Tree.{Tree}
 use Rattle.ps_types.specs.Vers.{ver_at, vers_by, vers_with}
 use Rattle.ps_model.specs.Book.{Book}
-use Rattle.ps_model.specs.ChangeRouter.{answer_by, answer_change, with_features}
+use Rattle.ps_model.specs.requests.ChangeRouter.{answer_by, answer_change, with_features}
 use Rattle.ps_model.specs.SameRows.{same_resources, same_vers}
 use Rattle.ps_model.proofs.Differs.{all-same, same-change, found-kept}
 use Rattle.ps_base.specs.Rows.{change_row}

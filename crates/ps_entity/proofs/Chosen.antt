@@ -7,7 +7,7 @@ use Rattle.ps_types.specs.declared.node.NodeKey.{NodeKey}
 use Rattle.ps_types.specs.declared.rows.ItemRow.{ItemRow}
 use Rattle.ps_types.specs.Items.{is_item_at, items_of}
 use Rattle.ps_items.specs.Chosen.{items_named}
-use Rattle.ps_model.specs.Lists.{is_named_item, named_items, newest}
+use Rattle.ps_model.specs.requests.Lists.{is_named_item, named_items, newest}
 use Rattle.ps_rows.specs.Newest.{newest_of}
 use Rattle.ps_rows.proofs.Lasts.{newest_all}
 

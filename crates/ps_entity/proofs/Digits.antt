@@ -7,7 +7,7 @@ use Rattle.std.proofs.lemmas.Bool.Decides.{nat_tests}
 use Rattle.std.proofs.lemmas.Str.Parse.{parse_gives, digits_value_short}
 use Rattle.ps_types.specs.Values.{are_digits}
 use Rattle.ps_config.proofs.Numbers.{own, and-left, and-right, positive}
-use Rattle.ps_model.specs.CheckEntity.{is_most}
+use Rattle.ps_model.specs.requests.CheckEntity.{is_most}
 
 second : (a b : Bool) → a ≡ false → (a || b) ≡ true → b ≡ true
 second true b e h = absurd (cc)

@@ -1,8 +1,8 @@
 // What one has at nodes: the check, and which rows are asked for (XEP-0060 §5.6, §5.7).
 ghost use Rattle.std.specs.Prelude.{◌≡◌};
-ghost use Rattle.ps_model.specs.CheckEntity.{mine_steps};
-ghost use Rattle.ps_model.specs.Lists as lists;
-ghost use Rattle.ps_model.specs.Steps.{first_denial};
+ghost use Rattle.ps_model.specs.requests.CheckEntity.{mine_steps};
+ghost use Rattle.ps_model.specs.requests.Lists as lists;
+ghost use Rattle.ps_model.specs.requests.Steps.{first_denial};
 ghost use Rattle.ps_access.specs.Plans.{Passes};
 ghost use Rattle.ps_access.specs.Tables.{book_of};
 

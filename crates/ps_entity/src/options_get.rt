@@ -2,11 +2,11 @@
 ghost use Rattle.std.specs.Prelude.{◌≡◌, ◌∷◌, [], codes, false, Some, IfOk, IsErrOf};
 ghost use Rattle.ps_types.specs.Address.{jid_text};
 ghost use Rattle.ps_types.specs.Shape.{attrs_with};
-ghost use Rattle.ps_model.specs.CheckEntity.{options_get_steps};
-ghost use Rattle.ps_model.specs.CheckForms.{node_of};
-ghost use Rattle.ps_model.specs.Children.{options_child};
-ghost use Rattle.ps_model.specs.Outcome.{outcome};
-ghost use Rattle.ps_model.specs.Steps.{first_denial};
+ghost use Rattle.ps_model.specs.requests.CheckEntity.{options_get_steps};
+ghost use Rattle.ps_model.specs.requests.CheckForms.{node_of};
+ghost use Rattle.ps_model.specs.requests.Children.{options_child};
+ghost use Rattle.ps_model.specs.requests.Outcome.{outcome};
+ghost use Rattle.ps_model.specs.requests.Steps.{first_denial};
 ghost use Rattle.ps_access.specs.Plans.{Agrees, Passes};
 ghost use Rattle.ps_access.specs.Tables.{book_of};
 

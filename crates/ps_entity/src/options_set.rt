@@ -1,11 +1,11 @@
 // To set the options of a subscription (XEP-0060 §6.3.5).
 ghost use Rattle.std.specs.Prelude.{◌≡◌, not, None};
-ghost use Rattle.ps_model.specs.ChangeEntity as model;
-ghost use Rattle.ps_model.specs.CheckEntity.{options_set_steps};
-ghost use Rattle.ps_model.specs.CheckForms.{node_of};
-ghost use Rattle.ps_model.specs.Outcome.{outcome};
+ghost use Rattle.ps_model.specs.requests.ChangeEntity as model;
+ghost use Rattle.ps_model.specs.requests.CheckEntity.{options_set_steps};
+ghost use Rattle.ps_model.specs.requests.CheckForms.{node_of};
+ghost use Rattle.ps_model.specs.requests.Outcome.{outcome};
 ghost use Rattle.ps_model.specs.SameRows.{same_subs};
-ghost use Rattle.ps_model.specs.Steps.{first_denial};
+ghost use Rattle.ps_model.specs.requests.Steps.{first_denial};
 ghost use Rattle.ps_access.specs.Plans.{Agrees, PassesWith};
 ghost use Rattle.ps_access.specs.Tables.{book_of};
 

@@ -1,6 +1,6 @@
 // Presences that the router tells (RFC 6121 §4; XEP-0115 §4).
 ghost use Rattle.std.specs.Prelude.{◌≡◌, not, None};
-ghost use Rattle.ps_model.specs.ChangeRouter as model;
+ghost use Rattle.ps_model.specs.requests.ChangeRouter as model;
 ghost use Rattle.ps_model.specs.SameRows.{same_resources};
 ghost use Rattle.ps_access.specs.Tables.{book_of};
 ghost use Rattle.ps_entity.specs.Resources.{is_resource};

@@ -2,11 +2,11 @@
 ghost use Rattle.std.specs.Prelude.{◌≡◌, filter, map, false, Some, IfOk};
 ghost use Rattle.ps_types.specs.Elem.{nodes};
 ghost use Rattle.ps_types.specs.Shape.{holding};
-ghost use Rattle.ps_model.specs.CheckEntity.{mine_steps};
-ghost use Rattle.ps_model.specs.Children as model;
-ghost use Rattle.ps_model.specs.Lists as lists;
-ghost use Rattle.ps_model.specs.Outcome.{outcome};
-ghost use Rattle.ps_model.specs.Steps.{first_denial};
+ghost use Rattle.ps_model.specs.requests.CheckEntity.{mine_steps};
+ghost use Rattle.ps_model.specs.requests.Children as model;
+ghost use Rattle.ps_model.specs.requests.Lists as lists;
+ghost use Rattle.ps_model.specs.requests.Outcome.{outcome};
+ghost use Rattle.ps_model.specs.requests.Steps.{first_denial};
 ghost use Rattle.ps_access.specs.Plans.{Agrees};
 ghost use Rattle.ps_access.specs.Tables.{book_of};
 

@@ -2,14 +2,14 @@
 ghost use Rattle.std.specs.Prelude.{◌≡◌, ◌||◌, not, true, Some, IfOk, OnOk, is_some, nat_lt};
 ghost use Rattle.ps_types.specs.Nodes.{stands};
 ghost use Rattle.ps_types.specs.Subs.{is_pending, sub_at, sub_count, sub_row, subs_with};
-ghost use Rattle.ps_model.specs.ChangeEntity as model;
-ghost use Rattle.ps_model.specs.CheckEntity.{subscribe_steps};
-ghost use Rattle.ps_model.specs.CheckForms.{node_of};
-ghost use Rattle.ps_model.specs.CheckOwner as limits;
-ghost use Rattle.ps_model.specs.Children.{subscribe_child};
-ghost use Rattle.ps_model.specs.Outcome.{outcome};
+ghost use Rattle.ps_model.specs.requests.ChangeEntity as model;
+ghost use Rattle.ps_model.specs.requests.CheckEntity.{subscribe_steps};
+ghost use Rattle.ps_model.specs.requests.CheckForms.{node_of};
+ghost use Rattle.ps_model.specs.requests.CheckOwner as limits;
+ghost use Rattle.ps_model.specs.requests.Children.{subscribe_child};
+ghost use Rattle.ps_model.specs.requests.Outcome.{outcome};
 ghost use Rattle.ps_model.specs.SameRows.{same_subs};
-ghost use Rattle.ps_model.specs.Steps.{first_denial};
+ghost use Rattle.ps_model.specs.requests.Steps.{first_denial};
 ghost use Rattle.ps_access.specs.Plans.{Agrees, PassesWith};
 ghost use Rattle.ps_access.specs.Tables.{book_of};
 

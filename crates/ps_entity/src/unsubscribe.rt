@@ -1,9 +1,9 @@
 // To unsubscribe (XEP-0060 §6.2).
 ghost use Rattle.std.specs.Prelude.{◌≡◌, true, None, IsErrOf};
-ghost use Rattle.ps_model.specs.CheckEntity.{unsubscribe_steps};
-ghost use Rattle.ps_model.specs.CheckForms.{node_of};
-ghost use Rattle.ps_model.specs.Outcome.{outcome};
-ghost use Rattle.ps_model.specs.Steps.{first_denial};
+ghost use Rattle.ps_model.specs.requests.CheckEntity.{unsubscribe_steps};
+ghost use Rattle.ps_model.specs.requests.CheckForms.{node_of};
+ghost use Rattle.ps_model.specs.requests.Outcome.{outcome};
+ghost use Rattle.ps_model.specs.requests.Steps.{first_denial};
 ghost use Rattle.ps_access.specs.Plans.{Agrees, Passes};
 ghost use Rattle.ps_access.specs.Tables.{book_of};
 

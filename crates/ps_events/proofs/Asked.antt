@@ -10,7 +10,7 @@ use Rattle.ps_types.specs.declared.rows.AffilRow.{AffilRow}
 use Rattle.ps_types.specs.Affils.{affils_of}
 use Rattle.ps_model.specs.Access.{is_account}
 use Rattle.ps_model.specs.Book.{Book}
-use Rattle.ps_model.specs.EventSubs.{is_other_owner}
+use Rattle.ps_model.specs.notices.EventSubs.{is_other_owner}
 use Rattle.ps_events.specs.Parts.{account_asked, asked_among, owners_asked}
 use Rattle.ps_events.proofs.Lists.{map-map}
 

@@ -14,8 +14,8 @@ use Rattle.ps_types.specs.Same.{same_node, same_jid}
 use Rattle.ps_types.specs.Subs.{is_sub_of, state_in, sub_at, subs_with}
 use Rattle.ps_types.proofs.Same.{same_jid-Decides, same_node-itself}
 use Rattle.ps_model.specs.Book.{Book}
-use Rattle.ps_model.specs.ChangeOwner.{sub_with, subs_asked}
-use Rattle.ps_model.specs.EventSubs.{row_asked, rows_events}
+use Rattle.ps_model.specs.requests.ChangeOwner.{sub_with, subs_asked}
+use Rattle.ps_model.specs.notices.EventSubs.{row_asked, rows_events}
 use Rattle.ps_model.specs.Words.{sub_of}
 use Rattle.ps_events.specs.Parts.{AreThose, is_asked, told_to}
 use Rattle.ps_events.proofs.Lists.{find-gone, find-gone-other, find-put, find-put-other}

@@ -11,8 +11,8 @@ use Rattle.ps_types.specs.declared.rows.NodeRow.{NodeRow}
 use Rattle.ps_types.specs.Resources.{features_in, notify_feature, resource_at}
 use Rattle.ps_model.specs.Access.{is_account}
 use Rattle.ps_model.specs.Book.{Book}
-use Rattle.ps_model.specs.EventPresence.{is_newly_wanted, wanted_events}
-use Rattle.ps_model.specs.EventSubs.{last_event}
+use Rattle.ps_model.specs.notices.EventPresence.{is_newly_wanted, wanted_events}
+use Rattle.ps_model.specs.notices.EventSubs.{last_event}
 use Rattle.ps_nodes.proofs.Places.{number_at, rows_at-more}
 use Rattle.ps_nodes.specs.Places.{option_list, rows_at}
 use Rattle.ps_events.specs.Wanted.{all_lasts, is_asked_for, is_new, is_personal, last_in, lasts}

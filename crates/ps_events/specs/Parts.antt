@@ -20,11 +20,11 @@ use Rattle.ps_types.specs.Subs.{is_subscribed, sub_at}
 use Rattle.ps_types.specs.Values.{is_true}
 use Rattle.ps_model.specs.Access.{is_account}
 use Rattle.ps_model.specs.Book.{Book}
-use Rattle.ps_model.specs.ChangeOwner.{approved}
-use Rattle.ps_model.specs.ChangePublish.{item_row}
-use Rattle.ps_model.specs.EventNodes.{associated, made_events}
-use Rattle.ps_model.specs.EventPresence.{question_events, wanted_events}
-use Rattle.ps_model.specs.EventSubs.{is_other_owner, is_same, last_event, owners, subscribe_events}
+use Rattle.ps_model.specs.requests.ChangeOwner.{approved}
+use Rattle.ps_model.specs.requests.ChangePublish.{item_row}
+use Rattle.ps_model.specs.notices.EventNodes.{associated, made_events}
+use Rattle.ps_model.specs.notices.EventPresence.{question_events, wanted_events}
+use Rattle.ps_model.specs.notices.EventSubs.{is_other_owner, is_same, last_event, owners, subscribe_events}
 use Rattle.ps_model.specs.ItemIds.{item_id}
 
 -- these events come after those that are there

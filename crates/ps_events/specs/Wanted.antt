@@ -8,7 +8,7 @@ use Rattle.ps_types.specs.declared.rows.NodeRow.{NodeRow}
 use Rattle.ps_types.specs.Resources.{notify_feature}
 use Rattle.ps_model.specs.Access.{is_account}
 use Rattle.ps_model.specs.Book.{Book}
-use Rattle.ps_model.specs.EventSubs.{last_event}
+use Rattle.ps_model.specs.notices.EventSubs.{last_event}
 use Rattle.ps_nodes.specs.Places.{is_place, rows_at}
 use Rattle.ps_rows.specs.Standing.{passes_at}
 

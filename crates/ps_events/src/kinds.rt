@@ -1,6 +1,6 @@
 // The events of a request, by its kind.
 ghost use Rattle.std.specs.Prelude.{◌≡◌, true, IfOk};
-ghost use Rattle.ps_model.specs.Events.{events_of};
+ghost use Rattle.ps_model.specs.notices.Events.{events_of};
 ghost use Rattle.ps_access.specs.Tables.{book_of};
 ghost use Rattle.ps_events.specs.Kinds.{is_of_nodes, is_of_subs};
 

@@ -1,7 +1,7 @@
 // What the making of nodes and the publishing of items gives rise to (XEP-0060 §7.1, §7.2; XEP-0248).
 ghost use Rattle.std.specs.Prelude.{◌≡◌, ◌∷◌, [], IfOk, OnOk};
 ghost use Rattle.ps_types.specs.Nodes.{config_at};
-ghost use Rattle.ps_model.specs.EventNodes as model;
+ghost use Rattle.ps_model.specs.notices.EventNodes as model;
 ghost use Rattle.ps_access.specs.Tables.{book_of};
 ghost use Rattle.ps_events.specs.Parts.{Adds, joined, publish_events, row_asked};
 

@@ -1,7 +1,7 @@
 // What a presence and an answer about capabilities give rise to (XEP-0115 §6.2; XEP-0163 §4.3.4).
 ghost use Rattle.std.specs.Prelude.{◌≡◌, IfOk, is_some};
-ghost use Rattle.ps_model.specs.ChangeRouter as change;
-ghost use Rattle.ps_model.specs.EventPresence.{question_events, wanted_events};
+ghost use Rattle.ps_model.specs.requests.ChangeRouter as change;
+ghost use Rattle.ps_model.specs.notices.EventPresence.{question_events, wanted_events};
 ghost use Rattle.ps_access.specs.Tables.{book_of};
 ghost use Rattle.ps_events.specs.Parts.{present_events};
 

@@ -1,6 +1,6 @@
 // What the rows that an owner sets give rise to (XEP-0060 §8.8.2).
 ghost use Rattle.std.specs.Prelude.{◌≡◌, IfOk, OnOk};
-ghost use Rattle.ps_model.specs.EventSubs.{rows_events};
+ghost use Rattle.ps_model.specs.notices.EventSubs.{rows_events};
 ghost use Rattle.ps_access.specs.Tables.{book_of};
 ghost use Rattle.ps_events.specs.Parts.{Adds, AreThose};
 

@@ -2,7 +2,7 @@
 ghost use Rattle.std.specs.Prelude.{◌≡◌, ◌++◌, IfOk, OnOk, bytes_eq, filter};
 ghost use Rattle.std.specs.List.{list_any};
 ghost use Rattle.ps_types.specs.Resources.{features_in, resource_at};
-ghost use Rattle.ps_model.specs.EventPresence.{wanted_events};
+ghost use Rattle.ps_model.specs.notices.EventPresence.{wanted_events};
 ghost use Rattle.ps_nodes.specs.NodeRows.{row_seen};
 ghost use Rattle.ps_access.specs.Tables.{book_of};
 ghost use Rattle.ps_events.specs.Parts.{Adds};

@@ -7,7 +7,7 @@ use Rattle.ps_types.specs.declared.event.Event.{Event}
 use Rattle.ps_types.specs.declared.jid.Jid.{Jid}
 use Rattle.ps_model.specs.After.{all_due, book_for, due_of}
 use Rattle.ps_model.specs.Book.{Book}
-use Rattle.ps_model.specs.Given.{asked, given}
+use Rattle.ps_model.specs.notices.Given.{asked, given}
 use Rattle.ps_model.specs.Sorted.{sorted}
 use Rattle.ps_fanout.specs.Told.{given_to, told}
 

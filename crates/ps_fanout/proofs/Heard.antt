@@ -13,11 +13,11 @@ use Rattle.ps_types.specs.declared.config.NodeConfig.{NodeConfig}
 use Rattle.ps_types.specs.declared.jid.Jid.{Jid}
 use Rattle.ps_types.specs.declared.node.NodeKey.{NodeKey}
 use Rattle.ps_model.specs.Book.{Book}
-use Rattle.ps_model.specs.Due.{About, about_new, about_node, may_pass, may_read, node_notice, one_way, told_about}
-use Rattle.ps_model.specs.Given.{given}
-use Rattle.ps_model.specs.NoticeTrees.{associate_tree, header_nodes, kind_attr, message}
-use Rattle.ps_model.specs.Ways as ways
-use Rattle.ps_model.specs.Ways.{is_interested, way_above, way_to, way_to_new}
+use Rattle.ps_model.specs.notices.Due.{About, about_new, about_node, may_pass, may_read, node_notice, one_way, told_about}
+use Rattle.ps_model.specs.notices.Given.{given}
+use Rattle.ps_model.specs.notices.NoticeTrees.{associate_tree, header_nodes, kind_attr, message}
+use Rattle.ps_model.specs.notices.Ways as ways
+use Rattle.ps_model.specs.notices.Ways.{is_interested, way_above, way_to, way_to_new}
 use Rattle.ps_drafts.specs.Parts as drafts
 use Rattle.ps_fanout.specs.Hearing.{Tells, heard, heard_by, heard_tree, hears, named, way_by}
 use Rattle.ps_fanout.specs.declared.news.News.{News}

@@ -13,10 +13,10 @@ use Rattle.ps_types.specs.declared.rows.ResourceRow.{ResourceRow}
 use Rattle.ps_types.specs.declared.rows.SubRow.{SubRow}
 use Rattle.ps_types.proofs.Same.{same_jid-Decides}
 use Rattle.ps_model.specs.Book.{Book}
-use Rattle.ps_model.specs.Due.{may_pass, may_read}
+use Rattle.ps_model.specs.notices.Due.{may_pass, may_read}
 use Rattle.ps_model.specs.Sorted.{sorted}
-use Rattle.ps_model.specs.Ways as ways
-use Rattle.ps_model.specs.Ways.{is_entitled, is_interested, is_subscriber, reaches_down, way_above}
+use Rattle.ps_model.specs.notices.Ways as ways
+use Rattle.ps_model.specs.notices.Ways.{is_entitled, is_interested, is_subscriber, reaches_down, way_above}
 use Rattle.ps_model.specs.Access.{is_account}
 use Rattle.ps_fanout.specs.Hearing.{heard, heard_by, heard_tree, hears, is_delivered, is_wanted, subscribers, way_by, way_in, wanting}
 use Rattle.ps_fanout.specs.declared.news.News.{News}

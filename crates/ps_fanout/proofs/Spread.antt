@@ -15,11 +15,11 @@ use Rattle.ps_types.specs.declared.rows.SubRow.{SubRow}
 use Rattle.ps_types.specs.declared.rows.SubState.{SubState}
 use Rattle.ps_types.proofs.Same.{same_jid-Decides}
 use Rattle.ps_model.specs.Book.{Book}
-use Rattle.ps_model.specs.Given as model
-use Rattle.ps_model.specs.Given.{asked, given}
-use Rattle.ps_model.specs.NoticeTrees.{question}
+use Rattle.ps_model.specs.notices.Given as model
+use Rattle.ps_model.specs.notices.Given.{asked, given}
+use Rattle.ps_model.specs.notices.NoticeTrees.{question}
 use Rattle.ps_model.specs.Sorted.{sorted}
-use Rattle.ps_model.specs.Stanza.{host_jid}
+use Rattle.ps_model.specs.requests.Stanza.{host_jid}
 use Rattle.ps_model.proofs.Asked.{is-among-asked}
 use Rattle.ps_filter.specs.Wants.{AreWants}
 use Rattle.ps_filter.specs.declared.want.Want.{Want}

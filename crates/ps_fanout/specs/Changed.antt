@@ -5,8 +5,8 @@ use Rattle.ps_types.specs.declared.config.NodeConfig.{NodeConfig}
 use Rattle.ps_types.specs.declared.jid.Jid.{Jid}
 use Rattle.ps_types.specs.declared.node.NodeKey.{NodeKey}
 use Rattle.ps_model.specs.Book.{Book}
-use Rattle.ps_model.specs.Due.{about_new, about_node, items_inside, told_about}
-use Rattle.ps_model.specs.NoticeTrees.{named_tree, retract_tree}
+use Rattle.ps_model.specs.notices.Due.{about_new, about_node, items_inside, told_about}
+use Rattle.ps_model.specs.notices.NoticeTrees.{named_tree, retract_tree}
 use Rattle.ps_fanout.specs.declared.news.Change.{Change}
 use Rattle.ps_fanout.specs.declared.news.Change.TheVariants.{Items, Retract, Purge, Delete, Configuration}
 

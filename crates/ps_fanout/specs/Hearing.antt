@@ -9,9 +9,9 @@ use Rattle.ps_types.specs.declared.jid.Jid.{Jid}
 use Rattle.ps_types.specs.declared.node.NodeKey.{NodeKey}
 use Rattle.ps_model.specs.Access.{is_account}
 use Rattle.ps_model.specs.Book.{Book}
-use Rattle.ps_model.specs.Due.{may_pass, may_read}
-use Rattle.ps_model.specs.Ways as ways
-use Rattle.ps_model.specs.Ways.{is_interested, way_above}
+use Rattle.ps_model.specs.notices.Due.{may_pass, may_read}
+use Rattle.ps_model.specs.notices.Ways as ways
+use Rattle.ps_model.specs.notices.Ways.{is_interested, way_above}
 use Rattle.ps_model.specs.Sorted.{sorted}
 use Rattle.ps_filter.specs.Wants.{who_want}
 use Rattle.ps_filter.specs.declared.want.Want.{Want}

@@ -5,7 +5,7 @@ use Rattle.ps_types.specs.declared.event.Event.{Event}
 use Rattle.ps_types.specs.declared.event.Event.TheVariants.{Approval, Told, Last, Question}
 use Rattle.ps_types.specs.declared.jid.Jid.{Jid}
 use Rattle.ps_model.specs.Book.{Book}
-use Rattle.ps_model.specs.Given.{asked, given}
+use Rattle.ps_model.specs.notices.Given.{asked, given}
 use Rattle.ps_model.specs.Sorted.{sorted}
 
 -- of these addresses, in their order, those that are given a tree, each with it

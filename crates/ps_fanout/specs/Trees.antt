@@ -14,9 +14,9 @@ use Rattle.ps_types.specs.declared.node.NodeKey.{NodeKey}
 use Rattle.ps_types.specs.declared.rows.ItemRow.{ItemRow}
 use Rattle.ps_types.specs.declared.rows.SubState.{SubState}
 use Rattle.ps_model.specs.Book.{Book}
-use Rattle.ps_model.specs.Due.{delivered, items_inside}
-use Rattle.ps_model.specs.Last.{last_notice}
-use Rattle.ps_model.specs.NoticeTrees.{approval_form, delay_nodes, event_nodes, kind_attr, message, one, only, told_tree}
+use Rattle.ps_model.specs.notices.Due.{delivered, items_inside}
+use Rattle.ps_model.specs.notices.Last.{last_notice}
+use Rattle.ps_model.specs.notices.NoticeTrees.{approval_form, delay_nodes, event_nodes, kind_attr, message, one, only, told_tree}
 
 -- ---- of a node
 

@@ -1,6 +1,6 @@
 // What an event hands to each address.
 ghost use Rattle.std.specs.Prelude.{◌≡◌, true, false, IfOk};
-ghost use Rattle.ps_model.specs.Given.{given};
+ghost use Rattle.ps_model.specs.notices.Given.{given};
 ghost use Rattle.ps_access.specs.Tables.{book_of};
 ghost use Rattle.ps_filter.specs.Wants.{AreWants};
 ghost use Rattle.ps_fanout.specs.Hearing as hearing;

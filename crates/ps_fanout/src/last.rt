@@ -2,9 +2,9 @@
 ghost use Rattle.std.specs.Prelude.{◌≡◌, true, IfOk};
 ghost use Rattle.ps_types.specs.Elem.{nodes};
 ghost use Rattle.ps_types.specs.Tree.{branch};
-ghost use Rattle.ps_model.specs.BaseAfter.{is_early};
-ghost use Rattle.ps_model.specs.Last as model;
-ghost use Rattle.ps_model.specs.NoticeTrees.{delay_nodes};
+ghost use Rattle.ps_model.specs.store.BaseAfter.{is_early};
+ghost use Rattle.ps_model.specs.notices.Last as model;
+ghost use Rattle.ps_model.specs.notices.NoticeTrees.{delay_nodes};
 ghost use Rattle.ps_access.specs.Tables.{book_of};
 ghost use Rattle.ps_filter.specs.Wants.{AreWants};
 ghost use Rattle.ps_fanout.specs.Trees as trees;

@@ -3,7 +3,7 @@ ghost use Rattle.std.specs.Prelude.{◌≡◌, ◌∷◌, [], true, List, Option
 ghost use Rattle.ps_types.specs.declared.event.Event.{Event};
 ghost use Rattle.ps_model.specs.After.{all_due, book_for};
 ghost use Rattle.ps_model.specs.Book.{Book};
-ghost use Rattle.ps_model.specs.Given.{given};
+ghost use Rattle.ps_model.specs.notices.Given.{given};
 ghost use Rattle.ps_filter.specs.Wants.{AreWants};
 ghost use Rattle.ps_filter.specs.declared.want.Want.{Want};
 ghost use Rattle.ps_fanout.specs.Hearing.{Tells, spread};

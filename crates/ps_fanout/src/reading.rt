@@ -1,6 +1,6 @@
 // Whether an address may read a node (XEP-0060 §4.5).
 ghost use Rattle.std.specs.Prelude.{◌≡◌};
-ghost use Rattle.ps_model.specs.Due as model;
+ghost use Rattle.ps_model.specs.notices.Due as model;
 ghost use Rattle.ps_access.specs.Tables.{book_of};
 
 use ps_access::{Tables, Verdict, verdict_read};

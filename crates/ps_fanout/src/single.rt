@@ -1,7 +1,7 @@
 // What an event hands to the one address that it names (XEP-0060 §8.6; XEP-0115 §6.2).
 ghost use Rattle.std.specs.Prelude.{◌≡◌, ◌++◌, IfOk, codes};
-ghost use Rattle.ps_model.specs.NoticeTrees as model;
-ghost use Rattle.ps_model.specs.Stanza.{host_jid};
+ghost use Rattle.ps_model.specs.notices.NoticeTrees as model;
+ghost use Rattle.ps_model.specs.requests.Stanza.{host_jid};
 ghost use Rattle.ps_fanout.specs.Told as told;
 ghost use Rattle.ps_fanout.specs.Trees as trees;
 

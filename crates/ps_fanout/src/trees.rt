@@ -2,8 +2,8 @@
 ghost use Rattle.std.specs.Prelude.{◌≡◌, ◌≢◌, ◌<◌, [], Some, IfOk};
 ghost use Rattle.ps_types.specs.Elem.{nodes};
 ghost use Rattle.ps_types.specs.Tree.{branch, none};
-ghost use Rattle.ps_model.specs.Due as due;
-ghost use Rattle.ps_model.specs.NoticeTrees as model;
+ghost use Rattle.ps_model.specs.notices.Due as due;
+ghost use Rattle.ps_model.specs.notices.NoticeTrees as model;
 ghost use Rattle.ps_fanout.specs.Trees as trees;
 
 use crate::moments::stamp;

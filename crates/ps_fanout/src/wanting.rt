@@ -2,7 +2,7 @@
 ghost use Rattle.std.specs.Prelude.{◌≡◌, IfOk};
 ghost use Rattle.ps_types.specs.Resources as resources;
 ghost use Rattle.ps_types.specs.Rosters.{gets_presence, is_presence_contact};
-ghost use Rattle.ps_model.specs.Ways as model;
+ghost use Rattle.ps_model.specs.notices.Ways as model;
 ghost use Rattle.ps_access.specs.Tables.{book_of};
 ghost use Rattle.ps_filter.specs.Wants.{AreWants};
 

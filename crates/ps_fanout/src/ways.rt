@@ -1,8 +1,8 @@
 // By which way an event of a node comes to an address (XEP-0248 §8).
 ghost use Rattle.std.specs.Prelude.{◌≡◌, true, false, option_copied};
 ghost use Rattle.ps_types.specs.Subs as subs;
-ghost use Rattle.ps_model.specs.Due as due;
-ghost use Rattle.ps_model.specs.Ways as model;
+ghost use Rattle.ps_model.specs.notices.Due as due;
+ghost use Rattle.ps_model.specs.notices.Ways as model;
 ghost use Rattle.ps_access.specs.Tables.{book_of};
 ghost use Rattle.ps_fanout.specs.Hearing as hearing;
 ghost use Rattle.ps_fanout.specs.Hearing.{way_seen};

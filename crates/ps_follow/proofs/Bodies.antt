@@ -2,7 +2,7 @@
 use Rattle.std.proofs.Common.{◌≡◌, ℕ, ◌-◌, ◌≤◌, List, ◌++◌, length, take, drop, sym, ap, ◌∙◌, arith, append_assoc, length-append}
 use Rattle.std.specs.Int.{w32, w64, to_be_bytes}
 use Rattle.std.proofs.lemmas.List.{drop_at, take_at}
-use Rattle.ps_model.specs.Entries.{spelling}
+use Rattle.ps_model.specs.store.Entries.{spelling}
 use Rattle.ps_follow_laws.specs.Feed.{Sent, sent_bytes}
 use Rattle.ps_follow_laws.proofs.Heads.{length-sent}
 use Rattle.ps_follow.specs.Next.{IsRecord}

@@ -7,7 +7,7 @@ use Rattle.std.proofs.lemmas.Bool.Decides.{nat_tests}
 use Rattle.std.proofs.lemmas.List.{drop_at}
 use Rattle.ps_types.specs.declared.entry.Entry.{Entry}
 use Rattle.ps_types.specs.declared.entry.Entry.TheVariants.{Boot, Change, Handed, Gone, Base}
-use Rattle.ps_model.specs.Entries.{IsEntry, IsEntryIn, StandsAt, in_version, spelling}
+use Rattle.ps_model.specs.store.Entries.{IsEntry, IsEntryIn, StandsAt, in_version, spelling}
 use Rattle.ps_model.proofs.OneList.{entry_one}
 use Rattle.ps_follow_laws.specs.Feed.{IsNoEntry, IsPart, IsSent, is_long, is_whole, max_size, sent_bytes, size_at}
 use Rattle.ps_follow_laws.proofs.Having.{IsByte, left, next-is, none-of}

@@ -7,7 +7,7 @@ use Rattle.std.proofs.lemmas.Option.{slice_get-map, slice_get_past, get_or_from_
 use Rattle.ps_types.specs.declared.entry.Entry.{Entry}
 use Rattle.ps_model.specs.After.{after}
 use Rattle.ps_model.specs.Book.{State, empty_state}
-use Rattle.ps_model.specs.Entries.{spelling}
+use Rattle.ps_model.specs.store.Entries.{spelling}
 use Rattle.ps_model.specs.Replay.{accepted, replay, replay_from}
 use Rattle.ps_model.proofs.Going.{replay-append}
 use Rattle.ps_follow_laws.specs.Feed.{Fate, Sent, adds, beyond, differs, entries_with, fate, fate_at, refused, repeats, stop_by}

@@ -2,7 +2,7 @@
 use Rattle.std.specs.Prelude.{◌≡◌, ℕ, List, ◌++◌, length, map, Option, Some, None}
 use Rattle.ps_types.specs.declared.entry.Entry.{Entry}
 use Rattle.ps_model.specs.Book.{State}
-use Rattle.ps_model.specs.Entries.{spelling}
+use Rattle.ps_model.specs.store.Entries.{spelling}
 use Rattle.ps_model.specs.Replay.{replay}
 use Rattle.ps_follow_laws.specs.Feed.{AreTaken, Sent, Stop, after_all, after_sent, bad, fate, feed_of, gap, other, stop_by}
 use Rattle.ps_follow.specs.declared.taking.Took.{Took}

@@ -2,7 +2,7 @@
 ghost use Rattle.std.specs.Prelude.{◌≡◌, ◌≤◌, ◌<◌, ◌^◌, true, false, length, take, drop, IfOk};
 ghost use Rattle.std.specs.Int.{w32, w64, from_be_bytes};
 ghost use Rattle.ps_follow_laws.specs.Feed.{IsSent, is_long, is_whole, max_size, sent_bytes, size_at};
-ghost use Rattle.ps_model.specs.Entries.{IsEntry, spelling};
+ghost use Rattle.ps_model.specs.store.Entries.{IsEntry, spelling};
 ghost use Rattle.ps_follow.specs.Next.{IsNextOf, sent};
 
 use ps_base::{Bytes, Memory};

@@ -2,7 +2,7 @@
 ghost use Rattle.std.specs.Prelude.{◌≡◌, ◌<◌, ◌^◌, ◌∷◌, ◌++◌, [], List, true, IfOk, OnOk, OnErr};
 ghost use Rattle.ps_types.specs.declared.entry.Entry.{Entry};
 ghost use Rattle.ps_model.specs.After.{after};
-ghost use Rattle.ps_model.specs.Entries.{IsEntry, spelling};
+ghost use Rattle.ps_model.specs.store.Entries.{IsEntry, spelling};
 ghost use Rattle.ps_model.specs.Replay.{accepted};
 ghost use Rattle.ps_follow.specs.Following.{HasEntries, Stands, TakesAs};
 ghost use Rattle.ps_follow.specs.Next.{sent};

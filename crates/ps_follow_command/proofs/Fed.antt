@@ -6,8 +6,8 @@ use Rattle.ps_disk.specs.Disk.{LeavesOnly}
 use Rattle.ps_types.specs.declared.entry.Entry.{Entry}
 use Rattle.ps_io.specs.Held.{Held, HeldStore, Same, SameLeft, SameLefts}
 use Rattle.ps_commands.specs.declared.command.FeedWords.{FeedWords}
-use Rattle.ps_model.specs.At.{IsStore}
-use Rattle.ps_model.specs.Store.{spelled}
+use Rattle.ps_model.specs.store.At.{IsStore}
+use Rattle.ps_model.specs.store.Store.{spelled}
 use Rattle.ps_journal.specs.Left.{LeavesList}
 use Rattle.ps_journal.specs.Opened.{HasHeader, IsShortIfUnbegun, LeftOrHas, Upgrades}
 use Rattle.ps_hall_open.specs.OpenRead.{IfFoundDamaged, StaysOrUpgrades}

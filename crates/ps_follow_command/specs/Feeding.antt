@@ -1,8 +1,8 @@
 -- What feeding does to the world.
 use Rattle.std.specs.Prelude.{◌≡◌, ◌⊎◌, ◌≤◌, ℕ, List, [], ◌∷◌, Result, Ok, Err, IfErr, IfOk, OnOk}
 use Rattle.ps_types.specs.declared.entry.Entry.{Entry}
-use Rattle.ps_model.specs.At.{IsStore}
-use Rattle.ps_model.specs.Store.{spelled}
+use Rattle.ps_model.specs.store.At.{IsStore}
+use Rattle.ps_model.specs.store.Store.{spelled}
 use Rattle.ps_journal.specs.Left.{LeavesList}
 use Rattle.ps_journal.specs.Opened.{HasHeader, IsShortIfUnbegun, LeftOrHas, Upgrades}
 use Rattle.ps_io.specs.Held.{Held, HeldStore}

@@ -7,14 +7,14 @@ use Rattle.ps_types.specs.declared.entry.Entry.TheVariants as entry
 use Rattle.ps_types.specs.declared.request.Request.{Request}
 use Rattle.ps_types.specs.Tree.{Tree}
 use Rattle.ps_model.specs.Book.{Book}
-use Rattle.ps_model.specs.Check.{check}
-use Rattle.ps_model.specs.Commits.{commits}
-use Rattle.ps_model.specs.Outcome.{Outcome, is_accepted}
-use Rattle.ps_model.specs.Outcome as outcome
+use Rattle.ps_model.specs.requests.Check.{check}
+use Rattle.ps_model.specs.requests.Commits.{commits}
+use Rattle.ps_model.specs.requests.Outcome.{Outcome, is_accepted}
+use Rattle.ps_model.specs.requests.Outcome as outcome
 use Rattle.ps_model.specs.Replies.{entry_by, entry_of, moment_of, outcome_entry, outcome_reply, reply_by, reply_to}
-use Rattle.ps_model.specs.Taken.{Taken}
-use Rattle.ps_model.specs.Taken as taken
-use Rattle.ps_model.specs.Taking.{taken}
+use Rattle.ps_model.specs.requests.Taken.{Taken}
+use Rattle.ps_model.specs.requests.Taken as taken
+use Rattle.ps_model.specs.requests.Taking.{taken}
 use Rattle.ps_follow_laws.specs.Answer.{answer_by, answer_to, refusal}
 
 asked-same : (t : Tree) (r : Request) (made : Entry) (c : Bool) (o : Outcome) → outcome_entry (c && true) made o ≡ None

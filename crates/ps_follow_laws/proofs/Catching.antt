@@ -40,7 +40,7 @@ use Rattle.std.proofs.lemmas.Bool.Decides.{Decides-eqb}
 use Rattle.std.proofs.lemmas.List.{take-append-drop, length-take-le}
 use Rattle.std.proofs.lemmas.Slice.Eq.{bytes_eq-Decides}
 use Rattle.ps_types.specs.declared.entry.Entry.{Entry}
-use Rattle.ps_model.specs.Entries.{IsEntryIn, spelling}
+use Rattle.ps_model.specs.store.Entries.{IsEntryIn, spelling}
 use Rattle.ps_model.specs.Replay.{accepted, lawful, replay}
 use Rattle.ps_follow_laws.specs.Feed.{AreTaken, Fate, Fed, IsSent, Sent, adds, after_all, differs, entries_with, fate, fate_at, feed_of, goes_on, max_size, refused, repeats, stop_by}
 use Rattle.ps_follow_laws.specs.Follow.{IsFeedOf, IsFeedable, IsFront, IsOf, records_at, records_from}

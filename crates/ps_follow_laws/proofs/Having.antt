@@ -43,7 +43,7 @@ use Rattle.std.proofs.lemmas.Bool.Decides.{nat_tests}
 use Rattle.std.proofs.lemmas.List.{drop_at, take-append-drop, length-take-le}
 use Rattle.std.proofs.lemmas.Nat.{be_bytes_4, be_bytes_8}
 use Rattle.ps_types.specs.declared.entry.Entry.{Entry}
-use Rattle.ps_model.specs.Entries.{IsEntryIn, spelling}
+use Rattle.ps_model.specs.store.Entries.{IsEntryIn, spelling}
 use Rattle.ps_model.proofs.OneList.{entry_one, front_one}
 use Rattle.ps_spelling_laws.proofs.Entries.{Begins, BeginsWithNone, entry-decided}
 use Rattle.ps_follow_laws.specs.Feed.{

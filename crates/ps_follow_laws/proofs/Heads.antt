@@ -6,7 +6,7 @@ use Rattle.std.proofs.lemmas.Bool.{true≢false}
 use Rattle.std.proofs.lemmas.Bool.Decides.{nat_tests}
 use Rattle.std.proofs.lemmas.List.{take_at, drop_at}
 use Rattle.std.proofs.lemmas.Nat.{from_be_bytes-to_be_bytes_4}
-use Rattle.ps_model.specs.Entries.{spelling}
+use Rattle.ps_model.specs.store.Entries.{spelling}
 use Rattle.ps_model.proofs.OneList.{entry_one, front_one, number_one, wide32, wide64}
 use Rattle.ps_follow_laws.specs.Feed.{IsSent, Sent, has_head, is_long, is_whole, max_size, sent_bytes, size_at}
 

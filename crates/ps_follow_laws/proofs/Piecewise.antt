@@ -6,7 +6,7 @@ use Rattle.std.proofs.lemmas.Bool.{and_parts}
 use Rattle.std.proofs.lemmas.List.{take_at, drop_at, take-append-le, drop-append-le, take-append-drop}
 use Rattle.std.proofs.lemmas.List.Concat.{flat_map-append}
 use Rattle.ps_types.specs.declared.entry.Entry.{Entry}
-use Rattle.ps_model.specs.Entries.{spelling}
+use Rattle.ps_model.specs.store.Entries.{spelling}
 use Rattle.ps_follow_laws.specs.Feed.{
   AreTaken,
   Ends,

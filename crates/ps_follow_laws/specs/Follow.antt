@@ -2,7 +2,7 @@
 use Rattle.std.specs.Prelude.{◌≡◌, ℕ, suc, ◌≤◌, ◌^◌, true, List, [], ◌∷◌, ◌++◌, length, drop, Some, slice_get}
 use Rattle.std.specs.List.{AllByRecursion}
 use Rattle.ps_types.specs.declared.entry.Entry.{Entry}
-use Rattle.ps_model.specs.Entries.{IsEntryIn, spelling}
+use Rattle.ps_model.specs.store.Entries.{IsEntryIn, spelling}
 use Rattle.ps_follow_laws.specs.Feed.{Fed, IsSent, Sent, Stop, feed_of, max_size}
 
 -- the list begins with these

@@ -1,5 +1,39 @@
 -- A piece of a feed, by what was read and what the follower made of it.
-use Rattle.std.proofs.Common.{◌≡◌, ◌≢◌, ◌⊎◌, inl, inr, ℕ, ◌+◌, ◌-◌, ◌<◌, ◌≤◌, ◌^◌, arith, Bool, true, false, List, [], ◌++◌, Option, Some, None, length, take, refl, ap, sym, ◌∙◌, subst, append_assoc, append-nil, cond, length-append, length-take}
+use Rattle.std.proofs.Common.{
+  ◌≡◌,
+  ◌≢◌,
+  ◌⊎◌,
+  inl,
+  inr,
+  ℕ,
+  ◌+◌,
+  ◌-◌,
+  ◌<◌,
+  ◌≤◌,
+  ◌^◌,
+  arith,
+  Bool,
+  true,
+  false,
+  List,
+  [],
+  ◌++◌,
+  Option,
+  Some,
+  None,
+  length,
+  take,
+  refl,
+  ap,
+  sym,
+  ◌∙◌,
+  subst,
+  append_assoc,
+  append-nil,
+  cond,
+  length-append,
+  length-take,
+}
 use Rattle.std.specs.Prelude.{IsTrue}
 use Rattle.std.specs.Io.KnownBytes.{Appends, Consumes, IsAtEnd, Keeps}
 use Rattle.ps_types.specs.declared.entry.Entry.{Entry}

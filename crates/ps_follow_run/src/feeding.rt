@@ -1,6 +1,6 @@
 // The records of a store's entries, written as a feed.
 ghost use Rattle.std.specs.Prelude.{◌<◌, ◌∷◌, ◌++◌, ◌^◌, [], List, ℕ, OnOk, length};
-ghost use Rattle.ps_model.specs.Entries.{IsEntry, spelling};
+ghost use Rattle.ps_model.specs.store.Entries.{IsEntry, spelling};
 ghost use Rattle.ps_types.specs.declared.entry.Entry.{Entry};
 ghost use Rattle.ps_follow_run.specs.Feeding.{AreRecords, FedOut};
 ghost use Rattle.ps_follow_run.specs.Following.{held_sink};

@@ -39,7 +39,8 @@ field-of var kind values = record { var = var; kind = kind; values = values }
 field-again : (field : Field) → field.var ≢ [] → field_of (field_tree field) ≡ Some field
 field-again field some = at field.var field.kind field.values some
   where
-    at : (var kind : List ℕ) (values : List (List ℕ)) → var ≢ [] → field_of (field_tree (record { var = var; kind = kind; values = values })) ≡ Some (record { var = var; kind = kind; values = values })
+    at : (var kind : List ℕ) (values : List (List ℕ)) → var ≢ []
+        → field_of (field_tree (record { var = var; kind = kind; values = values })) ≡ Some (record { var = var; kind = kind; values = values })
     at [] kind values some = absurd (some refl)
     at (x ∷ var) [] values some = ap (λ (vs : List (List ℕ)). Some (record { var = x ∷ var; kind = []; values = vs })) (values-again values)
     at (x ∷ var) (y ∷ kind) values some = ap (λ (vs : List (List ℕ)). Some (record { var = x ∷ var; kind = y ∷ kind; values = vs })) (values-again values)

@@ -1,9 +1,9 @@
 -- What a writer has in hand, over what others do and what it does itself.
 use Rattle.std.proofs.Common.{◌≡◌, ℕ, ⊎_elim, List, [], ◌++◌, length, ap, sym, ◌∙◌, subst}
 use Rattle.std.specs.Prelude.{OnErr, Result, Ok, Err}
-use Rattle.ps_model.specs.Machine.{run}
-use Rattle.ps_model.specs.TheCore.{the_core}
-use Rattle.ps_model.specs.World.{World}
+use Rattle.ps_model.specs.machine.Machine.{run}
+use Rattle.ps_model.specs.machine.TheCore.{the_core}
+use Rattle.ps_model.specs.machine.World.{World}
 use Rattle.ps_model.proofs.TheLaws.{the-laws}
 use Rattle.ps_types.specs.declared.jid.Jid.{Jid}
 use Rattle.ps_turn.specs.History.{Later}

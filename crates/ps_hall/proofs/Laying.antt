@@ -2,10 +2,10 @@
 use Rattle.std.proofs.Common.{◌≡◌, ℕ, ◌+◌, ◌≤◌, ◌<◌, ◌^◌, Bool, true, false, List, [], ◌∷◌, ◌++◌, Option, Some, None, length, refl, ap, sym, ◌∙◌, subst, arith, append_assoc}
 use Rattle.std.specs.Prelude.{nat_lt, IfErr, IfOk, Result, Ok, Err}
 use Rattle.std.proofs.lemmas.Bool.Decides.{nat_tests}
-use Rattle.ps_model.specs.Machine.{run}
-use Rattle.ps_model.specs.TheCore.{the_core}
-use Rattle.ps_model.specs.Entries.{body}
-use Rattle.ps_model.specs.World.{World, more_entries}
+use Rattle.ps_model.specs.machine.Machine.{run}
+use Rattle.ps_model.specs.machine.TheCore.{the_core}
+use Rattle.ps_model.specs.store.Entries.{body}
+use Rattle.ps_model.specs.machine.World.{World, more_entries}
 use Rattle.ps_model.specs.declared.steps.Step.TheVariants.{Arrive}
 use Rattle.ps_types.specs.declared.entry.Arrival.{Arrival}
 use Rattle.ps_types.specs.declared.entry.Entry.{Entry}

@@ -3,9 +3,9 @@ use Rattle.std.proofs.Common.{◌≡◌, ◌≢◌, ℕ, zero, suc, ◌+◌, ◌
 use Rattle.std.specs.Prelude.{slice_get}
 use Rattle.std.proofs.lemmas.List.{length-drop, map-append}
 use Rattle.ps_types.specs.declared.jid.Jid.{Jid}
-use Rattle.ps_model.specs.Machine.{run}
-use Rattle.ps_model.specs.TheCore.{the_core}
-use Rattle.ps_model.specs.World.{Unrecorded, World}
+use Rattle.ps_model.specs.machine.Machine.{run}
+use Rattle.ps_model.specs.machine.TheCore.{the_core}
+use Rattle.ps_model.specs.machine.World.{Unrecorded, World}
 use Rattle.ps_model.specs.declared.steps.Step.{Step}
 use Rattle.ps_model.specs.declared.steps.Step.TheVariants.{Record}
 use Rattle.ps_model.proofs.TheLaws.{the-laws}

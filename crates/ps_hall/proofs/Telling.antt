@@ -2,10 +2,10 @@
 use Rattle.std.proofs.Common.{◌≡◌, ◌≢◌, ◌⊎◌, ⊎_elim, inl, inr, ℕ, ◌<◌, ◌^◌, Bool, true, false, List, [], ◌∷◌, Option, Some, length, refl, ap, sym, ◌∙◌, subst, arith}
 use Rattle.std.specs.Prelude.{slice_get, nat_lt, ◌||◌, if◌then◌else◌, IfOk, OnErr, Result, Ok, Err}
 use Rattle.std.proofs.lemmas.Bool.{lt-ltb}
-use Rattle.ps_model.specs.Core.{handed}
-use Rattle.ps_model.specs.Machine.{run}
-use Rattle.ps_model.specs.TheCore.{the_core}
-use Rattle.ps_model.specs.World.{Flight, Nothing, Recorded, Unrecorded, World, durable}
+use Rattle.ps_model.specs.machine.Core.{handed}
+use Rattle.ps_model.specs.machine.Machine.{run}
+use Rattle.ps_model.specs.machine.TheCore.{the_core}
+use Rattle.ps_model.specs.machine.World.{Flight, Nothing, Recorded, Unrecorded, World, durable}
 use Rattle.ps_model.specs.declared.steps.Step.TheVariants.{Take, Emit}
 use Rattle.ps_types.specs.declared.entry.Notice.{Notice as Note}
 use Rattle.ps_types.specs.declared.jid.Jid.{Jid}

@@ -1,9 +1,9 @@
 -- How long the store was where a line found no room, by both values.
 use Rattle.std.proofs.Common.{◌≡◌, ℕ, ◌+◌, Bool, true, false, List, refl, ap, sym, ◌∙◌, subst}
 use Rattle.ps_disk.specs.declared.device.Disk.{Ghosts}
-use Rattle.ps_model.specs.Machine.{start}
-use Rattle.ps_model.specs.TheCore.{the_core}
-use Rattle.ps_model.specs.World.{ends}
+use Rattle.ps_model.specs.machine.Machine.{start}
+use Rattle.ps_model.specs.machine.TheCore.{the_core}
+use Rattle.ps_model.specs.machine.World.{ends}
 use Rattle.ps_twin.specs.Twins.{Prefix}
 use Rattle.ps_trace.specs.Own.{AreOwned}
 use Rattle.ps_trace.specs.declared.deed.Deed.{Deed}

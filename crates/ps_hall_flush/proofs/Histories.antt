@@ -7,7 +7,7 @@ use Rattle.ps_disk.specs.declared.device.Disk.{Ghosts}
 use Rattle.ps_journal.specs.declared.journal.EntriesRefusal.{EntriesRefusal}
 use Rattle.ps_journal.specs.declared.journal.EntriesRefusal.TheVariants.{Memory, Store as NotStored}
 use Rattle.ps_types.specs.declared.entry.Entry.{Entry}
-use Rattle.ps_model.specs.World.{ends}
+use Rattle.ps_model.specs.machine.World.{ends}
 use Rattle.ps_model.specs.declared.steps.Step.{Step}
 use Rattle.ps_model.specs.declared.steps.Step.TheVariants.{Broken}
 use Rattle.ps_twin.specs.declared.twin.TwinSeat.{TwinSeat}

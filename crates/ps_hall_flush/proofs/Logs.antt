@@ -1,9 +1,9 @@
 -- Lists of deeds, and their worlds.
 use Rattle.std.proofs.Common.{◌≡◌, ℕ, zero, suc, ◌+◌, ◌≤◌, List, [], ◌∷◌, ◌++◌, length, length-append, refl, ap, sym, ◌∙◌, subst, arith}
-use Rattle.ps_model.specs.Entries.{body, spelling}
-use Rattle.ps_model.specs.Machine.{happens, run, start, world}
-use Rattle.ps_model.specs.TheCore.{the_core}
-use Rattle.ps_model.specs.World.{World}
+use Rattle.ps_model.specs.store.Entries.{body, spelling}
+use Rattle.ps_model.specs.machine.Machine.{happens, run, start, world}
+use Rattle.ps_model.specs.machine.TheCore.{the_core}
+use Rattle.ps_model.specs.machine.World.{World}
 use Rattle.ps_model.specs.declared.steps.Step.{Step}
 use Rattle.ps_model.proofs.TheLaws.{the-laws}
 use Rattle.ps_types.specs.declared.entry.Entry.{Entry}

@@ -2,7 +2,7 @@
 use Rattle.std.proofs.Common.{◌≡◌, ℕ, ◌<◌, Bool, true, false, refl, ap, sym, ◌∙◌, arith}
 use Rattle.std.specs.Prelude.{is_some}
 use Rattle.ps_disk.specs.declared.device.Disk.{Ghosts}
-use Rattle.ps_model.specs.World.{World}
+use Rattle.ps_model.specs.machine.World.{World}
 use Rattle.ps_hall_state.specs.Steps.{KeepsMark, KeepsNumbers}
 use Rattle.ps_hall_state.specs.declared.state.State.{State}
 use Rattle.ps_hall_store.specs.Stand.{OpenedAt, StoreStands, broken_in, mark_of}

@@ -3,10 +3,10 @@ use Rattle.std.proofs.Common.{◌≡◌, ◌≢◌, ⊎_elim, ℕ, ◌+◌, ◌�
 use Rattle.std.specs.Prelude.{IfSome}
 use Rattle.std.proofs.lemmas.Bool.{false≢true}
 use Rattle.ps_disk.specs.declared.device.Disk.{Ghosts}
-use Rattle.ps_model.specs.Entries.{body}
-use Rattle.ps_model.specs.Machine.{happens, run, start}
-use Rattle.ps_model.specs.TheCore.{the_core}
-use Rattle.ps_model.specs.World.{World, ends, more_entries}
+use Rattle.ps_model.specs.store.Entries.{body}
+use Rattle.ps_model.specs.machine.Machine.{happens, run, start}
+use Rattle.ps_model.specs.machine.TheCore.{the_core}
+use Rattle.ps_model.specs.machine.World.{World, ends, more_entries}
 use Rattle.ps_model.specs.declared.steps.Step.{Step}
 use Rattle.ps_model.specs.declared.steps.Step.TheVariants.{Arrive, Flush, Take, Emit, Record, Gone, Ended, Broken, Crash}
 use Rattle.ps_model.proofs.TheLaws.{the-laws}

@@ -1,10 +1,10 @@
 -- Steps that tell of no fault leave the world's word on it.
 use Rattle.std.proofs.Common.{◌≡◌, Bool, true, false, List, [], ◌∷◌, ◌++◌, Option, Some, None, refl, sym, ◌∙◌}
 use Rattle.std.specs.Prelude.{ℕ, ◌+◌, ◌&&◌, nat_le, nat_lt, slice_get, if◌then◌else◌}
-use Rattle.ps_model.specs.Core.{handed}
-use Rattle.ps_model.specs.Machine.{emits, flushes, happens, records, run, took}
-use Rattle.ps_model.specs.TheCore.{the_core}
-use Rattle.ps_model.specs.World.{World, Said, Flight, Nothing, Unrecorded, Recorded, at_address, at_host, durable}
+use Rattle.ps_model.specs.machine.Core.{handed}
+use Rattle.ps_model.specs.machine.Machine.{emits, flushes, happens, records, run, took}
+use Rattle.ps_model.specs.machine.TheCore.{the_core}
+use Rattle.ps_model.specs.machine.World.{World, Said, Flight, Nothing, Unrecorded, Recorded, at_address, at_host, durable}
 use Rattle.ps_model.specs.declared.steps.Step.{Step}
 use Rattle.ps_model.specs.declared.steps.Step.TheVariants.{Arrive, Flush, Take, Emit, Record, Gone, Ended, Broken, Crash}
 use Rattle.ps_types.specs.declared.entry.Notice.{Notice}

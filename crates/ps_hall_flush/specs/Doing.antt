@@ -1,7 +1,7 @@
 -- What a pass does in one holding of the state, in the words of the hall.
 use Rattle.std.specs.Prelude.{◌≡◌, ℕ, List, [], ◌∷◌}
-use Rattle.ps_model.specs.TheCore.{the_core}
-use Rattle.ps_model.specs.World.{World}
+use Rattle.ps_model.specs.machine.TheCore.{the_core}
+use Rattle.ps_model.specs.machine.World.{World}
 use Rattle.ps_model.specs.declared.steps.Step.{Step}
 use Rattle.ps_trace.specs.Did.{Did, Passed}
 use Rattle.ps_trace.specs.declared.deed.Deed.{Deed}

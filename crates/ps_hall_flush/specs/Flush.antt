@@ -5,8 +5,8 @@ use Rattle.ps_twin.specs.declared.twin.TwinSeat.{TwinSeat}
 use Rattle.ps_twin.specs.declared.twin.Twin.{Twin}
 use Rattle.ps_twin.specs.Twins.{Prefix}
 use Rattle.ps_twin.specs.Seats.{seen_of, number_of, list_of, firm_of, mark_of, known_of, IsSeatOf, HasJournal}
-use Rattle.ps_model.specs.TheCore.{the_core}
-use Rattle.ps_model.specs.World.{ends}
+use Rattle.ps_model.specs.machine.TheCore.{the_core}
+use Rattle.ps_model.specs.machine.World.{ends}
 use Rattle.ps_model.specs.declared.steps.Step.TheVariants.{Flush, Broken}
 use Rattle.ps_trace.specs.Own.{AreOwned}
 use Rattle.ps_trace.specs.declared.deed.Deed.{Deed}

@@ -4,12 +4,12 @@ use Rattle.ps_types.specs.declared.entry.Entry.{Entry}
 use Rattle.ps_disk.specs.Disk.{MayLeave}
 use Rattle.ps_disk.specs.declared.device.Disk.{Ghosts}
 use Rattle.ps_journal.specs.Opened.{HasLength}
-use Rattle.ps_model.specs.CoreLaws.{IsLawful}
-use Rattle.ps_model.specs.Entries.{body, spelling}
-use Rattle.ps_model.specs.Machine.{happens, start}
-use Rattle.ps_model.specs.TheCore.{the_core}
-use Rattle.ps_model.specs.Store.{spelled}
-use Rattle.ps_model.specs.World.{World, ends}
+use Rattle.ps_model.specs.machine.CoreLaws.{IsLawful}
+use Rattle.ps_model.specs.store.Entries.{body, spelling}
+use Rattle.ps_model.specs.machine.Machine.{happens, start}
+use Rattle.ps_model.specs.machine.TheCore.{the_core}
+use Rattle.ps_model.specs.store.Store.{spelled}
+use Rattle.ps_model.specs.machine.World.{World, ends}
 use Rattle.ps_model.specs.declared.steps.Step.{Step}
 use Rattle.ps_model.specs.declared.steps.Step.TheVariants.{Arrive}
 use Rattle.ps_trace.specs.Did.{world_of}

@@ -7,7 +7,7 @@ use Rattle.ps_disk.proofs.Moments.{started, then_on, weaker}
 use Rattle.ps_disk.proofs.TornWrites.{only_synced}
 use Rattle.ps_journal.specs.Left.{IsFrontOfLeft, IsWithOrWithout, LeavesList}
 use Rattle.ps_journal.proofs.Lists.{one_list}
-use Rattle.ps_model.specs.Store.{spelled}
+use Rattle.ps_model.specs.store.Store.{spelled}
 use Rattle.ps_hall_store.proofs.Fronts.{front_of_two}
 use Rattle.ps_hall_store.proofs.Keeping.{CountsNow, OnlyNow, SeenLeft}
 use Rattle.ps_hall_open.specs.Left.{Fronts}

@@ -14,12 +14,12 @@ use Rattle.ps_journal.specs.declared.journal.Journal.{Journal}
 use Rattle.ps_journal.specs.Journal.{broken_of, disk_of, length_of}
 use Rattle.ps_journal.specs.Left.{LeavesList}
 use Rattle.ps_journal.specs.Opened.{HasLength, IsShortIfUnbegun}
-use Rattle.ps_model.specs.At.{IsStore}
-use Rattle.ps_model.specs.Machine.{start}
+use Rattle.ps_model.specs.store.At.{IsStore}
+use Rattle.ps_model.specs.machine.Machine.{start}
 use Rattle.ps_model.specs.Replay.{lawful}
-use Rattle.ps_model.specs.Store.{spelled}
-use Rattle.ps_model.specs.TheCore.{the_core}
-use Rattle.ps_model.specs.World.{World, durable, fresh_address, fresh_host}
+use Rattle.ps_model.specs.store.Store.{spelled}
+use Rattle.ps_model.specs.machine.TheCore.{the_core}
+use Rattle.ps_model.specs.machine.World.{World, durable, fresh_address, fresh_host}
 use Rattle.ps_model.proofs.TheLaws.{the-laws, of-places}
 use Rattle.ps_world.specs.Sound.{Sound}
 use Rattle.ps_world.proofs.Kept.{start_kept}

@@ -16,7 +16,7 @@ use Rattle.ps_journal.specs.Opened.{HasLength, IfWhyDamaged, IsOpened, IsWhyStop
 use Rattle.ps_journal.specs.Places.{entries_in}
 use Rattle.ps_journal.proofs.Lists.{one_list}
 use Rattle.ps_model.specs.Replay.{lawful}
-use Rattle.ps_model.specs.Store.{spelled}
+use Rattle.ps_model.specs.store.Store.{spelled}
 use Rattle.ps_hall_open.specs.Begun.{NotBegun, frame_of}
 use Rattle.ps_hall_open.specs.Left.{IsOpenLeft}
 use Rattle.ps_hall_open.specs.Opens.{NotRestored, OpenNot, StaysIfDamaged}

@@ -4,13 +4,13 @@ use Rattle.std.proofs.lemmas.List.{map-append, length-map}
 use Rattle.ps_types.specs.Address.{IsLabel, dotted}
 use Rattle.ps_types.specs.declared.entry.Entry.{Entry}
 use Rattle.ps_types.specs.declared.entry.Entry.TheVariants.{Boot}
-use Rattle.ps_model.specs.At.{IsBadNext, IsDamagedAt, IsStore}
+use Rattle.ps_model.specs.store.At.{IsBadNext, IsDamagedAt, IsStore}
 use Rattle.ps_model.specs.Book.{State, empty_state}
-use Rattle.ps_model.specs.Entries.{IsEntry, IsHostName}
+use Rattle.ps_model.specs.store.Entries.{IsEntry, IsHostName}
 use Rattle.ps_model.specs.After.{after, notices_at}
 use Rattle.ps_model.specs.Replay.{accepted, lawful, replay}
-use Rattle.ps_model.specs.Store.{is_second, spelled}
-use Rattle.ps_model.specs.TheCore.{the_core}
+use Rattle.ps_model.specs.store.Store.{is_second, spelled}
+use Rattle.ps_model.specs.machine.TheCore.{the_core}
 use Rattle.ps_model.proofs.Going.{lawful-more, replay-append}
 use Rattle.ps_model.proofs.TheLaws.{of-places, the-laws}
 use Rattle.ps_journal.specs.Judged.{IsStopped, StopsBefore}

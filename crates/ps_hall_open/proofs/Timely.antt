@@ -4,7 +4,7 @@ use Rattle.std.specs.Prelude.{nat_le, ◌&&◌}
 use Rattle.std.proofs.lemmas.Bool.{and_parts, leb-true}
 use Rattle.ps_types.specs.declared.entry.Entry.{Entry}
 use Rattle.ps_types.specs.declared.entry.Entry.TheVariants.{Boot}
-use Rattle.ps_model.specs.Entries.{AreEntries, IsEntry, IsHostName, spelling}
+use Rattle.ps_model.specs.store.Entries.{AreEntries, IsEntry, IsHostName, spelling}
 use Rattle.ps_journal.specs.Opened.{ArePlaced}
 use Rattle.ps_journal.specs.Places.{entries_in}
 use Rattle.ps_journal.specs.declared.judging.Placed.{Placed}

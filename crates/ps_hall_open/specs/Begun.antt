@@ -6,7 +6,7 @@ use Rattle.ps_types.specs.declared.entry.Entry.TheVariants.{Boot}
 use Rattle.ps_disk.specs.declared.device.Disk.{Ghosts}
 use Rattle.ps_journal.specs.declared.journal.Journal.{Journal}
 use Rattle.ps_journal.specs.Journal.{faults_in, length_of}
-use Rattle.ps_model.specs.Entries.{IsHostName, spelling}
+use Rattle.ps_model.specs.store.Entries.{IsHostName, spelling}
 use Rattle.ps_hall_open.specs.declared.opened.OpenWhy.{OpenWhy}
 use Rattle.ps_hall_open.specs.declared.opened.OpenWhy.TheVariants as why
 

@@ -1,7 +1,7 @@
 -- What is ready before a store is opened.
 use Rattle.std.specs.Prelude.{◌≡◌, ℕ, ◌≤◌, false, List, [], None, Some, slice_get, vec_capacity}
 use Rattle.ps_types.specs.declared.entry.Entry.TheVariants.{Boot}
-use Rattle.ps_model.specs.Entries.{IsHostName}
+use Rattle.ps_model.specs.store.Entries.{IsHostName}
 use Rattle.ps_hall_state.specs.Rows.{names}
 use Rattle.ps_hall_state.specs.declared.state.HostRow.{HostRow}
 use Rattle.ps_hall_open.specs.Replayed.{IsFresh}

@@ -3,7 +3,7 @@ use Rattle.std.specs.Prelude.{◌≡◌, ◌⊎◌, ◌<◌, ◌^◌, ℕ, List,
 use Rattle.std.specs.List.{AllByRecursion}
 use Rattle.ps_types.specs.declared.entry.Entry.{Entry}
 use Rattle.ps_disk.specs.Disk.{Holds}
-use Rattle.ps_model.specs.Entries.{spelling}
+use Rattle.ps_model.specs.store.Entries.{spelling}
 use Rattle.ps_journal.specs.Beginning.{beginning}
 use Rattle.ps_journal.specs.Opened.{Upgrades}
 use Rattle.ps_hall_open.specs.declared.opened.ReadWhy.{ReadWhy}

@@ -2,8 +2,8 @@
 use Rattle.std.specs.Prelude.{ℕ, ◌<◌, ◌^◌, List, length}
 use Rattle.ps_base.specs.Causes.{Rose}
 use Rattle.ps_types.specs.declared.entry.Entry.{Entry}
-use Rattle.ps_model.specs.At.{IsDamagedAt}
-use Rattle.ps_model.specs.Entries.{AreEntries}
+use Rattle.ps_model.specs.store.At.{IsDamagedAt}
+use Rattle.ps_model.specs.store.Entries.{AreEntries}
 use Rattle.ps_journal.specs.Places.{entries_in}
 use Rattle.ps_hall_open.specs.Replayed.{IsReplayed}
 use Rattle.ps_hall_open.specs.declared.opened.Kept.{Kept}

@@ -1,7 +1,7 @@
 // A store is opened.
 ghost use Rattle.std.specs.Prelude.{◌≡◌, ◌≢◌, ◌≤◌, ◌^◌, [], List, ℕ, IfErr, IfOk, MatchResult};
-ghost use Rattle.ps_model.specs.Entries.{IsHostName};
-ghost use Rattle.ps_model.specs.Store.{spelled};
+ghost use Rattle.ps_model.specs.store.Entries.{IsHostName};
+ghost use Rattle.ps_model.specs.store.Store.{spelled};
 ghost use Rattle.ps_journal.specs.Opened.{IsShortIfUnbegun};
 ghost use Rattle.ps_journal.specs.Places.{entries_in};
 ghost use Rattle.ps_hall_store.specs.Stand.{disk_in};

@@ -1,7 +1,7 @@
 // A store is read, and nothing is written.
 ghost use Rattle.std.specs.Prelude.{◌≡◌, ◌≤◌, IfErr, IfOk, OnOk};
 ghost use Rattle.ps_disk.specs.Disk.{LeavesOnly, MayLeave};
-ghost use Rattle.ps_model.specs.At.{IsStore};
+ghost use Rattle.ps_model.specs.store.At.{IsStore};
 ghost use Rattle.ps_journal.specs.Settled.{IsQuiet};
 ghost use Rattle.ps_hall_open.specs.Reads.{ListIsKept, ReadNot, entries_of};
 ghost use Rattle.ps_hall_open.specs.Refused.{read_why};

@@ -1,7 +1,7 @@
 // The entries of a store are taken one after the other.
 ghost use Rattle.std.specs.Prelude.{◌≡◌, ◌<◌, ◌^◌, ◌++◌, ◌∷◌, [], List, Ok, true, false, length, IfOk, IfSome, IsSome, OnOk};
 ghost use denote.Param.Send.{IsSync};
-ghost use Rattle.ps_model.specs.Entries.{IsEntry, spelling};
+ghost use Rattle.ps_model.specs.store.Entries.{IsEntry, spelling};
 ghost use Rattle.ps_model.specs.Replay.{lawful, replay};
 ghost use Rattle.ps_journal.specs.Places.{entries_in};
 ghost use Rattle.ps_journal.specs.declared.judging.Placed.{Placed};

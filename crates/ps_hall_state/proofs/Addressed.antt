@@ -19,17 +19,17 @@ use Rattle.ps_types.specs.declared.rows.SubRow.{SubRow}
 use Rattle.ps_types.specs.declared.rows.TallyRow.{TallyRow}
 use Rattle.ps_model.specs.Addressed.{AreAddresses, AreNamed, named}
 use Rattle.ps_model.specs.After.{after, book_after, book_for, due_of, events, handed_out, notices_at}
-use Rattle.ps_model.specs.BaseRead.{row_of}
-use Rattle.ps_model.specs.BaseRows as base
-use Rattle.ps_model.specs.BaseRows.{BaseRow}
+use Rattle.ps_model.specs.store.BaseRead.{row_of}
+use Rattle.ps_model.specs.store.BaseRows as base
+use Rattle.ps_model.specs.store.BaseRows.{BaseRow}
 use Rattle.ps_model.specs.Book.{Book, State, empty_state}
-use Rattle.ps_model.specs.Given.{asked}
-use Rattle.ps_model.specs.Numbered.{numbered, row_notices}
+use Rattle.ps_model.specs.notices.Given.{asked}
+use Rattle.ps_model.specs.notices.Numbered.{numbered, row_notices}
 use Rattle.ps_model.specs.Replay.{IsLawfulFrom, accepted, notices_from, of_bare, to_address}
 use Rattle.ps_model.specs.Sorted.{sorted}
 use Rattle.ps_model.specs.Tallies.{more_made}
-use Rattle.ps_model.specs.TheCore.{the_core}
-use Rattle.ps_model.specs.World.{World}
+use Rattle.ps_model.specs.machine.TheCore.{the_core}
+use Rattle.ps_model.specs.machine.World.{World}
 use Rattle.ps_model.proofs.TheLaws.{places-of}
 use Rattle.ps_book_laws.specs.Addressed.{NamesAddresses}
 use Rattle.ps_book_laws.proofs.Addressed.{addresses-after, empty-addresses, events-named}

@@ -8,14 +8,14 @@ use Rattle.ps_types.specs.declared.entry.Arrival.{Arrival}
 use Rattle.ps_types.specs.declared.entry.Entry.{Entry}
 use Rattle.ps_types.specs.declared.entry.Entry.TheVariants.{Base, Boot, Change, Gone as GoneEntry, Handed}
 use Rattle.ps_types.specs.declared.jid.Jid.{Jid}
-use Rattle.ps_model.specs.Entries.{IsHostName}
+use Rattle.ps_model.specs.store.Entries.{IsHostName}
 use Rattle.ps_book_laws.specs.Addressed.{IsTimely}
 use Rattle.ps_book_laws.proofs.Timely.{early}
 use Rattle.ps_core.specs.Requests.{IsRequestOf}
 use Rattle.ps_model.specs.Replay.{accepted, replay}
 use Rattle.ps_model.specs.Replies.{entry_of, reply_to}
-use Rattle.ps_model.specs.TheCore.{the_core}
-use Rattle.ps_model.specs.World.{Said, World}
+use Rattle.ps_model.specs.machine.TheCore.{the_core}
+use Rattle.ps_model.specs.machine.World.{Said, World}
 use Rattle.ps_model.specs.declared.steps.Step.{Step}
 use Rattle.ps_model.specs.declared.steps.Step.TheVariants.{Arrive}
 use Rattle.ps_record.specs.Texts.{print_in}

@@ -4,9 +4,9 @@ use Rattle.std.specs.Prelude.{IfSome, nat_le, ◌&&◌, if◌then◌else◌}
 use Rattle.std.proofs.lemmas.Bool.Decides.{nat_tests}
 use Rattle.ps_types.specs.declared.entry.Entry.{Entry}
 use Rattle.ps_types.specs.declared.jid.Jid.{Jid}
-use Rattle.ps_model.specs.Machine.{counted, flushes, happens, landed}
-use Rattle.ps_model.specs.TheCore.{the_core}
-use Rattle.ps_model.specs.World.{AddressPart, World, ends}
+use Rattle.ps_model.specs.machine.Machine.{counted, flushes, happens, landed}
+use Rattle.ps_model.specs.machine.TheCore.{the_core}
+use Rattle.ps_model.specs.machine.World.{AddressPart, World, ends}
 use Rattle.ps_model.specs.declared.steps.Step.TheVariants.{Broken, Flush}
 use Rattle.ps_model.proofs.TheLaws.{the-laws}
 use Rattle.ps_world.specs.Sound.{Sound}

@@ -11,8 +11,8 @@ use Rattle.ps_types.specs.Address.{bare}
 use Rattle.ps_types.specs.Same.{same_bare, same_jid}
 use Rattle.ps_types.specs.declared.jid.Jid.{Jid}
 use Rattle.ps_types.proofs.Same.{same_jid-Decides, same_parts}
-use Rattle.ps_model.specs.Machine.{landed}
-use Rattle.ps_model.specs.World.{AddressPart, Flight, Nothing, Recorded, Unrecorded, at_address}
+use Rattle.ps_model.specs.machine.Machine.{landed}
+use Rattle.ps_model.specs.machine.World.{AddressPart, Flight, Nothing, Recorded, Unrecorded, at_address}
 use Rattle.ps_outbox.specs.Boxes.{is_known, is_of}
 use Rattle.ps_outbox.proofs.Keeping.{gone_known, others_known, still_known, now_known}
 use Rattle.ps_outbox.proofs.Readied.{to_its_bare}

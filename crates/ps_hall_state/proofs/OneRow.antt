@@ -7,8 +7,8 @@ use Rattle.std.proofs.lemmas.Option.{slice_get_read}
 use Rattle.std.proofs.lemmas.Slice.Eq.{bytes_eq-Decides}
 use Rattle.ps_types.specs.declared.entry.Arrival.{Arrival}
 use Rattle.ps_types.specs.declared.jid.Jid.{Jid}
-use Rattle.ps_model.specs.Machine.{answered, ends_role}
-use Rattle.ps_model.specs.World.{Said, HostPart, AddressPart, at_host}
+use Rattle.ps_model.specs.machine.Machine.{answered, ends_role}
+use Rattle.ps_model.specs.machine.World.{Said, HostPart, AddressPart, at_host}
 use Rattle.ps_model.specs.declared.steps.Role.{Role}
 use Rattle.ps_model.specs.declared.steps.Role.TheVariants.{Reader, Writer}
 use Rattle.ps_world.proofs.Lists.{nil-right}

@@ -41,10 +41,10 @@ use Rattle.ps_types.specs.declared.entry.Notice.{Notice}
 use Rattle.ps_types.specs.declared.jid.Jid.{Jid}
 use Rattle.ps_model.specs.After.{notices_at}
 use Rattle.ps_model.specs.Book.{empty_state}
-use Rattle.ps_model.specs.Core.{handed}
+use Rattle.ps_model.specs.machine.Core.{handed}
 use Rattle.ps_model.specs.Replay.{notices, of_bare, replay, to_address}
-use Rattle.ps_model.specs.TheCore.{the_core}
-use Rattle.ps_model.specs.World.{World, more_entries}
+use Rattle.ps_model.specs.machine.TheCore.{the_core}
+use Rattle.ps_model.specs.machine.World.{World, more_entries}
 use Rattle.ps_model.proofs.Going.{notices-append}
 use Rattle.ps_model.proofs.TheLaws.{the-laws}
 use Rattle.ps_outbox.specs.Boxes.{Boxes, is_to, queue, spare_for}

@@ -10,12 +10,12 @@ use Rattle.ps_types.specs.declared.entry.Entry.TheVariants.{Handed}
 use Rattle.ps_types.specs.declared.entry.Notice.{Notice}
 use Rattle.ps_types.specs.declared.jid.Jid.{Jid}
 use Rattle.ps_model.specs.After.{after}
-use Rattle.ps_model.specs.Core.{handed}
-use Rattle.ps_model.specs.Entries.{IsBare}
-use Rattle.ps_model.specs.Machine.{counted, happens, records}
+use Rattle.ps_model.specs.machine.Core.{handed}
+use Rattle.ps_model.specs.store.Entries.{IsBare}
+use Rattle.ps_model.specs.machine.Machine.{counted, happens, records}
 use Rattle.ps_model.specs.Replay.{accepted, replay}
-use Rattle.ps_model.specs.TheCore.{the_core}
-use Rattle.ps_model.specs.World.{AddressPart, Recorded, Unrecorded, World, at_address}
+use Rattle.ps_model.specs.machine.TheCore.{the_core}
+use Rattle.ps_model.specs.machine.World.{AddressPart, Recorded, Unrecorded, World, at_address}
 use Rattle.ps_model.specs.declared.steps.Step.TheVariants.{Record}
 use Rattle.ps_model.proofs.TheLaws.{the-laws}
 use Rattle.ps_outbox.specs.Boxes.{is_known, is_to, queue}

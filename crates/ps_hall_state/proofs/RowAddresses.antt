@@ -8,10 +8,10 @@ use Rattle.ps_types.specs.Print.{print}
 use Rattle.ps_types.specs.Shape.{attr_text, tree_text}
 use Rattle.ps_types.specs.Tree.{Tree, is_named}
 use Rattle.ps_types.specs.declared.jid.Jid.{Jid}
-use Rattle.ps_model.specs.BaseFields.{◌>>=◌, jid_at}
-use Rattle.ps_model.specs.BaseRead.{row_of}
-use Rattle.ps_model.specs.BaseRows as base
-use Rattle.ps_model.specs.BaseRows.{BaseRow}
+use Rattle.ps_model.specs.store.BaseFields.{◌>>=◌, jid_at}
+use Rattle.ps_model.specs.store.BaseRead.{row_of}
+use Rattle.ps_model.specs.store.BaseRows as base
+use Rattle.ps_model.specs.store.BaseRows.{BaseRow}
 use Rattle.ps_book_laws.proofs.AddressedTaken.{jid-is}
 
 -- to an address, where the row is a notice

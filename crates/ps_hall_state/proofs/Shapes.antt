@@ -21,17 +21,17 @@ use Rattle.ps_types.specs.declared.entry.Entry.{Entry}
 use Rattle.ps_types.specs.declared.entry.Entry.TheVariants.{Change}
 use Rattle.ps_types.specs.declared.jid.Jid.{Jid}
 use Rattle.ps_types.specs.declared.request.Ask.{Ask}
-use Rattle.ps_model.specs.Asking.{ask_of}
+use Rattle.ps_model.specs.requests.Asking.{ask_of}
 use Rattle.ps_model.specs.Book.{Book}
-use Rattle.ps_model.specs.Check.{check}
-use Rattle.ps_model.specs.Commits.{commits}
-use Rattle.ps_model.specs.Entries.{IsHostName}
-use Rattle.ps_model.specs.Outcome.{Outcome}
-use Rattle.ps_model.specs.Outcome as outcome
+use Rattle.ps_model.specs.requests.Check.{check}
+use Rattle.ps_model.specs.requests.Commits.{commits}
+use Rattle.ps_model.specs.store.Entries.{IsHostName}
+use Rattle.ps_model.specs.requests.Outcome.{Outcome}
+use Rattle.ps_model.specs.requests.Outcome as outcome
 use Rattle.ps_model.specs.Replies.{entry_by, entry_of, moment_of, outcome_entry}
-use Rattle.ps_model.specs.Stanza.{is_served, is_stanza, jid_of, target_of}
-use Rattle.ps_model.specs.Taken.{Taken, silent, refused, denied, asked}
-use Rattle.ps_model.specs.Taking.{ask_taken, head_of, is_white, result_taken, sender_taken, shape_taken, taken, target_taken}
+use Rattle.ps_model.specs.requests.Stanza.{is_served, is_stanza, jid_of, target_of}
+use Rattle.ps_model.specs.requests.Taken.{Taken, silent, refused, denied, asked}
+use Rattle.ps_model.specs.requests.Taking.{ask_taken, head_of, is_white, result_taken, sender_taken, shape_taken, taken, target_taken}
 use Rattle.ps_hall_state.specs.Shape.{IsArrival, IsSketch}
 
 -- the tree of what is asked is not too deep

@@ -5,7 +5,7 @@ use Rattle.ps_types.specs.Tree.{Tree}
 use Rattle.ps_types.specs.declared.entry.Entry.{Entry}
 use Rattle.ps_types.specs.declared.entry.Entry.TheVariants.{Boot, Change, Handed, Gone, Base}
 use Rattle.ps_types.specs.declared.jid.Jid.{Jid}
-use Rattle.ps_model.specs.Entries.{body, change_spelling, spelling}
+use Rattle.ps_model.specs.store.Entries.{body, change_spelling, spelling}
 use Rattle.ps_record.proofs.Batches.{body_push}
 use Rattle.ps_hall_state.specs.Stand.{IsWithin, bytes_of, bytes_with, entries_of}
 use Rattle.ps_hall_state.specs.declared.state.State.{State}

@@ -11,11 +11,11 @@ use Rattle.ps_types.specs.declared.jid.Jid.{Jid}
 use Rattle.ps_model.specs.After.{after, notices_at}
 use Rattle.ps_model.specs.Book as model
 use Rattle.ps_model.specs.Book.{empty_state}
-use Rattle.ps_model.specs.Machine.{answered, counted, ends_role, happens, took}
+use Rattle.ps_model.specs.machine.Machine.{answered, counted, ends_role, happens, took}
 use Rattle.ps_model.specs.Replay.{replay, replay_from}
 use Rattle.ps_model.specs.Replies.{entry_of, reply_to}
-use Rattle.ps_model.specs.TheCore.{the_core}
-use Rattle.ps_model.specs.World.{Said, HostPart, AddressPart, World, at_host, durable, ends, more_entries, more_made, with_entry}
+use Rattle.ps_model.specs.machine.TheCore.{the_core}
+use Rattle.ps_model.specs.machine.World.{Said, HostPart, AddressPart, World, at_host, durable, ends, more_entries, more_made, with_entry}
 use Rattle.ps_model.specs.declared.steps.Role.{Role}
 use Rattle.ps_model.specs.declared.steps.Step.TheVariants.{Arrive, Ended, Gone, Take}
 use Rattle.ps_model.proofs.Going.{replay-append}

@@ -7,10 +7,10 @@ use Rattle.ps_types.specs.declared.entry.Entry.{Entry}
 use Rattle.ps_types.specs.declared.entry.Notice.{Notice}
 use Rattle.ps_types.specs.declared.jid.Jid.{Jid}
 use Rattle.ps_model.specs.Book.{empty_state}
-use Rattle.ps_model.specs.Core.{handed}
-use Rattle.ps_model.specs.Machine.{counted, emits, happens}
-use Rattle.ps_model.specs.TheCore.{the_core}
-use Rattle.ps_model.specs.World.{AddressPart, Flight, Nothing, Unrecorded, World, at_address, durable}
+use Rattle.ps_model.specs.machine.Core.{handed}
+use Rattle.ps_model.specs.machine.Machine.{counted, emits, happens}
+use Rattle.ps_model.specs.machine.TheCore.{the_core}
+use Rattle.ps_model.specs.machine.World.{AddressPart, Flight, Nothing, Unrecorded, World, at_address, durable}
 use Rattle.ps_model.specs.declared.steps.Step.TheVariants.{Emit}
 use Rattle.ps_model.proofs.NumberLaws.{of-full}
 use Rattle.ps_model.proofs.TheLaws.{the-laws}

@@ -7,8 +7,8 @@ use Rattle.ps_types.specs.declared.request.Request.{Request}
 use Rattle.ps_core.specs.Requests.{IsRequestOf}
 use Rattle.ps_model.specs.Book.{Book}
 use Rattle.ps_model.specs.Replies.{entry_of, reply_to}
-use Rattle.ps_model.specs.TheCore.{the_core}
-use Rattle.ps_model.specs.World.{World}
+use Rattle.ps_model.specs.machine.TheCore.{the_core}
+use Rattle.ps_model.specs.machine.World.{World}
 use Rattle.ps_model.specs.declared.steps.Step.TheVariants.{Arrive}
 use Rattle.ps_hall_state.specs.declared.answers.Outcome.{Outcome}
 use Rattle.ps_hall_state.specs.declared.answers.Outcome.TheVariants as outcome

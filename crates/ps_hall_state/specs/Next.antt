@@ -3,9 +3,9 @@ use Rattle.std.specs.Prelude.{◌≡◌, ◌≢◌, ◌⊎◌, ℕ, ◌<◌, ◌
 use Rattle.std.specs.List.{list_any}
 use Rattle.ps_types.specs.declared.entry.Notice.{Notice}
 use Rattle.ps_types.specs.declared.jid.Jid.{Jid}
-use Rattle.ps_model.specs.Core.{handed}
-use Rattle.ps_model.specs.TheCore.{the_core}
-use Rattle.ps_model.specs.World.{Said, Nothing, Recorded, World, durable}
+use Rattle.ps_model.specs.machine.Core.{handed}
+use Rattle.ps_model.specs.machine.TheCore.{the_core}
+use Rattle.ps_model.specs.machine.World.{Said, Nothing, Recorded, World, durable}
 use Rattle.ps_model.specs.declared.steps.Step.TheVariants.{Take, Emit}
 use Rattle.ps_hall_state.specs.declared.answers.NextLine.{NextLine}
 use Rattle.ps_hall_state.specs.declared.answers.NextLine.TheVariants.{Reply, Notice as Tells, NotYet, Over}

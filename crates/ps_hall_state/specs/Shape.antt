@@ -5,7 +5,7 @@ use Rattle.ps_types.specs.Tree.{levels}
 use Rattle.ps_types.specs.declared.entry.Arrival.{Arrival}
 use Rattle.ps_types.specs.declared.entry.Entry.{Entry}
 use Rattle.ps_types.specs.declared.entry.Entry.TheVariants.{Boot, Change, Handed, Gone, Base}
-use Rattle.ps_model.specs.Entries.{IsBare, IsHostName, IsMoment}
+use Rattle.ps_model.specs.store.Entries.{IsBare, IsHostName, IsMoment}
 use Rattle.ps_model.specs.Replies.{moment_of}
 
 -- the moment of the line, if it has one, is before the end of time

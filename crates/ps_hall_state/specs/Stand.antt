@@ -3,12 +3,12 @@ use Rattle.std.specs.Prelude.{◌≡◌, ◌≢◌, ℕ, ◌+◌, ◌<◌, ◌�
 use Rattle.ps_types.specs.declared.entry.Entry.{Entry}
 use Rattle.ps_types.specs.declared.entry.Notice.{Notice}
 use Rattle.ps_types.specs.declared.jid.Jid.{Jid}
-use Rattle.ps_model.specs.Core.{handed}
-use Rattle.ps_model.specs.Entries.{IsHostName, body}
-use Rattle.ps_model.specs.Machine.{run}
+use Rattle.ps_model.specs.machine.Core.{handed}
+use Rattle.ps_model.specs.store.Entries.{IsHostName, body}
+use Rattle.ps_model.specs.machine.Machine.{run}
 use Rattle.ps_model.specs.Replay.{replay}
-use Rattle.ps_model.specs.TheCore.{the_core}
-use Rattle.ps_model.specs.World.{Said, Flight, Nothing, Unrecorded, Recorded, HostPart, AddressPart, World, durable}
+use Rattle.ps_model.specs.machine.TheCore.{the_core}
+use Rattle.ps_model.specs.machine.World.{Said, Flight, Nothing, Unrecorded, Recorded, HostPart, AddressPart, World, durable}
 use Rattle.ps_model.specs.declared.steps.Step.{Step}
 use Rattle.ps_outbox.specs.Boxes.{is_known, queue}
 use Rattle.ps_world.specs.Sound.{Sound}

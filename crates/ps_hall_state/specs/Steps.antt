@@ -3,10 +3,10 @@ use Rattle.std.specs.Prelude.{◌≡◌, ℕ, ◌+◌, ◌≤◌, List, [], ◌�
 use Rattle.ps_types.specs.declared.entry.Entry.{Entry}
 use Rattle.ps_types.specs.declared.entry.Notice.{Notice}
 use Rattle.ps_model.specs.Book as model
-use Rattle.ps_model.specs.Machine.{run}
+use Rattle.ps_model.specs.machine.Machine.{run}
 use Rattle.ps_model.specs.After.{after, notices_at}
-use Rattle.ps_model.specs.TheCore.{the_core}
-use Rattle.ps_model.specs.World.{ends}
+use Rattle.ps_model.specs.machine.TheCore.{the_core}
+use Rattle.ps_model.specs.machine.World.{ends}
 use Rattle.ps_outbox.specs.Boxes.{Boxes, spare_for}
 use Rattle.ps_model.specs.declared.steps.Step.{Step}
 use Rattle.ps_model.specs.declared.steps.Step.TheVariants.{Flush}

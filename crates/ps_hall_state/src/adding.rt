@@ -1,7 +1,7 @@
 // An entry that is to wait for the next frame, and its notices.
 ghost use Rattle.std.specs.Prelude.{◌≡◌, ◌∷◌, ◌++◌, ◌+◌, ◌≤◌, ◌<◌, ◌^◌, [], true, false, None, Some, IfOk, IfSome, IsSome, OnOk, OnErr, length};
 ghost use Rattle.ps_model.specs.After.{after};
-ghost use Rattle.ps_model.specs.Entries.{IsEntry, body, spelling};
+ghost use Rattle.ps_model.specs.store.Entries.{IsEntry, body, spelling};
 ghost use Rattle.ps_model.specs.Replay.{accepted};
 ghost use Rattle.ps_core.specs.Requests.{IsRequestOf};
 ghost use Rattle.ps_record.specs.Texts.{print_in};

@@ -1,6 +1,6 @@
 // The end of a host's callers, and the entries that are no lines'.
 ghost use Rattle.std.specs.Prelude.{◌≡◌, ◌<◌, ◌≤◌, ◌^◌, ℕ, List, true, false, IfErr, IfOk, OnOk, length};
-ghost use Rattle.ps_model.specs.Entries.{IsHostName};
+ghost use Rattle.ps_model.specs.store.Entries.{IsHostName};
 ghost use Rattle.ps_model.specs.Replay.{accepted};
 ghost use Rattle.ps_model.specs.declared.steps.Role.{Role};
 ghost use Rattle.ps_model.specs.declared.steps.Step.{Step};

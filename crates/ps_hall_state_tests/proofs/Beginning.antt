@@ -6,12 +6,12 @@ use Rattle.ps_types.specs.declared.entry.Entry.TheVariants.{Boot}
 use Rattle.ps_types.specs.declared.jid.Jid.{Jid}
 use Rattle.ps_model.specs.After.{after}
 use Rattle.ps_model.specs.Book.{empty_state}
-use Rattle.ps_model.specs.CoreLaws.{IsLawful}
-use Rattle.ps_model.specs.Entries.{IsHostName}
-use Rattle.ps_model.specs.Machine.{start}
+use Rattle.ps_model.specs.machine.CoreLaws.{IsLawful}
+use Rattle.ps_model.specs.store.Entries.{IsHostName}
+use Rattle.ps_model.specs.machine.Machine.{start}
 use Rattle.ps_model.specs.Replay.{of_bare}
-use Rattle.ps_model.specs.TheCore.{the_core}
-use Rattle.ps_model.specs.World.{fresh_host}
+use Rattle.ps_model.specs.machine.TheCore.{the_core}
+use Rattle.ps_model.specs.machine.World.{fresh_host}
 use Rattle.ps_model.proofs.TheLaws.{the-laws}
 use Rattle.std.proofs.lemmas.Bool.{true≢false}
 use Rattle.ps_outbox.specs.Boxes.{is_known, queue}

@@ -4,7 +4,7 @@ use Rattle.std.specs.Prelude.{Err, IfErr, IfOk, Ok, OnErr, OnOk, Result}
 use Rattle.ps_base.specs.declared.Memory.{Memory}
 use Rattle.ps_types.specs.declared.entry.Arrival.{Arrival}
 use Rattle.ps_types.specs.declared.entry.Entry.{Entry}
-use Rattle.ps_model.specs.World.{ends}
+use Rattle.ps_model.specs.machine.World.{ends}
 use Rattle.ps_model.specs.declared.steps.Step.{Step}
 use Rattle.ps_world.proofs.Lists.{ends-all}
 use Rattle.ps_hall_state.specs.declared.answers.ArriveRefusal.{ArriveRefusal}

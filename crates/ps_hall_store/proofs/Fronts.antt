@@ -3,7 +3,7 @@ use Rattle.std.proofs.Common.{◌≡◌, inl, inr, ℕ, ◌≤◌, List, ◌++�
 use Rattle.ps_types.specs.declared.entry.Entry.{Entry}
 use Rattle.ps_disk.specs.Disk.{MayLeave}
 use Rattle.ps_journal.specs.Left.{IsFrontOfLeft, IsWithOrWithout}
-use Rattle.ps_model.specs.Store.{spelled}
+use Rattle.ps_model.specs.store.Store.{spelled}
 use Rattle.ps_world.proofs.Lists.{take-front, take-whole}
 use Rattle.ps_hall_store.specs.Left.{IsFront}
 

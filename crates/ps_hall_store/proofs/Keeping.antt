@@ -6,7 +6,7 @@ use Rattle.ps_disk.specs.Disk.{LeavesOnly, MayLeave}
 use Rattle.ps_journal.specs.Left.{IsFrontOfLeft, IsWithOrWithout, LeavesList}
 use Rattle.ps_journal.specs.Opened.{IsShortIfUnbegun}
 use Rattle.ps_journal.proofs.Lists.{one_list}
-use Rattle.ps_model.specs.World.{World, ends}
+use Rattle.ps_model.specs.machine.World.{World, ends}
 use Rattle.ps_world.proofs.Lists.{ends-le}
 use Rattle.ps_world.specs.Calm.{Follows}
 use Rattle.ps_hall_store.specs.Left.{IsFront}

@@ -7,10 +7,10 @@ use Rattle.ps_journal.specs.Left.{IsLongWithOrWithout, LeavesAtLeast, LeavesList
 use Rattle.ps_journal.specs.Opened.{HasLength}
 use Rattle.ps_journal.proofs.Floors.{one_length}
 use Rattle.ps_journal.proofs.Lists.{one_list}
-use Rattle.ps_model.specs.Entries.{body}
-use Rattle.ps_model.specs.Store.{spelled}
-use Rattle.ps_model.specs.TheCore.{the_core}
-use Rattle.ps_model.specs.World.{World, ends}
+use Rattle.ps_model.specs.store.Entries.{body}
+use Rattle.ps_model.specs.store.Store.{spelled}
+use Rattle.ps_model.specs.machine.TheCore.{the_core}
+use Rattle.ps_model.specs.machine.World.{World, ends}
 use Rattle.ps_world.proofs.Lists.{ends-all}
 use Rattle.ps_world.specs.Calm.{Follows}
 use Rattle.ps_world.specs.Sound.{Sound}

@@ -9,10 +9,10 @@ use Rattle.ps_disk.specs.Disk.{LeavesOnly, MayLeave}
 use Rattle.ps_journal.specs.declared.journal.Journal.{Journal}
 use Rattle.ps_journal.specs.Journal.{IsTornBy, broken_of, disk_of, length_of}
 use Rattle.ps_journal.specs.Left.{IsFrontOfLeft, IsWithOrWithout, LeavesAtLeast, LeavesList}
-use Rattle.ps_model.specs.Entries.{body}
-use Rattle.ps_model.specs.Store.{spelled}
-use Rattle.ps_model.specs.TheCore.{the_core}
-use Rattle.ps_model.specs.World.{World, ends}
+use Rattle.ps_model.specs.store.Entries.{body}
+use Rattle.ps_model.specs.store.Store.{spelled}
+use Rattle.ps_model.specs.machine.TheCore.{the_core}
+use Rattle.ps_model.specs.machine.World.{World, ends}
 use Rattle.ps_world.specs.Sound.{Sound}
 use Rattle.ps_world.proofs.Lists.{ends-le}
 use Rattle.ps_world.specs.Calm.{Follows}

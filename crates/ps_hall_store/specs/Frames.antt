@@ -4,9 +4,9 @@ use Rattle.ps_base.specs.Causes.{Rose}
 use Rattle.ps_disk.specs.declared.device.Disk.{Ghosts}
 use Rattle.ps_journal.specs.declared.journal.EntriesRefusal.{EntriesRefusal}
 use Rattle.ps_journal.specs.declared.journal.EntriesRefusal.TheVariants as refusal
-use Rattle.ps_model.specs.Entries.{body}
-use Rattle.ps_model.specs.TheCore.{the_core}
-use Rattle.ps_model.specs.World.{World}
+use Rattle.ps_model.specs.store.Entries.{body}
+use Rattle.ps_model.specs.machine.TheCore.{the_core}
+use Rattle.ps_model.specs.machine.World.{World}
 use Rattle.ps_types.specs.declared.entry.Entry.{Entry}
 use Rattle.ps_world.specs.Sound.{Sound}
 use Rattle.ps_world.specs.Calm.{Follows}

@@ -2,7 +2,7 @@
 use Rattle.std.specs.Prelude.{◌⊎◌, ℕ, ◌≤◌, List, length, take}
 use Rattle.ps_types.specs.declared.entry.Entry.{Entry}
 use Rattle.ps_journal.specs.Opened.{HasLength}
-use Rattle.ps_model.specs.Store.{spelled}
+use Rattle.ps_model.specs.store.Store.{spelled}
 
 -- the bytes spell a front of the list, which has at least this many entries
 pub record IsFront (E : List Entry) (least : ℕ) (c : List ℕ) : Type 0 where

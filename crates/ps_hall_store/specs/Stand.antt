@@ -7,9 +7,9 @@ use Rattle.ps_journal.specs.declared.journal.Journal.{Journal}
 use Rattle.ps_journal.specs.Journal.{broken_of, disk_of, length_of}
 use Rattle.ps_journal.specs.Left.{IsFrontOfLeft, LeavesList}
 use Rattle.ps_journal.specs.Opened.{IsShortIfUnbegun}
-use Rattle.ps_model.specs.Store.{spelled}
-use Rattle.ps_model.specs.TheCore.{the_core}
-use Rattle.ps_model.specs.World.{World, ends}
+use Rattle.ps_model.specs.store.Store.{spelled}
+use Rattle.ps_model.specs.machine.TheCore.{the_core}
+use Rattle.ps_model.specs.machine.World.{World, ends}
 use Rattle.ps_world.specs.Sound.{Sound}
 use Rattle.ps_hall_store.specs.Left.{IsFront, IsSized}
 use Rattle.ps_hall_store.specs.declared.store.Store.{Store}

@@ -1,7 +1,7 @@
 // The journal, and the list of steps that it stands for.
 ghost use Rattle.std.specs.Prelude.{◌≡◌, ◌≢◌, ◌≤◌, ◌+◌, [], ℕ, List, None, IfSome, IfOk, IfErr, OnOk, OnErr, is_some, length};
-ghost use Rattle.ps_model.specs.Store.{gate_at, Begun};
-ghost use Rattle.ps_model.specs.World.{World};
+ghost use Rattle.ps_model.specs.store.Store.{gate_at, Begun};
+ghost use Rattle.ps_model.specs.machine.World.{World};
 ghost use Rattle.ps_journal.specs.Journal.{disk_of, length_of};
 ghost use Rattle.ps_journal.specs.Left.{LeavesAtLeast};
 ghost use Rattle.ps_hall_store.specs.Frames.{IsRead, NotRead, NotesFault, Tears, Writes};

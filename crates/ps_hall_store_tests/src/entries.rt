@@ -1,5 +1,5 @@
 // Entries of the format's table as bytes, and what is none.
-ghost use Rattle.ps_model.specs.Entries.{IsEntry};
+ghost use Rattle.ps_model.specs.store.Entries.{IsEntry};
 
 use ps_base::Memory;
 use ps_record::{Batch, EntryRefusal, put_entry, read_entry};

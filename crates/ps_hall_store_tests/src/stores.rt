@@ -1,6 +1,6 @@
 // Stores in memory: begun, appended to, upgraded, and crashed after each call of the disk. Where a store is damaged, `tests/rows` says, which runs the program.
 ghost use Rattle.std.specs.Prelude.{◌≢◌, ◌≤◌, [], length, IfOk};
-ghost use Rattle.ps_model.specs.Entries.{spelling, IsEntry};
+ghost use Rattle.ps_model.specs.store.Entries.{spelling, IsEntry};
 
 use ps_base::Memory;
 use ps_disk::{Disk, MemDisk, Torn};

@@ -4,7 +4,7 @@ use Rattle.std.specs.Prelude.{codes, slice_get, Some}
 use Rattle.ps_disk.specs.declared.device.Disk.{Ghosts}
 use Rattle.ps_types.specs.Address.{IsHost}
 use Rattle.ps_types.specs.declared.entry.Entry.{Entry}
-use Rattle.ps_model.specs.Entries.{IsHostName}
+use Rattle.ps_model.specs.store.Entries.{IsHostName}
 use Rattle.ps_hall_open.specs.Fresh.{AreHosts}
 use Rattle.ps_hall_open.specs.Opens.{IsOpen}
 use Rattle.ps_hall.specs.Start.{MayStart}

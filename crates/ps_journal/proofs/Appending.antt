@@ -3,7 +3,7 @@ use Rattle.std.proofs.Common.{◌≡◌, ◌⊎◌, inl, inr, ⊎_elim, ℕ, ◌
 use Rattle.ps_disk.specs.Disk.{MayLeave, Holds}
 use Rattle.ps_disk.proofs.TornWrites.{after_write}
 use Rattle.ps_disk.specs.SeenLeft.{synced_left}
-use Rattle.ps_model.specs.Store.{IsBody}
+use Rattle.ps_model.specs.store.Store.{IsBody}
 use Rattle.ps_journal.specs.Settled.{Stores, IsSettledAt, behind_gate, IsBeforeOrAfter, MayStillLeave}
 use Rattle.ps_journal.proofs.Bodies.{gate_at_push}
 use Rattle.ps_journal.proofs.Crash.{first_torn, mid_stores, mid_long, second_torn, opened}
@@ -23,7 +23,8 @@ module _ (bs : List (List ℕ)) (seen synced : List ℕ) (written : Ranges) (len
   pub first_failed : (n : ℕ) (now : List ℕ) (written_now : Ranges) (f : List ℕ) → now ≡ synced → MaybeMore written_now written (len, n) → MayLeave now written_now f → Stores f bs
   first_failed n now written_now f same more leaves = first_left n f (after_write synced now written written_now (len, n) f same more leaves)
 
-  pub first_still : (b : List ℕ) (n : ℕ) (now : List ℕ) (written_now : Ranges) (f : List ℕ) → now ≡ synced → MaybeMore written_now written (len, n) → MayLeave now written_now f → MayStillLeave bs b now written_now f
+  pub first_still : (b : List ℕ) (n : ℕ) (now : List ℕ) (written_now : Ranges) (f : List ℕ) → now ≡ synced → MaybeMore written_now written (len, n) → MayLeave now written_now f
+      → MayStillLeave bs b now written_now f
   first_still b n now written_now f same more leaves =
       (now, synced_left now written_now, inl (first_failed n now written_now f same more leaves, subst (λ (l : List ℕ). Stores l bs) (sym (same ∙ s.kept)) s.stores))
 
@@ -52,7 +53,8 @@ module _ (bs : List (List ℕ)) (seen synced : List ℕ) (written : Ranges) (len
     pub second_failed : (now : List ℕ) (written_now : Ranges) (f : List ℕ) → now ≡ synced_mid → MaybeMore written_now written_mid (at, 1) → MayLeave now written_now f → IsBeforeOrAfter bs b f
     second_failed now written_now f same more leaves = second_left f (after_write synced_mid now written_mid written_now (at, 1) f same more leaves)
 
-    pub second_still : (now : List ℕ) (written_now : Ranges) (f : List ℕ) → now ≡ synced_mid → MaybeMore written_now written_mid (at, 1) → MayLeave now written_now f → MayStillLeave bs b now written_now f
+    pub second_still : (now : List ℕ) (written_now : Ranges) (f : List ℕ) → now ≡ synced_mid → MaybeMore written_now written_mid (at, 1) → MayLeave now written_now f
+        → MayStillLeave bs b now written_now f
     second_still now written_now f same more leaves =
         (f, leaves, ⊎_elim (λ before. inl (before, before)) (λ after. inr (after, after)) (second_failed now written_now f same more leaves))
 
@@ -66,6 +68,7 @@ module _ (bs : List (List ℕ)) (seen synced : List ℕ) (written : Ranges) (len
     second_done new f written_now (inl leaves) = second_left f leaves
     second_done new f written_now (inr is_new) = inr (subst (λ (l : List ℕ). Stores l (bs ++ b ∷ [])) (sym is_new) (is_opened new written_now))
 
-    pub settled_again : (new synced_new : List ℕ) (written_new : Ranges) → Holds mid at (1 ∷ []) new → synced_new ≡ new → written_new ≡ [] → IsSettledAt (bs ++ b ∷ []) new synced_new written_new (len + 5 + length b)
+    pub settled_again : (new synced_new : List ℕ) (written_new : Ranges) → Holds mid at (1 ∷ []) new → synced_new ≡ new → written_new ≡ []
+        → IsSettledAt (bs ++ b ∷ []) new synced_new written_new (len + 5 + length b)
     settled_again new synced_new written_new written_now kept_new nothing_new =
         record { stores = is_opened new written_now; ends = omega (arith, s.ends, gate_at_push bs b); kept = kept_new; nothing = nothing_new }

@@ -8,7 +8,7 @@ use Rattle.std.proofs.lemmas.Bool.Decides.{nat_tests}
 use Rattle.std.proofs.lemmas.Slice.Eq.{bytes_eq-Decides}
 use Rattle.ps_disk.specs.Disk.{MayLeave, TornAt, Holds}
 use Rattle.ps_disk.proofs.TornWrites.{torn_write, after_write, only_synced}
-use Rattle.ps_model.specs.Store.{magic, is_header, is_second, is_headless, is_unbegun, Begun, spelled}
+use Rattle.ps_model.specs.store.Store.{magic, is_header, is_second, is_headless, is_unbegun, Begun, spelled}
 use Rattle.ps_journal.specs.Beginning.{middle, has_zero_first}
 use Rattle.ps_journal.specs.Settled.{Stores, IsQuiet}
 use Rattle.ps_journal.proofs.Bodies.{begun_from, header_length, header_magic}

@@ -11,7 +11,7 @@ use Rattle.std.specs.Prelude.{codes}
 use Rattle.std.specs.Str.{bytes_eq}
 use Rattle.ps_record.specs.Raw.{◌>>=◌, number_at}
 use Rattle.ps_record.proofs.Pieces.{wide32, number_again}
-use Rattle.ps_model.specs.Store.{magic, is_header, is_second, frame, frames, IsBody, AreBodies, IsShut, gate_at, Begun}
+use Rattle.ps_model.specs.store.Store.{magic, is_header, is_second, frame, frames, IsBody, AreBodies, IsShut, gate_at, Begun}
 
 -- ---- frames read from the left, at most n of them
 

@@ -5,7 +5,7 @@ use Rattle.std.proofs.lemmas.Bool.{cases_eq}
 use Rattle.std.proofs.lemmas.List.{take_at, drop_at, drop_more, get_or-take, take-take}
 use Rattle.ps_disk.specs.Disk.{MayLeave, TornAt, Holds}
 use Rattle.ps_disk.proofs.TornWrites.{torn_write}
-use Rattle.ps_model.specs.Store.{frame, IsBody, IsShut, gate_at}
+use Rattle.ps_model.specs.store.Store.{frame, IsBody, IsShut, gate_at}
 use Rattle.ps_journal.specs.Settled.{behind_gate, Stores, IsBeforeOrAfter}
 use Rattle.ps_journal.proofs.Bodies.{size_of, same_version, with_gate, with_frame}
 
@@ -56,11 +56,13 @@ module _ (bs : List (List ℕ)) (s : List ℕ) (stores : Stores s bs) (len : ℕ
 
     pub mid_front : take len mid ≡ take len s
     unfolding junk
-    mid_front = ap (λ (l : List ℕ). take len l) (holds ∙ append_assoc (take len s) (behind_gate b) (drop (len + length (behind_gate b)) s)) ∙ take_at (take len s) (behind_gate b ++ drop (len + length (behind_gate b)) s) len front_size
+    mid_front = ap (λ (l : List ℕ). take len l) (holds ∙ append_assoc (take len s) (behind_gate b) (drop (len + length (behind_gate b)) s)) ∙ take_at (take len s)
+        (behind_gate b ++ drop (len + length (behind_gate b)) s) len front_size
 
     mid_back : drop len mid ≡ behind_gate b ++ junk
     unfolding junk
-    mid_back = ap (λ (l : List ℕ). drop len l) (holds ∙ append_assoc (take len s) (behind_gate b) (drop (len + length (behind_gate b)) s)) ∙ drop_at (take len s) (behind_gate b ++ drop (len + length (behind_gate b)) s) len front_size
+    mid_back = ap (λ (l : List ℕ). drop len l) (holds ∙ append_assoc (take len s) (behind_gate b) (drop (len + length (behind_gate b)) s)) ∙ drop_at (take len s)
+        (behind_gate b ++ drop (len + length (behind_gate b)) s) len front_size
 
     pub mid_long : len ≤ length mid
     mid_long = omega (arith, ap length mid_front, front_size, length-take len mid)

@@ -3,10 +3,10 @@ use Rattle.std.proofs.Common.{Bool, ◌≡◌, ◌≢◌, inl, inr, ℕ, ◌+◌
 use Rattle.std.specs.Int.{w32, to_be_bytes}
 use Rattle.std.proofs.lemmas.List.{drop_at}
 use Rattle.ps_types.specs.declared.entry.Entry.{Entry}
-use Rattle.ps_model.specs.Entries.{spelling, body, AreEntriesIn}
+use Rattle.ps_model.specs.store.Entries.{spelling, body, AreEntriesIn}
 use Rattle.ps_record.proofs.EntryLaws.{one_entry}
-use Rattle.ps_model.specs.Store.{is_second, frame, frames, IsBody, AreBodies, IsShut, gate_at, Begun, AreParts, spelled}
-use Rattle.ps_model.specs.Damage.{BadFrame, NoEntry}
+use Rattle.ps_model.specs.store.Store.{is_second, frame, frames, IsBody, AreBodies, IsShut, gate_at, Begun, AreParts, spelled}
+use Rattle.ps_model.specs.store.Damage.{BadFrame, NoEntry}
 use Rattle.ps_journal.specs.Judged.{whole_at, IsDamaged}
 use Rattle.ps_journal.specs.Places.{places, places_in}
 use Rattle.ps_journal.specs.declared.judging.Placed.{Placed}
@@ -47,11 +47,13 @@ compare_body second (x ∷ es) (d ∷ ds) behind are also bad e =
     let same = one_entry x d (body es ++ behind) (body ds) are.0.entry also.0.entry (sym (append_assoc (spelling x) (body es) behind) ∙ e) in
     compare_body second es ds behind are.1 also.1 bad same.1
 
-compare_parts : (second : Bool) (parts fs : List (List Entry)) (es : List Entry) (behind : List ℕ) (others : List (List ℕ)) → AreParts second fs → AreEntriesIn second es → NoEntry second behind → map body fs ≡ map body parts ++ (body es ++ behind) ∷ others → ⊥
+compare_parts : (second : Bool) (parts fs : List (List Entry)) (es : List Entry) (behind : List ℕ) (others : List (List ℕ)) → AreParts second fs → AreEntriesIn second es → NoEntry second behind
+    → map body fs ≡ map body parts ++ (body es ++ behind) ∷ others → ⊥
 compare_parts second [] [] es behind others are each bad e = absurd (cc e)
 compare_parts second [] (f ∷ fs) es behind others are each bad e = let same : body f ≡ body es ++ behind = cc e in compare_body second es f behind each are.0 bad (sym same)
 compare_parts second (p ∷ parts) [] es behind others are each bad e = absurd (cc e)
-compare_parts second (p ∷ parts) (f ∷ fs) es behind others are each bad e = let rest : map body fs ≡ map body parts ++ (body es ++ behind) ∷ others = cc e in compare_parts second parts fs es behind others are.1 each bad rest
+compare_parts second (p ∷ parts) (f ∷ fs) es behind others are each bad e = let rest : map body fs ≡ map body parts ++ (body es ++ behind) ∷ others = cc e in compare_parts second parts fs es behind
+    others are.1 each bad rest
 
 pub damaged_spells_nothing : (bytes : List ℕ) (at : ℕ) (before : List Placed) (E : List Entry) → IsDamaged bytes at before → spelled bytes E → ⊥
 damaged_spells_nothing bytes at before E (inl header) (inl lists) = absurd (cc (header.0.no_header, lists.begun.header))
@@ -61,7 +63,8 @@ damaged_spells_nothing bytes at before E (inr (inl bad)) (inl lists) =
     let b = lists.begun in
     let tail : drop 8 bytes ≡ frames d.bodies ++ d.rest =
     ap (λ (l : List ℕ). drop 8 l) (d.split ∙ append_assoc (take 8 bytes) (frames d.bodies) d.rest) ∙ drop_at (take 8 bytes) (frames d.bodies ++ d.rest) 8 (header_size bytes d.header) in
-    compare d.bodies (map body lists.parts) d.rest (drop (gate_at (map body lists.parts)) bytes) d.each b.each b.shut d.followed d.not_shut d.not_whole (sym tail ∙ behind_header bytes (map body lists.parts) b)
+    compare d.bodies (map body lists.parts) d.rest (drop (gate_at (map body lists.parts)) bytes) d.each b.each b.shut d.followed d.not_shut d.not_whole
+    (sym tail ∙ behind_header bytes (map body lists.parts) b)
 damaged_spells_nothing bytes at before E (inr (inl bad)) (inr unbegun) = absurd (cc (bad.0.header, unbegun.0))
 damaged_spells_nothing bytes at before E (inr (inr bad)) (inl lists) =
     let r = bad.read in
@@ -73,7 +76,8 @@ damaged_spells_nothing bytes at before E (inr (inr bad)) (inr unbegun) = absurd 
 
 -- two ways to be neither a closed gate nor a whole frame behind frames
 one_bad_frame : (cs bs : List (List ℕ)) (rest s : List ℕ) → AreBodies cs → AreBodies bs → (cs ≢ [] → rest ≢ []) → (bs ≢ [] → s ≢ [])
-    → ((b after : List ℕ) → IsBody b → after ≢ [] → rest ≡ frame b ++ after → ⊥) → ((b after : List ℕ) → IsBody b → after ≢ [] → s ≡ frame b ++ after → ⊥) → frames cs ++ rest ≡ frames bs ++ s → cs ≡ bs
+    → ((b after : List ℕ) → IsBody b → after ≢ [] → rest ≡ frame b ++ after → ⊥) → ((b after : List ℕ) → IsBody b → after ≢ [] → s ≡ frame b ++ after → ⊥) → frames cs ++ rest ≡ frames bs ++ s
+    → cs ≡ bs
 one_bad_frame [] [] rest s are are' followed followed' not_whole not_whole' e = refl
 one_bad_frame [] (b ∷ bs) rest s are are' followed followed' not_whole not_whole' e =
     absurd (not_whole b (frames bs ++ s) are'.0 (not_nil (frames bs) s (followed' (λ none. absurd (cc none)))) (e ∙ append_assoc (frame b) (frames bs) s))
@@ -89,7 +93,8 @@ one_bad_frame (c ∷ cs) (b ∷ bs) rest s are are' followed followed' not_whole
     let others = one_bad_frame cs bs rest s are.1 are'.1 (λ more. some) (λ more. some') not_whole not_whole' (ap (λ (p : List ℕ × List ℕ). p.1) same) in
     (λ i. (same i).0 ∷ others i)
 
-one_stop_in_body : (second : Bool) (es ds : List Entry) (behind tail : List ℕ) → AreEntriesIn second es → AreEntriesIn second ds → NoEntry second behind → NoEntry second tail → body es ++ behind ≡ body ds ++ tail → es ≡ ds
+one_stop_in_body : (second : Bool) (es ds : List Entry) (behind tail : List ℕ) → AreEntriesIn second es → AreEntriesIn second ds → NoEntry second behind → NoEntry second tail
+    → body es ++ behind ≡ body ds ++ tail → es ≡ ds
 one_stop_in_body second [] [] behind tail are also bad other e = refl
 one_stop_in_body second [] (d ∷ ds) behind tail are also bad other e = absurd (bad.none d (body ds ++ tail) also.0 (e ∙ append_assoc (spelling d) (body ds) tail))
 one_stop_in_body second (x ∷ es) [] behind tail are also bad other e = absurd (other.none x (body es ++ behind) are.0 (sym e ∙ append_assoc (spelling x) (body es) behind))
@@ -98,7 +103,8 @@ one_stop_in_body second (x ∷ es) (d ∷ ds) behind tail are also bad other e =
     let others = one_stop_in_body second es ds behind tail are.1 also.1 bad other same.1 in
     (λ i. same.0 i ∷ others i)
 
-one_stop : (second : Bool) (ps qs : List (List Entry)) (es ds : List Entry) (behind tail : List ℕ) (others more : List (List ℕ)) → AreParts second ps → AreParts second qs → AreEntriesIn second es → AreEntriesIn second ds
+one_stop : (second : Bool) (ps qs : List (List Entry)) (es ds : List Entry) (behind tail : List ℕ) (others more : List (List ℕ)) → AreParts second ps → AreParts second qs → AreEntriesIn second es
+    → AreEntriesIn second ds
     → NoEntry second behind → NoEntry second tail → map body ps ++ (body es ++ behind) ∷ others ≡ map body qs ++ (body ds ++ tail) ∷ more → (ps ≡ qs) × (es ≡ ds)
 one_stop second [] [] es ds behind tail others more are also each each_also bad other e =
     let same : body es ++ behind ≡ body ds ++ tail = cc e in (refl, one_stop_in_body second es ds behind tail each each_also bad other same)

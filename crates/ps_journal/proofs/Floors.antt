@@ -2,7 +2,7 @@
 use Rattle.std.proofs.Common.{◌≡◌, inl, inr, ℕ, ◌+◌, ◌≤◌, List, [], ◌∷◌, ◌++◌, sym, ap, subst, ◌∙◌, arith}
 use Rattle.ps_disk.specs.Disk.{MayLeave}
 use Rattle.ps_disk.proofs.TornWrites.{only_synced}
-use Rattle.ps_model.specs.Store.{gate_at, Begun}
+use Rattle.ps_model.specs.store.Store.{gate_at, Begun}
 use Rattle.ps_journal.specs.Left.{LeavesAtLeast}
 use Rattle.ps_journal.specs.Opened.{HasLength}
 use Rattle.ps_journal.specs.Settled.{IsSettledAt, IsSettled, IsBeforeOrAfter}

@@ -1,10 +1,10 @@
 -- What a journal that isn't broken knows of its disk, beside a list that the bytes spell.
 use Rattle.std.proofs.Common.{Bool, ◌≡◌, ◌⊎◌, inl, inr, ⊎_elim, ℕ, ◌+◌, ◌≤◌, true, List, [], ◌∷◌, ◌++◌, length, take, map, sym, ap, subst, ◌∙◌, arith}
 use Rattle.ps_types.specs.declared.entry.Entry.{Entry}
-use Rattle.ps_model.specs.Entries.{body, AreEntries, AreEntriesIn}
+use Rattle.ps_model.specs.store.Entries.{body, AreEntries, AreEntriesIn}
 use Rattle.ps_disk.specs.Disk.{MayLeave}
 use Rattle.ps_disk.proofs.TornWrites.{only_synced}
-use Rattle.ps_model.specs.Store.{is_header, is_second, gate_at, Begun, Lists, AreParts, spelled}
+use Rattle.ps_model.specs.store.Store.{is_header, is_second, gate_at, Begun, Lists, AreParts, spelled}
 use Rattle.ps_journal.specs.Settled.{Stores, IsSettledAt, IsSettled, IsBeforeOrAfter}
 use Rattle.ps_journal.proofs.Bodies.{gate_at_push, one_list_of_frames}
 use Rattle.ps_journal.proofs.Lists.{lists_push, lists_same, all_in_second}

@@ -7,8 +7,8 @@ use Rattle.ps_types.specs.Address.{jid_text}
 use Rattle.ps_types.specs.Print.{print}
 use Rattle.ps_types.specs.declared.entry.Entry.{Entry}
 use Rattle.ps_types.specs.declared.entry.Entry.TheVariants.{Boot, Change, Handed, Gone, Base}
-use Rattle.ps_model.specs.Entries.{short, long, spelling, body, IsEntry, AreEntries, in_version, IsEntryIn, AreEntriesIn}
-use Rattle.ps_model.specs.Store.{is_second, IsBody, Begun, spelled, joined, AreParts}
+use Rattle.ps_model.specs.store.Entries.{short, long, spelling, body, IsEntry, AreEntries, in_version, IsEntryIn, AreEntriesIn}
+use Rattle.ps_model.specs.store.Store.{is_second, IsBody, Begun, spelled, joined, AreParts}
 use Rattle.ps_record.proofs.EntryLaws.{one_entry}
 use Rattle.ps_journal.proofs.Bodies.{one_list_of_frames}
 
@@ -96,7 +96,8 @@ are_parts_push second (f ∷ fs) es are is = (are.0, are_parts_push second fs es
 pub joined_push : (fs : List (List Entry)) (es : List Entry) → joined (fs ++ es ∷ []) ≡ joined fs ++ es
 joined_push fs es = flat_map-append (λ f. f) fs (es ∷ []) ∙ ap (λ (l : List Entry). joined fs ++ l) (append-nil es)
 
-pub lists_push : (c : List ℕ) (fs : List (List Entry)) (E es : List Entry) → AreParts (is_second c) fs → AreEntriesIn (is_second c) es → E ≡ joined fs → Begun c (map body fs ++ body es ∷ []) → spelled c (E ++ es)
+pub lists_push : (c : List ℕ) (fs : List (List Entry)) (E es : List Entry) → AreParts (is_second c) fs → AreEntriesIn (is_second c) es → E ≡ joined fs → Begun c (map body fs ++ body es ∷ [])
+    → spelled c (E ++ es)
 lists_push c fs E es are is whole begun = inl (record {
   parts = fs ++ es ∷ [];
   each = are_parts_push (is_second c) fs es are is;

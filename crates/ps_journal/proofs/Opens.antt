@@ -4,9 +4,9 @@ use Rattle.std.specs.List.{AllByRecursion}
 use Rattle.std.proofs.lemmas.List.{map-append}
 use Rattle.ps_disk.specs.Disk.{MayLeave}
 use Rattle.ps_types.specs.declared.entry.Entry.{Entry}
-use Rattle.ps_model.specs.Entries.{IsEntry, AreEntries, AreEntriesIn, spelling, body}
-use Rattle.ps_model.specs.Damage.{BadFrame, BadHeader, NoEntry}
-use Rattle.ps_model.specs.Store.{is_header, is_second, is_unbegun, gate_at, Begun, Lists, spelled, joined, AreBodies, AreParts}
+use Rattle.ps_model.specs.store.Entries.{IsEntry, AreEntries, AreEntriesIn, spelling, body}
+use Rattle.ps_model.specs.store.Damage.{BadFrame, BadHeader, NoEntry}
+use Rattle.ps_model.specs.store.Store.{is_header, is_second, is_unbegun, gate_at, Begun, Lists, spelled, joined, AreBodies, AreParts}
 use Rattle.ps_journal.specs.Settled.{IsSettledAt, IsSettled, IsUpgrading}
 use Rattle.ps_journal.specs.Judged.{IsDamaged, IsFound, IsStopped, StopsBefore, FramesRead, BadEntry, StoppedAt}
 use Rattle.ps_journal.specs.Opened.{ArePlaced, HasLength, IsWhyDamaged, IsWhyStopped}
@@ -41,10 +41,12 @@ module _ (bytes new : List ℕ) (placed : List Placed) (gate : ℕ) (found : IsF
   pub upgraded_spells : (synced : List ℕ) (written : List (ℕ × ℕ)) (len : ℕ) → IsSettledAt found.bodies new synced written len → spelled new (entries_in placed)
   upgraded_spells synced written len s =
       let all = found.all in
-      lists_same new all.parts (entries_in placed) (parts_upgraded (is_second bytes) (is_second new) all.parts (λ was. s.stores.second) all.each) (ap entries_in all.places ∙ entries_in_parts 8 all.parts)
+      lists_same new all.parts (entries_in placed) (parts_upgraded (is_second bytes) (is_second new) all.parts (λ was. s.stores.second) all.each)
+      (ap entries_in all.places ∙ entries_in_parts 8 all.parts)
       (subst (λ (bs : List (List ℕ)). Begun new bs) all.are s.stores.begun)
 
-  pub upgraded_settled : (synced : List ℕ) (written : List (ℕ × ℕ)) (len : ℕ) → IsSettledAt found.bodies new synced written len → len ≡ gate_at found.bodies + 1 → IsSettled new synced written (gate + 1)
+  pub upgraded_settled : (synced : List ℕ) (written : List (ℕ × ℕ)) (len : ℕ) → IsSettledAt found.bodies new synced written len → len ≡ gate_at found.bodies + 1
+      → IsSettled new synced written (gate + 1)
   upgraded_settled synced written len s is = ∣ (found.bodies, subst (λ (n : ℕ). IsSettledAt found.bodies new synced written n) (is ∙ ap (λ (n : ℕ). n + 1) (sym found.stands)) s) ∣₁
 
 pub lists_in : (bytes : List ℕ) (E : List Entry) → is_header (take 8 bytes) ≡ true → spelled bytes E → Lists bytes E
@@ -56,7 +58,8 @@ pub upgrading_spells : (bytes : List ℕ) (E : List Entry) (lists : Lists bytes 
 upgrading_spells bytes E lists c u = lists_same c lists.parts E (parts_upgraded (is_second bytes) (is_second c) lists.parts u.stays lists.each) lists.are u.begun
 
 -- frames that are right, with an entry that isn't spelled or taken
-pub stopped_there : (taken : List Placed → Type 0) (refused : List Placed → Placed → Type 0) (bytes : List ℕ) (placed : List Placed) (at gate : ℕ) → taken placed → FramesRead refused bytes placed (Some at) gate
+pub stopped_there : (taken : List Placed → Type 0) (refused : List Placed → Placed → Type 0) (bytes : List ℕ) (placed : List Placed) (at gate : ℕ) → taken placed
+    → FramesRead refused bytes placed (Some at) gate
     → StoppedAt taken refused bytes at placed
 stopped_there taken refused bytes placed at gate stands read =
     let s = read.judged in
@@ -80,7 +83,8 @@ stopped_there taken refused bytes placed at gate stands read =
     }
 
 -- the header is damaged, or a frame
-pub bad_stopped : (taken : List Placed → Type 0) (refused : List Placed → Placed → Type 0) (bytes : List ℕ) (at : ℕ) (before : List Placed) → before ≡ [] → BadHeader bytes at ⊎ BadFrame bytes at → IsStopped taken refused bytes at before
+pub bad_stopped : (taken : List Placed → Type 0) (refused : List Placed → Placed → Type 0) (bytes : List ℕ) (at : ℕ) (before : List Placed) → before ≡ [] → BadHeader bytes at ⊎ BadFrame bytes at
+    → IsStopped taken refused bytes at before
 bad_stopped taken refused bytes at before none (inl header) = inl (header, none)
 bad_stopped taken refused bytes at before none (inr frame) = inr (inl (frame, none))
 
@@ -165,7 +169,8 @@ in_parts : (second : Bool) (fs : List (List Entry)) → AreParts second fs → A
 in_parts second [] each = tt
 in_parts second (f ∷ fs) each = all_append IsEntry f (joined fs) (in_body second f each.0) (in_parts second fs each.1)
 
-pub stopped_before : (taken : List Placed → Type 0) (refused : List Placed → Placed → Type 0) (bytes : List ℕ) (at : ℕ) (before : List Placed) → IsStopped taken refused bytes at before → AreEntries (entries_in before)
+pub stopped_before : (taken : List Placed → Type 0) (refused : List Placed → Placed → Type 0) (bytes : List ℕ) (at : ℕ) (before : List Placed) → IsStopped taken refused bytes at before
+    → AreEntries (entries_in before)
 stopped_before taken refused bytes at before (inl header) = subst (λ (placed : List Placed). AreEntries (entries_in placed)) (sym header.1) tt
 stopped_before taken refused bytes at before (inr (inl frame)) = subst (λ (placed : List Placed). AreEntries (entries_in placed)) (sym frame.1) tt
 stopped_before taken refused bytes at before (inr (inr bad)) =

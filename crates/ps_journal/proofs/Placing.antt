@@ -6,9 +6,9 @@ use Rattle.std.specs.List.{AllByRecursion}
 use Rattle.std.proofs.lemmas.List.{map-append}
 use Rattle.std.proofs.lemmas.List.Concat.{flat_map-append}
 use Rattle.ps_types.specs.declared.entry.Entry.{Entry}
-use Rattle.ps_model.specs.Damage.{ReadUpTo}
-use Rattle.ps_model.specs.Entries.{spelling, body, IsEntryIn, AreEntriesIn}
-use Rattle.ps_model.specs.Store.{is_second, frame, frames, gate_at, Begun, joined, AreParts}
+use Rattle.ps_model.specs.store.Damage.{ReadUpTo}
+use Rattle.ps_model.specs.store.Entries.{spelling, body, IsEntryIn, AreEntriesIn}
+use Rattle.ps_model.specs.store.Store.{is_second, frame, frames, gate_at, Begun, joined, AreParts}
 use Rattle.ps_journal.specs.Judged.{BadEntry, IsFound}
 use Rattle.ps_journal.specs.Places.{places_in, places, entries_in}
 use Rattle.ps_journal.specs.declared.judging.Placed.{Placed}
@@ -146,7 +146,8 @@ module _ (bytes : List ℕ) (parts : List (List Entry)) (each : AreParts (is_sec
       }
 
   in_last : (entries : List Entry) (behind : List ℕ) (others : List (List ℕ)) → AreEntriesIn (is_second bytes) entries → Begun bytes (map body parts ++ (body entries ++ behind) ∷ others)
-      → (k : ℕ) (p : Placed) → slice_get (places_in (gate_at (map body parts) + 5) entries) k ≡ Some p → IsReadAt bytes (joined parts ++ entries_in (take k (places_in (gate_at (map body parts) + 5) entries))) p
+      → (k : ℕ) (p : Placed) → slice_get (places_in (gate_at (map body parts) + 5) entries) k ≡ Some p
+      → IsReadAt bytes (joined parts ++ entries_in (take k (places_in (gate_at (map body parts) + 5) entries))) p
   in_last entries behind others each_entry begun k p h =
       let s = in_body (gate_at (map body parts) + 5) entries k p h in
       let among = subst (AreEntriesIn (is_second bytes)) s.are each_entry in
@@ -188,7 +189,8 @@ pub found_read : (bytes : List ℕ) (placed : List Placed) (gate : ℕ) → IsFo
 found_read bytes placed gate found k p h =
     let all = found.all in
     let begun : Begun bytes (map body all.parts ++ []) = subst (Begun bytes) (all.are ∙ sym (append-nil (map body all.parts))) found.begun in
-    subst (λ (l : List Placed). IsReadAt bytes (entries_in (take k l)) p) (sym all.places) (in_parts bytes all.parts all.each [] begun k p (subst (λ (l : List Placed). slice_get l k ≡ Some p) all.places h))
+    subst (λ (l : List Placed). IsReadAt bytes (entries_in (take k l)) p) (sym all.places)
+    (in_parts bytes all.parts all.each [] begun k p (subst (λ (l : List Placed). slice_get l k ≡ Some p) all.places h))
 
 -- of a store that is spelled up to some entry
 pub before_read : (bytes : List ℕ) (at : ℕ) (before : List Placed) → BadEntry bytes at before → (k : ℕ) (p : Placed) → slice_get before k ≡ Some p → IsReadAt bytes (entries_in (take k before)) p

@@ -6,7 +6,7 @@ use Rattle.std.proofs.lemmas.List.{take_at, drop_at, take-append-drop, take-take
 use Rattle.std.proofs.lemmas.Slice.Eq.{bytes_eq-Decides}
 use Rattle.ps_disk.specs.Disk.{MayLeave, TornAt, Holds}
 use Rattle.ps_disk.proofs.TornWrites.{torn_write}
-use Rattle.ps_model.specs.Store.{magic, is_header, is_second, frames, gate_at, Begun}
+use Rattle.ps_model.specs.store.Store.{magic, is_header, is_second, frames, gate_at, Begun}
 use Rattle.ps_journal.specs.Settled.{Stores, IsUpgrading}
 use Rattle.ps_journal.proofs.Bodies.{header_size, header_magic, behind_header, begun_from}
 

@@ -1,15 +1,52 @@
 -- Going through the frames of a store.
-use Rattle.std.proofs.Common.{◌≡◌, ◌≢◌, ℕ, zero, suc, ◌+◌, ◌-◌, ◌<◌, ◌≤◌, ◌^◌, Bool, true, false, cond, eqb, List, [], ◌∷◌, ◌++◌, length, take, drop, map, Option, Some, None, refl, sym, ap, subst, ◌∙◌, append_assoc, arith, length-append, length-take, length-drop}
+use Rattle.std.proofs.Common.{
+  ◌≡◌,
+  ◌≢◌,
+  ℕ,
+  zero,
+  suc,
+  ◌+◌,
+  ◌-◌,
+  ◌<◌,
+  ◌≤◌,
+  ◌^◌,
+  Bool,
+  true,
+  false,
+  cond,
+  eqb,
+  List,
+  [],
+  ◌∷◌,
+  ◌++◌,
+  length,
+  take,
+  drop,
+  map,
+  Option,
+  Some,
+  None,
+  refl,
+  sym,
+  ap,
+  subst,
+  ◌∙◌,
+  append_assoc,
+  arith,
+  length-append,
+  length-take,
+  length-drop,
+}
 use Rattle.std.specs.Prelude.{nat_le, ◌||◌}
 use Rattle.std.specs.Int.{w32, to_be_bytes}
 use Rattle.std.proofs.lemmas.Bool.Decides.{nat_tests}
 use Rattle.std.proofs.lemmas.List.{append-nil, map_push, take_at, drop_at, take-append-drop}
 use Rattle.ps_types.specs.declared.entry.Entry.{Entry}
-use Rattle.ps_model.specs.Entries.{body}
+use Rattle.ps_model.specs.store.Entries.{body}
 use Rattle.ps_record.specs.Raw.{◌>>=◌, number_at}
 use Rattle.ps_record.proofs.Pieces.{IsBytes, IsBytes-drop, IsBytes-rest, bind_some, wide32, number_takes, number_again}
-use Rattle.ps_model.specs.Store.{is_header, is_second, frame, frames, IsBody, AreBodies, IsShut, gate_at}
-use Rattle.ps_model.specs.Damage.{BadFrame}
+use Rattle.ps_model.specs.store.Store.{is_header, is_second, frame, frames, IsBody, AreBodies, IsShut, gate_at}
+use Rattle.ps_model.specs.store.Damage.{BadFrame}
 use Rattle.ps_journal.specs.Judged.{whole_at, shut, bad, whole, stride_of, stride_at, Walked, AllRead, Stopped, Judged, FramesRead}
 use Rattle.ps_journal.specs.Places.{places_in, places}
 use Rattle.ps_journal.specs.declared.judging.Placed.{Placed}
@@ -121,7 +158,8 @@ places_push at (x ∷ fs) f =
     ap (λ (l : List Placed). places_in (at + 5) x ++ l) (places_push (at + (5 + length (body x))) fs f ∙ ap (λ (n : ℕ). places (at + (5 + length (body x))) fs ++ places_in n f) next)
     ∙ sym (append_assoc (places_in (at + 5) x) (places (at + (5 + length (body x))) fs) (places_in (at + length (frames (map body (x ∷ fs))) + 5) f))
 
-pub still_stopped : (refused : List Placed → Placed → Type 0) (second : Bool) (bs : List (List ℕ)) (b : List ℕ) (found : List Placed) (stop : ℕ) → Stopped refused second bs found stop → Stopped refused second (bs ++ b ∷ []) found stop
+pub still_stopped : (refused : List Placed → Placed → Type 0) (second : Bool) (bs : List (List ℕ)) (b : List ℕ) (found : List Placed) (stop : ℕ) → Stopped refused second bs found stop
+    → Stopped refused second (bs ++ b ∷ []) found stop
 still_stopped refused second bs b found stop s = record {
   parts = s.parts;
   entries = s.entries;
@@ -178,7 +216,8 @@ at_start refused bytes = record {
   judged = record { parts = []; each = tt; are = refl; places = refl };
 }
 
-module _ (refused : List Placed → Placed → Type 0) (bytes : List ℕ) (found : List Placed) (stop : Option ℕ) (rest : List ℕ) (header : is_header (take 8 bytes) ≡ true) (s : FramesSoFar refused bytes found stop rest) where
+module _ (refused : List Placed → Placed → Type 0) (bytes : List ℕ) (found : List Placed) (stop : Option ℕ) (rest : List ℕ) (header : is_header (take 8 bytes) ≡ true)
+    (s : FramesSoFar refused bytes found stop rest) where
   pub stands : length bytes - length rest ≡ gate_at s.bodies
   stands = omega (arith, ap length s.split, length-append (take 8 bytes ++ frames s.bodies) rest, length-append (take 8 bytes) (frames s.bodies), header_size bytes header)
 
@@ -211,14 +250,16 @@ module _ (refused : List Placed → Placed → Type 0) (bytes : List ℕ) (found
   there b after fits e =
       let frame_there = at_frame rest b after e in
       let rest_is : drop (gate_at s.bodies) bytes ≡ rest =
-      ap (λ (l : List ℕ). drop (gate_at s.bodies) l) s.split ∙ drop_at (take 8 bytes ++ frames s.bodies) rest (gate_at s.bodies) (omega (arith, length-append (take 8 bytes) (frames s.bodies), header_size bytes header)) in
+      ap (λ (l : List ℕ). drop (gate_at s.bodies) l) s.split ∙ drop_at (take 8 bytes ++ frames s.bodies) rest (gate_at s.bodies)
+      (omega (arith, length-append (take 8 bytes) (frames s.bodies), header_size bytes header)) in
       let tail_fits : IsBytes frame_there.tail = IsBytes-rest 1 frame_there.tail (subst IsBytes (rest_is ∙ frame_there.is) (IsBytes-drop (gate_at s.bodies) bytes fits)) in
       whole_takes frame_there.tail (b, after) tail_fits frame_there.found
 
   pub frame_fits : (b after : List ℕ) → IsBytes bytes → stride_at rest ≡ whole b after → length b < 2 ^ 32
   frame_fits b after fits e = (there b after fits e).is.fits
 
-  pub one_more : (b after : List ℕ) (newer : List Placed) (next : Option ℕ) → IsBytes bytes → stride_at rest ≡ whole b after → Judged refused (is_second bytes) (s.bodies ++ b ∷ []) newer next → FramesSoFar refused bytes newer next after
+  pub one_more : (b after : List ℕ) (newer : List Placed) (next : Option ℕ) → IsBytes bytes → stride_at rest ≡ whole b after → Judged refused (is_second bytes) (s.bodies ++ b ∷ []) newer next
+      → FramesSoFar refused bytes newer next after
   one_more b after newer next fits stands_there judged =
       let is : rest ≡ 1 ∷ (at_frame rest b after stands_there).tail = (at_frame rest b after stands_there).is in
       let w = there b after fits stands_there in

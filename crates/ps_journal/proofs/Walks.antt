@@ -2,7 +2,7 @@
 use Rattle.std.proofs.Common.{Bool, true, false, ◌≡◌, inl, inr, ℕ, ◌+◌, ◌<◌, ◌≤◌, List, [], ◌∷◌, ◌++◌, length, drop, refl, sym, ap, ◌∙◌, append_assoc, arith, length-append, length-drop}
 use Rattle.std.proofs.lemmas.List.{append-nil, drop_at, drop_all}
 use Rattle.ps_types.specs.declared.entry.Entry.{Entry}
-use Rattle.ps_model.specs.Entries.{spelling, body, IsEntry, in_version, IsEntryIn, AreEntriesIn, StandsAt}
+use Rattle.ps_model.specs.store.Entries.{spelling, body, IsEntry, in_version, IsEntryIn, AreEntriesIn, StandsAt}
 use Rattle.ps_record.proofs.Batches.{body_push}
 use Rattle.ps_record.proofs.EntryLaws.{one_entry}
 use Rattle.ps_journal.specs.Judged.{BodyRead, BodyStopped}
@@ -39,9 +39,11 @@ places_push : (at : ℕ) (es : List Entry) (e : Entry) → places_in at (es ++ e
 places_push at [] e = let same : at + 0 ≡ at = omega arith in ap (λ (n : ℕ). record { at = n; entry = e } ∷ []) (sym same)
 places_push at (x ∷ es) e =
     let next : at + length (spelling x) + length (body es) ≡ at + length (body (x ∷ es)) = omega (arith, length-append (spelling x) (body es)) in
-    ap (λ (l : List Placed). record { at = at; entry = x } ∷ l) (places_push (at + length (spelling x)) es e ∙ ap (λ (n : ℕ). places_in (at + length (spelling x)) es ++ record { at = n; entry = e } ∷ []) next)
+    ap (λ (l : List Placed). record { at = at; entry = x } ∷ l) (places_push (at + length (spelling x)) es e ∙ ap
+    (λ (n : ℕ). places_in (at + length (spelling x)) es ++ record { at = n; entry = e } ∷ []) next)
 
-pub one_further : (second : Bool) (at : ℕ) (bytes : List ℕ) (old new newer : List Placed) (from next : ℕ) (e : Entry) → SoFar second at bytes old new from → IsEntryIn second e → StandsAt bytes from e → next ≡ from + length (spelling e)
+pub one_further : (second : Bool) (at : ℕ) (bytes : List ℕ) (old new newer : List Placed) (from next : ℕ) (e : Entry) → SoFar second at bytes old new from → IsEntryIn second e → StandsAt bytes from e
+    → next ≡ from + length (spelling e)
     → newer ≡ new ++ record { at = at + from; entry = e } ∷ [] → SoFar second at bytes old newer next
 one_further second at bytes old new newer from next e s is stands goes pushed =
     let es = s.entries in

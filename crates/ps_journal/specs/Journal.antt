@@ -4,8 +4,8 @@ use Rattle.ps_base.specs.Causes.{Rose}
 use Rattle.ps_disk.specs.Disk.{MayLeave, LeavesOnly}
 use Rattle.ps_disk.specs.declared.device.Disk.{Ghosts}
 use Rattle.ps_types.specs.declared.entry.Entry.{Entry}
-use Rattle.ps_model.specs.Entries.{body}
-use Rattle.ps_model.specs.Store.{Begun, gate_at, spelled}
+use Rattle.ps_model.specs.store.Entries.{body}
+use Rattle.ps_model.specs.store.Store.{Begun, gate_at, spelled}
 use Rattle.ps_journal.specs.Left.{LeavesAtLeast, LeavesList, IsFrontOfLeft, IsLongWithOrWithout}
 use Rattle.ps_journal.specs.Opened.{IsBegunAnew}
 use Rattle.ps_journal.specs.declared.judging.Placed.{Placed}

@@ -2,9 +2,9 @@
 use Rattle.std.specs.Prelude.{◌≡◌, ◌⊎◌, ℕ, zero, suc, ◌+◌, Bool, true, false, ◌||◌, List, [], ◌∷◌, ◌++◌, length, take, drop, map, Option, Some, None, nat_le, ◌==◌, if◌then◌else◌}
 use Rattle.std.specs.Int.{w32}
 use Rattle.ps_types.specs.declared.entry.Entry.{Entry}
-use Rattle.ps_model.specs.Entries.{body, spelling, AreEntriesIn, IsEntryIn}
-use Rattle.ps_model.specs.Store.{is_header, is_second, is_unbegun, gate_at, Begun, AreParts}
-use Rattle.ps_model.specs.Damage.{BadHeader, BadFrame, NoEntry, ReadUpTo}
+use Rattle.ps_model.specs.store.Entries.{body, spelling, AreEntriesIn, IsEntryIn}
+use Rattle.ps_model.specs.store.Store.{is_header, is_second, is_unbegun, gate_at, Begun, AreParts}
+use Rattle.ps_model.specs.store.Damage.{BadHeader, BadFrame, NoEntry, ReadUpTo}
 use Rattle.ps_record.specs.Raw.{◌>>=◌, number_at}
 use Rattle.ps_journal.specs.Places.{places_in, places, entries_in}
 use Rattle.ps_journal.specs.declared.judging.Placed.{Placed}

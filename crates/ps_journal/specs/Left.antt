@@ -2,8 +2,8 @@
 use Rattle.std.specs.Prelude.{◌⊎◌, ◌+◌, ◌≤◌, ℕ, List, ◌++◌, length}
 use Rattle.ps_types.specs.declared.entry.Entry.{Entry}
 use Rattle.ps_disk.specs.Disk.{MayLeave}
-use Rattle.ps_model.specs.Entries.{body}
-use Rattle.ps_model.specs.Store.{spelled}
+use Rattle.ps_model.specs.store.Entries.{body}
+use Rattle.ps_model.specs.store.Store.{spelled}
 use Rattle.ps_journal.specs.Opened.{HasLength}
 
 -- a crash leaves the entries before, or those and all of the new ones

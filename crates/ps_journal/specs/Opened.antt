@@ -3,8 +3,8 @@ use Rattle.std.specs.Prelude.{◌≡◌, ◌⊎◌, ◌+◌, ◌<◌, ◌≤◌,
 use Rattle.std.specs.List.{AllByRecursion}
 use Rattle.ps_disk.specs.Disk.{Holds, MayLeave}
 use Rattle.ps_types.specs.declared.entry.Entry.{Entry}
-use Rattle.ps_model.specs.Entries.{IsEntry, spelling}
-use Rattle.ps_model.specs.Store.{is_header, is_unbegun, gate_at, Begun, spelled}
+use Rattle.ps_model.specs.store.Entries.{IsEntry, spelling}
+use Rattle.ps_model.specs.store.Store.{is_header, is_unbegun, gate_at, Begun, spelled}
 use Rattle.ps_journal.specs.Beginning.{beginning}
 use Rattle.ps_journal.specs.Judged.{IsDamaged, IsFound, IsStopped}
 use Rattle.ps_journal.specs.Places.{entries_in}

@@ -1,7 +1,7 @@
 -- Entries with their offsets.
 use Rattle.std.specs.Prelude.{ℕ, ◌+◌, List, [], ◌∷◌, ◌++◌, length, map}
 use Rattle.ps_types.specs.declared.entry.Entry.{Entry}
-use Rattle.ps_model.specs.Entries.{spelling, body}
+use Rattle.ps_model.specs.store.Entries.{spelling, body}
 use Rattle.ps_journal.specs.declared.judging.Placed.{Placed}
 
 -- entries back to back, from the offset on

@@ -2,7 +2,7 @@
 use Rattle.std.specs.Prelude.{◌≡◌, ◌⊎◌, ℕ, ◌+◌, true, List, [], ◌∷◌, ◌++◌, length}
 use Rattle.std.specs.Int.{w32, to_be_bytes}
 use Rattle.ps_disk.specs.Disk.{MayLeave}
-use Rattle.ps_model.specs.Store.{is_second, gate_at, Begun}
+use Rattle.ps_model.specs.store.Store.{is_second, gate_at, Begun}
 
 -- what is written behind a closed gate: the rest of a frame, and the next closed gate
 abbrev pub behind_gate : List ℕ → List ℕ

@@ -2,7 +2,7 @@
 ghost use Rattle.std.specs.Prelude.{◌≡◌, ◌⊎◌, ◌∷◌, ◌++◌, ◌≤◌, [], List, ℕ, true, length, drop, OnOk};
 ghost use Rattle.ps_base.specs.Causes.{HasCause};
 ghost use Rattle.ps_disk.specs.Disk.{Holds, LeavesOnly, MayLeave};
-ghost use Rattle.ps_model.specs.Store.{is_unbegun, spelled};
+ghost use Rattle.ps_model.specs.store.Store.{is_unbegun, spelled};
 ghost use Rattle.ps_journal.specs.Beginning.{beginning, BeginsWithZero};
 ghost use Rattle.ps_journal.specs.Settled.{IsSettledAt, IsQuiet};
 

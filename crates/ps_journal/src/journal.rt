@@ -55,10 +55,10 @@ impl<D: Disk> Journal<D> {
     ghost use Rattle.ps_base.specs.Causes.{Rose};
     ghost use Rattle.ps_types.specs.declared.entry.Entry.{Entry};
     ghost use Rattle.ps_disk.specs.Disk.{LeavesOnly};
-    ghost use Rattle.ps_model.specs.Store.{is_second, spelled};
+    ghost use Rattle.ps_model.specs.store.Store.{is_second, spelled};
     ghost use Rattle.ps_journal.specs.Places.{entries_in};
     ghost use Rattle.ps_journal.specs.Opened.{IsOpened, ArePlaced, HasLength, HasHeader, HasNoHeader, Upgrades, IfWhyDamaged};
-    ghost use Rattle.ps_model.specs.Entries.{AreEntries};
+    ghost use Rattle.ps_model.specs.store.Entries.{AreEntries};
     ghost use Rattle.ps_journal.specs.Opened.{IsWhyDamaged, IsWhyStopped, StaysIfDamaged, IsShortIfUnbegun, LeftOrHas};
     ghost use Rattle.ps_journal.specs.Journal.{disk_of, length_of, broken_of, seen_in, synced_in, written_in, faults_in};
     ghost use Rattle.ps_journal.specs.Journal.{IsBroken, IsWhole, Has, StaysBroken, IsUntouched, HasFault, KeepsFirstFault};

@@ -1,7 +1,7 @@
 // Judging the bytes of a store.
 ghost use Rattle.std.specs.Prelude.{◌≡◌, ◌≢◌, ◌++◌, ◌∷◌, ◌+◌, ◌<◌, ◌≤◌, ◌^◌, [], List, ℕ, true, length, take, map, option_map, IfOk, IfErr, IsTrue, OnOk};
-ghost use Rattle.ps_model.specs.Entries.{in_version};
-ghost use Rattle.ps_model.specs.Store.{is_header, is_second, gate_at};
+ghost use Rattle.ps_model.specs.store.Entries.{in_version};
+ghost use Rattle.ps_model.specs.store.Store.{is_header, is_second, gate_at};
 ghost use Rattle.ps_journal.specs.Judged.{Walked, Judged, Follows, FramesRead, IsBadAt, IsJudgement, IsVerdict, Stands};
 ghost use Rattle.ps_journal.specs.declared.judging.Placed.{Placed};
 
@@ -109,19 +109,19 @@ const MAGIC: [u8; 7] = *b"PUBSUBJ";
 /// Whether bytes with a header are of version 2.
 pub(crate) fn is_second(bytes: &[u8]) -> bool
     requires { 8 ≤ length bytes.now }
-    ensures { result ≡ Rattle.ps_model.specs.Store.is_second bytes.now }
+    ensures { result ≡ Rattle.ps_model.specs.store.Store.is_second bytes.now }
 {
     bytes[7] == b'2'
 }
 
 fn is_headless(rest: &[u8]) -> bool
-    ensures { result ≡ Rattle.ps_model.specs.Store.is_headless rest.now }
+    ensures { result ≡ Rattle.ps_model.specs.store.Store.is_headless rest.now }
 {
     rest.len() == 8 && &rest[..6] == b"UBSUBJ".as_slice() && &rest[7..] == [0].as_slice()
 }
 
 fn is_unbegun(bytes: &[u8]) -> bool
-    ensures { result ≡ Rattle.ps_model.specs.Store.is_unbegun bytes.now }
+    ensures { result ≡ Rattle.ps_model.specs.store.Store.is_unbegun bytes.now }
 {
     match bytes {
         [] => true,

@@ -2,7 +2,7 @@
 ghost use Rattle.std.specs.Prelude.{◌≡◌, [], List, ℕ, true};
 ghost use Rattle.ps_types.specs.declared.entry.Entry.{Entry};
 ghost use Rattle.ps_journal.specs.declared.judging.Placed.{Placed};
-ghost use Rattle.ps_model.specs.Store.{is_unbegun, spelled};
+ghost use Rattle.ps_model.specs.store.Store.{is_unbegun, spelled};
 ghost use Rattle.ps_journal.specs.Judged.{IsDamaged};
 
 /// Bytes spell at most one list.

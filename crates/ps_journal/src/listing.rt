@@ -1,7 +1,7 @@
 // The entries of the bytes of a store.
 ghost use Rattle.std.specs.Prelude.{◌≡◌, List, ℕ, IfOk};
 ghost use Rattle.ps_types.specs.declared.entry.Entry.{Entry};
-ghost use Rattle.ps_model.specs.Store.{spelled};
+ghost use Rattle.ps_model.specs.store.Store.{spelled};
 ghost use Rattle.ps_journal.specs.Opened.{BeforeDamage};
 ghost use Rattle.ps_journal.specs.Places.{entries_in};
 

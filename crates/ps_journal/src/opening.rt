@@ -3,8 +3,8 @@ ghost use Rattle.std.specs.Prelude.{◌≡◌, ◌⊎◌, ◌∷◌, ◌≤◌, 
 ghost use Rattle.ps_types.specs.declared.entry.Entry.{Entry};
 ghost use Rattle.ps_base.specs.Causes.{Rose};
 ghost use Rattle.ps_disk.specs.Disk.{Holds, LeavesOnly, MayLeave};
-ghost use Rattle.ps_model.specs.Entries.{AreEntries};
-ghost use Rattle.ps_model.specs.Store.{is_header, is_second, is_unbegun, spelled};
+ghost use Rattle.ps_model.specs.store.Entries.{AreEntries};
+ghost use Rattle.ps_model.specs.store.Store.{is_header, is_second, is_unbegun, spelled};
 ghost use Rattle.ps_journal.specs.Places.{entries_in};
 ghost use Rattle.ps_journal.specs.Settled.{IsSettled, IsQuiet};
 ghost use Rattle.ps_journal.specs.Opened.{IfOpened, IfDamaged, IfWhyDamaged, IsStoreFault, IsOpened, IsWhyDamaged, IsWhyStopped, IsBegunAnew, ArePlaced, HasLength};

@@ -1,6 +1,6 @@
 // What is given the entries of a store as they are read.
 ghost use Rattle.std.specs.Prelude.{◌≡◌, ◌<◌, ◌^◌, ◌∷◌, ◌++◌, [], List, length, Ok, true, false};
-ghost use Rattle.ps_model.specs.Entries.{IsEntry, spelling};
+ghost use Rattle.ps_model.specs.store.Entries.{IsEntry, spelling};
 ghost use Rattle.ps_types.specs.declared.entry.Entry.{Entry};
 ghost use Rattle.ps_journal.specs.declared.judging.Placed.{Placed};
 

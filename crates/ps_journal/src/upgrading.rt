@@ -2,7 +2,7 @@
 ghost use Rattle.std.specs.Prelude.{◌≡◌, ◌∷◌, ◌+◌, [], List, ℕ, true, take, OnOk};
 ghost use Rattle.ps_base.specs.Causes.{HasCause};
 ghost use Rattle.ps_disk.specs.Disk.{Holds, LeavesOnly};
-ghost use Rattle.ps_model.specs.Store.{is_header, gate_at, Begun};
+ghost use Rattle.ps_model.specs.store.Store.{is_header, gate_at, Begun};
 ghost use Rattle.ps_journal.specs.Settled.{IsSettledAt, IsQuiet, IsUpgrading};
 
 use crate::judging::is_second;

@@ -2,7 +2,7 @@
 ghost use Rattle.std.specs.Prelude.{◌≡◌, ◌++◌, ◌∷◌, ◌+◌, ◌<◌, ◌≤◌, [], List, ℕ, length, OnOk, OnErr};
 ghost use Rattle.ps_base.specs.Causes.{HasCause};
 ghost use Rattle.ps_disk.specs.Disk.{LeavesOnly};
-ghost use Rattle.ps_model.specs.Store.{IsBody};
+ghost use Rattle.ps_model.specs.store.Store.{IsBody};
 ghost use Rattle.ps_journal.specs.Settled.{IsSettledAt, IsBeforeOrAfter, MayStillLeave, behind_gate};
 
 use ps_base::Failed;

@@ -2,7 +2,7 @@
 ghost use Rattle.std.specs.Prelude.{◌≡◌, [], ◌∷◌, IfOk};
 ghost use Rattle.ps_types.specs.Elem.{nodes};
 ghost use Rattle.ps_types.specs.Print.{print};
-ghost use Rattle.ps_model.specs.NoticeTrees.{payload_nodes};
+ghost use Rattle.ps_model.specs.notices.NoticeTrees.{payload_nodes};
 ghost use Rattle.ps_mirror.specs.Mirrored.{item_tree};
 
 use crate::copied::Copied;

@@ -29,12 +29,12 @@ use Rattle.ps_types.specs.Print.{print}
 use Rattle.ps_types.specs.Tree.{Tree}
 use Rattle.ps_types.proofs.Lines.{lines_of_written}
 use Rattle.ps_types.proofs.Lowered.{spelled-is}
-use Rattle.ps_model.specs.BaseAfter.{is_notice_line, is_notice_tree}
+use Rattle.ps_model.specs.store.BaseAfter.{is_notice_line, is_notice_tree}
 use Rattle.ps_model.specs.Book.{Book, empty_state}
-use Rattle.ps_model.specs.Due.{may_read}
-use Rattle.ps_model.specs.Entries.{AreEntries, IsWritten}
+use Rattle.ps_model.specs.notices.Due.{may_read}
+use Rattle.ps_model.specs.store.Entries.{AreEntries, IsWritten}
 use Rattle.ps_model.specs.Replay.{lawful, notices, replay}
-use Rattle.ps_model.specs.Stanza.{jid_of}
+use Rattle.ps_model.specs.requests.Stanza.{jid_of}
 use Rattle.ps_model.proofs.LineLaws.{jid-spells}
 use Rattle.ps_model.proofs.OneLine.{print-line}
 use Rattle.ps_book_laws.proofs.Keys.{each-filter}

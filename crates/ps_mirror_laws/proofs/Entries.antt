@@ -27,13 +27,13 @@ use Rattle.ps_types.proofs.PrintLaws.{print_reads}
 use Rattle.ps_types.proofs.Same.{same_jid-Decides}
 use Rattle.ps_model.specs.After as step
 use Rattle.ps_model.specs.Book.{Book, State}
-use Rattle.ps_model.specs.Entries.{IsEntry}
-use Rattle.ps_model.specs.Given.{asked, given}
-use Rattle.ps_model.specs.NoticeTrees.{with_id}
-use Rattle.ps_model.specs.Numbered.{numbered, tallied}
+use Rattle.ps_model.specs.store.Entries.{IsEntry}
+use Rattle.ps_model.specs.notices.Given.{asked, given}
+use Rattle.ps_model.specs.notices.NoticeTrees.{with_id}
+use Rattle.ps_model.specs.notices.Numbered.{numbered, tallied}
 use Rattle.ps_model.specs.Replay.{accepted}
 use Rattle.ps_model.specs.Sorted.{sorted}
-use Rattle.ps_model.specs.Stanza.{is_message}
+use Rattle.ps_model.specs.requests.Stanza.{is_message}
 use Rattle.ps_model.specs.Tallies.{made_for, more_made}
 use Rattle.ps_model.proofs.Asked.{is-among-asked}
 use Rattle.ps_model.proofs.LineLaws.{reads-line}

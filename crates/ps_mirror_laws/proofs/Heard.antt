@@ -22,9 +22,9 @@ use Rattle.ps_types.proofs.AddressLaws.{spells-one, text-spells}
 use Rattle.ps_types.proofs.Same.{same_key_parts, same_node-Decides}
 use Rattle.ps_model.specs.Access.{read_at}
 use Rattle.ps_model.specs.Book.{Book}
-use Rattle.ps_model.specs.Due.{About, about_node, always, delivers, is_granted, items_inside, may_pass, may_read, node_message, node_notice, one_way, told_about}
-use Rattle.ps_model.specs.NoticeTrees.{event_nodes, kind_attr, message, named_tree, payload_nodes, retract_tree, with_id}
-use Rattle.ps_model.specs.Ways.{way_to}
+use Rattle.ps_model.specs.notices.Due.{About, about_node, always, delivers, is_granted, items_inside, may_pass, may_read, node_message, node_notice, one_way, told_about}
+use Rattle.ps_model.specs.notices.NoticeTrees.{event_nodes, kind_attr, message, named_tree, payload_nodes, retract_tree, with_id}
+use Rattle.ps_model.specs.notices.Ways.{way_to}
 use Rattle.std.specs.List.{AllByRecursion as Each}
 use Rattle.ps_mirror.specs.Copy.{event_said, first_said, payload_in, published_in, said_of}
 use Rattle.ps_mirror.specs.declared.said.Said.{Said}

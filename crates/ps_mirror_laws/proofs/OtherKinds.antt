@@ -25,16 +25,16 @@ use Rattle.ps_types.specs.Same.{same_node}
 use Rattle.ps_types.specs.Subs.{is_pending, is_subscribed, sub_at, subs_with}
 use Rattle.ps_types.specs.Tree.{Tree}
 use Rattle.ps_model.specs.Book.{Book}
-use Rattle.ps_model.specs.ChangeEntity.{subscribed_by}
-use Rattle.ps_model.specs.ChangeNodes.{created, created_by}
-use Rattle.ps_model.specs.ChangeOwner.{configured, configured_by, items_under}
-use Rattle.ps_model.specs.ChangePublish.{item_row, published, published_by, published_new, retract_change}
-use Rattle.ps_model.specs.ChangeRouter.{answer_by, is_usable, roster_by, usable_answer}
-use Rattle.ps_model.specs.CheckForms.{config_given}
-use Rattle.ps_model.specs.CheckOptions.{options_config}
-use Rattle.ps_model.specs.EventNodes.{associated, retract_events}
-use Rattle.ps_model.specs.EventPresence.{is_newly_wanted, question_events, wanted_events}
-use Rattle.ps_model.specs.EventSubs.{is_same, last_event, owners, row_asked, rows_events, subscribe_events, told_events}
+use Rattle.ps_model.specs.requests.ChangeEntity.{subscribed_by}
+use Rattle.ps_model.specs.requests.ChangeNodes.{created, created_by}
+use Rattle.ps_model.specs.requests.ChangeOwner.{configured, configured_by, items_under}
+use Rattle.ps_model.specs.requests.ChangePublish.{item_row, published, published_by, published_new, retract_change}
+use Rattle.ps_model.specs.requests.ChangeRouter.{answer_by, is_usable, roster_by, usable_answer}
+use Rattle.ps_model.specs.requests.CheckForms.{config_given}
+use Rattle.ps_model.specs.requests.CheckOptions.{options_config}
+use Rattle.ps_model.specs.notices.EventNodes.{associated, retract_events}
+use Rattle.ps_model.specs.notices.EventPresence.{is_newly_wanted, question_events, wanted_events}
+use Rattle.ps_model.specs.notices.EventSubs.{is_same, last_event, owners, row_asked, rows_events, subscribe_events, told_events}
 use Rattle.ps_model.specs.ItemIds.{item_id}
 use Rattle.ps_model.specs.Words.{RosterAsk, set, remove}
 use Rattle.ps_book_laws.proofs.Keys.{each-both, each-cond}

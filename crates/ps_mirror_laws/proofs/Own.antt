@@ -31,16 +31,16 @@ use Rattle.ps_config.specs.Bounds.{IsConfig}
 use Rattle.ps_model.specs.Access.{affiliation, read_at, read_by, read_by_model}
 use Rattle.ps_model.specs.After as step
 use Rattle.ps_model.specs.Book.{Book}
-use Rattle.ps_model.specs.ChangeNodes.{created, deleted, new_node}
-use Rattle.ps_model.specs.ChangeOwner.{configured, configured_by, items_under}
-use Rattle.ps_model.specs.ChangePublish.{item_row, published as published_items, published_by, published_new, retract_change}
-use Rattle.ps_model.specs.CheckForms.{config_given}
-use Rattle.ps_model.specs.CheckOptions.{options_config}
-use Rattle.ps_model.specs.Due.{about_node, always, is_granted, items_inside, may_read, node_notice, told_about}
-use Rattle.ps_model.specs.EventNodes.{item_asked, made_events, retract_events, tells_retract}
-use Rattle.ps_model.specs.Given.{given}
+use Rattle.ps_model.specs.requests.ChangeNodes.{created, deleted, new_node}
+use Rattle.ps_model.specs.requests.ChangeOwner.{configured, configured_by, items_under}
+use Rattle.ps_model.specs.requests.ChangePublish.{item_row, published as published_items, published_by, published_new, retract_change}
+use Rattle.ps_model.specs.requests.CheckForms.{config_given}
+use Rattle.ps_model.specs.requests.CheckOptions.{options_config}
+use Rattle.ps_model.specs.notices.Due.{about_node, always, is_granted, items_inside, may_read, node_notice, told_about}
+use Rattle.ps_model.specs.notices.EventNodes.{item_asked, made_events, retract_events, tells_retract}
+use Rattle.ps_model.specs.notices.Given.{given}
 use Rattle.ps_model.specs.ItemIds.{item_id}
-use Rattle.ps_model.specs.NoticeTrees.{named_tree, retract_tree}
+use Rattle.ps_model.specs.notices.NoticeTrees.{named_tree, retract_tree}
 use Rattle.ps_model.proofs.NodeRows.{node_at-configured}
 use Rattle.ps_book_laws.proofs.Keys.{each-both}
 use Rattle.ps_compact_laws.proofs.Printable.{IsPrintable, NodeIs}

@@ -22,15 +22,15 @@ use Rattle.ps_types.specs.Tree.{Tree}
 use Rattle.ps_types.specs.Values.{is_true}
 use Rattle.ps_types.proofs.Same.{same_node-Decides}
 use Rattle.ps_model.specs.Book.{Book}
-use Rattle.ps_model.specs.ChangeEntity.{base_options, new_state, sub_options}
-use Rattle.ps_model.specs.ChangeNodes.{deleted}
-use Rattle.ps_model.specs.ChangeOwner.{approved, configured_by, sub_with}
-use Rattle.ps_model.specs.ChangePublish.{published_by, retract_change}
-use Rattle.ps_model.specs.Changes.{changed_by}
-use Rattle.ps_model.specs.CheckForms.{new_config, node_of}
-use Rattle.ps_model.specs.EventNodes.{item_asked, made_events, retract_events}
-use Rattle.ps_model.specs.EventPresence.{question_events, wanted_events}
-use Rattle.ps_model.specs.Events.{events_by}
+use Rattle.ps_model.specs.requests.ChangeEntity.{base_options, new_state, sub_options}
+use Rattle.ps_model.specs.requests.ChangeNodes.{deleted}
+use Rattle.ps_model.specs.requests.ChangeOwner.{approved, configured_by, sub_with}
+use Rattle.ps_model.specs.requests.ChangePublish.{published_by, retract_change}
+use Rattle.ps_model.specs.requests.Changes.{changed_by}
+use Rattle.ps_model.specs.requests.CheckForms.{new_config, node_of}
+use Rattle.ps_model.specs.notices.EventNodes.{item_asked, made_events, retract_events}
+use Rattle.ps_model.specs.notices.EventPresence.{question_events, wanted_events}
+use Rattle.ps_model.specs.notices.Events.{events_by}
 use Rattle.ps_model.specs.Words.{roster_of}
 use Rattle.ps_book_laws.proofs.Keys.{each-both}
 use Rattle.ps_mirror_laws.specs.Laws.{Stands, TellsAll}

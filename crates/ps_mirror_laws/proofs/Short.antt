@@ -19,14 +19,14 @@ use Rattle.ps_types.specs.Tree.{Tree}
 use Rattle.ps_types.proofs.PrintLaws.{print_reads}
 use Rattle.ps_model.specs.After as step
 use Rattle.ps_model.specs.Book.{Book, State, empty_state}
-use Rattle.ps_model.specs.Entries.{AreEntries, IsEntry}
-use Rattle.ps_model.specs.Given.{given, asked as asked_by}
-use Rattle.ps_model.specs.NoticeTrees.{with_id}
-use Rattle.ps_model.specs.Numbered.{numbered}
+use Rattle.ps_model.specs.store.Entries.{AreEntries, IsEntry}
+use Rattle.ps_model.specs.notices.Given.{given, asked as asked_by}
+use Rattle.ps_model.specs.notices.NoticeTrees.{with_id}
+use Rattle.ps_model.specs.notices.Numbered.{numbered}
 use Rattle.ps_model.specs.Replay.{IsLawfulFrom, accepted, is_booted, notices, notices_from, of_bare, request_accepted, to_address}
 use Rattle.ps_model.specs.Sorted.{sorted}
-use Rattle.ps_model.specs.Taken.{Taken, silent, refused, denied, asked}
-use Rattle.ps_model.specs.Taking.{request_in, tree_taken}
+use Rattle.ps_model.specs.requests.Taken.{Taken, silent, refused, denied, asked}
+use Rattle.ps_model.specs.requests.Taking.{request_in, tree_taken}
 use Rattle.ps_model.specs.Tallies.{is_next_line, made_for, more_made}
 use Rattle.ps_model.proofs.AskedStanza.{taken-spelled}
 use Rattle.ps_model.proofs.LineLaws.{reads-line}

@@ -22,12 +22,12 @@ use Rattle.ps_book_laws.specs.Keys.{AreApart, item_key}
 use Rattle.ps_model.specs.After as step
 use Rattle.ps_model.specs.Book.{Book}
 use Rattle.ps_model.specs.Bounds.{IsBounded, item_bound}
-use Rattle.ps_model.specs.Due.{about_new, about_node, always, items_inside, may_read}
-use Rattle.ps_model.specs.Given.{given, to_one}
-use Rattle.ps_model.specs.Last.{is_leaf, last_notice, sends_last}
-use Rattle.ps_model.specs.NoticeTrees.{approval_form, delay_nodes, event_nodes, kind_attr, message, named_tree, only, question, retract_tree, told_tree, with_id}
-use Rattle.ps_model.specs.Stanza.{host_jid}
-use Rattle.ps_model.specs.Ways.{is_interested}
+use Rattle.ps_model.specs.notices.Due.{about_new, about_node, always, items_inside, may_read}
+use Rattle.ps_model.specs.notices.Given.{given, to_one}
+use Rattle.ps_model.specs.notices.Last.{is_leaf, last_notice, sends_last}
+use Rattle.ps_model.specs.notices.NoticeTrees.{approval_form, delay_nodes, event_nodes, kind_attr, message, named_tree, only, question, retract_tree, told_tree, with_id}
+use Rattle.ps_model.specs.requests.Stanza.{host_jid}
+use Rattle.ps_model.specs.notices.Ways.{is_interested}
 use Rattle.ps_compact_laws.proofs.Printable.{IsPrintable}
 use Rattle.ps_mirror.specs.declared.copied.Copied.{Copied}
 use Rattle.ps_mirror.specs.Copy.{first_said, item_said as one_said, items_after, said_of}

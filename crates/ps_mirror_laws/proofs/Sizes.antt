@@ -14,7 +14,7 @@ use Rattle.ps_types.specs.declared.jid.Jid.{Jid}
 use Rattle.ps_types.specs.Address.{IsAddress, after_slash, before_at, jid_text}
 use Rattle.ps_types.specs.Print.{attr_members, client, data_of, items_of, ns_member, print, with_attrs, with_kids}
 use Rattle.ps_types.specs.Tree.{Tree, tree, Nodes, none, branch, words}
-use Rattle.ps_model.specs.NoticeTrees.{notice_id}
+use Rattle.ps_model.specs.notices.NoticeTrees.{notice_id}
 use Rattle.ps_book_laws.proofs.Reached.{three}
 use Rattle.ps_model.proofs.OneList.{before_size}
 

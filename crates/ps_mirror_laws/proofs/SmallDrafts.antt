@@ -55,10 +55,10 @@ use Rattle.ps_types.specs.Same.{same_jid}
 use Rattle.ps_types.specs.Tree.{Tree, Nodes, none}
 use Rattle.ps_types.proofs.Same.{same_jid-Decides}
 use Rattle.ps_model.specs.Book.{Book}
-use Rattle.ps_model.specs.Due.{About, about_new, about_node, always, delivered, delivers, items_inside, may_pass, may_read, node_message, node_notice, one_way, told_about}
-use Rattle.ps_model.specs.Given.{given, to_one}
-use Rattle.ps_model.specs.Last.{is_leaf, last_notice, sends_last}
-use Rattle.ps_model.specs.NoticeTrees.{
+use Rattle.ps_model.specs.notices.Due.{About, about_new, about_node, always, delivered, delivers, items_inside, may_pass, may_read, node_message, node_notice, one_way, told_about}
+use Rattle.ps_model.specs.notices.Given.{given, to_one}
+use Rattle.ps_model.specs.notices.Last.{is_leaf, last_notice, sends_last}
+use Rattle.ps_model.specs.notices.NoticeTrees.{
   approval_form,
   associate_tree,
   delay_nodes,
@@ -79,7 +79,7 @@ use Rattle.ps_model.specs.NoticeTrees.{
   with_id,
 }
 use Rattle.ps_model.specs.Stamp.{stamp}
-use Rattle.ps_model.specs.Ways.{Way, NoWay, OwnRow, Through, is_interested}
+use Rattle.ps_model.specs.notices.Ways.{Way, NoWay, OwnRow, Through, is_interested}
 use Rattle.ps_book_laws.proofs.Keys.{each-push}
 use Rattle.ps_compact_laws.proofs.Drafts.{found-key, may-key}
 use Rattle.ps_compact_laws.proofs.Printable.{IsKeyText, IsPrintable, NodeIs}

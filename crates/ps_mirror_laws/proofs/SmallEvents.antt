@@ -28,17 +28,17 @@ use Rattle.ps_types.specs.Same.{same_node}
 use Rattle.ps_types.specs.Subs.{is_pending, is_subscribed, sub_at, subs_with}
 use Rattle.ps_types.specs.Values.{is_true}
 use Rattle.ps_model.specs.Book.{Book}
-use Rattle.ps_model.specs.ChangeOwner.{approved, sub_with}
-use Rattle.ps_model.specs.Check.{steps_of}
-use Rattle.ps_model.specs.CheckForms.{node_of}
+use Rattle.ps_model.specs.requests.ChangeOwner.{approved, sub_with}
+use Rattle.ps_model.specs.requests.Check.{steps_of}
+use Rattle.ps_model.specs.requests.CheckForms.{node_of}
 use Rattle.ps_model.specs.Access.{affiliation}
-use Rattle.ps_model.specs.CheckNode.{leaf_step, stands_step}
-use Rattle.ps_model.specs.CheckPublish.{has_length, may_retract, retract_steps, retracted_step}
-use Rattle.ps_model.specs.EventNodes.{associated, item_asked, made_events, retract_events}
-use Rattle.ps_model.specs.EventPresence.{is_newly_wanted, question_events, wanted_events}
-use Rattle.ps_model.specs.EventSubs.{is_same, last_event, owners, row_asked, rows_events, subscribe_events, told_events}
-use Rattle.ps_model.specs.Events.{events_by}
-use Rattle.ps_model.specs.Steps.{first_denial, unless}
+use Rattle.ps_model.specs.requests.CheckNode.{leaf_step, stands_step}
+use Rattle.ps_model.specs.requests.CheckPublish.{has_length, may_retract, retract_steps, retracted_step}
+use Rattle.ps_model.specs.notices.EventNodes.{associated, item_asked, made_events, retract_events}
+use Rattle.ps_model.specs.notices.EventPresence.{is_newly_wanted, question_events, wanted_events}
+use Rattle.ps_model.specs.notices.EventSubs.{is_same, last_event, owners, row_asked, rows_events, subscribe_events, told_events}
+use Rattle.ps_model.specs.notices.Events.{events_by}
+use Rattle.ps_model.specs.requests.Steps.{first_denial, unless}
 use Rattle.ps_book_laws.proofs.KeyedKinds.{step-parts}
 use Rattle.ps_book_laws.proofs.Keys.{each-both, each-cond}
 use Rattle.ps_compact_laws.proofs.Printable.{NodeIs}

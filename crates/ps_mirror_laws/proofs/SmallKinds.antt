@@ -39,20 +39,20 @@ use Rattle.ps_config.specs.Bounds.{IsConfig}
 use Rattle.ps_config.proofs.Kept.{config-kept}
 use Rattle.ps_model.specs.Access.{is_own_account, publish}
 use Rattle.ps_model.specs.Book.{Book}
-use Rattle.ps_model.specs.ChangeEntity.{base_options, new_state, sub_options, subscribed_by}
-use Rattle.ps_model.specs.ChangeNodes.{created, created_by, deleted}
-use Rattle.ps_model.specs.ChangeOwner.{configured, configured_by}
-use Rattle.ps_model.specs.ChangePublish.{counted, count_row, item_row, payload_of, published, published_by, published_new, retract_change}
-use Rattle.ps_model.specs.ChangeRouter.{answer_by, is_usable, roster_by, usable_answer}
-use Rattle.ps_model.specs.Changes.{changed_by}
-use Rattle.ps_model.specs.Check.{steps_of}
-use Rattle.ps_model.specs.CheckCreate.{node_limit_step}
-use Rattle.ps_model.specs.CheckForms.{config_given, config_or, new_config, node_of}
-use Rattle.ps_model.specs.CheckNode.{leaf_by}
-use Rattle.ps_model.specs.CheckOptions.{form_options, is_known, known_options, made_step, options_config, options_step, publish_type}
-use Rattle.ps_model.specs.CheckPublish.{item_steps, payload_step, publish_by, publish_new_steps, takes_item}
+use Rattle.ps_model.specs.requests.ChangeEntity.{base_options, new_state, sub_options, subscribed_by}
+use Rattle.ps_model.specs.requests.ChangeNodes.{created, created_by, deleted}
+use Rattle.ps_model.specs.requests.ChangeOwner.{configured, configured_by}
+use Rattle.ps_model.specs.requests.ChangePublish.{counted, count_row, item_row, payload_of, published, published_by, published_new, retract_change}
+use Rattle.ps_model.specs.requests.ChangeRouter.{answer_by, is_usable, roster_by, usable_answer}
+use Rattle.ps_model.specs.requests.Changes.{changed_by}
+use Rattle.ps_model.specs.requests.Check.{steps_of}
+use Rattle.ps_model.specs.requests.CheckCreate.{node_limit_step}
+use Rattle.ps_model.specs.requests.CheckForms.{config_given, config_or, new_config, node_of}
+use Rattle.ps_model.specs.requests.CheckNode.{leaf_by}
+use Rattle.ps_model.specs.requests.CheckOptions.{form_options, is_known, known_options, made_step, options_config, options_step, publish_type}
+use Rattle.ps_model.specs.requests.CheckPublish.{item_steps, payload_step, publish_by, publish_new_steps, takes_item}
 use Rattle.ps_model.specs.ItemIds.{auto_id, item_id, next_made}
-use Rattle.ps_model.specs.Steps.{denied_by, first_denial, is_short, unless}
+use Rattle.ps_model.specs.requests.Steps.{denied_by, first_denial, is_short, unless}
 use Rattle.ps_model.specs.Words.{RosterAsk, set, remove, roster_of}
 use Rattle.ps_book_laws.proofs.AddressedKinds.{bare-is}
 use Rattle.ps_book_laws.proofs.KeyedKinds.{step-parts}

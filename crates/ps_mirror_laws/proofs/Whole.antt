@@ -59,14 +59,14 @@ use Rattle.ps_book_laws.proofs.Kept.{lawful-kept}
 use Rattle.ps_book_laws.proofs.Keys.{each-filter}
 use Rattle.ps_book_laws.proofs.Reached.{lawful-sound}
 use Rattle.ps_model.specs.After as step
-use Rattle.ps_model.specs.BaseAfter.{is_notice_line, is_notice_tree}
+use Rattle.ps_model.specs.store.BaseAfter.{is_notice_line, is_notice_tree}
 use Rattle.ps_model.specs.Book.{Book, State, empty_state}
 use Rattle.ps_model.specs.Bounds.{IsBounded}
-use Rattle.ps_model.specs.Entries.{AreEntries}
-use Rattle.ps_model.specs.NoticeTrees.{notice_id}
-use Rattle.ps_model.specs.Numbers.{counter_of}
+use Rattle.ps_model.specs.store.Entries.{AreEntries}
+use Rattle.ps_model.specs.notices.NoticeTrees.{notice_id}
+use Rattle.ps_model.specs.notices.Numbers.{counter_of}
 use Rattle.ps_model.specs.Replay.{IsLawfulFrom, lawful, notices, notices_from, replay, replay_from, to_address}
-use Rattle.ps_model.specs.Streams.{is_reply}
+use Rattle.ps_model.specs.machine.Streams.{is_reply}
 use Rattle.ps_model.proofs.Going.{lawful-more, replay-append}
 use Rattle.ps_model.proofs.NumberLaws.{numbers-rise}
 use Rattle.ps_model.proofs.TallyLaws.{same_bare-itself}

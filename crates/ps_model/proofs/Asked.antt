@@ -19,9 +19,9 @@ use Rattle.ps_types.specs.declared.rows.ResourceRow.{ResourceRow}
 use Rattle.ps_types.specs.declared.rows.SubRow.{SubRow}
 use Rattle.ps_model.specs.Access.{is_account}
 use Rattle.ps_model.specs.Book.{Book}
-use Rattle.ps_model.specs.Due.{About, about_new, about_node, delivers, may_pass, may_read, node_message, node_notice, one_way, told_about}
-use Rattle.ps_model.specs.Given.{asked, given, to_one}
-use Rattle.ps_model.specs.Ways.{Way, NoWay, OwnRow, Through, is_entitled, is_interested, is_subscriber, reaches_down, way_above, way_to, way_to_new}
+use Rattle.ps_model.specs.notices.Due.{About, about_new, about_node, delivers, may_pass, may_read, node_message, node_notice, one_way, told_about}
+use Rattle.ps_model.specs.notices.Given.{asked, given, to_one}
+use Rattle.ps_model.specs.notices.Ways.{Way, NoWay, OwnRow, Through, is_entitled, is_interested, is_subscriber, reaches_down, way_above, way_to, way_to_new}
 
 -- ---- lists of addresses
 
@@ -57,7 +57,8 @@ module _ {R : Type 0} (test : R → Bool) (address : R → Jid) (who : Jid) (sou
   found [] e = absurd (true≢false (sym e))
   found (x ∷ rows) e = at (test x) refl e (found rows)
     where
-      at : (b : Bool) → test x ≡ b → is_some (cond b (Some x) (find test rows)) ≡ true → (is_some (find test rows) ≡ true → list_any (same_jid who) (map address rows) ≡ true) → (same_jid who (address x) || list_any (same_jid who) (map address rows)) ≡ true
+      at : (b : Bool) → test x ≡ b → is_some (cond b (Some x) (find test rows)) ≡ true → (is_some (find test rows) ≡ true → list_any (same_jid who) (map address rows) ≡ true)
+          → (same_jid who (address x) || list_any (same_jid who) (map address rows)) ≡ true
       at true t e more = or-first (same_jid who (address x)) (list_any (same_jid who) (map address rows)) (sound x t)
       at false t e more = or-second (same_jid who (address x)) (list_any (same_jid who) (map address rows)) (more e)
 
@@ -86,7 +87,8 @@ above-asked : (book : Book) (node : NodeKey) (items far : Bool) (who : Jid) (cs 
 above-asked book node items far who [] has = absurd has
 above-asked book node items far who (c ∷ cs) has = at (reaches_down items far (sub_row c who book.subs)) refl has (above-asked book node items true who cs)
   where
-    at : (b : Bool) → reaches_down items far (sub_row c who book.subs) ≡ b → Has (cond b (Through c) (way_above items true who cs book.subs)) → (Has (way_above items true who cs book.subs) → is-asked who (asked book (Purge node)) ≡ true) → is-asked who (asked book (Purge node)) ≡ true
+    at : (b : Bool) → reaches_down items far (sub_row c who book.subs) ≡ b → Has (cond b (Through c) (way_above items true who cs book.subs))
+        → (Has (way_above items true who cs book.subs) → is-asked who (asked book (Purge node)) ≡ true) → is-asked who (asked book (Purge node)) ≡ true
     at true e has more = subscriber-asked book c who (reaching-row items far (sub_row c who book.subs) e)
     at false e has more = more has
 
@@ -137,11 +139,13 @@ notice-comes : (book : Book) (a : About) (who : Jid) (o : Option NodeConfig) (t 
 notice-comes book a who None t e = some-none t e
 notice-comes book a who (Some config) t e = at (may_read book a.node who && delivers a.switch config book who) e
   where
-    at : (b : Bool) → cond b (one_way (may_pass book who (a.way who)) (a.wanted who) (node_message a config who (a.behind (a.way who))) (node_message a config who none)) None ≡ Some t → Comes (may_pass book who (a.way who)) (a.wanted who)
+    at : (b : Bool) → cond b (one_way (may_pass book who (a.way who)) (a.wanted who) (node_message a config who (a.behind (a.way who))) (node_message a config who none)) None ≡ Some t
+        → Comes (may_pass book who (a.way who)) (a.wanted who)
     at true e = one-comes (may_pass book who (a.way who)) (a.wanted who) (node_message a config who (a.behind (a.way who))) (node_message a config who none) t e
     at false e = some-none t e
 
-node-asked : (book : Book) (items : Bool) (node : NodeKey) (switch : NodeConfig → Bool) (inside : NodeConfig → Tree) (who : Jid) (t : Tree) → told_about book (about_node book items node switch inside) who ≡ Some t
+node-asked : (book : Book) (items : Bool) (node : NodeKey) (switch : NodeConfig → Bool) (inside : NodeConfig → Tree) (who : Jid) (t : Tree)
+    → told_about book (about_node book items node switch inside) who ≡ Some t
     → is-asked who (asked book (Purge node)) ≡ true
 unfolding Comes
 node-asked book items node switch inside who t e = by (notice-comes book (about_node book items node switch inside) who (config_at node book.nodes) t e)

@@ -9,11 +9,33 @@ use Rattle.ps_types.specs.declared.request.Ask.{Ask}
 use Rattle.ps_types.specs.Namespaces.{pubsub_ns, owner_ns, info_ns, items_ns, roster_ns}
 use Rattle.ps_types.specs.Shape.{trees_of}
 use Rattle.ps_types.specs.Tree.{Tree, Nodes, name_of, ns_of, nodes_of, is_named}
-use Rattle.ps_model.specs.Asking.{child_ask, get_ask, iq_by, owner_get_ask, owner_set_ask, part_ask, pubsub_ask, served_namespaces, set_ask}
+use Rattle.ps_model.specs.requests.Asking.{child_ask, get_ask, iq_by, owner_get_ask, owner_set_ask, part_ask, pubsub_ask, served_namespaces, set_ask}
 use Rattle.ps_model.specs.Grammar.{first_tree}
-use Rattle.ps_model.specs.Spelled.{IsAsk}
-use Rattle.ps_model.specs.SpelledParts.{IsIq, IsQuery, IsPubsub}
-use Rattle.ps_model.proofs.AskedKinds.{create-from, publish-from, retract-from, purge-from, delete-from, config-get-from, config-set-from, affils-get-from, affils-set-from, subs-get-from, subs-set-from, my-affils-from, my-subs-from, items-get-from, subscribe-from, unsubscribe-from, options-get-from, options-set-from, info-from, nodes-from, roster-from}
+use Rattle.ps_model.specs.requests.Spelled.{IsAsk}
+use Rattle.ps_model.specs.requests.SpelledParts.{IsIq, IsQuery, IsPubsub}
+use Rattle.ps_model.proofs.AskedKinds.{
+  create-from,
+  publish-from,
+  retract-from,
+  purge-from,
+  delete-from,
+  config-get-from,
+  config-set-from,
+  affils-get-from,
+  affils-set-from,
+  subs-get-from,
+  subs-set-from,
+  my-affils-from,
+  my-subs-from,
+  items-get-from,
+  subscribe-from,
+  unsubscribe-from,
+  options-get-from,
+  options-set-from,
+  info-from,
+  nodes-from,
+  roster-from,
+}
 use Rattle.ps_model.proofs.Splits.{split, either-true, both-true, same-text, named-is, given}
 
 module _ (service : List ℕ) (t : Tree) (from target : Jid) where
@@ -103,15 +125,18 @@ module _ (service : List ℕ) (t : Tree) (from target : Jid) where
   abbrev Query : Bool → List ℕ → List ℕ → Tree → Type 0
   Query is_set name ns child = IsQuery (type_text is_set) name ns t child
 
-  part-way : (is_set : Bool) (child part : Tree) (rest : Nodes) (a : Ask) → Query is_set (codes "pubsub") pubsub_ns child → first_tree (nodes_of child) ≡ Some (part, rest) → ns_of part ≡ pubsub_ns → part_ask false is_set part rest from ≡ given a → Is a
+  part-way : (is_set : Bool) (child part : Tree) (rest : Nodes) (a : Ask) → Query is_set (codes "pubsub") pubsub_ns child → first_tree (nodes_of child) ≡ Some (part, rest) → ns_of part ≡ pubsub_ns
+      → part_ask false is_set part rest from ≡ given a → Is a
   part-way true child part rest a q f n h = set-way part rest a (λ name e. record { child = child; query = q; first = f; name_is = e; ns_is = n }) h
   part-way false child part rest a q f n h = get-way part rest a (λ name e. record { child = child; query = q; first = f; name_is = e; ns_is = n }) h
 
-  owner-part-way : (is_set : Bool) (child part : Tree) (rest : Nodes) (a : Ask) → Query is_set (codes "pubsub") owner_ns child → first_tree (nodes_of child) ≡ Some (part, rest) → ns_of part ≡ owner_ns → part_ask true is_set part rest from ≡ given a → Is a
+  owner-part-way : (is_set : Bool) (child part : Tree) (rest : Nodes) (a : Ask) → Query is_set (codes "pubsub") owner_ns child → first_tree (nodes_of child) ≡ Some (part, rest)
+      → ns_of part ≡ owner_ns → part_ask true is_set part rest from ≡ given a → Is a
   owner-part-way true child part rest a q f n h = owner-set-way part rest a (λ name e. record { child = child; query = q; first = f; name_is = e; ns_is = n }) h
   owner-part-way false child part rest a q f n h = owner-get-way part rest a (λ name e. record { child = child; query = q; first = f; name_is = e; ns_is = n }) h
 
-  pubsub-way : (is_set : Bool) (child : Tree) (a : Ask) (found : Option (Tree × Nodes)) → Query is_set (codes "pubsub") pubsub_ns child → first_tree (nodes_of child) ≡ found → pubsub_ask is_set pubsub_ns found from ≡ given a → Is a
+  pubsub-way : (is_set : Bool) (child : Tree) (a : Ask) (found : Option (Tree × Nodes)) → Query is_set (codes "pubsub") pubsub_ns child → first_tree (nodes_of child) ≡ found
+      → pubsub_ask is_set pubsub_ns found from ≡ given a → Is a
   pubsub-way is_set child a None q f h = absurd (cc)
   pubsub-way is_set child a (Some (part, rest)) q f h =
       elim (split (bytes_eq (ns_of part) pubsub_ns) _ _ _ h) [
@@ -119,7 +144,8 @@ module _ (service : List ℕ) (t : Tree) (from target : Jid) where
         | inr k ↦ (let e = k.1 in absurd (cc))
       ]
 
-  owner-way : (is_set : Bool) (child : Tree) (a : Ask) (found : Option (Tree × Nodes)) → Query is_set (codes "pubsub") owner_ns child → first_tree (nodes_of child) ≡ found → pubsub_ask is_set owner_ns found from ≡ given a → Is a
+  owner-way : (is_set : Bool) (child : Tree) (a : Ask) (found : Option (Tree × Nodes)) → Query is_set (codes "pubsub") owner_ns child → first_tree (nodes_of child) ≡ found
+      → pubsub_ask is_set owner_ns found from ≡ given a → Is a
   owner-way is_set child a None q f h = absurd (cc)
   owner-way is_set child a (Some (part, rest)) q f h =
       elim (split (bytes_eq (ns_of part) owner_ns) _ _ _ h) [

@@ -22,11 +22,11 @@ use Rattle.ps_types.specs.Tree.{Tree}
 use Rattle.ps_types.proofs.Same.{same_node-Decides, same_node-itself}
 use Rattle.ps_model.specs.Book.{Book}
 use Rattle.ps_model.specs.Bounds.{item_bound, IsBounded}
-use Rattle.ps_model.specs.ChangeNodes.{created, created_by, deleted, new_node}
-use Rattle.ps_model.specs.ChangeOwner.{configured, configured_by, items_under}
-use Rattle.ps_model.specs.ChangePublish.{item_row, published, published_by, published_new, retract_change}
-use Rattle.ps_model.specs.CheckForms.{config_given}
-use Rattle.ps_model.specs.CheckOptions.{options_config}
+use Rattle.ps_model.specs.requests.ChangeNodes.{created, created_by, deleted, new_node}
+use Rattle.ps_model.specs.requests.ChangeOwner.{configured, configured_by, items_under}
+use Rattle.ps_model.specs.requests.ChangePublish.{item_row, published, published_by, published_new, retract_change}
+use Rattle.ps_model.specs.requests.CheckForms.{config_given}
+use Rattle.ps_model.specs.requests.CheckOptions.{options_config}
 use Rattle.ps_model.specs.ItemIds.{item_id}
 use Rattle.ps_model.proofs.Counting.{count-filter, count-keep, count-kept, count-without}
 use Rattle.ps_model.proofs.NodeRows.{node_at-without, node_at-with, node_at-configured}
@@ -39,7 +39,8 @@ more (Some row) next = omega arith
 
 pub created-bounded : (node : NodeKey) (who : Jid) (config : NodeConfig) (book : Book) → IsBounded book → IsBounded (created node who config book)
 created-bounded node who config book h = λ n.
-    let grown : item_bound (node_at n book.nodes) ≤ item_bound (node_at n (book.nodes ++ new_node node who config ∷ [])) = rw (find-append (is_node n) book.nodes (new_node node who config ∷ [])) (more (node_at n book.nodes) (node_at n (new_node node who config ∷ []))) in
+    let grown : item_bound (node_at n book.nodes) ≤ item_bound (node_at n (book.nodes ++ new_node node who config ∷ [])) = rw (find-append (is_node n) book.nodes (new_node node who config ∷ []))
+    (more (node_at n book.nodes) (node_at n (new_node node who config ∷ []))) in
     let before = h n in
     omega (arith, grown, before)
 
@@ -72,16 +73,20 @@ put-bounded : (persist : Bool) (n : NodeKey) (row : ItemRow) (config : NodeConfi
 put-bounded true n row config book room h = put-step n row config book (same_node n row.node) refl room h
 put-bounded false n row config book room h = h n
 
-published-bounded : (node : NodeKey) (config : NodeConfig) (who : Jid) (moment : Option ℕ) (items : List AskItem) (book : Book) → cond config.persist_items config.max_items 0 ≤ item_bound (node_at node book.nodes) → IsBounded book
+published-bounded : (node : NodeKey) (config : NodeConfig) (who : Jid) (moment : Option ℕ) (items : List AskItem) (book : Book)
+    → cond config.persist_items config.max_items 0 ≤ item_bound (node_at node book.nodes) → IsBounded book
     → IsBounded (published node config who moment items book)
 published-bounded node config who moment [] book room h = h
-published-bounded node config who moment (item ∷ items) book room h = λ n. put-bounded config.persist_items n (item_row node (item_id item.id book node who) who item.payloads moment) config book room h
+published-bounded node config who moment (item ∷ items) book room h = λ n. put-bounded config.persist_items n (item_row node (item_id item.id book node who) who item.payloads moment) config book room
+    h
 
 -- the room at a node that is made
-new-room : (node : NodeKey) (who : Jid) (config : NodeConfig) (book : Book) → node_at node book.nodes ≡ None → cond config.persist_items config.max_items 0 ≤ item_bound (node_at node (created node who config book).nodes)
+new-room : (node : NodeKey) (who : Jid) (config : NodeConfig) (book : Book) → node_at node book.nodes ≡ None
+    → cond config.persist_items config.max_items 0 ≤ item_bound (node_at node (created node who config book).nodes)
 new-room node who config book none = rw (find-append (is_node node) book.nodes (new_node node who config ∷ []), none, same_node-itself node) (omega arith)
 
-new-bounded : (given : Result NodeConfig Condition) (node : NodeKey) (who : Jid) (moment : Option ℕ) (items : List AskItem) (book : Book) → node_at node book.nodes ≡ None → IsBounded book → IsBounded (published_new given node who moment items book)
+new-bounded : (given : Result NodeConfig Condition) (node : NodeKey) (who : Jid) (moment : Option ℕ) (items : List AskItem) (book : Book) → node_at node book.nodes ≡ None → IsBounded book
+    → IsBounded (published_new given node who moment items book)
 new-bounded (Err why) node who moment items book none h = h
 new-bounded (Ok config) node who moment items book none h =
     published-bounded node config who moment items (created node who config book) (new-room node who config book none) (created-bounded node who config book h)
@@ -89,7 +94,8 @@ new-bounded (Ok config) node who moment items book none h =
 row-room : (row : NodeRow) (found : Option NodeRow) → found ≡ Some row → cond row.config.persist_items row.config.max_items 0 ≤ item_bound found
 row-room row found e = rw e (omega arith)
 
-pub published_by-bounded : (found : Option NodeRow) (node : NodeKey) (who : Jid) (moment : Option ℕ) (items : List AskItem) (options : Option Tree) (book : Book) → node_at node book.nodes ≡ found → IsBounded book
+pub published_by-bounded : (found : Option NodeRow) (node : NodeKey) (who : Jid) (moment : Option ℕ) (items : List AskItem) (options : Option Tree) (book : Book) → node_at node book.nodes ≡ found
+    → IsBounded book
     → IsBounded (published_by found node who moment items options book)
 published_by-bounded None node who moment items options book e h = new-bounded (options_config options (default_config true)) node who moment items book e h
 published_by-bounded (Some row) node who moment items options book e h = published-bounded node row.config who moment items book (row-room row (node_at node book.nodes) e) h
@@ -124,7 +130,8 @@ deleted-bounded node book h = λ n. gone-step n node book (same_node n node) ref
 
 -- ---- a node is configured
 
-under-own : (persist : Bool) (node : NodeKey) (config : NodeConfig) (items : List ItemRow) → config.persist_items ≡ persist → item_count node (items_under node config items) ≤ cond config.persist_items config.max_items 0
+under-own : (persist : Bool) (node : NodeKey) (config : NodeConfig) (items : List ItemRow) → config.persist_items ≡ persist
+    → item_count node (items_under node config items) ≤ cond config.persist_items config.max_items 0
 under-own true node config items e = let kept = count-kept (is_item_at node) config.max_items items in rw e (omega (arith, kept))
 under-own false node config items e = let none = count-without (is_item_at node) items in rw e (omega (arith, none))
 
@@ -146,7 +153,8 @@ configured-bounded : (given : Result NodeConfig Condition) (node : NodeKey) (row
 configured-bounded (Err why) node row book found h = h
 configured-bounded (Ok config) node row book found h = λ n. configured-step n node config row book (same_node n node) refl found h
 
-pub configured_by-bounded : (found : Option NodeRow) (node : NodeKey) (form : Option Tree) (book : Book) → node_at node book.nodes ≡ found → IsBounded book → IsBounded (configured_by found node form book)
+pub configured_by-bounded : (found : Option NodeRow) (node : NodeKey) (form : Option Tree) (book : Book) → node_at node book.nodes ≡ found → IsBounded book
+    → IsBounded (configured_by found node form book)
 configured_by-bounded None node form book e h = h
 configured_by-bounded (Some row) node None book e h = h
 configured_by-bounded (Some row) node (Some form) book e h = configured-bounded (config_given config_type row.config (form_of form)) node row book e h

@@ -17,10 +17,10 @@ use Rattle.ps_types.specs.Nodes.{node_at}
 use Rattle.ps_types.specs.Resources.{resource_at, caps_in}
 use Rattle.ps_model.specs.Book.{Book}
 use Rattle.ps_model.specs.Bounds.{IsBounded}
-use Rattle.ps_model.specs.ChangeEntity.{subscribed_by, sub_options, base_options, new_state}
-use Rattle.ps_model.specs.ChangeRouter.{roster_by, usable_answer, is_usable, answer_by}
-use Rattle.ps_model.specs.Changes.{changed_by}
-use Rattle.ps_model.specs.CheckForms.{node_of, new_config}
+use Rattle.ps_model.specs.requests.ChangeEntity.{subscribed_by, sub_options, base_options, new_state}
+use Rattle.ps_model.specs.requests.ChangeRouter.{roster_by, usable_answer, is_usable, answer_by}
+use Rattle.ps_model.specs.requests.Changes.{changed_by}
+use Rattle.ps_model.specs.requests.CheckForms.{node_of, new_config}
 use Rattle.ps_model.specs.Words.{RosterAsk, set, remove, roster_of}
 use Rattle.ps_types.specs.Subs.{sub_at}
 use Rattle.ps_model.proofs.Bounded.{created_by-bounded, published_by-bounded, retract-bounded, purge-bounded, deleted-bounded, configured_by-bounded}
@@ -56,10 +56,12 @@ changed-bounded (ask.SubsGet node) r moment book h = h
 changed-bounded (ask.SubsSet node rows) r moment book h = h
 changed-bounded (ask.MyAffils node) r moment book h = h
 changed-bounded (ask.MySubs node) r moment book h = h
-changed-bounded (ask.Subscribe node who form) r moment book h = subscribed-bounded (sub_options form (base_options book (node_of r node) who)) (node_of r node) who (new_state book r (node_of r node) who) book h
+changed-bounded (ask.Subscribe node who form) r moment book h = subscribed-bounded (sub_options form (base_options book (node_of r node) who)) (node_of r node) who
+    (new_state book r (node_of r node) who) book h
 changed-bounded (ask.Unsubscribe node who subid) r moment book h = h
 changed-bounded (ask.OptionsGet node who) r moment book h = h
-changed-bounded (ask.OptionsSet node who form) r moment book h = subscribed-bounded (sub_options form (base_options book (node_of r node) who)) (node_of r node) who (sub_at (node_of r node) who book.subs) book h
+changed-bounded (ask.OptionsSet node who form) r moment book h = subscribed-bounded (sub_options form (base_options book (node_of r node) who)) (node_of r node) who
+    (sub_at (node_of r node) who book.subs) book h
 changed-bounded (ask.ItemsGet node max ids) r moment book h = h
 changed-bounded (ask.InfoGet node) r moment book h = h
 changed-bounded (ask.NodesGet node) r moment book h = h

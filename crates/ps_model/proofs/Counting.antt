@@ -15,7 +15,8 @@ module _ {R : Type 0} (p q : R → Bool) where
   count-filter [] = omega arith
   count-filter (x ∷ xs) = let n = count_by-cons p x xs in let s = filter-step x xs (q x) (count-filter xs) in omega (arith, n, s)
 
-  keep-step : (x : R) (xs : List R) (most : ℕ) (b : Bool) → count_by p (keep_newest q most xs) ≤ count_by p xs → count_by p (cond b (keep_newest q most xs) (x ∷ keep_newest q most xs)) ≤ cond (p x) 1 0 + count_by p xs
+  keep-step : (x : R) (xs : List R) (most : ℕ) (b : Bool) → count_by p (keep_newest q most xs) ≤ count_by p xs
+      → count_by p (cond b (keep_newest q most xs) (x ∷ keep_newest q most xs)) ≤ cond (p x) 1 0 + count_by p xs
   keep-step x xs most true h = omega (arith, h)
   keep-step x xs most false h = let n = count_by-cons p x (keep_newest q most xs) in omega (arith, n, h)
 
@@ -27,7 +28,8 @@ module _ {R : Type 0} (p q : R → Bool) where
       omega (arith, n, s)
 
 module _ {R : Type 0} (p : R → Bool) where
-  kept-more : (x : R) (xs : List R) (most : ℕ) (b : Bool) → nat_le most (count_by p xs) ≡ b → p x ≡ true → count_by p (keep_newest p most xs) ≤ most → count_by p (keep_newest p most xs) ≤ count_by p xs
+  kept-more : (x : R) (xs : List R) (most : ℕ) (b : Bool) → nat_le most (count_by p xs) ≡ b → p x ≡ true → count_by p (keep_newest p most xs) ≤ most
+      → count_by p (keep_newest p most xs) ≤ count_by p xs
       → count_by p (cond b (keep_newest p most xs) (x ∷ keep_newest p most xs)) ≤ most
   kept-more x xs most true f e h k = h
   kept-more x xs most false f e h k =

@@ -13,8 +13,8 @@ use Rattle.ps_types.specs.Cutting.{parts_from}
 use Rattle.ps_types.specs.LineTree.{line_tree, json_of, shallow, tree_from}
 use Rattle.ps_types.specs.declared.jid.Jid.{Jid}
 use Rattle.ps_types.proofs.AddressLaws.{parts-again, spells-from}
-use Rattle.ps_model.specs.ReadFrom.{IsReadFrom}
-use Rattle.ps_model.specs.Stanza.{jid_of}
+use Rattle.ps_model.specs.machine.ReadFrom.{IsReadFrom}
+use Rattle.ps_model.specs.requests.Stanza.{jid_of}
 use Rattle.ps_types.specs.Print.{client}
 use Rattle.ps_types.specs.Reading.{IsJson, Reads, tree_of}
 use Rattle.ps_types.specs.Tree.{Tree, levels}

@@ -10,13 +10,13 @@ use Rattle.ps_types.specs.declared.entry.Notice.{Notice}
 use Rattle.ps_types.specs.declared.jid.Jid.{Jid}
 use Rattle.ps_types.specs.declared.rows.TallyRow.{TallyRow}
 use Rattle.ps_model.specs.After as step
-use Rattle.ps_model.specs.Numbered.{numbered, tallied, row_notices, row_tallies}
-use Rattle.ps_model.specs.BaseAfter.{is_bare, is_number}
-use Rattle.ps_model.specs.BaseRead.{row_of}
-use Rattle.ps_model.specs.BaseRows.{BaseRow, node, affiliation, subscription, item, link, contact, ver, made, counter, notice}
+use Rattle.ps_model.specs.notices.Numbered.{numbered, tallied, row_notices, row_tallies}
+use Rattle.ps_model.specs.store.BaseAfter.{is_bare, is_number}
+use Rattle.ps_model.specs.store.BaseRead.{row_of}
+use Rattle.ps_model.specs.store.BaseRows.{BaseRow, node, affiliation, subscription, item, link, contact, ver, made, counter, notice}
 use Rattle.ps_model.specs.Book.{State, empty_state}
-use Rattle.ps_model.specs.Core.{handed}
-use Rattle.ps_model.specs.Numbers.{counter_in, counter_of}
+use Rattle.ps_model.specs.machine.Core.{handed}
+use Rattle.ps_model.specs.notices.Numbers.{counter_in, counter_of}
 use Rattle.ps_model.specs.Replay.{IsLawfulFrom, replay_from, accepted, is_booted, lawful, notices, row_accepted}
 use Rattle.ps_model.specs.Replay as replay
 use Rattle.ps_model.specs.Tallies.{handed_to, made_for, more_made}
@@ -69,7 +69,8 @@ record Gives (a : Jid) (before after : List TallyRow) (ns : List Notice) : Type 
 nothing : (a : Jid) (before after : List TallyRow) → made_for a after ≡ made_for a before → Gives a before after []
 nothing a before after same = record { rise = tt; makes = same ∙ (let e : made_for a before ≡ made_for a before + 0 = omega arith in e) }
 
-one_more : (a to : Jid) (t : Tree) (place : ℕ) (tallies : List TallyRow) (more : List (Jid × Tree)) → Gives a (more_made to 1 tallies) (tallied (more_made to 1 tallies) more) (numbered place (more_made to 1 tallies) more)
+one_more : (a to : Jid) (t : Tree) (place : ℕ) (tallies : List TallyRow) (more : List (Jid × Tree))
+    → Gives a (more_made to 1 tallies) (tallied (more_made to 1 tallies) more) (numbered place (more_made to 1 tallies) more)
     → (b : Bool) → same_bare to a ≡ b → Gives a tallies (tallied tallies ((to, t) ∷ more)) (numbered place tallies ((to, t) ∷ more))
 one_more a to t place tallies more gives true same =
     let turned : same_bare a to ≡ true = same_bare-turned a to ∙ same in
@@ -134,7 +135,8 @@ line-gives a to line place tallies false same =
     let turned : same_bare a to ≡ false = same_bare-turned a to ∙ same in
     record { rise = rw same tt; makes = rw same (made-kept a to _ _ tallies turned ∙ (let e : made_for a tallies ≡ made_for a tallies + 0 = omega arith in e)) }
 
-counter-stepped : (a who : Jid) (n : ℕ) (tallies : List TallyRow) → 0 < n → made_for who tallies ≡ 0 → (b : Bool) → same_bare who a ≡ b → Stepped a tallies (row_tallies (Some (counter who n)) tallies) [] (λ x. cond b n x)
+counter-stepped : (a who : Jid) (n : ℕ) (tallies : List TallyRow) → 0 < n → made_for who tallies ≡ 0 → (b : Bool) → same_bare who a ≡ b
+    → Stepped a tallies (row_tallies (Some (counter who n)) tallies) [] (λ x. cond b n x)
 unfolding Stepped
 counter-stepped a who n tallies some none true same =
     let turned : same_bare a who ≡ true = same_bare-turned a who ∙ same in
@@ -352,7 +354,8 @@ bare-tests : (a to : Jid) → a.resource ≡ [] → to.resource ≡ [] → (x y 
 bare-tests a to bare bare' true true p q = refl
 bare-tests a to bare bare' false false p q = refl
 bare-tests a to bare bare' true false p q = let d = (same_bare-Decides a to).0 p in absurd (true≢false (sym ((same_jid-Decides to a).1 (same_parts to a (sym d.0) (sym d.1) (bare' ∙ sym bare))) ∙ q))
-bare-tests a to bare bare' false true p q = let d = (same_jid-Decides to a).0 q in absurd (true≢false (sym ((same_bare-Decides a to).1 (ap (λ (j : Jid). j.local) (sym d), ap (λ (j : Jid). j.host) (sym d))) ∙ p))
+bare-tests a to bare bare' false true p q = let d = (same_jid-Decides to a).0 q in absurd
+    (true≢false (sym ((same_bare-Decides a to).1 (ap (λ (j : Jid). j.local) (sym d), ap (λ (j : Jid). j.host) (sym d))) ∙ p))
 
 length-zero : (xs : List ℕ) → length xs ≡ 0 → xs ≡ []
 length-zero [] e = refl
@@ -399,7 +402,8 @@ handed-more (Handed to) E a = by (same_jid to a)
 entry-handed : (a : Jid) → a.resource ≡ [] → (s : State) (e : Entry) → accepted s e ≡ true → HandedStep a s.tallies (step.after s e).tallies (one e a) (ahead e a)
 unfolding HandedStep
 entry-handed a bare s (Boot service) is = kept-handed a s.tallies (step.after s (Boot service)).tallies (tallied-handed a (step.handed_out s (Boot service)) s.tallies)
-entry-handed a bare s (Change host line moment t) is = kept-handed a s.tallies (step.after s (Change host line moment t)).tallies (tallied-handed a (step.handed_out s (Change host line moment t)) s.tallies)
+entry-handed a bare s (Change host line moment t) is = kept-handed a s.tallies (step.after s (Change host line moment t)).tallies
+    (tallied-handed a (step.handed_out s (Change host line moment t)) s.tallies)
 entry-handed a bare s (Gone host) is = kept-handed a s.tallies (step.after s (Gone host)).tallies (tallied-handed a (step.handed_out s (Gone host)) s.tallies)
 entry-handed a bare s (Handed to) is =
     let same = bare-tests a to bare (handed-is-bare s to is) (same_bare a to) (same_jid to a) refl refl in

@@ -2,13 +2,13 @@
 use Rattle.std.proofs.Common.{◌≡◌, ◌⊎◌, inl, inr, ℕ, ◌+◌, Bool, true, false, List, [], ◌∷◌, ◌++◌, length, drop, map, refl, sym, ap, subst, ◌∙◌, append_assoc, append-nil}
 use Rattle.std.proofs.lemmas.Bool.{true≢false}
 use Rattle.ps_types.specs.declared.entry.Entry.{Entry}
-use Rattle.ps_model.specs.At.{BadEntry, IsBadNext, IsDamagedAt, IsStore}
+use Rattle.ps_model.specs.store.At.{BadEntry, IsBadNext, IsDamagedAt, IsStore}
 use Rattle.ps_model.specs.Book.{State, empty_state}
-use Rattle.ps_model.specs.Damage.{BadFrame, NoEntry}
-use Rattle.ps_model.specs.Entries.{AreEntriesIn, IsEntryIn, body, spelling}
+use Rattle.ps_model.specs.store.Damage.{BadFrame, NoEntry}
+use Rattle.ps_model.specs.store.Entries.{AreEntriesIn, IsEntryIn, body, spelling}
 use Rattle.ps_model.specs.After.{after}
 use Rattle.ps_model.specs.Replay.{IsLawfulFrom, accepted, lawful, replay_from}
-use Rattle.ps_model.specs.Store.{AreParts, Begun, IsShut, gate_at, is_second, joined, spelled}
+use Rattle.ps_model.specs.store.Store.{AreParts, Begun, IsShut, gate_at, is_second, joined, spelled}
 use Rattle.ps_model.proofs.Going.{replay-append}
 use Rattle.ps_model.proofs.OneList.{behind_header, body_one, entry_one, frames_one, one_frames, shut_no_frame, shut_some, starts}
 
@@ -28,7 +28,8 @@ bad-some second s es behind (inl none) e = none.some e
 bad-some second s es behind (inr next) e = starts next.0 next.1 (sym e ∙ next.3)
 
 -- so no lawful list goes on with it
-bad-stops : (second : Bool) (s : State) (es more : List Entry) (d : Entry) (behind rest : List ℕ) → IsBad second s es behind → IsEntryIn second d → behind ≡ spelling d ++ rest → IsLawfulFrom s (es ++ d ∷ more) → ⊥
+bad-stops : (second : Bool) (s : State) (es more : List Entry) (d : Entry) (behind rest : List ℕ) → IsBad second s es behind → IsEntryIn second d → behind ≡ spelling d ++ rest
+    → IsLawfulFrom s (es ++ d ∷ more) → ⊥
 unfolding IsBad
 bad-stops second s es more d behind rest (inl none) is split lawful = none.none d rest is split
 bad-stops second s es more d behind rest (inr next) is split lawful =
@@ -58,8 +59,10 @@ one-more second e d es ds behind tail same (inr (inr g)) = inr (inr (record { ne
 compare : (second : Bool) (es ds : List Entry) (behind tail : List ℕ) → AreEntriesIn second es → AreEntriesIn second ds → body es ++ behind ≡ body ds ++ tail → Compared second es ds behind tail
 unfolding Compared
 compare second [] [] behind tail are are' same = inl (refl, same)
-compare second [] (d ∷ ds) behind tail are are' same = inr (inl (record { next = d; more = ds; rest = body ds ++ tail; is = are'.0; whole = refl; split = same ∙ append_assoc (spelling d) (body ds) tail }))
-compare second (e ∷ es) [] behind tail are are' same = inr (inr (record { next = e; more = es; rest = body es ++ behind; is = are.0; whole = refl; split = sym same ∙ append_assoc (spelling e) (body es) behind }))
+compare second [] (d ∷ ds) behind tail are are' same = inr (inl
+    (record { next = d; more = ds; rest = body ds ++ tail; is = are'.0; whole = refl; split = same ∙ append_assoc (spelling d) (body ds) tail }))
+compare second (e ∷ es) [] behind tail are are' same = inr (inr
+    (record { next = e; more = es; rest = body es ++ behind; is = are.0; whole = refl; split = sym same ∙ append_assoc (spelling e) (body es) behind }))
 compare second (e ∷ es) (d ∷ ds) behind tail are are' same =
     let p = entry_one e d (body es ++ behind) (body ds ++ tail) are.0.entry are'.0.entry (sym (append_assoc (spelling e) (body es) behind) ∙ same ∙ append_assoc (spelling d) (body ds) tail) in
     one-more second e d es ds behind tail p.0 (compare second es ds behind tail are.1 are'.1 p.1)
@@ -95,10 +98,12 @@ no-damage second (p ∷ ps) (q ∷ qs) es behind others s are are' each bad lawf
     let lawful-t : IsLawfulFrom t (joined qs) = lawful-rest p (joined qs) s lawful-p in
     let moved : replay_from s ((p ++ joined ps) ++ es) ≡ replay_from t (joined ps ++ es) =
     ap (replay_from s) (append_assoc p (joined ps) es) ∙ replay-append p (joined ps ++ es) s in
-    no-damage second ps qs es behind others t are.1 are'.1 each (subst (λ (r : State). NoEntry second behind ⊎ ((e : Entry) × (rest : List ℕ) × IsEntryIn second e × (behind ≡ spelling e ++ rest) × (accepted r e ≡ false))) moved bad) lawful-t rest
+    no-damage second ps qs es behind others t are.1 are'.1 each (subst
+    (λ (r : State). NoEntry second behind ⊎ ((e : Entry) × (rest : List ℕ) × IsEntryIn second e × (behind ≡ spelling e ++ rest) × (accepted r e ≡ false))) moved bad) lawful-t rest
 
 -- two damaged entries are one
-one-damage : (second : Bool) (ps qs : List (List Entry)) (es ds : List Entry) (behind tail : List ℕ) (others more : List (List ℕ)) (s : State) → AreParts second ps → AreParts second qs → AreEntriesIn second es → AreEntriesIn second ds
+one-damage : (second : Bool) (ps qs : List (List Entry)) (es ds : List Entry) (behind tail : List ℕ) (others more : List (List ℕ)) (s : State) → AreParts second ps → AreParts second qs
+    → AreEntriesIn second es → AreEntriesIn second ds
     → IsBad second s (joined ps ++ es) behind → IsBad second s (joined qs ++ ds) tail → IsLawfulFrom s (joined ps ++ es) → IsLawfulFrom s (joined qs ++ ds)
     → map body ps ++ (body es ++ behind) ∷ others ≡ map body qs ++ (body ds ++ tail) ∷ more → (ps ≡ qs) × (es ≡ ds)
 unfolding Compared IsBad
@@ -136,7 +141,8 @@ one-damage second (p ∷ ps) (q ∷ qs) es ds behind tail others more s are are'
     let moved' : replay_from s ((q ++ joined qs) ++ ds) ≡ replay_from t (joined qs ++ ds) =
     ap (replay_from s) (append_assoc q (joined qs) ds ∙ ap (λ (l : List Entry). l ++ (joined qs ++ ds)) one) ∙ replay-append p (joined qs ++ ds) s in
     let lawful-t : IsLawfulFrom t (joined ps ++ es) = lawful-rest p (joined ps ++ es) s (subst (IsLawfulFrom s) (append_assoc p (joined ps) es) lawful) in
-    let lawful-t' : IsLawfulFrom t (joined qs ++ ds) = lawful-rest p (joined qs ++ ds) s (subst (IsLawfulFrom s) (append_assoc q (joined qs) ds ∙ ap (λ (l : List Entry). l ++ (joined qs ++ ds)) one) lawful') in
+    let lawful-t' : IsLawfulFrom t (joined qs ++ ds) = lawful-rest p (joined qs ++ ds) s
+    (subst (IsLawfulFrom s) (append_assoc q (joined qs) ds ∙ ap (λ (l : List Entry). l ++ (joined qs ++ ds)) one) lawful') in
     let found = one-damage second ps qs es ds behind tail others more t are.1 are'.1 each each' (subst (Next behind) moved bad) (subst (Next tail) moved' bad') lawful-t lawful-t' rest in
     ((λ i. sym one i ∷ found.0 i), found.1)
 
@@ -146,12 +152,14 @@ one-damage second (p ∷ ps) (q ∷ qs) es ds behind tail others more s are are'
 pub bad-frame-none : (bytes : List ℕ) (at : ℕ) (bs : List (List ℕ)) → BadFrame bytes at → Begun bytes bs → ⊥
 bad-frame-none bytes at bs d b =
     let rest = drop (gate_at bs) bytes in
-    let same = frames_one d.bodies bs d.rest rest d.each b.each d.followed (λ e. shut_some rest b.shut) d.not_whole (shut_no_frame rest b.shut) (sym (behind_header bytes d.bodies d.rest d.header d.split) ∙ behind_header bytes bs rest b.header b.split) in
+    let same = frames_one d.bodies bs d.rest rest d.each b.each d.followed (λ e. shut_some rest b.shut) d.not_whole (shut_no_frame rest b.shut)
+    (sym (behind_header bytes d.bodies d.rest d.header d.split) ∙ behind_header bytes bs rest b.header b.split) in
     d.not_shut (subst IsShut (sym same.1) b.shut)
 
 one-bad-frame : (bytes : List ℕ) (at later : ℕ) → BadFrame bytes at → BadFrame bytes later → at ≡ later
 one-bad-frame bytes at later c d =
-    let same = frames_one c.bodies d.bodies c.rest d.rest c.each d.each c.followed d.followed c.not_whole d.not_whole (sym (behind_header bytes c.bodies c.rest c.header c.split) ∙ behind_header bytes d.bodies d.rest d.header d.split) in
+    let same = frames_one c.bodies d.bodies c.rest d.rest c.each d.each c.followed d.followed c.not_whole d.not_whole
+    (sym (behind_header bytes c.bodies c.rest c.header c.split) ∙ behind_header bytes d.bodies d.rest d.header d.split) in
     c.stands ∙ ap gate_at same.0 ∙ sym d.stands
 
 bad-of : (bytes : List ℕ) (at : ℕ) (d : BadEntry bytes at) → IsBad (is_second bytes) empty_state (joined d.reads.parts ++ d.reads.entries) d.behind

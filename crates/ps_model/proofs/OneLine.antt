@@ -100,7 +100,8 @@ mutual
 
   clean-items : (later : Bool) (ds : Items) → HaveNone ds → is_clean (items_text later ds) ≡ true
   clean-items later no_items h = refl
-  clean-items later (item d ds) h = clean-append (comma_if later) (compact_text d ++ items_text true ds) (clean-comma later) (clean-append (compact_text d) (items_text true ds) (clean-text d h.0) (clean-items true ds h.1))
+  clean-items later (item d ds) h = clean-append (comma_if later) (compact_text d ++ items_text true ds) (clean-comma later)
+      (clean-append (compact_text d) (items_text true ds) (clean-text d h.0) (clean-items true ds h.1))
 
   clean-members : (later : Bool) (ms : Members) → MembersNone ms → is_clean (members_text later ms) ≡ true
   clean-members later no_members h = refl

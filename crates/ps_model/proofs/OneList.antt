@@ -1,5 +1,37 @@
 -- The bytes of a store spell one list of entries at most.
-use Rattle.std.proofs.Common.{◌≡◌, ◌≢◌, inl, inr, ℕ, ◌+◌, ◌<◌, ◌≤◌, ◌^◌, Bool, true, false, List, [], ◌∷◌, ◌++◌, length, take, drop, map, Some, None, refl, sym, ap, subst, ◌∙◌, append_assoc, append-nil, arith, length-append}
+use Rattle.std.proofs.Common.{
+  ◌≡◌,
+  ◌≢◌,
+  inl,
+  inr,
+  ℕ,
+  ◌+◌,
+  ◌<◌,
+  ◌≤◌,
+  ◌^◌,
+  Bool,
+  true,
+  false,
+  List,
+  [],
+  ◌∷◌,
+  ◌++◌,
+  length,
+  take,
+  drop,
+  map,
+  Some,
+  None,
+  refl,
+  sym,
+  ap,
+  subst,
+  ◌∙◌,
+  append_assoc,
+  append-nil,
+  arith,
+  length-append,
+}
 use Rattle.std.specs.Prelude.{◌&&◌, nat_le, ◌==◌}
 use Rattle.std.specs.Int.{Width, w16, w32, w64, byte_len, from_be_bytes, to_be_bytes}
 use Rattle.std.proofs.lemmas.Bool.{leb-true, eqb-true, and_parts, true≢false}
@@ -16,8 +48,8 @@ use Rattle.ps_types.specs.declared.entry.Entry.{Entry}
 use Rattle.ps_types.specs.declared.entry.Entry.TheVariants.{Boot, Change, Handed, Gone, Base}
 use Rattle.ps_types.specs.declared.jid.Jid.{Jid}
 use Rattle.std.specs.Str.{bytes_eq}
-use Rattle.ps_model.specs.Store.{magic, is_header, is_second, frame, frames, IsBody, AreBodies, IsShut, gate_at, Begun, joined, AreParts, spelled}
-use Rattle.ps_model.specs.Entries.{short, long, spelling, of_host, IsHostName, IsBare, IsWritten, IsEntry, IsEntryIn, AreEntriesIn, body}
+use Rattle.ps_model.specs.store.Store.{magic, is_header, is_second, frame, frames, IsBody, AreBodies, IsShut, gate_at, Begun, joined, AreParts, spelled}
+use Rattle.ps_model.specs.store.Entries.{short, long, spelling, of_host, IsHostName, IsBare, IsWritten, IsEntry, IsEntryIn, AreEntriesIn, body}
 
 -- ---- fields
 
@@ -159,7 +191,8 @@ starts e x same = absurd (cc same)
 pub end_stops : (second : Bool) → Stops second []
 end_stops second e rest is same = starts e rest same
 
-pub bodies_one : (second : Bool) (es fs : List Entry) (x y : List ℕ) → AreEntriesIn second es → AreEntriesIn second fs → Stops second x → Stops second y → body es ++ x ≡ body fs ++ y → (es ≡ fs) × (x ≡ y)
+pub bodies_one : (second : Bool) (es fs : List Entry) (x y : List ℕ) → AreEntriesIn second es → AreEntriesIn second fs → Stops second x → Stops second y → body es ++ x ≡ body fs ++ y
+    → (es ≡ fs) × (x ≡ y)
 bodies_one second [] [] x y are are' stops stops' same = (refl, same)
 bodies_one second [] (f ∷ fs) x y are are' stops stops' same = absurd (stops f (body fs ++ y) are'.0 (same ∙ append_assoc (spelling f) (body fs) y))
 bodies_one second (e ∷ es) [] x y are are' stops stops' same = absurd (stops' e (body es ++ x) are.0 (sym same ∙ append_assoc (spelling e) (body es) x))
@@ -193,15 +226,18 @@ behind_some (b ∷ bs) x some = λ e. absurd (cc e)
 cons_some : (b : List ℕ) (bs : List (List ℕ)) → b ∷ bs ≢ []
 cons_some b bs e = absurd (cc e)
 
-pub frames_one : (bs cs : List (List ℕ)) (x y : List ℕ) → AreBodies bs → AreBodies cs → (bs ≢ [] → x ≢ []) → (cs ≢ [] → y ≢ []) → NoFrame x → NoFrame y → frames bs ++ x ≡ frames cs ++ y → (bs ≡ cs) × (x ≡ y)
+pub frames_one : (bs cs : List (List ℕ)) (x y : List ℕ) → AreBodies bs → AreBodies cs → (bs ≢ [] → x ≢ []) → (cs ≢ [] → y ≢ []) → NoFrame x → NoFrame y → frames bs ++ x ≡ frames cs ++ y
+    → (bs ≡ cs) × (x ≡ y)
 frames_one [] [] x y are are' some some' none none' same = (refl, same)
 frames_one [] (c ∷ cs) x y are are' some some' none none' same =
     absurd (none c (frames cs ++ y) are'.0 (behind_some cs y (some' (cons_some c cs))) (same ∙ append_assoc (frame c) (frames cs) y))
 frames_one (b ∷ bs) [] x y are are' some some' none none' same =
     absurd (none' b (frames bs ++ x) are.0 (behind_some bs x (some (cons_some b bs))) (sym same ∙ append_assoc (frame b) (frames bs) x))
 frames_one (b ∷ bs) (c ∷ cs) x y are are' some some' none none' same =
-    let whole : 1 ∷ ((to_be_bytes w32 (length b) ++ b) ++ (frames bs ++ x)) ≡ 1 ∷ ((to_be_bytes w32 (length c) ++ c) ++ (frames cs ++ y)) = sym (append_assoc (frame b) (frames bs) x) ∙ same ∙ append_assoc (frame c) (frames cs) y in
-    let p = text_one w32 (2 ^ 32) wide32 b c (frames bs ++ x) (frames cs ++ y) are.0.fits are'.0.fits (tail_of 1 ((to_be_bytes w32 (length b) ++ b) ++ (frames bs ++ x)) ((to_be_bytes w32 (length c) ++ c) ++ (frames cs ++ y)) whole) in
+    let whole : 1 ∷ ((to_be_bytes w32 (length b) ++ b) ++ (frames bs ++ x)) ≡ 1 ∷ ((to_be_bytes w32 (length c) ++ c) ++ (frames cs ++ y)) = sym (append_assoc (frame b) (frames bs) x) ∙ same ∙
+    append_assoc (frame c) (frames cs) y in
+    let p = text_one w32 (2 ^ 32) wide32 b c (frames bs ++ x) (frames cs ++ y) are.0.fits are'.0.fits
+    (tail_of 1 ((to_be_bytes w32 (length b) ++ b) ++ (frames bs ++ x)) ((to_be_bytes w32 (length c) ++ c) ++ (frames cs ++ y)) whole) in
     let q = frames_one bs cs x y are.1 are'.1 (λ e. some (cons_some b bs)) (λ e. some' (cons_some c cs)) none none' p.1 in
     ((λ i. p.0 i ∷ q.0 i), q.1)
 

@@ -58,7 +58,8 @@ module _ (P : Jid → Type 0) where
   each-sorted (x ∷ xs) ps = each-put x (sorted xs) ps.0 (each-sorted xs ps.1)
 
   -- and back, where equal texts are one address
-  back-at : (who x : Jid) (xs more : List Jid) (o : Ordering) → (o ≡ Equal → P x → P who) → (Each P more → P who × Each P xs) → Each P (match_ordering o (who ∷ x ∷ xs) (x ∷ xs) (x ∷ more)) → P who × Each P (x ∷ xs)
+  back-at : (who x : Jid) (xs more : List Jid) (o : Ordering) → (o ≡ Equal → P x → P who) → (Each P more → P who × Each P xs) → Each P (match_ordering o (who ∷ x ∷ xs) (x ∷ xs) (x ∷ more))
+      → P who × Each P (x ∷ xs)
   back-at who x xs more Less same rest ps = (ps.0, ps.1)
   back-at who x xs more Equal same rest ps = (same refl ps.0, ps)
   back-at who x xs more Greater same rest ps = let r = rest ps.1 in (r.0, (ps.0, r.1))

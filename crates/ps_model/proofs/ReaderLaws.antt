@@ -13,11 +13,11 @@ use Rattle.ps_types.specs.declared.node.NodeKey.{NodeKey}
 use Rattle.ps_types.specs.declared.rows.ItemRow.{ItemRow}
 use Rattle.ps_types.proofs.Same.{same_jid-Decides}
 use Rattle.ps_model.specs.Book.{Book}
-use Rattle.ps_model.specs.Due.{About, about_new, about_node, always, delivers, items_inside, may_read, node_notice, told_about}
-use Rattle.ps_model.specs.Given.{given, node_read, to_one}
-use Rattle.ps_model.specs.Last.{is_leaf, last_notice, sends_last}
-use Rattle.ps_model.specs.NoticeTrees.{named_tree, retract_tree}
-use Rattle.ps_model.specs.Ways.{is_interested}
+use Rattle.ps_model.specs.notices.Due.{About, about_new, about_node, always, delivers, items_inside, may_read, node_notice, told_about}
+use Rattle.ps_model.specs.notices.Given.{given, node_read, to_one}
+use Rattle.ps_model.specs.notices.Last.{is_leaf, last_notice, sends_last}
+use Rattle.ps_model.specs.notices.NoticeTrees.{named_tree, retract_tree}
+use Rattle.ps_model.specs.notices.Ways.{is_interested}
 
 if-first : (a b : Bool) (x : Option Tree) (t : Tree) → cond (a && b) x None ≡ Some t → a ≡ true
 if-first true b x t e = refl
@@ -36,7 +36,8 @@ notice-reads book a who (Some config) t e = if-first (may_read book a.node who) 
 about-reads : (book : Book) (a : About) (who : Jid) (t : Tree) → told_about book a who ≡ Some t → may_read book a.node who ≡ true
 about-reads book a who t e = notice-reads book a who (config_at a.rules book.nodes) t e
 
-last-reads : (book : Book) (node : NodeKey) (to : Jid) (by : Bool) (moment : Option ℕ) (o : Option NodeConfig) (item : Option ItemRow) (t : Tree) → last_notice book node to by moment o item ≡ Some t → may_read book node to ≡ true
+last-reads : (book : Book) (node : NodeKey) (to : Jid) (by : Bool) (moment : Option ℕ) (o : Option NodeConfig) (item : Option ItemRow) (t : Tree) → last_notice book node to by moment o item ≡ Some t
+    → may_read book node to ≡ true
 last-reads book node to by moment None item t e = absurd (cc e)
 last-reads book node to by moment (Some config) None t e = absurd (cc e)
 last-reads book node to by moment (Some config) (Some item) t e =
@@ -57,8 +58,10 @@ pub given-reads : (book : Book) (event : Event) (node : NodeKey) (who : Jid) (t 
 given-reads book (Items n item) node who t at e = same-node n node book who at (about-reads book (about_node book true n always (items_inside n item)) who t e)
 given-reads book (Retract n id) node who t at e = same-node n node book who at (about-reads book (about_node book true n always (λ config. retract_tree n id)) who t e)
 given-reads book (Purge n) node who t at e = same-node n node book who at (about-reads book (about_node book true n always (λ config. named_tree (codes "purge") n)) who t e)
-given-reads book (Delete n) node who t at e = same-node n node book who at (about-reads book (about_node book false n (λ config. config.notify_delete) (λ config. named_tree (codes "delete") n)) who t e)
-given-reads book (Configuration n) node who t at e = same-node n node book who at (about-reads book (about_node book false n (λ config. config.notify_config) (λ config. named_tree (codes "configuration") n)) who t e)
+given-reads book (Delete n) node who t at e = same-node n node book who at
+    (about-reads book (about_node book false n (λ config. config.notify_delete) (λ config. named_tree (codes "delete") n)) who t e)
+given-reads book (Configuration n) node who t at e = same-node n node book who at
+    (about-reads book (about_node book false n (λ config. config.notify_config) (λ config. named_tree (codes "configuration") n)) who t e)
 given-reads book (Associate n collection) node who t at e = same-node n node book who at (about-reads book (about_new book n collection) who t e)
 given-reads book (Last n to by_subscription moment) node who t at e =
     let one = one-is to who (last_notice book n to by_subscription moment (config_at n book.nodes) (last_item n book.items)) t e in

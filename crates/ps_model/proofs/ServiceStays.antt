@@ -17,14 +17,14 @@ use Rattle.ps_types.specs.declared.rows.Caps.{Caps}
 use Rattle.ps_types.specs.declared.rows.NodeRow.{NodeRow}
 use Rattle.ps_types.specs.declared.rows.SubState.{SubState}
 use Rattle.ps_model.specs.Book.{Book}
-use Rattle.ps_model.specs.ChangeEntity.{sub_options, base_options, new_state, subscribed_by}
-use Rattle.ps_model.specs.ChangeNodes.{created_by}
-use Rattle.ps_model.specs.ChangeOwner.{configured, configured_by}
-use Rattle.ps_model.specs.ChangePublish.{published, published_by, published_new, retract_change}
-use Rattle.ps_model.specs.ChangeRouter.{answer_by, roster_by, usable_answer, is_usable}
-use Rattle.ps_model.specs.Changes.{changed, changed_by}
-use Rattle.ps_model.specs.CheckForms.{config_given, new_config, node_of}
-use Rattle.ps_model.specs.CheckOptions.{options_config}
+use Rattle.ps_model.specs.requests.ChangeEntity.{sub_options, base_options, new_state, subscribed_by}
+use Rattle.ps_model.specs.requests.ChangeNodes.{created_by}
+use Rattle.ps_model.specs.requests.ChangeOwner.{configured, configured_by}
+use Rattle.ps_model.specs.requests.ChangePublish.{published, published_by, published_new, retract_change}
+use Rattle.ps_model.specs.requests.ChangeRouter.{answer_by, roster_by, usable_answer, is_usable}
+use Rattle.ps_model.specs.requests.Changes.{changed, changed_by}
+use Rattle.ps_model.specs.requests.CheckForms.{config_given, new_config, node_of}
+use Rattle.ps_model.specs.requests.CheckOptions.{options_config}
 use Rattle.ps_model.specs.Words.{RosterAsk, set, remove, roster_of}
 use Rattle.ps_types.specs.CapString.{info_of}
 use Rattle.ps_types.specs.Config.{config_type}
@@ -42,12 +42,14 @@ items-published : (node : NodeKey) (config : NodeConfig) (who : Jid) (moment : O
 items-published node config who moment [] book = refl
 items-published node config who moment (item ∷ items) book = refl
 
-new-published : (o : Result NodeConfig Condition) (node : NodeKey) (who : Jid) (moment : Option ℕ) (items : List AskItem) (book : Book) → (published_new o node who moment items book).service ≡ book.service
+new-published : (o : Result NodeConfig Condition) (node : NodeKey) (who : Jid) (moment : Option ℕ) (items : List AskItem) (book : Book)
+    → (published_new o node who moment items book).service ≡ book.service
 new-published (Err why) node who moment items book = refl
 new-published (Ok config) node who moment [] book = refl
 new-published (Ok config) node who moment (item ∷ items) book = refl
 
-publishes : (o : Option NodeRow) (node : NodeKey) (who : Jid) (moment : Option ℕ) (items : List AskItem) (options : Option Tree) (book : Book) → (published_by o node who moment items options book).service ≡ book.service
+publishes : (o : Option NodeRow) (node : NodeKey) (who : Jid) (moment : Option ℕ) (items : List AskItem) (options : Option Tree) (book : Book)
+    → (published_by o node who moment items options book).service ≡ book.service
 publishes None node who moment items options book = new-published (options_config options (default_config true)) node who moment items book
 publishes (Some row) node who moment items options book = items-published node row.config who moment items book
 

@@ -1,16 +1,47 @@
 -- No bytes have neither a list nor a place of damage.
-use Rattle.std.proofs.Common.{◌≡◌, ◌≢◌, inl, inr, ℕ, zero, suc, ◌+◌, ◌≤◌, Bool, true, false, List, [], ◌∷◌, ◌++◌, length, take, drop, map, refl, sym, ap, subst, ◌∙◌, append_assoc, append-nil, take-append-drop, arith, length-append}
+use Rattle.std.proofs.Common.{
+  ◌≡◌,
+  ◌≢◌,
+  inl,
+  inr,
+  ℕ,
+  zero,
+  suc,
+  ◌+◌,
+  ◌≤◌,
+  Bool,
+  true,
+  false,
+  List,
+  [],
+  ◌∷◌,
+  ◌++◌,
+  length,
+  take,
+  drop,
+  map,
+  refl,
+  sym,
+  ap,
+  subst,
+  ◌∙◌,
+  append_assoc,
+  append-nil,
+  take-append-drop,
+  arith,
+  length-append,
+}
 use Rattle.std.specs.Prelude.{◌==◌, not}
 use Rattle.std.specs.List.{AllByRecursion}
 use Rattle.std.proofs.lemmas.Bool.{true≢false}
 use Rattle.std.proofs.lemmas.Bool.Decides.{nat_tests}
 use Rattle.std.proofs.lemmas.List.{drop_at}
 use Rattle.ps_types.specs.declared.entry.Entry.{Entry}
-use Rattle.ps_model.specs.At.{IsDamagedAt, IsStore}
+use Rattle.ps_model.specs.store.At.{IsDamagedAt, IsStore}
 use Rattle.ps_model.specs.Book.{empty_state}
-use Rattle.ps_model.specs.Entries.{AreEntriesIn, IsEntryIn, body, spelling}
+use Rattle.ps_model.specs.store.Entries.{AreEntriesIn, IsEntryIn, body, spelling}
 use Rattle.ps_model.specs.Replay.{accepted, lawful, replay}
-use Rattle.ps_model.specs.Store.{AreBodies, AreParts, Begun, IsBody, IsShut, frame, frames, gate_at, is_header, is_second, is_unbegun, joined}
+use Rattle.ps_model.specs.store.Store.{AreBodies, AreParts, Begun, IsBody, IsShut, frame, frames, gate_at, is_header, is_second, is_unbegun, joined}
 use Rattle.ps_model.proofs.Going.{lawful-more}
 use Rattle.ps_model.proofs.OneList.{header_size, starts}
 
@@ -58,10 +89,12 @@ module _ (bytes : List ℕ) (header : is_header (take 8 bytes) ≡ true) (none :
     where
       some : (s : List ℕ) → spelling e ≡ s → length rest ≤ n
       some [] is = absurd (starts e [] (sym (append-nil (spelling e) ∙ is)))
-      some (b ∷ s) is = (let l : length x ≡ length (spelling e) + length rest = ap length split ∙ length-append (spelling e) rest in let k : length (spelling e) ≡ length (b ∷ s) = ap length is in omega (arith, l, k, fits))
+      some (b ∷ s) is = (let l : length x ≡ length (spelling e) + length rest = ap length split ∙ length-append (spelling e) rest in let k : length (spelling e) ≡ length (b ∷ s) = ap length is in
+          omega (arith, l, k, fits))
 
   -- the frames are right, and so many entries are spelled and accepted
-  entries-on : (n : ℕ) (ps : List (List Entry)) (es : List Entry) (x : List ℕ) (others : List (List ℕ)) → length x ≤ n → AreParts (is_second bytes) ps → AreEntriesIn (is_second bytes) es → lawful (joined ps ++ es) → Begun bytes (map body ps ++ (body es ++ x) ∷ others) → ⊥
+  entries-on : (n : ℕ) (ps : List (List Entry)) (es : List Entry) (x : List ℕ) (others : List (List ℕ)) → length x ≤ n → AreParts (is_second bytes) ps → AreEntriesIn (is_second bytes) es
+      → lawful (joined ps ++ es) → Begun bytes (map body ps ++ (body es ++ x) ∷ others) → ⊥
   entries-on n ps es [] [] fits parts entries each begun =
       none (joined (ps ++ es ∷ [])) (record {
         spells = inl (record {
@@ -85,14 +118,17 @@ module _ (bytes : List ℕ) (header : is_header (take 8 bytes) ≡ true) (none :
         each = each;
         bad = inl (record {
           some = λ e. absurd (cc e);
-          none = λ e rest is split. next e rest is split (λ ok. entries-on n ps (es ++ e ∷ []) rest others (shorter e rest (b ∷ x) n split fits) parts (each-more (IsEntryIn (is_second bytes)) es e entries is)
+          none = λ e rest is split. next e rest is split (λ ok. entries-on n ps (es ++ e ∷ []) rest others (shorter e rest (b ∷ x) n split fits) parts
+              (each-more (IsEntryIn (is_second bytes)) es e entries is)
               (subst lawful (append_assoc (joined ps) es (e ∷ [])) (lawful-more (joined ps ++ es) e empty_state each ok))
-              (subst (Begun bytes) (ap (λ (l : List ℕ). map body ps ++ l ∷ others) (ap (λ (l : List ℕ). body es ++ l) split ∙ sym (append_assoc (body es) (spelling e) rest) ∙ ap (λ (l : List ℕ). l ++ rest) (sym (body-more es e)))) begun))
+              (subst (Begun bytes) (ap (λ (l : List ℕ). map body ps ++ l ∷ others)
+              (ap (λ (l : List ℕ). body es ++ l) split ∙ sym (append_assoc (body es) (spelling e) rest) ∙ ap (λ (l : List ℕ). l ++ rest) (sym (body-more es e)))) begun))
               (accepted (replay (joined ps ++ es)) e) refl;
         });
       })))
     where
-      next : (e : Entry) (rest : List ℕ) → IsEntryIn (is_second bytes) e → b ∷ x ≡ spelling e ++ rest → (accepted (replay (joined ps ++ es)) e ≡ true → ⊥) → (ok : Bool) → accepted (replay (joined ps ++ es)) e ≡ ok → ⊥
+      next : (e : Entry) (rest : List ℕ) → IsEntryIn (is_second bytes) e → b ∷ x ≡ spelling e ++ rest → (accepted (replay (joined ps ++ es)) e ≡ true → ⊥) → (ok : Bool)
+          → accepted (replay (joined ps ++ es)) e ≡ ok → ⊥
       next e rest is split go false rejected =
           never (gate_at (map body ps) + 5 + length (body es)) (inr (inr (record {
             before = joined ps ++ es;
@@ -122,7 +158,8 @@ module _ (bytes : List ℕ) (header : is_header (take 8 bytes) ≡ true) (none :
   all-frames (b ∷ bs) begun = entries-on (length b) [] [] b bs (omega arith) tt tt tt begun
 
   -- these frames are right, and no other that is follows
-  last-frame : (bs : List (List ℕ)) (y : List ℕ) → AreBodies bs → (bs ≢ [] → y ≢ []) → bytes ≡ take 8 bytes ++ frames bs ++ y → ((b after : List ℕ) → IsBody b → after ≢ [] → y ≡ frame b ++ after → ⊥) → ⊥
+  last-frame : (bs : List (List ℕ)) (y : List ℕ) → AreBodies bs → (bs ≢ [] → y ≢ []) → bytes ≡ take 8 bytes ++ frames bs ++ y → ((b after : List ℕ) → IsBody b → after ≢ [] → y ≡ frame b ++ after → ⊥)
+      → ⊥
   last-frame bs y each followed split no_more = by (is-shut y) refl
     where
       by : (b : Bool) → is-shut y ≡ b → ⊥
@@ -149,7 +186,8 @@ module _ (bytes : List ℕ) (header : is_header (take 8 bytes) ≡ true) (none :
   -- so many frames are right
   frames-on : (n : ℕ) (bs : List (List ℕ)) (y : List ℕ) → length y ≤ n → AreBodies bs → (bs ≢ [] → y ≢ []) → bytes ≡ take 8 bytes ++ frames bs ++ y → ⊥
   frames-on zero bs y fits each followed split =
-      last-frame bs y each followed split (λ b after is some more. (let l : length y ≡ length (frame b) + length after = ap length more ∙ length-append (frame b) after in absurd (omega (arith, l, fits))))
+      last-frame bs y each followed split (λ b after is some more.
+      (let l : length y ≡ length (frame b) + length after = ap length more ∙ length-append (frame b) after in absurd (omega (arith, l, fits))))
   frames-on (suc n) bs y fits each followed split =
       last-frame bs y each followed split
       (λ b after is some more.

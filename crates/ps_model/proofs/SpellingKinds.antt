@@ -19,18 +19,18 @@ use Rattle.ps_types.specs.Namespaces.{info_ns}
 use Rattle.ps_types.specs.Same.{same_jid}
 use Rattle.ps_types.specs.Shape.{attr_text}
 use Rattle.ps_types.specs.Tree.{Tree, child_of}
-use Rattle.ps_model.specs.AskRouter.{caps_in, is_for_service}
-use Rattle.ps_model.specs.Asking.{ask_of, value_in, message_form}
+use Rattle.ps_model.specs.requests.AskRouter.{caps_in, is_for_service}
+use Rattle.ps_model.specs.requests.Asking.{ask_of, value_in, message_form}
 use Rattle.ps_model.specs.Grammar.{rows_in}
-use Rattle.ps_model.specs.Spelled.{IsAsk, SpellsRequest}
-use Rattle.ps_model.specs.SpelledEntity.{IsMine, IsSubscribe, IsUnsubscribe, IsOptionsGet, IsOptionsSet, IsItemsGet, IsInfoGet, IsNodesGet}
-use Rattle.ps_model.specs.SpelledOwner.{IsPurge, IsDelete, IsConfigGet, IsConfigSet, AreRows, IsAffilsGet, IsAffilsSet, IsSubsGet, IsSubsSet, IsApprove}
-use Rattle.ps_model.specs.SpelledPublish.{IsCreate, IsPublish, IsRetract}
-use Rattle.ps_model.specs.SpelledRouter.{IsRosterSet, IsPresent, IsAbsent, IsCapsAnswer, IsOtherAnswer, IsOtherPresence, IsVoidMessage, IsSilent}
-use Rattle.ps_model.specs.Stanza.{host_jid, type_of, has_type}
-use Rattle.ps_model.specs.Taken.{Taken, asked}
-use Rattle.ps_model.specs.Taken as taken
-use Rattle.ps_model.specs.Taking.{tree_taken}
+use Rattle.ps_model.specs.requests.Spelled.{IsAsk, SpellsRequest}
+use Rattle.ps_model.specs.requests.SpelledEntity.{IsMine, IsSubscribe, IsUnsubscribe, IsOptionsGet, IsOptionsSet, IsItemsGet, IsInfoGet, IsNodesGet}
+use Rattle.ps_model.specs.requests.SpelledOwner.{IsPurge, IsDelete, IsConfigGet, IsConfigSet, AreRows, IsAffilsGet, IsAffilsSet, IsSubsGet, IsSubsSet, IsApprove}
+use Rattle.ps_model.specs.requests.SpelledPublish.{IsCreate, IsPublish, IsRetract}
+use Rattle.ps_model.specs.requests.SpelledRouter.{IsRosterSet, IsPresent, IsAbsent, IsCapsAnswer, IsOtherAnswer, IsOtherPresence, IsVoidMessage, IsSilent}
+use Rattle.ps_model.specs.requests.Stanza.{host_jid, type_of, has_type}
+use Rattle.ps_model.specs.requests.Taken.{Taken, asked}
+use Rattle.ps_model.specs.requests.Taken as taken
+use Rattle.ps_model.specs.requests.Taking.{tree_taken}
 use Rattle.ps_model.proofs.Spelling.{spells-jid, short-step, named-step, set-is, get-is, set-part, get-part, owner-set-part, owner-get-part}
 
 abbrev given : Ask → Result Ask Condition
@@ -88,7 +88,19 @@ module _ (service : List ℕ) (t : Tree) (from target : Jid) where
 
   approve-is : (node : List ℕ) (who : Jid) (allow : List ℕ) → IsApprove t node who allow → Asks service t from target (ask.Approve node who allow)
   approve-is node who allow h =
-      rw (h.name_is, h.ns_is, h.type_is, h.holds, h.kind_is, h.form_type_is, h.node_is, h.allow_is, spells-jid (value_in (codes "pubsub#subscriber_jid") h.form) who h.who_is, named-step C3 node h.named) refl
+      rw (
+        h.name_is,
+        h.ns_is,
+        h.type_is,
+        h.holds,
+        h.kind_is,
+        h.form_type_is,
+        h.node_is,
+        h.allow_is,
+        spells-jid (value_in (codes "pubsub#subscriber_jid") h.form) who h.who_is,
+        named-step C3 node
+            h.named,
+      ) refl
 
   -- ---- who subscribes or reads
 

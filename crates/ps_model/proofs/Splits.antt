@@ -15,10 +15,10 @@ use Rattle.ps_types.specs.Shape.{attr_text}
 use Rattle.ps_types.specs.Tree.{Tree, name_of, ns_of, is_named}
 use Rattle.ps_types.proofs.AddressLaws.{spells-from}
 use Rattle.ps_model.specs.Grammar.{row_by, row_then, rows_in, jid_in}
-use Rattle.ps_model.specs.SpelledOwner.{AreRows}
-use Rattle.ps_model.specs.SpelledParts.{IsNode}
-use Rattle.ps_model.specs.Stanza.{jid_of}
-use Rattle.ps_model.specs.Steps.{is_short, named_step, node_step, unless, unless_denied, max_id}
+use Rattle.ps_model.specs.requests.SpelledOwner.{AreRows}
+use Rattle.ps_model.specs.requests.SpelledParts.{IsNode}
+use Rattle.ps_model.specs.requests.Stanza.{jid_of}
+use Rattle.ps_model.specs.requests.Steps.{is_short, named_step, node_step, unless, unless_denied, max_id}
 
 module _ {A : Type 0} where
   pub split : (b : Bool) (x y z : A) → cond b x y ≡ z → ((b ≡ true) × (x ≡ z)) ⊎ ((b ≡ false) × (y ≡ z))
@@ -84,7 +84,8 @@ abbrev rows-or : List AskRow → Option (List AskRow) → List AskRow
 rows-or rows None = rows
 rows-or rows (Some more) = more
 
-rows-step : (name : List ℕ) (t : Tree) (ts : List Tree) (who : Option Jid) (found : Option (List AskRow)) (rows : List AskRow) → jid_in t ≡ who → rows_in name ts ≡ found → ((more : List AskRow) → rows_in name ts ≡ Some more → AreRows name ts more)
+rows-step : (name : List ℕ) (t : Tree) (ts : List Tree) (who : Option Jid) (found : Option (List AskRow)) (rows : List AskRow) → jid_in t ≡ who → rows_in name ts ≡ found
+    → ((more : List AskRow) → rows_in name ts ≡ Some more → AreRows name ts more)
     → row_then (row_by (attr_text name t) who) found ≡ Some rows → AreRows name (t ∷ ts) rows
 rows-step name t ts None found rows e f again h = absurd (cc)
 rows-step name t ts (Some who) None rows e f again h = absurd (cc)

@@ -12,7 +12,7 @@ use Rattle.ps_types.specs.Tree.{Tree}
 use Rattle.ps_types.specs.declared.jid.Jid.{Jid}
 use Rattle.ps_types.proofs.Lines.{written_one}
 use Rattle.ps_types.proofs.PrintLaws.{print_reads}
-use Rattle.ps_model.specs.Streams.{IsSaying, Saying, is_note, is_reply, line_of, note, notes, notes_in, passes, replies, replies_in, reply}
+use Rattle.ps_model.specs.machine.Streams.{IsSaying, Saying, is_note, is_reply, line_of, note, notes, notes_in, passes, replies, replies_in, reply}
 use Rattle.ps_model.proofs.LineLaws.{reads-line}
 use Rattle.ps_model.proofs.OneLine.{print-line}
 

@@ -1,5 +1,34 @@
 -- The service keeps what the laws of the machine rest on.
-use Rattle.std.proofs.Common.{◌≡◌, ◌≢◌, ℕ, zero, suc, ◌+◌, ◌<◌, Bool, true, false, cond, List, [], ◌∷◌, ◌++◌, length, take, Option, Some, None, refl, sym, ap, subst, ◌∙◌, arith, append_assoc, append-nil}
+use Rattle.std.proofs.Common.{
+  ◌≡◌,
+  ◌≢◌,
+  ℕ,
+  zero,
+  suc,
+  ◌+◌,
+  ◌<◌,
+  Bool,
+  true,
+  false,
+  cond,
+  List,
+  [],
+  ◌∷◌,
+  ◌++◌,
+  length,
+  take,
+  Option,
+  Some,
+  None,
+  refl,
+  sym,
+  ap,
+  subst,
+  ◌∙◌,
+  arith,
+  append_assoc,
+  append-nil,
+}
 use Rattle.std.specs.Prelude.{◌&&◌, ◌==◌, not, nat_lt, slice_get, filter, find, option_map, bytes_eq, Result, Ok, Err, codes}
 use Rattle.std.specs.List.{list_all}
 use Rattle.std.proofs.lemmas.Bool.{and_parts, true≢false, lt-ltb}
@@ -19,13 +48,13 @@ use Rattle.ps_types.specs.declared.rows.LineRow.{LineRow}
 use Rattle.ps_types.specs.declared.rows.TallyRow.{TallyRow}
 use Rattle.ps_model.specs.After as step
 use Rattle.ps_model.specs.After.{book_changed, request_on}
-use Rattle.ps_model.specs.BaseRead.{row_of}
-use Rattle.ps_model.specs.BaseRows.{BaseRow}
-use Rattle.ps_model.specs.BaseRows as base
+use Rattle.ps_model.specs.store.BaseRead.{row_of}
+use Rattle.ps_model.specs.store.BaseRows.{BaseRow}
+use Rattle.ps_model.specs.store.BaseRows as base
 use Rattle.ps_model.specs.Book.{Book, State, empty_state}
-use Rattle.ps_model.specs.Core.{Core, handed}
-use Rattle.ps_model.specs.CoreLaws.{Gains, HasBoot, IsLawful, Laws}
-use Rattle.ps_model.specs.Numbered.{numbered, row_notices}
+use Rattle.ps_model.specs.machine.Core.{Core, handed}
+use Rattle.ps_model.specs.machine.CoreLaws.{Gains, HasBoot, IsLawful, Laws}
+use Rattle.ps_model.specs.notices.Numbered.{numbered, row_notices}
 use Rattle.ps_model.specs.Replay.{IsLawfulFrom, accepted, is_booted, lawful, notices, of_bare, replay, replay_from, row_accepted, to_address}
 use Rattle.ps_types.specs.LineTree.{line_tree}
 use Rattle.ps_types.specs.Shape.{attr_text}
@@ -33,20 +62,20 @@ use Rattle.ps_types.specs.declared.denial.Condition.{Condition}
 use Rattle.ps_types.specs.declared.denial.Condition.TheVariants.{C25}
 use Rattle.ps_types.specs.declared.denial.LineRefusal.TheVariants.{L6, L7}
 use Rattle.ps_types.specs.declared.request.Ask.{Ask}
-use Rattle.ps_model.specs.Asking.{ask_of}
-use Rattle.ps_model.specs.Check.{check}
-use Rattle.ps_model.specs.Commits.{commits}
-use Rattle.ps_model.specs.Outcome.{Outcome, is_accepted}
-use Rattle.ps_model.specs.Outcome as outcome
+use Rattle.ps_model.specs.requests.Asking.{ask_of}
+use Rattle.ps_model.specs.requests.Check.{check}
+use Rattle.ps_model.specs.requests.Commits.{commits}
+use Rattle.ps_model.specs.requests.Outcome.{Outcome, is_accepted}
+use Rattle.ps_model.specs.requests.Outcome as outcome
 use Rattle.ps_model.specs.Replay.{request_accepted}
 use Rattle.ps_model.specs.Replies.{entry_by, entry_of, moment_of, outcome_entry, reply_to}
-use Rattle.ps_model.specs.Stanza.{is_served, is_stanza, jid_of, target_of}
-use Rattle.ps_model.specs.Taken.{Taken}
-use Rattle.ps_model.specs.Taken as taken
-use Rattle.ps_model.specs.Taking as taking
-use Rattle.ps_model.specs.Taking.{ask_taken, head_of, is_white, request_in, result_taken, sender_taken, target_taken, tree_taken}
+use Rattle.ps_model.specs.requests.Stanza.{is_served, is_stanza, jid_of, target_of}
+use Rattle.ps_model.specs.requests.Taken.{Taken}
+use Rattle.ps_model.specs.requests.Taken as taken
+use Rattle.ps_model.specs.requests.Taking as taking
+use Rattle.ps_model.specs.requests.Taking.{ask_taken, head_of, is_white, request_in, result_taken, sender_taken, target_taken, tree_taken}
 use Rattle.ps_model.specs.Tallies.{is_after_row, is_next_line, greatest_line, handed_to, is_line_of, line_in, made_for, more_made}
-use Rattle.ps_model.specs.TheCore.{the_core}
+use Rattle.ps_model.specs.machine.TheCore.{the_core}
 use Rattle.ps_model.proofs.Going.{notices-append, replay-append}
 use Rattle.ps_model.proofs.NumberLaws.{handed-has-one, handed-is-bare, of-full, totals}
 use Rattle.ps_model.proofs.ServiceStays.{service-stays}
@@ -166,7 +195,8 @@ record Made (host : List ℕ) (book : Book) (line : ℕ) (moment : Option ℕ) (
   room : full ≡ false
   entry_is : e ≡ Change host line moment tree
 
-made-by : (host : List ℕ) (book : Book) (line : ℕ) (moment : Option ℕ) (full : Bool) (t : Tree) (r : Request) (e : Entry) (o : Outcome) → check book r ≡ o → (c f : Bool) → commits book r ≡ c → full ≡ f
+made-by : (host : List ℕ) (book : Book) (line : ℕ) (moment : Option ℕ) (full : Bool) (t : Tree) (r : Request) (e : Entry) (o : Outcome) → check book r ≡ o → (c f : Bool) → commits book r ≡ c
+    → full ≡ f
     → outcome_entry (c && not f) (Change host line moment t) o ≡ Some e → Made host book line moment full (taken.asked t r) e
 made-by host book line moment full t r e (outcome.denied why) is c f ci fi at = absurd (let no : None ≡ Some e = at in cc no)
 made-by host book line moment full t r e (outcome.accepted child) is true false ci fi at =
@@ -233,11 +263,13 @@ greatest-same E host line moment t =
     ap (λ (s : State). greatest_line host s.lines) (replay-push E (Change host line moment t))
     ∙ ap line_in (found (is_line_of host) (is_line_of host) (record { host = host; line = line }) (same-host host) (replay E).lines)
 
-greatest-else : (E : List Entry) (host : List ℕ) (line : ℕ) (moment : Option ℕ) (t : Tree) (h : List ℕ) → h ≢ host → greatest_line h (replay (E ++ Change host line moment t ∷ [])).lines ≡ greatest_line h (replay E).lines
+greatest-else : (E : List Entry) (host : List ℕ) (line : ℕ) (moment : Option ℕ) (t : Tree) (h : List ℕ) → h ≢ host
+    → greatest_line h (replay (E ++ Change host line moment t ∷ [])).lines ≡ greatest_line h (replay E).lines
 greatest-else E host line moment t h differ =
     let row : LineRow = record { host = host; line = line } in
     let is : is_line_of h row ≡ false = let b = bytes_eq h host in other-host h host differ b refl in
-    let apart = λ (x : LineRow) (e : is_line_of host x ≡ true). let same : host ≡ x.host = (bytes_eq-Decides host x.host).0 e in let b = bytes_eq h x.host in other-host h x.host (λ q. differ (q ∙ sym same)) b refl in
+    let apart = λ (x : LineRow) (e : is_line_of host x ≡ true). let same : host ≡ x.host = (bytes_eq-Decides host x.host).0 e in let b = bytes_eq h x.host in other-host h x.host
+    (λ q. differ (q ∙ sym same)) b refl in
     ap (λ (s : State). greatest_line h s.lines) (replay-push E (Change host line moment t))
     ∙ ap line_in (kept (is_line_of host) (is_line_of h) row is apart (replay E).lines)
 
@@ -288,7 +320,8 @@ handed-only E a is ok =
     let t = totals a bare E is in
     omega (arith, has, t.1, t.2)
 
-change-accepted : (E : List Entry) (host : List ℕ) (line : ℕ) (a : Arrival) (full : Bool) (e : Entry) → lawful E → HasBoot E → entry_of host (replay E).book line a full ≡ Some e → greatest_line host (replay E).lines < line → accepted (replay E) e ≡ true
+change-accepted : (E : List Entry) (host : List ℕ) (line : ℕ) (a : Arrival) (full : Bool) (e : Entry) → lawful E → HasBoot E → entry_of host (replay E).book line a full ≡ Some e
+    → greatest_line host (replay E).lines < line → accepted (replay E) e ≡ true
 change-accepted E host line a full e is has at less =
     let s = replay E in
     let m = made-entry host s.book line (moment_of a) full (taking.taken host s.book.service a) e at in
@@ -296,7 +329,8 @@ change-accepted E host line a full e is has at less =
     let asks : request_accepted (request_in (tree_taken host s.book.service m.tree)) s.book ≡ true =
     ap (λ (x : Taken). request_accepted (request_in x) s.book) read ∙ both (is_accepted (check s.book m.request)) (commits s.book m.request) m.accepted_is m.commits_is in
     let ok : accepted s (Change host line (moment_of a) m.tree) ≡ true =
-    all-true (is_booted s) (request_accepted (request_in (tree_taken host s.book.service m.tree)) s.book) (is_next_line host line s.lines) (is-booted E is has) asks (next-line line (find (is_line_of host) s.lines) less) in
+    all-true (is_booted s) (request_accepted (request_in (tree_taken host s.book.service m.tree)) s.book) (is_next_line host line s.lines) (is-booted E is has) asks
+    (next-line line (find (is_line_of host) s.lines) less) in
     ap (accepted s) m.entry_is ∙ ok
 
 -- ---- the two ways to say that a list is lawful

@@ -5,7 +5,7 @@ use Rattle.ps_types.specs.Address.{IsAddress}
 use Rattle.ps_types.specs.declared.event.Event.{Event}
 use Rattle.ps_types.specs.declared.event.Event.TheVariants.{Approval, Told, Last, Question}
 use Rattle.ps_types.specs.declared.jid.Jid.{Jid}
-use Rattle.ps_model.specs.BaseAfter.{is_early}
+use Rattle.ps_model.specs.store.BaseAfter.{is_early}
 use Rattle.ps_model.specs.Book.{Book}
 
 -- those with subscriptions and those that are present

@@ -13,18 +13,18 @@ use Rattle.ps_types.specs.declared.jid.Jid.{Jid}
 use Rattle.ps_types.specs.declared.request.Request.{Request}
 use Rattle.ps_types.specs.declared.rows.LineRow.{LineRow}
 use Rattle.ps_types.specs.declared.rows.TallyRow.{TallyRow}
-use Rattle.ps_model.specs.BaseAfter.{book_with}
-use Rattle.ps_model.specs.BaseRead.{row_of}
-use Rattle.ps_model.specs.BaseRows.{BaseRow}
+use Rattle.ps_model.specs.store.BaseAfter.{book_with}
+use Rattle.ps_model.specs.store.BaseRead.{row_of}
+use Rattle.ps_model.specs.store.BaseRows.{BaseRow}
 use Rattle.ps_model.specs.Book.{Book, State}
-use Rattle.ps_model.specs.Changes.{changed}
-use Rattle.ps_model.specs.Given.{asked, given}
-use Rattle.ps_model.specs.Events.{events_of}
+use Rattle.ps_model.specs.requests.Changes.{changed}
+use Rattle.ps_model.specs.notices.Given.{asked, given}
+use Rattle.ps_model.specs.notices.Events.{events_of}
 use Rattle.ps_model.specs.Sorted.{sorted}
-use Rattle.ps_model.specs.Stanza.{jid_of}
-use Rattle.ps_model.specs.Taking.{request_in, sender_taken}
+use Rattle.ps_model.specs.requests.Stanza.{jid_of}
+use Rattle.ps_model.specs.requests.Taking.{request_in, sender_taken}
 use Rattle.ps_model.specs.Tallies.{lines_with, one_handed}
-use Rattle.ps_model.specs.Numbered.{numbered, row_notices, row_tallies, tallied}
+use Rattle.ps_model.specs.notices.Numbered.{numbered, row_notices, row_tallies, tallied}
 
 -- ---- the Book
 

@@ -5,7 +5,7 @@ use Rattle.ps_types.specs.declared.request.AskRow.{AskRow}
 use Rattle.ps_types.specs.Namespaces.{data_ns, pubsub_ns}
 use Rattle.ps_types.specs.Shape.{attr_text}
 use Rattle.ps_types.specs.Tree.{Tree, Nodes, none, branch, words, child_at, child_of}
-use Rattle.ps_model.specs.Stanza.{jid_of}
+use Rattle.ps_model.specs.requests.Stanza.{jid_of}
 
 -- the first child tree, and the children after it
 abbrev pub first_tree : Nodes → Option (Tree × Nodes)

@@ -19,15 +19,15 @@ use Rattle.ps_types.specs.Print.{client}
 use Rattle.ps_types.specs.Shape.{attr_pair, element, holding}
 use Rattle.ps_types.specs.Tree.{Tree, tree}
 use Rattle.ps_model.specs.Book.{Book}
-use Rattle.ps_model.specs.Check.{check}
-use Rattle.ps_model.specs.Commits.{commits}
+use Rattle.ps_model.specs.requests.Check.{check}
+use Rattle.ps_model.specs.requests.Commits.{commits}
 use Rattle.ps_model.specs.Conditions.{error_tree}
-use Rattle.ps_model.specs.Outcome.{Outcome}
-use Rattle.ps_model.specs.Outcome as outcome
-use Rattle.ps_model.specs.Stanza.{is_iq, is_presence}
-use Rattle.ps_model.specs.Taken.{Head, Taken}
-use Rattle.ps_model.specs.Taken as taken
-use Rattle.ps_model.specs.Taking.{taken, head_of, is_answered}
+use Rattle.ps_model.specs.requests.Outcome.{Outcome}
+use Rattle.ps_model.specs.requests.Outcome as outcome
+use Rattle.ps_model.specs.requests.Stanza.{is_iq, is_presence}
+use Rattle.ps_model.specs.requests.Taken.{Head, Taken}
+use Rattle.ps_model.specs.requests.Taken as taken
+use Rattle.ps_model.specs.requests.Taking.{taken, head_of, is_answered}
 
 -- ---- the trees
 

@@ -10,7 +10,7 @@ ghost use Rattle.ps_types.specs.declared.rows.Affil.TheVariants.{Outcast};
 ghost use Rattle.ps_model.specs.Access.{affiliation, own, publish, read, subscribe};
 ghost use Rattle.ps_model.specs.Book.{Book, empty_book};
 ghost use Rattle.ps_model.specs.Bounds.{IsBounded};
-ghost use Rattle.ps_model.specs.Changes.{changed};
+ghost use Rattle.ps_model.specs.requests.Changes.{changed};
 
 /// An outcast is forbidden all at a node that stands.
 pub fn outcast_is_forbidden()

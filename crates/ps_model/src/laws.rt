@@ -4,10 +4,10 @@ ghost use Rattle.ps_types.specs.declared.entry.Entry.{Entry};
 ghost use Rattle.ps_types.specs.declared.event.Event.{Event};
 ghost use Rattle.ps_types.specs.declared.node.NodeKey.{NodeKey};
 ghost use Rattle.ps_model.specs.Book.{Book};
-ghost use Rattle.ps_model.specs.CoreLaws.{AreSame, IsLawful};
-ghost use Rattle.ps_model.specs.ListLaws.{GoesToReaders, NobodyIsMissed, NoticesGrow, NumbersRise, ReplayGoesOn};
+ghost use Rattle.ps_model.specs.machine.CoreLaws.{AreSame, IsLawful};
+ghost use Rattle.ps_model.specs.machine.ListLaws.{GoesToReaders, NobodyIsMissed, NoticesGrow, NumbersRise, ReplayGoesOn};
 ghost use Rattle.ps_model.specs.Replay.{lawful};
-ghost use Rattle.ps_model.specs.TheCore.{the_core};
+ghost use Rattle.ps_model.specs.machine.TheCore.{the_core};
 
 /// What a list leaves, followed by another, is what the other leaves from there on.
 pub fn replay_goes_on()

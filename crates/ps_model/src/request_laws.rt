@@ -10,12 +10,12 @@ ghost use Rattle.ps_types.specs.Tree.{Tree, levels};
 ghost use Rattle.ps_types.specs.Address.{Spells};
 ghost use Rattle.ps_types.specs.declared.jid.Jid.{Jid};
 ghost use Rattle.ps_types.specs.declared.request.Request.{Request};
-ghost use Rattle.ps_model.specs.CoreLaws.{AreSame};
-ghost use Rattle.ps_model.specs.ReadFrom.{IsReadFrom};
-ghost use Rattle.ps_model.specs.Spelled.{SpellsRequest};
-ghost use Rattle.ps_model.specs.Stanza.{jid_of};
-ghost use Rattle.ps_model.specs.Taken.{asked};
-ghost use Rattle.ps_model.specs.Taking.{tree_taken};
+ghost use Rattle.ps_model.specs.machine.CoreLaws.{AreSame};
+ghost use Rattle.ps_model.specs.machine.ReadFrom.{IsReadFrom};
+ghost use Rattle.ps_model.specs.requests.Spelled.{SpellsRequest};
+ghost use Rattle.ps_model.specs.requests.Stanza.{jid_of};
+ghost use Rattle.ps_model.specs.requests.Taken.{asked};
+ghost use Rattle.ps_model.specs.requests.Taking.{tree_taken};
 
 /// The tree that a text reads as is the tree of the line, and the line refusal says why there is none.
 pub fn line_reads()

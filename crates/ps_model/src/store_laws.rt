@@ -1,8 +1,8 @@
 // Laws of what the bytes of a store spell. Each function is its contract.
 ghost use Rattle.std.specs.Prelude.{◌≡◌, List, ℕ};
 ghost use Rattle.ps_types.specs.declared.entry.Entry.{Entry};
-ghost use Rattle.ps_model.specs.Store.{spelled};
-ghost use Rattle.ps_model.specs.At.{HasNeither, IsDamagedAt, IsStore};
+ghost use Rattle.ps_model.specs.store.Store.{spelled};
+ghost use Rattle.ps_model.specs.store.At.{HasNeither, IsDamagedAt, IsStore};
 
 /// The bytes of a store spell one list of entries at most.
 pub fn one_list()

@@ -19,11 +19,11 @@ use Rattle.ps_types.specs.declared.rows.NodeRow.{NodeRow}
 use Rattle.ps_types.specs.declared.rows.RosterRow.{RosterRow}
 use Rattle.ps_types.specs.declared.rows.SubRow.{SubRow}
 use Rattle.ps_model.specs.Book.{Book}
-use Rattle.ps_model.specs.Check.{check}
-use Rattle.ps_model.specs.Commits.{commits}
-use Rattle.ps_model.specs.Outcome.{Outcome, accepted, denied}
+use Rattle.ps_model.specs.requests.Check.{check}
+use Rattle.ps_model.specs.requests.Commits.{commits}
+use Rattle.ps_model.specs.requests.Outcome.{Outcome, accepted, denied}
 use Rattle.ps_model.specs.Replies.{outcome_reply}
-use Rattle.ps_model.specs.Stanza.{host_jid}
+use Rattle.ps_model.specs.requests.Stanza.{host_jid}
 use Rattle.ps_model_cases.specs.LimitCases as it
 use Rattle.ps_model_cases.specs.Words.{bare_bob, news, pubsub, sent_by, service, subscription, to_ann, to_bob}
 

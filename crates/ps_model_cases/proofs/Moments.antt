@@ -4,7 +4,7 @@ use Rattle.json.specs.Print as text
 use Rattle.std.specs.Fmt as fmt
 use Rattle.ps_types.specs.Same as same
 use Rattle.ps_model.specs.Stamp.{stamp}
-use Rattle.ps_model.specs.TheCore.{the_core}
+use Rattle.ps_model.specs.machine.TheCore.{the_core}
 use Rattle.ps_model_cases.specs.Crashed as crashed
 use Rattle.ps_model_cases.specs.NoticeCases.{item_notice}
 

@@ -10,7 +10,7 @@ use Rattle.sha1.specs.Sha1 as sha
 use Rattle.std.specs.Fmt as fmt
 use Rattle.std.specs.Str as str
 use Rattle.ps_types.specs.Same as same
-use Rattle.ps_model.specs.Base.{base}
+use Rattle.ps_model.specs.store.Base.{base}
 use Rattle.ps_model_cases.specs.Compacted as compacted
 use Rattle.ps_model_cases.specs.NoticeCases.{item_line}
 

@@ -5,9 +5,9 @@ use Rattle.ps_types.specs.Tree.{Tree, tree, none, words}
 use Rattle.ps_types.specs.declared.entry.Entry.{Entry}
 use Rattle.ps_types.specs.declared.entry.Entry.TheVariants.{Base, Handed}
 use Rattle.ps_model.specs.After.{after}
-use Rattle.ps_model.specs.Base.{base}
+use Rattle.ps_model.specs.store.Base.{base}
 use Rattle.ps_model.specs.Book.{State, empty_state}
-use Rattle.ps_model.specs.Entries.{body}
+use Rattle.ps_model.specs.store.Entries.{body}
 use Rattle.ps_model.specs.Replay.{accepted, notices}
 use Rattle.ps_model_cases.specs.Case.{boot, change_of, list_of}
 use Rattle.ps_model_cases.specs.CollectionCases.{deep}

@@ -9,7 +9,7 @@ use Rattle.ps_types.specs.declared.rows.NodeRow.{NodeRow}
 use Rattle.ps_types.specs.declared.rows.RosterRow.{RosterRow}
 use Rattle.ps_types.specs.declared.rows.SubRow.{SubRow}
 use Rattle.ps_model.specs.Book.{Book}
-use Rattle.ps_model.specs.Stanza.{host_jid}
+use Rattle.ps_model.specs.requests.Stanza.{host_jid}
 use Rattle.ps_model.specs.Replay.{replay}
 use Rattle.ps_model_cases.specs.Case.{boot, line_of, list_of}
 use Rattle.ps_model_cases.specs.Denials.{no_room, too_many_subscriptions}

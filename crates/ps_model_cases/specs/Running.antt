@@ -6,8 +6,8 @@ use Rattle.ps_types.specs.declared.entry.Entry.{Entry}
 use Rattle.ps_model.specs.Book.{Book, State}
 use Rattle.ps_model.specs.Replay.{replay_from}
 use Rattle.ps_model.specs.Replies.{entry_by, moment_of, reply_by}
-use Rattle.ps_model.specs.Taken.{Taken}
-use Rattle.ps_model.specs.Taking.{taken}
+use Rattle.ps_model.specs.requests.Taken.{Taken}
+use Rattle.ps_model.specs.requests.Taking.{taken}
 
 -- ---- one line
 

@@ -1,6 +1,6 @@
 // Stores, crashes and moments. Each function is its contract.
 ghost use Rattle.std.specs.Prelude.{◌≡◌, [], ◌∷◌, ◌++◌, codes, true};
-ghost use Rattle.ps_model.specs.Base.{base};
+ghost use Rattle.ps_model.specs.store.Base.{base};
 ghost use Rattle.ps_model.specs.Stamp.{stamp};
 ghost use Rattle.ps_model_cases.specs.Compacted as compacted;
 ghost use Rattle.ps_model_cases.specs.Crashed as crashed;

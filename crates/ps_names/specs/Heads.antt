@@ -5,7 +5,7 @@ use Rattle.ps_types.specs.declared.config.NoticeKind.TheVariants.{Normal, Headli
 use Rattle.ps_names.specs.declared.conditions.Wording.{Wording}
 use Rattle.ps_names.specs.declared.replies.ReplyHead.{ReplyHead}
 use Rattle.ps_model.specs.Conditions as model
-use Rattle.ps_model.specs.Taken as taken
+use Rattle.ps_model.specs.requests.Taken as taken
 
 -- the head of the stanza that the reply answers
 abbrev pub stanza_head : ReplyHead → taken.Head

@@ -5,9 +5,9 @@ ghost use Rattle.ps_types.specs.Attrs.{with_attr};
 ghost use Rattle.ps_types.specs.Elem.{nodes};
 ghost use Rattle.ps_types.specs.Print.{client};
 ghost use Rattle.ps_types.specs.Shape.{attr_pair, holding};
-ghost use Rattle.ps_model.specs.NoticeTrees.{kind_attr, with_id};
+ghost use Rattle.ps_model.specs.notices.NoticeTrees.{kind_attr, with_id};
 ghost use Rattle.ps_model.specs.Conditions.{error_tree, extra_trees};
-ghost use Rattle.ps_model.specs.NoticeTrees as notice;
+ghost use Rattle.ps_model.specs.notices.NoticeTrees as notice;
 ghost use Rattle.ps_model.specs.Replies as model;
 ghost use Rattle.ps_names.specs.Heads.{stanza_head, kind_of};
 

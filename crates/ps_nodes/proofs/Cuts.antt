@@ -125,7 +125,8 @@ module _ {R : Type 0} where
       (λ i l m. let h : from + suc place ≤ get_or (empties (from + 1) xs) i 0 = a i l m in omega (arith, h)) in
       omega (arith, r)
 
-  pub rank-cut : (slots : List (Option R)) (gaps : List ℕ) (place cut : ℕ) → gaps ≡ empties 0 slots → place ≤ length slots → IsCut false gaps place cut → length (standing (take place slots)) + cut ≡ place
+  pub rank-cut : (slots : List (Option R)) (gaps : List ℕ) (place cut : ℕ) → gaps ≡ empties 0 slots → place ≤ length slots → IsCut false gaps place cut
+      → length (standing (take place slots)) + cut ≡ place
   rank-cut slots gaps place cut e p is =
       let k : IsCut false (empties 0 slots) place cut = subst (λ gs. IsCut false gs place cut) e is in
       rank 0 slots place cut p k.within
@@ -133,8 +134,10 @@ module _ {R : Type 0} where
       (λ i l m. let h : place + 0 ≤ get_or (empties 0 slots) i 0 = k.after i l m in omega (arith, h))
 
   -- where a row goes, its place is a gap
-  put : (from : ℕ) (slots : List (Option R)) (place cut : ℕ) (row : R) → mark_at slots place ≡ Some row → cut ≤ length (empties from slots) → ((i : ℕ) → i < cut → get_or (empties from slots) i 0 < from + place)
-      → ((i : ℕ) → cut ≤ i → i < length (empties from slots) → from + place ≤ get_or (empties from slots) i 0) → empties from (slice_set slots place None) ≡ insert (empties from slots) cut (from + place)
+  put : (from : ℕ) (slots : List (Option R)) (place cut : ℕ) (row : R) → mark_at slots place ≡ Some row → cut ≤ length (empties from slots)
+      → ((i : ℕ) → i < cut → get_or (empties from slots) i 0 < from + place)
+      → ((i : ℕ) → cut ≤ i → i < length (empties from slots) → from + place ≤ get_or (empties from slots) i 0)
+      → empties from (slice_set slots place None) ≡ insert (empties from slots) cut (from + place)
   put from [] place cut row h w b a = cc
   put from (None ∷ xs) zero cut row h w b a = cc
   put from (Some x ∷ xs) zero zero row h w b a = let n : from ≡ from + 0 = omega arith in ap (λ g. g ∷ empties (from + 1) xs) n
@@ -156,7 +159,8 @@ module _ {R : Type 0} where
       (λ i l m. let k : from + suc place ≤ get_or (empties (from + 1) xs) i 0 = a i l m in omega (arith, k))
       ∙ ap (λ q. insert (empties (from + 1) xs) cut q) n
 
-  pub put-gap : (slots : List (Option R)) (gaps new : List ℕ) (place : ℕ) (row : R) → gaps ≡ empties 0 slots → mark_at slots place ≡ Some row → IsPut place gaps new → new ≡ empties 0 (slice_set slots place None)
+  pub put-gap : (slots : List (Option R)) (gaps new : List ℕ) (place : ℕ) (row : R) → gaps ≡ empties 0 slots → mark_at slots place ≡ Some row → IsPut place gaps new
+      → new ≡ empties 0 (slice_set slots place None)
   put-gap slots gaps new place row e h is =
       let k : IsCut false (empties 0 slots) place is.cut = subst (λ gs. IsCut false gs place is.cut) e is.is in
       let n : 0 + place ≡ place = omega arith in

@@ -24,7 +24,8 @@ module _ (node : NodeKey) where
   row_here (Some row) h = (row, refl, h)
 
   -- the node stands, or not
-  pub stands-found : (slots : List (Option NodeRow)) (o : Option ℕ) (place : ℕ) → seen (is_node node) o slots ≡ [] → o ≡ Some place → passes_at (is_node node) (mark_at slots place) ≡ true → true ≡ stands node (standing slots)
+  pub stands-found : (slots : List (Option NodeRow)) (o : Option ℕ) (place : ℕ) → seen (is_node node) o slots ≡ [] → o ≡ Some place → passes_at (is_node node) (mark_at slots place) ≡ true
+      → true ≡ stands node (standing slots)
   stands-found slots o place s e h =
       let p = row_here (mark_at slots place) h in
       ap (λ (x : Option NodeRow). is_some x) (sym p.1 ∙ found_row (is_node node) slots o place s e h)
@@ -36,7 +37,8 @@ module _ (node : NodeKey) where
   pub none-pass : (slots : List (Option NodeRow)) (o : Option ℕ) → seen (is_node node) o slots ≡ [] → o ≡ None → filter (is_node node) (standing slots) ≡ []
   none-pass slots o s e = subst (λ x. seen (is_node node) x slots ≡ []) e s
 
-  module _ (slots : List (Option NodeRow)) (gaps : List ℕ) (place at : ℕ) (are : gaps ≡ empties 0 slots) (is : passes_at (is_node node) (mark_at slots place) ≡ true) (few : at ≤ place) (cut : IsCut false gaps place (place - at)) where
+  module _ (slots : List (Option NodeRow)) (gaps : List ℕ) (place at : ℕ) (are : gaps ≡ empties 0 slots) (is : passes_at (is_node node) (mark_at slots place) ≡ true) (few : at ≤ place)
+      (cut : IsCut false gaps place (place - at)) where
     pub rank-there : is_there node (slice_get (standing slots) at) ≡ true
     rank-there =
         let p = row_here (mark_at slots place) is in
@@ -50,7 +52,8 @@ module _ (node : NodeKey) where
 
   nowhere : (rows : List NodeRow) (other : ℕ) → filter (is_node node) rows ≡ [] → is_there node (slice_get rows other) ≡ true → ⊥
   nowhere [] other f h = absurd (cc)
-  nowhere (x ∷ xs) zero f h = let g : cond true (x ∷ filter (is_node node) xs) (filter (is_node node) xs) ≡ [] = subst (λ b. cond b (x ∷ filter (is_node node) xs) (filter (is_node node) xs) ≡ []) h f in absurd (cc)
+  nowhere (x ∷ xs) zero f h = let g : cond true (x ∷ filter (is_node node) xs) (filter (is_node node) xs) ≡ [] = subst (λ b. cond b (x ∷ filter (is_node node) xs) (filter (is_node node) xs) ≡ []) h f
+      in absurd (cc)
   nowhere (x ∷ xs) (suc other) f h = nowhere xs other (rest (is_node node x) f) h
     where
       rest : (b : Bool) → cond b (x ∷ filter (is_node node) xs) (filter (is_node node) xs) ≡ [] → filter (is_node node) xs ≡ []

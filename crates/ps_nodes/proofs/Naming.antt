@@ -47,10 +47,13 @@ module _ {R : Type 0} where
 module _ (name : List ℕ) (slots : List (Option NodeRow)) (place : ℕ) where
   -- what is found at a place
   at_place : (o : Option NodeRow) → mark_at slots place ≡ o
-      → map place_in (passing (is_named_in name) (mark_at (ranked 0 slots) place)) ≡ map place_in (passing (is_named_in name) (option_map (λ (row : NodeRow). (0 + length (standing (take place slots)), row)) o))
-  at_place o h = ap (λ (x : Option (ℕ × NodeRow)). map place_in (passing (is_named_in name) x)) (ranked-at 0 slots place ∙ ap (option_map (λ (row : NodeRow). (0 + length (standing (take place slots)), row))) h)
+      → map place_in (passing (is_named_in name) (mark_at (ranked 0 slots) place)) ≡ map place_in
+      (passing (is_named_in name) (option_map (λ (row : NodeRow). (0 + length (standing (take place slots)), row)) o))
+  at_place o h = ap (λ (x : Option (ℕ × NodeRow)). map place_in (passing (is_named_in name) x))
+      (ranked-at 0 slots place ∙ ap (option_map (λ (row : NodeRow). (0 + length (standing (take place slots)), row))) h)
 
-  pub place-found : (at : ℕ) (row : NodeRow) → mark_at slots place ≡ Some row → is_named name row ≡ true → at ≡ length (standing (take place slots)) → at ∷ [] ≡ map place_in (passing (is_named_in name) (mark_at (ranked 0 slots) place))
+  pub place-found : (at : ℕ) (row : NodeRow) → mark_at slots place ≡ Some row → is_named name row ≡ true → at ≡ length (standing (take place slots))
+      → at ∷ [] ≡ map place_in (passing (is_named_in name) (mark_at (ranked 0 slots) place))
   place-found at row h t e =
       let n : at ≡ 0 + length (standing (take place slots)) = omega (arith, e) in
       ap (λ x. x ∷ []) n ∙ (sym (ap (λ b. map place_in (cond b ((0 + length (standing (take place slots)), row) ∷ []) [])) t) ∙ sym (at_place (Some row) h))

@@ -63,7 +63,8 @@ module _ {R : Type 0} (test : R → Bool) where
       omega (arith, a, b, c)
 
   -- as many where a row is changed that passes as before
-  pub count-made : (f : R → R) → ((x : R) → test (f x) ≡ test x) → (slots : List (Option R)) (place : ℕ) → count_by test (standing (slice_set slots place (option_map f (mark_at slots place)))) ≡ count_by test (standing slots)
+  pub count-made : (f : R → R) → ((x : R) → test (f x) ≡ test x) → (slots : List (Option R)) (place : ℕ)
+      → count_by test (standing (slice_set slots place (option_map f (mark_at slots place)))) ≡ count_by test (standing slots)
   count-made f h [] place = refl
   count-made f h (None ∷ xs) zero = refl
   count-made f h (Some x ∷ xs) zero =
@@ -139,6 +140,7 @@ once-push rows row o s = λ node. by node (is_node node row) refl
 pub once-gone : (slots slots' : List (Option NodeRow)) (place : ℕ) → slots' ≡ slice_set slots place None → AreOnce (standing slots) → AreOnce (standing slots')
 once-gone slots slots' place n o = subst (λ s. AreOnce (standing s)) (sym n) (λ node. let c = count-gone (is_node node) slots place in let h = o node in omega (arith, c, h))
 
-pub once-made : (config : NodeConfig) (slots slots' : List (Option NodeRow)) (place : ℕ) → slots' ≡ slice_set slots place (option_map (with_config config) (mark_at slots place)) → AreOnce (standing slots) → AreOnce (standing slots')
+pub once-made : (config : NodeConfig) (slots slots' : List (Option NodeRow)) (place : ℕ) → slots' ≡ slice_set slots place (option_map (with_config config) (mark_at slots place))
+    → AreOnce (standing slots) → AreOnce (standing slots')
 once-made config slots slots' place n o =
     subst (λ s. AreOnce (standing s)) (sym n) (λ node. let c = count-made (is_node node) (with_config config) (λ x. refl) slots place in let h = o node in omega (arith, c, h))

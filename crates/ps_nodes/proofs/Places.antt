@@ -1,5 +1,36 @@
 -- Rows that are listed by their places.
-use Rattle.std.proofs.Common.{◌≡◌, ◌<◌, ◌≤◌, ℕ, zero, suc, Bool, true, false, cond, ◌||◌, List, [], ◌∷◌, ◌++◌, Option, Some, None, refl, ap, sym, subst, ◌∙◌, filter, take, length, get_or, append_assoc, append-nil, arith}
+use Rattle.std.proofs.Common.{
+  ◌≡◌,
+  ◌<◌,
+  ◌≤◌,
+  ℕ,
+  zero,
+  suc,
+  Bool,
+  true,
+  false,
+  cond,
+  ◌||◌,
+  List,
+  [],
+  ◌∷◌,
+  ◌++◌,
+  Option,
+  Some,
+  None,
+  refl,
+  ap,
+  sym,
+  subst,
+  ◌∙◌,
+  filter,
+  take,
+  length,
+  get_or,
+  append_assoc,
+  append-nil,
+  arith,
+}
 use Rattle.std.specs.Prelude.{nat_eq, nat_lt, slice_get}
 use Rattle.std.proofs.lemmas.List.{take_all}
 use Rattle.std.proofs.lemmas.Cmp.{ranked}
@@ -129,11 +160,13 @@ module _ {R : Type 0} where
   rows_at-append (x ∷ xs) ys rows = ap (λ r. option_list (slice_get rows x) ++ r) (rows_at-append xs ys rows) ∙ sym (append_assoc (option_list (slice_get rows x)) (rows_at xs rows) (rows_at ys rows))
 
   -- one place more
-  pub rows_at-more : (places : List ℕ) (at : ℕ) (place : ℕ) (rows : List R) → slice_get places at ≡ Some place → rows_at (take (suc at) places) rows ≡ rows_at (take at places) rows ++ option_list (slice_get rows place)
+  pub rows_at-more : (places : List ℕ) (at : ℕ) (place : ℕ) (rows : List R) → slice_get places at ≡ Some place
+      → rows_at (take (suc at) places) rows ≡ rows_at (take at places) rows ++ option_list (slice_get rows place)
   rows_at-more [] at place rows h = absurd (cc)
   rows_at-more (x ∷ xs) zero place rows h = let e : x ≡ place = cc in ap (λ p. option_list (slice_get rows p) ++ []) e ∙ append-nil (option_list (slice_get rows place))
   rows_at-more (x ∷ xs) (suc at) place rows h =
-      ap (λ r. option_list (slice_get rows x) ++ r) (rows_at-more xs at place rows h) ∙ sym (append_assoc (option_list (slice_get rows x)) (rows_at (take at xs) rows) (option_list (slice_get rows place)))
+      ap (λ r. option_list (slice_get rows x) ++ r) (rows_at-more xs at place rows h) ∙ sym
+      (append_assoc (option_list (slice_get rows x)) (rows_at (take at xs) rows) (option_list (slice_get rows place)))
 
 module _ {X : Type 0} (test : X → Bool) where
   -- one place more

@@ -5,7 +5,7 @@ use Rattle.ps_types.specs.Tree.{Tree}
 use Rattle.ps_types.specs.declared.entry.Notice.{Notice}
 use Rattle.ps_types.specs.declared.jid.Jid.{Jid}
 use Rattle.ps_types.specs.declared.rows.TallyRow.{TallyRow}
-use Rattle.ps_model.specs.Numbered.{notice_of, numbered, tallied}
+use Rattle.ps_model.specs.notices.Numbered.{notice_of, numbered, tallied}
 use Rattle.ps_model.specs.Tallies.{made_for, more_made}
 use Rattle.ps_model.proofs.TallyLaws.{made-kept, made-more}
 use Rattle.ps_notices.specs.Due.{AreFew, tallied_by}

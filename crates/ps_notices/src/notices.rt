@@ -1,7 +1,7 @@
 // The notices of an entry.
 ghost use Rattle.std.specs.Prelude.{◌≡◌, IfOk};
 ghost use Rattle.ps_model.specs.After.{all_due};
-ghost use Rattle.ps_model.specs.Numbered as model;
+ghost use Rattle.ps_model.specs.notices.Numbered as model;
 ghost use Rattle.ps_access.specs.Tables.{book_of};
 ghost use Rattle.ps_filter.specs.Wants.{AreWants};
 ghost use Rattle.ps_model.specs.Addressed.{AreAddresses, AreEarly, AreNamed};

@@ -1,6 +1,6 @@
 // Numbers, ids and lines.
 ghost use Rattle.std.specs.Prelude.{◌≡◌, ◌+◌, ◌^◌, ◌<◌, IfOk, OnOk};
-ghost use Rattle.ps_model.specs.Numbered as model;
+ghost use Rattle.ps_model.specs.notices.Numbered as model;
 ghost use Rattle.ps_model.specs.Tallies.{made_for, more_made};
 ghost use Rattle.ps_notices.specs.Due.{AreFew};
 

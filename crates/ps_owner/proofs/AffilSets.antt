@@ -18,8 +18,8 @@ use Rattle.ps_types.specs.Same.{same_node, same_jid, same_bare}
 use Rattle.ps_types.proofs.Same.{same_jid-Decides, same_node-Decides, same_node-itself}
 use Rattle.ps_model.specs.Access.{is_account}
 use Rattle.ps_model.specs.Book.{Book}
-use Rattle.ps_model.specs.ChangeOwner.{asked_affil, affils_asked}
-use Rattle.ps_model.specs.CheckOwner.{is_owner_row, keeps_owner}
+use Rattle.ps_model.specs.requests.ChangeOwner.{asked_affil, affils_asked}
+use Rattle.ps_model.specs.requests.CheckOwner.{is_owner_row, keeps_owner}
 use Rattle.ps_model.specs.SameRows.{same_affils}
 use Rattle.ps_affil.specs.Among.{is_among, is_other_owner, owns_at}
 use Rattle.ps_rows.specs.Around.{own_and_last}

@@ -18,11 +18,11 @@ use Rattle.ps_types.specs.Same.{same_node, same_jid}
 use Rattle.ps_types.proofs.Same.{same_node-itself, same_jid-Decides}
 use Rattle.ps_types.specs.Tree.{Tree}
 use Rattle.ps_model.specs.Book.{Book}
-use Rattle.ps_model.specs.ChangeOwner.{items_under, config_change, configured, configured_by}
-use Rattle.ps_model.specs.CheckConfig.{config_step, given_step, is_cancelled}
-use Rattle.ps_model.specs.CheckForms.{config_given, is_unmoved}
+use Rattle.ps_model.specs.requests.ChangeOwner.{items_under, config_change, configured, configured_by}
+use Rattle.ps_model.specs.requests.CheckConfig.{config_step, given_step, is_cancelled}
+use Rattle.ps_model.specs.requests.CheckForms.{config_given, is_unmoved}
 use Rattle.ps_model.specs.SameRows.{same_config, same_nodes}
-use Rattle.ps_model.specs.Steps.{first_denial, unless}
+use Rattle.ps_model.specs.requests.Steps.{first_denial, unless}
 use Rattle.ps_model.proofs.Differs.{all-same, same-change, found-kept}
 use Rattle.ps_owner.specs.Plans.{configures}
 

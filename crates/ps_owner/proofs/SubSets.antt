@@ -16,7 +16,7 @@ use Rattle.ps_types.specs.contracts.rows.SubRowEq.TheImpl.Laws.{laws-law}
 use Rattle.ps_types.specs.Subs.{is_sub_at, is_sub_of, sub_count, sub_row, subs_by, subs_with}
 use Rattle.ps_types.specs.Same.{same_node, same_jid}
 use Rattle.ps_types.proofs.Same.{same_jid-Decides, same_node-Decides, same_node-itself}
-use Rattle.ps_model.specs.ChangeOwner.{options_in, sub_with, subs_asked}
+use Rattle.ps_model.specs.requests.ChangeOwner.{options_in, sub_with, subs_asked}
 use Rattle.ps_model.specs.SameRows.{same_subs}
 use Rattle.ps_model.specs.Words.{sub_of}
 use Rattle.ps_rows.specs.Around.{own_and_last}

@@ -5,7 +5,7 @@ use Rattle.ps_types.specs.declared.request.AskRow.{AskRow}
 use Rattle.ps_types.specs.declared.rows.AffilRow.{AffilRow}
 use Rattle.ps_types.specs.declared.rows.SubRow.{SubRow}
 use Rattle.ps_types.specs.declared.rows.SubState.TheVariants.{Nothing}
-use Rattle.ps_model.specs.ChangeOwner.{asked_affil, affils_asked, sub_with, subs_asked}
+use Rattle.ps_model.specs.requests.ChangeOwner.{asked_affil, affils_asked, sub_with, subs_asked}
 use Rattle.ps_model.specs.Words.{sub_of}
 use Rattle.ps_affil.specs.Among as affils
 use Rattle.ps_subs.specs.Among as subs

@@ -8,8 +8,8 @@ use Rattle.ps_types.specs.declared.request.Ask.{Ask}
 use Rattle.ps_types.specs.declared.request.Ask.TheVariants as ask
 use Rattle.ps_types.specs.Tree.{Tree}
 use Rattle.ps_model.specs.Book.{Book}
-use Rattle.ps_model.specs.ChangeOwner.{config_change}
-use Rattle.ps_model.specs.Commits.{commits_by}
+use Rattle.ps_model.specs.requests.ChangeOwner.{config_change}
+use Rattle.ps_model.specs.requests.Commits.{commits_by}
 
 abbrev pub is_planned : Ask → Bool
 is_planned (ask.Create node form) = true

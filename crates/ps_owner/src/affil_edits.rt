@@ -1,6 +1,6 @@
 // The affiliations that an owner's request is about, as they are and as they become.
 ghost use Rattle.std.specs.Prelude.{◌≡◌, IfOk, map};
-ghost use Rattle.ps_model.specs.ChangeOwner.{asked_affil};
+ghost use Rattle.ps_model.specs.requests.ChangeOwner.{asked_affil};
 ghost use Rattle.ps_owner.specs.Edits.{IsAffilEdit};
 
 use ps_access::{asked_affil_row, set_asked_affils};

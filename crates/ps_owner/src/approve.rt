@@ -2,9 +2,9 @@
 ghost use Rattle.std.specs.Prelude.{◌≡◌, true, None, is_some};
 ghost use Rattle.ps_types.specs.Subs.{is_pending as is_pending_state};
 ghost use Rattle.ps_types.specs.Values.{boolean_of};
-ghost use Rattle.ps_model.specs.CheckOwner.{approve_steps};
-ghost use Rattle.ps_model.specs.Outcome.{outcome};
-ghost use Rattle.ps_model.specs.Steps.{first_denial};
+ghost use Rattle.ps_model.specs.requests.CheckOwner.{approve_steps};
+ghost use Rattle.ps_model.specs.requests.Outcome.{outcome};
+ghost use Rattle.ps_model.specs.requests.Steps.{first_denial};
 ghost use Rattle.ps_access.specs.Plans.{Agrees, Passes};
 ghost use Rattle.ps_access.specs.Tables.{book_of};
 

@@ -5,10 +5,10 @@ ghost use Rattle.ps_types.specs.Elem.{nodes};
 ghost use Rattle.ps_types.specs.Forms as forms;
 ghost use Rattle.ps_types.specs.Nodes.{config_at};
 ghost use Rattle.ps_types.specs.Shape.{holding};
-ghost use Rattle.ps_model.specs.CheckOwner.{own_steps};
-ghost use Rattle.ps_model.specs.Children as model;
-ghost use Rattle.ps_model.specs.Outcome.{outcome};
-ghost use Rattle.ps_model.specs.Steps.{first_denial};
+ghost use Rattle.ps_model.specs.requests.CheckOwner.{own_steps};
+ghost use Rattle.ps_model.specs.requests.Children as model;
+ghost use Rattle.ps_model.specs.requests.Outcome.{outcome};
+ghost use Rattle.ps_model.specs.requests.Steps.{first_denial};
 ghost use Rattle.ps_access.specs.Plans.{Agrees};
 ghost use Rattle.ps_access.specs.Tables.{book_of};
 

@@ -2,10 +2,10 @@
 ghost use Rattle.std.specs.Prelude.{◌≡◌, ◌||◌, not, true, None};
 ghost use Rattle.ps_types.specs.Same.{same_bare};
 ghost use Rattle.ps_model.specs.Access.{is_account};
-ghost use Rattle.ps_model.specs.CheckCreate.{create_steps, new_node_step};
-ghost use Rattle.ps_model.specs.CheckForms as model;
-ghost use Rattle.ps_model.specs.Outcome.{outcome};
-ghost use Rattle.ps_model.specs.Steps.{first_denial};
+ghost use Rattle.ps_model.specs.requests.CheckCreate.{create_steps, new_node_step};
+ghost use Rattle.ps_model.specs.requests.CheckForms as model;
+ghost use Rattle.ps_model.specs.requests.Outcome.{outcome};
+ghost use Rattle.ps_model.specs.requests.Steps.{first_denial};
 ghost use Rattle.ps_access.specs.Plans.{Agrees, Passes};
 ghost use Rattle.ps_access.specs.Tables.{book_of};
 

@@ -1,9 +1,9 @@
 // How the items of a node go, and how the node goes (XEP-0060 §8.4, §8.5).
 ghost use Rattle.std.specs.Prelude.{◌≡◌, true, None};
-ghost use Rattle.ps_model.specs.CheckOwner.{delete_steps};
-ghost use Rattle.ps_model.specs.CheckPublish.{purge_steps};
-ghost use Rattle.ps_model.specs.Outcome.{outcome};
-ghost use Rattle.ps_model.specs.Steps.{first_denial};
+ghost use Rattle.ps_model.specs.requests.CheckOwner.{delete_steps};
+ghost use Rattle.ps_model.specs.requests.CheckPublish.{purge_steps};
+ghost use Rattle.ps_model.specs.requests.Outcome.{outcome};
+ghost use Rattle.ps_model.specs.requests.Steps.{first_denial};
 ghost use Rattle.ps_access.specs.Plans.{Agrees, Passes};
 ghost use Rattle.ps_access.specs.Tables.{book_of};
 

@@ -3,11 +3,11 @@ ghost use Rattle.std.specs.Prelude.{◌≡◌, IfOk, map, filter, Some, false};
 ghost use Rattle.ps_types.specs.declared.rows.Affil.TheVariants.{Owner};
 ghost use Rattle.ps_types.specs.Elem.{nodes};
 ghost use Rattle.ps_types.specs.Shape.{holding};
-ghost use Rattle.ps_model.specs.CheckOwner.{own_steps};
-ghost use Rattle.ps_model.specs.Children as model;
-ghost use Rattle.ps_model.specs.Lists.{listed_affils, is_of_other};
-ghost use Rattle.ps_model.specs.Outcome.{outcome};
-ghost use Rattle.ps_model.specs.Steps.{first_denial};
+ghost use Rattle.ps_model.specs.requests.CheckOwner.{own_steps};
+ghost use Rattle.ps_model.specs.requests.Children as model;
+ghost use Rattle.ps_model.specs.requests.Lists.{listed_affils, is_of_other};
+ghost use Rattle.ps_model.specs.requests.Outcome.{outcome};
+ghost use Rattle.ps_model.specs.requests.Steps.{first_denial};
 ghost use Rattle.ps_access.specs.Plans.{Agrees, Passes};
 ghost use Rattle.ps_access.specs.Tables.{book_of};
 

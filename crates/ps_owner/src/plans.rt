@@ -1,6 +1,6 @@
 // The plan of a request.
 ghost use Rattle.std.specs.Prelude.{◌≡◌, not, true, None, IsErrOf};
-ghost use Rattle.ps_model.specs.Steps.{unless};
+ghost use Rattle.ps_model.specs.requests.Steps.{unless};
 ghost use Rattle.ps_access.specs.Plans.{Plans};
 ghost use Rattle.ps_access.specs.Tables.{book_of};
 ghost use Rattle.ps_owner.specs.Plans.{Settles, is_planned};

@@ -1,7 +1,7 @@
 // The check of an item that is published (XEP-0060 §7.1.2).
 ghost use Rattle.std.specs.Prelude.{◌≡◌, ◌∷◌, []};
-ghost use Rattle.ps_model.specs.CheckPublish.{takes_item as takes_items, payload_step, first_item_steps, item_steps};
-ghost use Rattle.ps_model.specs.Steps.{first_denial, is_short as is_short_text};
+ghost use Rattle.ps_model.specs.requests.CheckPublish.{takes_item as takes_items, payload_step, first_item_steps, item_steps};
+ghost use Rattle.ps_model.specs.requests.Steps.{first_denial, is_short as is_short_text};
 ghost use Rattle.ps_access.specs.Plans.{Passes};
 
 use ps_access::pass_if;

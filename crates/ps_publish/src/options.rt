@@ -1,7 +1,7 @@
 // The options of a publish to a node that stands (XEP-0060 §7.1.5).
 ghost use Rattle.std.specs.Prelude.{◌≡◌};
 ghost use Rattle.ps_types.specs.Forms.{form_of};
-ghost use Rattle.ps_model.specs.CheckOptions as model;
+ghost use Rattle.ps_model.specs.requests.CheckOptions as model;
 ghost use Rattle.ps_model.specs.SameRows.{same_config};
 ghost use Rattle.ps_access.specs.Plans.{Passes};
 

@@ -1,9 +1,9 @@
 // The plan of a request.
 ghost use Rattle.std.specs.Prelude.{◌≡◌, true, Some, None};
-ghost use Rattle.ps_model.specs.CheckPublish.{publish_steps, retract_steps};
-ghost use Rattle.ps_model.specs.Children as model;
-ghost use Rattle.ps_model.specs.Outcome.{outcome};
-ghost use Rattle.ps_model.specs.Steps.{first_denial};
+ghost use Rattle.ps_model.specs.requests.CheckPublish.{publish_steps, retract_steps};
+ghost use Rattle.ps_model.specs.requests.Children as model;
+ghost use Rattle.ps_model.specs.requests.Outcome.{outcome};
+ghost use Rattle.ps_model.specs.requests.Steps.{first_denial};
 ghost use Rattle.ps_access.specs.Plans.{Agrees, Plans};
 ghost use Rattle.ps_access.specs.Tables.{book_of};
 ghost use Rattle.ps_publish.specs.Plans.{is_planned};

@@ -2,12 +2,12 @@
 ghost use Rattle.std.specs.Prelude.{not, [], ◌∷◌, ◌++◌, Ok, true};
 ghost use Rattle.ps_types.specs.Defaults as defaults;
 ghost use Rattle.ps_types.specs.declared.denial.Condition.TheVariants.{C10};
-ghost use Rattle.ps_model.specs.CheckCreate.{node_limit_step};
-ghost use Rattle.ps_model.specs.CheckForms.{is_collection as is_collection_kind};
-ghost use Rattle.ps_model.specs.CheckOptions as model;
-ghost use Rattle.ps_model.specs.CheckOptions.{made_step, options_step};
-ghost use Rattle.ps_model.specs.CheckPublish.{item_steps, publish_new_steps, publish_steps};
-ghost use Rattle.ps_model.specs.Steps.{denied_by, first_denial, unless};
+ghost use Rattle.ps_model.specs.requests.CheckCreate.{node_limit_step};
+ghost use Rattle.ps_model.specs.requests.CheckForms.{is_collection as is_collection_kind};
+ghost use Rattle.ps_model.specs.requests.CheckOptions as model;
+ghost use Rattle.ps_model.specs.requests.CheckOptions.{made_step, options_step};
+ghost use Rattle.ps_model.specs.requests.CheckPublish.{item_steps, publish_new_steps, publish_steps};
+ghost use Rattle.ps_model.specs.requests.Steps.{denied_by, first_denial, unless};
 ghost use Rattle.ps_access.specs.Plans.{Passes};
 ghost use Rattle.ps_access.specs.Tables.{book_of};
 

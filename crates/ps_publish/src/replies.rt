@@ -3,7 +3,7 @@ ghost use Rattle.std.specs.Prelude.{◌≡◌, IfOk, None};
 ghost use Rattle.ps_types.specs.Elem.{nodes};
 ghost use Rattle.ps_types.specs.Namespaces.{pubsub_ns};
 ghost use Rattle.ps_types.specs.Shape.{holding};
-ghost use Rattle.ps_model.specs.Children as model;
+ghost use Rattle.ps_model.specs.requests.Children as model;
 ghost use Rattle.ps_access.specs.Tables.{book_of};
 
 use ps_access::{Tables, about, item_id, key_of};

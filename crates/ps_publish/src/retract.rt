@@ -1,8 +1,8 @@
 // The check of a retract (XEP-0060 §7.2).
 ghost use Rattle.std.specs.Prelude.{◌≡◌};
 ghost use Rattle.std.specs.List.{list_all};
-ghost use Rattle.ps_model.specs.CheckPublish.{has_length, may_retract, retract_steps};
-ghost use Rattle.ps_model.specs.Steps.{first_denial};
+ghost use Rattle.ps_model.specs.requests.CheckPublish.{has_length, may_retract, retract_steps};
+ghost use Rattle.ps_model.specs.requests.Steps.{first_denial};
 ghost use Rattle.ps_access.specs.Plans.{Passes};
 ghost use Rattle.ps_access.specs.Tables.{book_of};
 

@@ -6,7 +6,7 @@ use Rattle.std.proofs.Math.Seq.{take-length}
 use Rattle.std.proofs.lemmas.List.{append-nil, take_at, drop_at, drop-append-le, drop-take, length-take-le, take-append-le}
 use Rattle.std.proofs.lemmas.List.Concat.{flat_map-append}
 use Rattle.ps_types.specs.declared.entry.Entry.{Entry}
-use Rattle.ps_model.specs.Entries.{spelling, body, IsEntry, AreEntries}
+use Rattle.ps_model.specs.store.Entries.{spelling, body, IsEntry, AreEntries}
 use Rattle.ps_record.specs.Batch.{piece}
 
 pub body_push : (es : List Entry) (e : Entry) → body (es ++ e ∷ []) ≡ body es ++ spelling e

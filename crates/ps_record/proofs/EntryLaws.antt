@@ -10,7 +10,7 @@ use Rattle.ps_types.specs.declared.entry.Entry.TheVariants.{Boot, Change, Handed
 use Rattle.ps_types.specs.declared.jid.Jid.{Jid}
 use Rattle.ps_types.proofs.AddressLaws.{text-spells, spells-one}
 use Rattle.ps_types.proofs.PrintLaws.{print_reads, reads_one}
-use Rattle.ps_model.specs.Entries.{spelling, IsEntry, of_host, IsMoment, IsHostName, IsBare, IsWritten}
+use Rattle.ps_model.specs.store.Entries.{spelling, IsEntry, of_host, IsMoment, IsHostName, IsBare, IsWritten}
 use Rattle.ps_record.specs.Raw.{Fields, fields_of, bytes_of, FitMoment, Fit, raw_at}
 use Rattle.ps_record.proofs.Pieces.{some_is}
 use Rattle.ps_record.proofs.RawLaws.{fields_again}
@@ -98,7 +98,8 @@ pub none_spelled : (bytes : List ℕ) → raw_at bytes ≡ None → (e : Entry) 
 none_spelled bytes none e rest is split = let found : raw_at bytes ≡ Some (fields_of e, rest) = ap raw_at split ∙ entry_again e rest is in absurd (cc (none, found))
 
 -- where the fields that are read are no entry's, no entry is spelled
-pub no_entry : (bytes : List ℕ) (x : Fields × List ℕ) → raw_at bytes ≡ Some x → ((e : Entry) → IsEntry e → fields_of e ≡ x.0 → ⊥) → (e : Entry) (rest : List ℕ) → IsEntry e → bytes ≡ spelling e ++ rest → ⊥
+pub no_entry : (bytes : List ℕ) (x : Fields × List ℕ) → raw_at bytes ≡ Some x → ((e : Entry) → IsEntry e → fields_of e ≡ x.0 → ⊥) → (e : Entry) (rest : List ℕ) → IsEntry e
+    → bytes ≡ spelling e ++ rest → ⊥
 no_entry bytes x read none e rest is split =
     let found : raw_at bytes ≡ Some (fields_of e, rest) = ap raw_at split ∙ entry_again e rest is in
     let same : x ≡ (fields_of e, rest) = cc (read, found) in

@@ -4,7 +4,7 @@ use Rattle.std.proofs.lemmas.List.{append-nil, take_at, drop_at}
 use Rattle.ps_types.specs.Address.{lower, AreParts, before_at, after_slash, joined, address_of, Spells, parts_of, jid_text, IsAddress}
 use Rattle.ps_types.specs.declared.jid.Jid.{Jid}
 use Rattle.ps_types.proofs.AddressLaws.{text-spells, spells-one}
-use Rattle.ps_model.specs.Entries.{of_host, IsHostName, IsBare}
+use Rattle.ps_model.specs.store.Entries.{of_host, IsHostName, IsBare}
 
 length-map : (xs : List ℕ) → length (map lower xs) ≡ length xs
 length-map [] = refl

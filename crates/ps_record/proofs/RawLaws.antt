@@ -1,7 +1,7 @@
 -- The two laws of fields: what is read is spelled so, and what is spelled so is read.
 use Rattle.std.proofs.Common.{◌≡◌, ℕ, zero, suc, ◌^◌, ◌<◌, List, [], ◌∷◌, ◌++◌, length, Option, Some, None, refl, sym, ap, subst, ◌∙◌, append_assoc}
 use Rattle.std.specs.Int.{w16, w32, w64, to_be_bytes}
-use Rattle.ps_model.specs.Entries.{short, long}
+use Rattle.ps_model.specs.store.Entries.{short, long}
 use Rattle.ps_record.specs.Raw.{Fields, boot, change, handed, gone, base, bytes_of, Fit, ◌>>=◌, number_at, text_at, change_at, moment_at, raw_at}
 use Rattle.ps_record.proofs.Pieces.{IsBytes, IsBytes-rest, bind_some, some_is, Takes, Takes-then, wide16, wide32, wide64, number_takes, number_again, text_takes, text_again}
 
@@ -41,9 +41,11 @@ moment_takes bytes x fits e =
     let e13 = Takes-then a.0.1 (to_be_bytes w64 b.0.0) b.0.1 (to_be_bytes w64 m.0.0 ++ long c.0.0) c.0.1 t1.0 e23 in
     let e03 = Takes-then bytes (short a.0.0) a.0.1 (to_be_bytes w64 b.0.0 ++ (to_be_bytes w64 m.0.0 ++ long c.0.0)) c.0.1 t0.0 e13 in
     let made : Fields × List ℕ = (change a.0.0 b.0.0 (Some m.0.0) c.0.0, c.0.1) in
-    subst (λ (y : Fields × List ℕ). Read (4 ∷ bytes) y) (some_is made x c.2) (one_more 4 bytes (short a.0.0 ++ (to_be_bytes w64 b.0.0 ++ (to_be_bytes w64 m.0.0 ++ long c.0.0))) c.0.1 e03, (t0.1, t1.1, t2.1, t3.1))
+    subst (λ (y : Fields × List ℕ). Read (4 ∷ bytes) y) (some_is made x c.2)
+    (one_more 4 bytes (short a.0.0 ++ (to_be_bytes w64 b.0.0 ++ (to_be_bytes w64 m.0.0 ++ long c.0.0))) c.0.1 e03, (t0.1, t1.1, t2.1, t3.1))
 
-short_takes : (tag : ℕ) (kind : List ℕ → Fields) (is : (text : List ℕ) → bytes_of (kind text) ≡ tag ∷ short text) (fit : (text : List ℕ) → length text < 2 ^ 16 → Fit (kind text)) (bytes : List ℕ) (x : Fields × List ℕ)
+short_takes : (tag : ℕ) (kind : List ℕ → Fields) (is : (text : List ℕ) → bytes_of (kind text) ≡ tag ∷ short text) (fit : (text : List ℕ) → length text < 2 ^ 16 → Fit (kind text)) (bytes : List ℕ)
+    (x : Fields × List ℕ)
     → IsBytes (tag ∷ bytes) → (text_at w16 bytes >>= λ t. Some (kind t.0, t.1)) ≡ Some x → Read (tag ∷ bytes) x
 short_takes tag kind is fit bytes x fits e =
     let a = bind_some (text_at w16 bytes) (λ t. Some (kind t.0, t.1)) x e in
@@ -67,13 +69,19 @@ fields_takes (suc (suc (suc (suc (suc zero)))) ∷ bytes) x fits e =
     subst (λ (y : Fields × List ℕ). Read (5 ∷ bytes) y) (some_is made x a.2) (one_more 5 bytes (long a.0.0) a.0.1 t.0, t.1)
 fields_takes (suc (suc (suc (suc (suc (suc b))))) ∷ bytes) x fits e = absurd cc
 
-change_again : (host : List ℕ) (line : ℕ) (t rest : List ℕ) → length host < 2 ^ 16 → line < 2 ^ 64 → length t < 2 ^ 32 → change_at ((short host ++ (to_be_bytes w64 line ++ long t)) ++ rest) ≡ Some (change host line None t, rest)
+change_again : (host : List ℕ) (line : ℕ) (t rest : List ℕ) → length host < 2 ^ 16 → line < 2 ^ 64 → length t < 2 ^ 32
+    → change_at ((short host ++ (to_be_bytes w64 line ++ long t)) ++ rest) ≡ Some (change host line None t, rest)
 unfolding change_at
 change_again host line t rest host_fits line_fits t_fits =
     let regrouped : (short host ++ (to_be_bytes w64 line ++ long t)) ++ rest ≡ short host ++ (to_be_bytes w64 line ++ (long t ++ rest)) =
     append_assoc (short host) (to_be_bytes w64 line ++ long t) rest ∙ ap (λ (l : List ℕ). short host ++ l) (append_assoc (to_be_bytes w64 line) (long t) rest) in
     ap (λ (l : List ℕ). change_at l) regrouped
-    ∙ rw (text_again w16 (2 ^ 16) wide16 host (to_be_bytes w64 line ++ (long t ++ rest)) host_fits, number_again w64 (2 ^ 64) wide64 line (long t ++ rest) line_fits, text_again w32 (2 ^ 32) wide32 t rest t_fits) refl
+    ∙ rw (
+      text_again w16 (2 ^ 16) wide16 host (to_be_bytes w64 line ++ (long t ++ rest)) host_fits,
+      number_again w64 (2 ^ 64) wide64 line (long t ++ rest) line_fits,
+      text_again w32 (2 ^ 32) wide32 t
+          rest t_fits,
+    ) refl
 
 moment_again : (host : List ℕ) (line moment : ℕ) (t rest : List ℕ) → length host < 2 ^ 16 → line < 2 ^ 64 → moment < 2 ^ 64 → length t < 2 ^ 32
     → moment_at ((short host ++ (to_be_bytes w64 line ++ (to_be_bytes w64 moment ++ long t))) ++ rest) ≡ Some (change host line (Some moment) t, rest)

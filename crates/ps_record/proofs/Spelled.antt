@@ -5,7 +5,7 @@ use Rattle.std.proofs.lemmas.List.Concat.{flat_map-append}
 use Rattle.ps_types.specs.declared.entry.Entry.{Entry}
 use Rattle.std.specs.Int.{w32, w64, to_be_bytes}
 use Rattle.ps_types.specs.Print.{print}
-use Rattle.ps_model.specs.Entries.{spelling, body, short, long, IsEntry}
+use Rattle.ps_model.specs.store.Entries.{spelling, body, short, long, IsEntry}
 use Rattle.ps_types.specs.declared.entry.Entry.TheVariants.{Boot, Change, Handed, Gone, Base}
 use Rattle.ps_record.specs.Formed.{IsFormed, AreFormed, HoldsForm}
 use Rattle.ps_record.specs.Texts.{print_in}
@@ -18,7 +18,8 @@ one_more es i e old new within is so_far at =
     at ∙ ap (λ (l : List Entry). l ++ e ∷ []) so_far ∙ sym more
 
 -- with one entry more they are too long, and so they are with the rest
-pub too_long : (es : List Entry) (i : ℕ) (e : Entry) (old : List Entry) → i < length es → e ≡ get_or es i e → old ≡ take i es → 2 ^ 30 < length (body old) + length (spelling e) → 2 ^ 30 < length (body es)
+pub too_long : (es : List Entry) (i : ℕ) (e : Entry) (old : List Entry) → i < length es → e ≡ get_or es i e → old ≡ take i es → 2 ^ 30 < length (body old) + length (spelling e)
+    → 2 ^ 30 < length (body es)
 too_long es i e old within is so_far over =
     let more : take (i + 1) es ≡ take i es ++ e ∷ [] = take_more es i e within ∙ ap (λ (x : Entry). take i es ++ x ∷ []) (sym is) in
     let whole : body es ≡ body (take (i + 1) es) ++ body (drop (i + 1) es) = ap body (sym (take-append-drop (i + 1) es)) ∙ flat_map-append spelling (take (i + 1) es) (drop (i + 1) es) in
@@ -43,9 +44,21 @@ is_entry (Base row) formed holds fits = record { tree = record { form = holds; s
 -- and an entry has no fewer bytes than its print
 pub print_within : (e : Entry) → length (print_in e) ≤ length (spelling e)
 print_within (Boot service) = omega arith
-print_within (Change host line None t) = omega (arith, length-append (short host) (to_be_bytes w64 line ++ long (print t)), length-append (to_be_bytes w64 line) (long (print t)), length-append (to_be_bytes w32 (length (print t))) (print t))
+print_within (Change host line None t) = omega (
+  arith,
+  length-append (short host) (to_be_bytes w64 line ++ long (print t)),
+  length-append (to_be_bytes w64 line) (long (print t)),
+  length-append
+      (to_be_bytes w32 (length (print t))) (print t),
+)
 print_within (Change host line (Some moment) t) =
-    omega (arith, length-append (short host) (to_be_bytes w64 line ++ (to_be_bytes w64 moment ++ long (print t))), length-append (to_be_bytes w64 line) (to_be_bytes w64 moment ++ long (print t)), length-append (to_be_bytes w64 moment) (long (print t)), length-append (to_be_bytes w32 (length (print t))) (print t))
+    omega (
+      arith,
+      length-append (short host) (to_be_bytes w64 line ++ (to_be_bytes w64 moment ++ long (print t))),
+      length-append (to_be_bytes w64 line) (to_be_bytes w64 moment ++ long (print t)),
+      length-append (to_be_bytes w64 moment) (long (print t)),
+      length-append (to_be_bytes w32 (length (print t))) (print t),
+    )
 print_within (Handed to) = omega arith
 print_within (Gone host) = omega arith
 print_within (Base row) = omega (arith, length-append (to_be_bytes w32 (length (print row))) (print row))

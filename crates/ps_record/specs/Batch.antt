@@ -2,7 +2,7 @@
 use Rattle.std.specs.Prelude.{◌≡◌, ℕ, ◌≤◌, ◌^◌, List, [], ◌∷◌, ◌++◌, length}
 use Rattle.std.specs.Int.{w32, to_be_bytes}
 use Rattle.ps_types.specs.declared.entry.Entry.{Entry}
-use Rattle.ps_model.specs.Entries.{body, AreEntries}
+use Rattle.ps_model.specs.store.Entries.{body, AreEntries}
 
 -- a length, the entries, and a closed gate
 abbrev pub piece : List Entry → List ℕ

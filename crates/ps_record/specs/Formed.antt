@@ -5,7 +5,7 @@ use Rattle.ps_types.specs.Form.{HasForm, max_levels}
 use Rattle.ps_types.specs.Tree.{levels}
 use Rattle.ps_types.specs.declared.entry.Entry.{Entry}
 use Rattle.ps_types.specs.declared.entry.Entry.TheVariants.{Boot, Change, Handed, Gone, Base}
-use Rattle.ps_model.specs.Entries.{IsBare, IsHostName, IsMoment}
+use Rattle.ps_model.specs.store.Entries.{IsBare, IsHostName, IsMoment}
 
 -- its tree is no deeper than a tree may be, and all beside it is such as an entry has
 abbrev pub IsFormed : Entry → Type 0

@@ -5,7 +5,7 @@ use Rattle.ps_types.specs.Address.{jid_text}
 use Rattle.ps_types.specs.Print.{print}
 use Rattle.ps_types.specs.declared.entry.Entry.{Entry}
 use Rattle.ps_types.specs.declared.entry.Entry.TheVariants as entries
-use Rattle.ps_model.specs.Entries.{short, long}
+use Rattle.ps_model.specs.store.Entries.{short, long}
 use Rattle.ps_record.specs.declared.raw.Raw.{Raw}
 use Rattle.ps_record.specs.declared.raw.Raw.TheVariants as raws
 

@@ -1,7 +1,7 @@
 -- Why no entry was read.
 use Rattle.std.specs.Prelude.{◌≡◌, ℕ, List}
 use Rattle.ps_types.specs.declared.entry.Entry.{Entry}
-use Rattle.ps_model.specs.Entries.{IsEntry, StandsAt}
+use Rattle.ps_model.specs.store.Entries.{IsEntry, StandsAt}
 use Rattle.ps_record.specs.declared.fields.Unread.{Unread}
 use Rattle.ps_record.specs.declared.fields.Unread.TheVariants as unread
 use Rattle.ps_record.specs.declared.reading.EntryRefusal.{EntryRefusal}

@@ -1,7 +1,7 @@
 // Entries that are written at once.
 ghost use Rattle.std.specs.Prelude.{◌≡◌, ◌++◌, ◌∷◌, ◌+◌, ◌-◌, ◌<◌, ◌≤◌, ◌^◌, [], length, drop, slice_range, vec_len, vec_capacity, IfOk, OnOk, OnErr, IsErrOf};
 ghost use Rattle.std.specs.Int.{w32, to_be_bytes};
-ghost use Rattle.ps_model.specs.Entries.{body, spelling, IsEntry, AreEntries};
+ghost use Rattle.ps_model.specs.store.Entries.{body, spelling, IsEntry, AreEntries};
 ghost use Rattle.ps_record.specs.Batch.{piece};
 ghost use Rattle.ps_record.specs.Formed.{AreFormed, IsFormed};
 ghost use Rattle.ps_record.specs.Texts.{print_in};

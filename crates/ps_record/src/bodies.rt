@@ -1,6 +1,6 @@
 // Entries that may be too long.
 ghost use Rattle.std.specs.Prelude.{◌≡◌, ◌<◌, ◌^◌, length, IfOk, OnOk, IsErrOf};
-ghost use Rattle.ps_model.specs.Entries.{spelling, IsEntry};
+ghost use Rattle.ps_model.specs.store.Entries.{spelling, IsEntry};
 ghost use Rattle.ps_record.specs.Formed.{IsFormed, HoldsForm};
 ghost use Rattle.ps_record.specs.Texts.{print_in};
 

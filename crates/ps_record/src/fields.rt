@@ -5,7 +5,7 @@ ghost use Rattle.ps_types.specs.Form.{IsTree};
 ghost use Rattle.ps_types.specs.Print.{print};
 ghost use Rattle.ps_types.specs.Tree.{Tree};
 ghost use Rattle.ps_types.specs.declared.jid.Jid.{Jid};
-ghost use Rattle.ps_model.specs.Entries.{IsHostName, IsBare};
+ghost use Rattle.ps_model.specs.store.Entries.{IsHostName, IsBare};
 ghost use Rattle.ps_record.specs.Reading.{OnBad};
 ghost use Rattle.ps_record.specs.declared.fields.Unread.TheVariants as unread;
 

@@ -1,7 +1,7 @@
 // A law about entries. The function is its contract.
 ghost use Rattle.std.specs.Prelude.{◌≡◌, ◌++◌, List, ℕ};
 ghost use Rattle.ps_types.specs.declared.entry.Entry.{Entry};
-ghost use Rattle.ps_model.specs.Entries.{spelling, IsEntry};
+ghost use Rattle.ps_model.specs.store.Entries.{spelling, IsEntry};
 
 /// Bytes begin with the spelling of one entry at most.
 pub fn one_entry()

@@ -1,8 +1,8 @@
 // Reading an entry.
 ghost use Rattle.std.specs.Prelude.{◌≡◌, ◌+◌, ◌≤◌, ◌<◌, ◌↔◌, length, IfOk, IfErr, IsTrue, MatchResult};
 ghost use Rattle.ps_types.specs.declared.entry.Entry.{Entry};
-ghost use Rattle.ps_model.specs.BaseAfter.{is_early};
-ghost use Rattle.ps_model.specs.Entries.{spelling, IsEntry, IsMoment, StandsAt};
+ghost use Rattle.ps_model.specs.store.BaseAfter.{is_early};
+ghost use Rattle.ps_model.specs.store.Entries.{spelling, IsEntry, IsMoment, StandsAt};
 ghost use Rattle.ps_record.specs.Raw.{view, fields_of, Fit};
 ghost use Rattle.ps_record.specs.Reading.{OnBad, IsCause};
 

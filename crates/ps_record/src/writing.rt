@@ -1,7 +1,7 @@
 // Writing an entry.
 ghost use Rattle.std.specs.Prelude.{◌≡◌, ◌++◌, ◌<◌, ◌^◌, length, OnOk, IfOk};
 ghost use Rattle.std.specs.Int.{w64, to_be_bytes};
-ghost use Rattle.ps_model.specs.Entries.{short, long, spelling, IsEntry};
+ghost use Rattle.ps_model.specs.store.Entries.{short, long, spelling, IsEntry};
 ghost use Rattle.ps_record.specs.Raw.{change_bytes};
 ghost use Rattle.ps_record.specs.Texts.{print_in};
 

@@ -40,8 +40,8 @@ use Rattle.ps_types.specs.Tree.{Tree}
 use Rattle.ps_types.specs.declared.entry.Entry.{Entry}
 use Rattle.ps_types.specs.declared.entry.Entry.TheVariants.{Boot}
 use Rattle.ps_disk.specs.declared.device.Disk.{Ghosts}
-use Rattle.ps_model.specs.TheCore.{the_core}
-use Rattle.ps_model.specs.World.{World}
+use Rattle.ps_model.specs.machine.TheCore.{the_core}
+use Rattle.ps_model.specs.machine.World.{World}
 use Rattle.ps_trace.specs.Lines.{Came, HasLines}
 use Rattle.ps_trace.specs.Over.{IsComplete}
 use Rattle.ps_trace.specs.Words.{Word, bytes_of, text_of}

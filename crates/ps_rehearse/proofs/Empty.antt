@@ -3,15 +3,15 @@ use Rattle.std.proofs.Common.{◌≡◌, ◌≢◌, inr, ℕ, ◌≤◌, ◌<◌
 use Rattle.std.specs.Prelude.{Err, IfOk, Ok, Result}
 use Rattle.ps_disk.specs.declared.device.Disk.{Ghosts as DiskGhosts}
 use Rattle.ps_types.specs.declared.entry.Entry.{Entry}
-use Rattle.ps_model.specs.Store.{spelled}
+use Rattle.ps_model.specs.store.Store.{spelled}
 use Rattle.ps_model.proofs.OneList.{one_list}
 use Rattle.ps_hall_open.specs.Opens.{IsOpen, at_from}
 use Rattle.ps_workers.specs.Origin.{Origin}
 use Rattle.ps_workers.specs.Start.{MayStart}
 use Rattle.ps_workers.specs.Limits.{Limits}
 use Rattle.ps_workers.specs.State.{State}
-use Rattle.ps_model.specs.Machine.{start}
-use Rattle.ps_model.specs.TheCore.{the_core}
+use Rattle.ps_model.specs.machine.Machine.{start}
+use Rattle.ps_model.specs.machine.TheCore.{the_core}
 use Rattle.ps_hall_store.specs.Stand.{OpenedAt, StoreStands, disk_in, length_in}
 use Rattle.ps_hall_store.specs.declared.store.Store.{Store}
 use Rattle.ps_endpoints.specs.declared.port.Port.{Port}

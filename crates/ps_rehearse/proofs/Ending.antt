@@ -4,7 +4,7 @@ use Rattle.std.specs.Prelude.{All}
 use Rattle.ps_types.specs.Tree.{Tree}
 use Rattle.ps_types.specs.declared.entry.Entry.{Entry}
 use Rattle.ps_disk.specs.declared.device.Disk.{Ghosts}
-use Rattle.ps_model.specs.Store.{spelled}
+use Rattle.ps_model.specs.store.Store.{spelled}
 use Rattle.ps_io.specs.Held.{Held, HeldClock}
 use Rattle.ps_endpoints.specs.declared.port.Port.{Port}
 use Rattle.ps_hall_store.specs.Stand.{broken_in, disk_in}

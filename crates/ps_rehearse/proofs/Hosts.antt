@@ -4,7 +4,7 @@ use Rattle.std.specs.Prelude.{codes, slice_get, Some}
 use Rattle.std.proofs.lemmas.Bool.{false≢true}
 use Rattle.std.proofs.lemmas.Slice.Eq.{bytes_eq-Decides}
 use Rattle.ps_types.specs.Address.{IsHost}
-use Rattle.ps_model.specs.Entries.{IsHostName}
+use Rattle.ps_model.specs.store.Entries.{IsHostName}
 use Rattle.ps_hall_open.specs.Fresh.{AreHosts}
 use Rattle.ps_rehearse.specs.Entries.{first_host, second_host, the_hosts, the_service}
 

@@ -19,19 +19,19 @@ use Rattle.ps_types.specs.declared.entry.Entry.TheVariants.{Change}
 use Rattle.ps_types.specs.declared.jid.Jid.{Jid}
 use Rattle.ps_types.specs.declared.request.Ask.{Ask}
 use Rattle.ps_types.proofs.PrintLaws.{print_reads}
-use Rattle.ps_model.specs.Asking.{ask_of}
+use Rattle.ps_model.specs.requests.Asking.{ask_of}
 use Rattle.ps_model.specs.Book.{Book}
-use Rattle.ps_model.specs.Check.{check}
-use Rattle.ps_model.specs.Commits.{commits}
-use Rattle.ps_model.specs.Entries.{spelling}
-use Rattle.ps_model.specs.Outcome.{Outcome}
-use Rattle.ps_model.specs.Outcome as outcome
+use Rattle.ps_model.specs.requests.Check.{check}
+use Rattle.ps_model.specs.requests.Commits.{commits}
+use Rattle.ps_model.specs.store.Entries.{spelling}
+use Rattle.ps_model.specs.requests.Outcome.{Outcome}
+use Rattle.ps_model.specs.requests.Outcome as outcome
 use Rattle.ps_model.specs.Replay.{replay}
 use Rattle.ps_model.specs.Replies.{entry_by, entry_of, outcome_entry}
-use Rattle.ps_model.specs.Stanza.{is_served, is_stanza, jid_of, target_of}
-use Rattle.ps_model.specs.Taken.{Taken, silent, refused, denied, asked}
-use Rattle.ps_model.specs.Taking.{ask_taken, head_of, is_white, result_taken, sender_taken, shape_taken, taken, target_taken}
-use Rattle.ps_model.specs.TheCore.{the_core}
+use Rattle.ps_model.specs.requests.Stanza.{is_served, is_stanza, jid_of, target_of}
+use Rattle.ps_model.specs.requests.Taken.{Taken, silent, refused, denied, asked}
+use Rattle.ps_model.specs.requests.Taking.{ask_taken, head_of, is_white, result_taken, sender_taken, shape_taken, taken, target_taken}
+use Rattle.ps_model.specs.machine.TheCore.{the_core}
 use Rattle.ps_model.proofs.LineLaws.{reads-line}
 use Rattle.ps_trace.specs.Lines.{Came}
 use Rattle.ps_workers.specs.Told.{AreFull, PassesLimit}

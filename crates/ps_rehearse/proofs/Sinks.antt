@@ -6,8 +6,8 @@ use Rattle.ps_base.proofs.Rows.{count_by-cons}
 use Rattle.ps_types.specs.LineTree.{line_tree}
 use Rattle.ps_types.specs.Tree.{Tree}
 use Rattle.ps_types.specs.declared.denial.LineRefusal.{LineRefusal}
-use Rattle.ps_model.specs.Stanza.{has_type, is_iq}
-use Rattle.ps_model.specs.Streams.{passes}
+use Rattle.ps_model.specs.requests.Stanza.{has_type, is_iq}
+use Rattle.ps_model.specs.machine.Streams.{passes}
 use Rattle.ps_trace.specs.Words.{Word, Reply, Note, replies_in}
 use Rattle.ps_rehearse_lines.specs.Counted.{how_many, is_error, is_notice as is_other, is_result}
 use Rattle.ps_rehearse_laws.specs.Rehearsal.{is_message_read, is_notice, is_of_type, is_reply_of}

@@ -1,7 +1,7 @@
 // The entries that a run has made, counted.
 ghost use Rattle.std.specs.Prelude.{◌≡◌, ◌≤◌, List, IfOk};
 ghost use Rattle.ps_journal.specs.Places.{entries_in};
-ghost use Rattle.ps_model.specs.Store.{spelled};
+ghost use Rattle.ps_model.specs.store.Store.{spelled};
 ghost use Rattle.ps_types.specs.declared.entry.Entry.{Entry};
 ghost use Rattle.ps_rehearse_lines.specs.Counted.{one_if as one_if_by};
 ghost use Rattle.ps_rehearse.specs.Entries.{AreMade, HasMade, changes_in, handed_in};

@@ -2,7 +2,7 @@
 ghost use Rattle.std.specs.Prelude.{◌≡◌, ◌≢◌, ◌≤◌, [], IfOk, length};
 ghost use Rattle.std.specs.List.{All};
 ghost use Rattle.ps_trace.specs.Own.{AllDiffer};
-ghost use Rattle.ps_model.specs.Entries.{IsHostName};
+ghost use Rattle.ps_model.specs.store.Entries.{IsHostName};
 ghost use Rattle.ps_hall_open.specs.Fresh.{AreHosts};
 ghost use Rattle.ps_workers.specs.Start.{MayStart};
 ghost use Rattle.ps_wire.specs.Reading.{IsFresh};

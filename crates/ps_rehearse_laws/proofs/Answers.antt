@@ -7,14 +7,14 @@ use Rattle.ps_types.specs.declared.entry.Arrival.TheVariants.{Line}
 use Rattle.ps_types.specs.declared.entry.Entry.{Entry}
 use Rattle.ps_types.specs.declared.entry.Entry.TheVariants.{Change}
 use Rattle.ps_model.specs.Book.{Book}
-use Rattle.ps_model.specs.Check.{check}
-use Rattle.ps_model.specs.Commits.{commits, makes_entry}
-use Rattle.ps_model.specs.Outcome.{Outcome, is_accepted}
-use Rattle.ps_model.specs.Outcome as outcome
+use Rattle.ps_model.specs.requests.Check.{check}
+use Rattle.ps_model.specs.requests.Commits.{commits, makes_entry}
+use Rattle.ps_model.specs.requests.Outcome.{Outcome, is_accepted}
+use Rattle.ps_model.specs.requests.Outcome as outcome
 use Rattle.ps_model.specs.Replies.{entry_by, entry_of, outcome_entry, outcome_reply, reply_by, reply_to}
-use Rattle.ps_model.specs.Taken.{Taken}
-use Rattle.ps_model.specs.Taken as taken
-use Rattle.ps_model.specs.Taking.{line_taken}
+use Rattle.ps_model.specs.requests.Taken.{Taken}
+use Rattle.ps_model.specs.requests.Taken as taken
+use Rattle.ps_model.specs.requests.Taking.{line_taken}
 use Rattle.ps_gen.specs.Dealt.{drawn}
 use Rattle.ps_rehearse_laws.proofs.Deal.{host_of, is_mine}
 use Rattle.ps_rehearse_laws.proofs.Dealing.{deal-line}

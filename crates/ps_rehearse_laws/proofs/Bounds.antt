@@ -13,10 +13,10 @@ use Rattle.ps_types.specs.declared.rows.SubRow.{SubRow}
 use Rattle.ps_types.specs.declared.rows.SubState.{SubState}
 use Rattle.ps_types.specs.declared.rows.SubState.TheVariants as sub
 use Rattle.ps_model.specs.Book.{Book}
-use Rattle.ps_model.specs.ChangePublish.{published_by}
-use Rattle.ps_model.specs.ChangeEntity.{base_options, new_state}
-use Rattle.ps_model.specs.Changes.{changed}
-use Rattle.ps_model.specs.Commits.{makes_entry}
+use Rattle.ps_model.specs.requests.ChangePublish.{published_by}
+use Rattle.ps_model.specs.requests.ChangeEntity.{base_options, new_state}
+use Rattle.ps_model.specs.requests.Changes.{changed}
+use Rattle.ps_model.specs.requests.Commits.{makes_entry}
 use Rattle.ps_gen.specs.declared.kind.Kind.{Kind}
 use Rattle.ps_gen.specs.declared.kind.Kind.TheVariants.{Create, Publish, Subscribe, Items, Unsubscribe, Retract, Delete}
 use Rattle.ps_rehearse_laws.proofs.Deal.{asks, is_mine, key}

@@ -20,11 +20,11 @@ use Rattle.ps_types.specs.declared.rows.ItemRow.{ItemRow}
 use Rattle.ps_types.specs.declared.rows.NodeRow.{NodeRow}
 use Rattle.ps_types.specs.declared.rows.SubRow.{SubRow}
 use Rattle.ps_model.specs.Book.{Book}
-use Rattle.ps_model.specs.ChangeNodes.{new_node, owner_row}
-use Rattle.ps_model.specs.ChangePublish.{item_row}
-use Rattle.ps_model.specs.Changes.{changed}
-use Rattle.ps_model.specs.Check.{check}
-use Rattle.ps_model.specs.Outcome.{is_accepted}
+use Rattle.ps_model.specs.requests.ChangeNodes.{new_node, owner_row}
+use Rattle.ps_model.specs.requests.ChangePublish.{item_row}
+use Rattle.ps_model.specs.requests.Changes.{changed}
+use Rattle.ps_model.specs.requests.Check.{check}
+use Rattle.ps_model.specs.requests.Outcome.{is_accepted}
 use Rattle.ps_secrecy.proofs.ListLaws.{append-nothing, filter-more, gone-both, hidden-gone, hidden-newest, hidden-put, seen-newest, seen-put}
 use Rattle.ps_gen.specs.declared.kind.Kind.{Kind}
 use Rattle.ps_gen.specs.declared.kind.Kind.TheVariants.{Create, Publish, Subscribe, Items, Unsubscribe, Retract, Delete}

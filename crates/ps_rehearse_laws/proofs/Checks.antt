@@ -12,11 +12,11 @@ use Rattle.ps_types.specs.declared.request.Request.{Request}
 use Rattle.ps_types.specs.declared.rows.NodeRow.{NodeRow}
 use Rattle.ps_model.specs.Access.{publish, publish_at, read, read_at, subscribe, subscribe_at}
 use Rattle.ps_model.specs.Book.{Book}
-use Rattle.ps_model.specs.Check.{check}
-use Rattle.ps_model.specs.CheckPublish.{publish_by, publish_steps}
-use Rattle.ps_model.specs.Children.{publish_child, row_tree}
-use Rattle.ps_model.specs.Outcome.{outcome}
-use Rattle.ps_model.specs.Steps.{first_denial}
+use Rattle.ps_model.specs.requests.Check.{check}
+use Rattle.ps_model.specs.requests.CheckPublish.{publish_by, publish_steps}
+use Rattle.ps_model.specs.requests.Children.{publish_child, row_tree}
+use Rattle.ps_model.specs.requests.Outcome.{outcome}
+use Rattle.ps_model.specs.requests.Steps.{first_denial}
 use Rattle.ps_model.proofs.TallyLaws.{same_bare-Decides}
 use Rattle.ps_gen.specs.declared.kind.Kind.{Kind}
 use Rattle.ps_gen.specs.declared.kind.Kind.TheVariants.{Create, Publish, Subscribe, Items, Unsubscribe, Retract, Delete}

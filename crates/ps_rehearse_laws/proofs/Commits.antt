@@ -26,9 +26,9 @@ use Rattle.ps_types.specs.declared.rows.SubState.TheVariants as sub
 use Rattle.ps_types.proofs.Same.{same_jid-Decides, same_node-itself}
 use Rattle.ps_model.specs.Access.{affiliation, read_by, subscribe_at}
 use Rattle.ps_model.specs.Book.{Book}
-use Rattle.ps_model.specs.ChangeEntity.{new_state, subscribe_state}
-use Rattle.ps_model.specs.ChangeOwner.{options_in}
-use Rattle.ps_model.specs.Commits.{commits}
+use Rattle.ps_model.specs.requests.ChangeEntity.{new_state, subscribe_state}
+use Rattle.ps_model.specs.requests.ChangeOwner.{options_in}
+use Rattle.ps_model.specs.requests.Commits.{commits}
 use Rattle.ps_model.specs.SameRows.{same_subs}
 use Rattle.ps_gen.specs.declared.kind.Kind.{Kind}
 use Rattle.ps_gen.specs.declared.kind.Kind.TheVariants.{Create, Publish, Subscribe, Items, Unsubscribe, Retract, Delete}

@@ -6,8 +6,8 @@ use Rattle.ps_types.specs.declared.entry.Entry.{Entry}
 use Rattle.ps_types.specs.declared.entry.Entry.TheVariants.{Boot, Change, Handed, Gone, Base}
 use Rattle.ps_model.specs.After.{after, notices_at}
 use Rattle.ps_model.specs.Book.{State}
-use Rattle.ps_model.specs.CoreLaws.{IsChange}
-use Rattle.ps_model.specs.TheCore.{the_core}
+use Rattle.ps_model.specs.machine.CoreLaws.{IsChange}
+use Rattle.ps_model.specs.machine.TheCore.{the_core}
 use Rattle.ps_model.proofs.TheLaws.{the-laws}
 use Rattle.ps_trace.specs.Lines.{AreLines, Came, StandsAt, changes_of, entries_of, onto, size}
 use Rattle.ps_rehearse_laws.proofs.Deal.{host_of}

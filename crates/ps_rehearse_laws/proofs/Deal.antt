@@ -8,7 +8,7 @@ use Rattle.ps_types.specs.declared.node.NodeKey.{NodeKey}
 use Rattle.ps_types.specs.declared.request.Ask.{Ask}
 use Rattle.ps_types.specs.declared.request.Ask.TheVariants as ask
 use Rattle.ps_types.specs.declared.request.Request.{Request}
-use Rattle.ps_model.specs.Stanza.{host_jid}
+use Rattle.ps_model.specs.requests.Stanza.{host_jid}
 use Rattle.ps_gen.specs.declared.kind.Kind.{Kind}
 use Rattle.ps_gen.specs.declared.kind.Kind.TheVariants.{Create, Publish, Subscribe, Items, Unsubscribe, Retract, Delete}
 

@@ -20,11 +20,11 @@ use Rattle.ps_types.specs.declared.rows.NodeRow.{NodeRow}
 use Rattle.ps_types.specs.declared.rows.SubRow.{SubRow}
 use Rattle.ps_model.specs.After.{all_due}
 use Rattle.ps_model.specs.Book.{Book}
-use Rattle.ps_model.specs.Due.{About, about_node, always, items_inside, node_notice, told_about}
-use Rattle.ps_model.specs.Given.{asked, given}
-use Rattle.ps_model.specs.NoticeTrees.{header_nodes}
+use Rattle.ps_model.specs.notices.Due.{About, about_node, always, items_inside, node_notice, told_about}
+use Rattle.ps_model.specs.notices.Given.{asked, given}
+use Rattle.ps_model.specs.notices.NoticeTrees.{header_nodes}
 use Rattle.ps_model.specs.Sorted.{put_sorted, sorted}
-use Rattle.ps_model.specs.Ways.{NoWay, OwnRow, Way, way_to}
+use Rattle.ps_model.specs.notices.Ways.{NoWay, OwnRow, Way, way_to}
 use Rattle.ps_model.proofs.Asked.{is-among-asked}
 use Rattle.ps_secrecy.proofs.ListLaws.{append-nothing}
 use Rattle.ps_rehearse_laws.proofs.Checks.{read-same}

@@ -14,13 +14,13 @@ use Rattle.ps_types.specs.declared.request.Request.{Request}
 use Rattle.ps_types.specs.declared.rows.TallyRow.{TallyRow}
 use Rattle.ps_model.specs.After.{after, book_changed, events_by, all_due, notices_at, request_on}
 use Rattle.ps_model.specs.Book.{Book, State}
-use Rattle.ps_model.specs.Changes.{changed}
-use Rattle.ps_model.specs.Commits.{makes_entry}
-use Rattle.ps_model.specs.Numbered.{notice_of, numbered}
+use Rattle.ps_model.specs.requests.Changes.{changed}
+use Rattle.ps_model.specs.requests.Commits.{makes_entry}
+use Rattle.ps_model.specs.notices.Numbered.{notice_of, numbered}
 use Rattle.ps_model.specs.Replay.{accepted, is_booted, request_accepted}
-use Rattle.ps_model.specs.Taken.{Taken}
-use Rattle.ps_model.specs.Taken as taken
-use Rattle.ps_model.specs.Taking.{request_in, tree_taken}
+use Rattle.ps_model.specs.requests.Taken.{Taken}
+use Rattle.ps_model.specs.requests.Taken as taken
+use Rattle.ps_model.specs.requests.Taking.{request_in, tree_taken}
 use Rattle.ps_model.specs.Tallies.{is_next_line, made_for, more_made}
 use Rattle.ps_gen.specs.Dealt.{drawn}
 use Rattle.ps_rehearse_laws.proofs.Deal.{IsGuest, host_of, is_mine}

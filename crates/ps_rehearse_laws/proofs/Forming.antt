@@ -15,7 +15,7 @@ use Rattle.ps_types.specs.Tree.{Tree, Nodes, branch, levels, none}
 use Rattle.ps_types.specs.declared.attrs.Attr.{Attr}
 use Rattle.ps_types.proofs.PrintLaws.{print_reads}
 use Rattle.ps_model.proofs.LineLaws.{reads-line}
-use Rattle.ps_model.specs.Taking.{line_taken, tree_taken}
+use Rattle.ps_model.specs.requests.Taking.{line_taken, tree_taken}
 use Rattle.ps_gen.specs.Dealt as dealt
 use Rattle.ps_gen.specs.Dealt.{iq, type_of}
 use Rattle.ps_gen.specs.declared.kind.Kind.{Kind}

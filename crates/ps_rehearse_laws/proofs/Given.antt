@@ -16,12 +16,12 @@ use Rattle.ps_types.specs.declared.rows.ItemRow.{ItemRow}
 use Rattle.ps_types.specs.declared.rows.NodeRow.{NodeRow}
 use Rattle.ps_model.specs.After.{all_due, due_of}
 use Rattle.ps_model.specs.Book.{Book}
-use Rattle.ps_model.specs.Due.{about_node, may_read, node_notice}
-use Rattle.ps_model.specs.EventSubs.{last_event}
-use Rattle.ps_model.specs.Events.{events_of}
-use Rattle.ps_model.specs.Given.{given, to_one}
-use Rattle.ps_model.specs.Last.{last_notice}
-use Rattle.ps_model.specs.NoticeTrees.{named_tree}
+use Rattle.ps_model.specs.notices.Due.{about_node, may_read, node_notice}
+use Rattle.ps_model.specs.notices.EventSubs.{last_event}
+use Rattle.ps_model.specs.notices.Events.{events_of}
+use Rattle.ps_model.specs.notices.Given.{given, to_one}
+use Rattle.ps_model.specs.notices.Last.{last_notice}
+use Rattle.ps_model.specs.notices.NoticeTrees.{named_tree}
 use Rattle.ps_gen.specs.declared.kind.Kind.{Kind}
 use Rattle.ps_gen.specs.declared.kind.Kind.TheVariants.{Create, Publish, Subscribe, Items, Unsubscribe, Retract, Delete}
 use Rattle.ps_rehearse_laws.proofs.Deal.{asks, key}

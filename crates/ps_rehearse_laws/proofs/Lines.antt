@@ -17,10 +17,10 @@ use Rattle.ps_types.specs.declared.entry.Notice.{Notice}
 use Rattle.ps_types.specs.declared.jid.Jid.{Jid}
 use Rattle.ps_types.proofs.Same.{same_jid-Decides}
 use Rattle.ps_model.specs.Book.{empty_state}
-use Rattle.ps_model.specs.NoticeTrees.{with_id}
-use Rattle.ps_model.specs.Numbers.{counter_of}
+use Rattle.ps_model.specs.notices.NoticeTrees.{with_id}
+use Rattle.ps_model.specs.notices.Numbers.{counter_of}
 use Rattle.ps_model.specs.Replay.{lawful, notices, of_bare}
-use Rattle.ps_model.specs.Stanza.{has_type, is_iq, is_message}
+use Rattle.ps_model.specs.requests.Stanza.{has_type, is_iq, is_message}
 use Rattle.ps_model.proofs.NumberLaws.{numbers-rise}
 use Rattle.ps_trace.specs.Words.{Word, Reply, Note, notes_in, replies_in}
 use Rattle.ps_rehearse_laws.specs.Rehearsal.{is_message_read, is_notice, is_of_type, is_reply_of, made_from}

@@ -21,12 +21,12 @@ use Rattle.ps_types.specs.declared.rows.ItemRow.{ItemRow}
 use Rattle.ps_types.specs.declared.rows.NodeRow.{NodeRow}
 use Rattle.ps_types.proofs.PrintLaws.{print_reads}
 use Rattle.ps_model.specs.Book.{Book}
-use Rattle.ps_model.specs.Children.{payload_list}
-use Rattle.ps_model.specs.Due.{items_inside, may_read, node_notice}
-use Rattle.ps_model.specs.Given.{given}
-use Rattle.ps_model.specs.NoticeTrees.{event_nodes, kind_attr, message, notice_id, payload_nodes, with_id}
-use Rattle.ps_model.specs.Stanza.{host_jid}
-use Rattle.ps_model.specs.Ways.{NoWay, OwnRow}
+use Rattle.ps_model.specs.requests.Children.{payload_list}
+use Rattle.ps_model.specs.notices.Due.{items_inside, may_read, node_notice}
+use Rattle.ps_model.specs.notices.Given.{given}
+use Rattle.ps_model.specs.notices.NoticeTrees.{event_nodes, kind_attr, message, notice_id, payload_nodes, with_id}
+use Rattle.ps_model.specs.requests.Stanza.{host_jid}
+use Rattle.ps_model.specs.notices.Ways.{NoWay, OwnRow}
 use Rattle.ps_model.proofs.LineLaws.{reads-line}
 use Rattle.ps_rehearse_laws.specs.Rehearsal.{is_notice}
 use Rattle.ps_rehearse_laws.proofs.Deal.{is_mine, key, service}

@@ -21,14 +21,14 @@ use Rattle.ps_types.specs.declared.rows.SubState.{SubState}
 use Rattle.ps_types.specs.declared.rows.SubState.TheVariants as sub
 use Rattle.ps_types.proofs.PrintLaws.{print_reads}
 use Rattle.ps_model.specs.Book.{Book}
-use Rattle.ps_model.specs.ChangeEntity.{new_state}
-use Rattle.ps_model.specs.Check.{check, child_of, steps_of}
-use Rattle.ps_model.specs.Children.{about, item_tree, payload_list, row_tree}
+use Rattle.ps_model.specs.requests.ChangeEntity.{new_state}
+use Rattle.ps_model.specs.requests.Check.{check, child_of, steps_of}
+use Rattle.ps_model.specs.requests.Children.{about, item_tree, payload_list, row_tree}
 use Rattle.ps_model.specs.Conditions.{error_tree}
-use Rattle.ps_model.specs.Outcome.{outcome}
+use Rattle.ps_model.specs.requests.Outcome.{outcome}
 use Rattle.ps_model.specs.Replies.{child_list, feature_of, if_answered, outcome_reply, stanza}
-use Rattle.ps_model.specs.Stanza.{has_type, is_iq}
-use Rattle.ps_model.specs.Steps.{first_denial}
+use Rattle.ps_model.specs.requests.Stanza.{has_type, is_iq}
+use Rattle.ps_model.specs.requests.Steps.{first_denial}
 use Rattle.ps_model.specs.Words.{sub_text}
 use Rattle.ps_model.proofs.LineLaws.{reads-line}
 use Rattle.ps_gen.specs.Dealt.{iq, type_of}

@@ -12,9 +12,9 @@ use Rattle.ps_types.specs.declared.jid.Jid.{Jid}
 use Rattle.ps_types.specs.declared.rows.ItemRow.{ItemRow}
 use Rattle.ps_model.specs.After.{after, all_due, notices_at}
 use Rattle.ps_model.specs.Book.{Book, State}
-use Rattle.ps_model.specs.ChangePublish.{item_row}
-use Rattle.ps_model.specs.Given.{asked, given}
-use Rattle.ps_model.specs.NoticeTrees.{with_id}
+use Rattle.ps_model.specs.requests.ChangePublish.{item_row}
+use Rattle.ps_model.specs.notices.Given.{asked, given}
+use Rattle.ps_model.specs.notices.NoticeTrees.{with_id}
 use Rattle.ps_model.specs.Replay.{accepted}
 use Rattle.ps_model.specs.Sorted.{sorted}
 use Rattle.ps_rehearse_laws.specs.Rehearsal.{made_from}

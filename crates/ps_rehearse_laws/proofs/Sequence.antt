@@ -40,12 +40,12 @@ use Rattle.ps_types.specs.declared.entry.Entry.{Entry}
 use Rattle.ps_types.specs.declared.entry.Entry.TheVariants.{Change}
 use Rattle.ps_model.specs.After.{after, notices_at}
 use Rattle.ps_model.specs.Book.{Book, State, empty_state}
-use Rattle.ps_model.specs.Changes.{changed}
-use Rattle.ps_model.specs.Commits.{makes_entry}
+use Rattle.ps_model.specs.requests.Changes.{changed}
+use Rattle.ps_model.specs.requests.Commits.{makes_entry}
 use Rattle.ps_model.specs.Replay.{replay, replay_from}
 use Rattle.ps_model.specs.Replies.{entry_of, reply_to}
-use Rattle.ps_model.specs.TheCore.{the_core}
-use Rattle.ps_model.specs.World.{more_entries}
+use Rattle.ps_model.specs.machine.TheCore.{the_core}
+use Rattle.ps_model.specs.machine.World.{more_entries}
 use Rattle.ps_gen.specs.Dealt.{host_name}
 use Rattle.ps_rehearse_laws.specs.Rehearsal.{arrival_at, begun, is_change, line_at, list_before, made_from, replies_before}
 use Rattle.ps_rehearse_laws.proofs.Answers.{line-entry, line-reply}

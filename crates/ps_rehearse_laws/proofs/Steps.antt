@@ -13,12 +13,12 @@ use Rattle.ps_types.specs.declared.request.Request.{Request}
 use Rattle.ps_types.specs.declared.rows.ItemRow.{ItemRow}
 use Rattle.ps_model.specs.After.{all_due}
 use Rattle.ps_model.specs.Book.{Book}
-use Rattle.ps_model.specs.ChangePublish.{item_row}
-use Rattle.ps_model.specs.Changes.{changed}
-use Rattle.ps_model.specs.Check.{check}
-use Rattle.ps_model.specs.Commits.{commits, makes_entry}
-use Rattle.ps_model.specs.Events.{events_of}
-use Rattle.ps_model.specs.Outcome.{Outcome, is_accepted}
+use Rattle.ps_model.specs.requests.ChangePublish.{item_row}
+use Rattle.ps_model.specs.requests.Changes.{changed}
+use Rattle.ps_model.specs.requests.Check.{check}
+use Rattle.ps_model.specs.requests.Commits.{commits, makes_entry}
+use Rattle.ps_model.specs.notices.Events.{events_of}
+use Rattle.ps_model.specs.requests.Outcome.{Outcome, is_accepted}
 use Rattle.ps_gen.specs.declared.kind.Kind.{Kind}
 use Rattle.ps_gen.specs.declared.kind.Kind.TheVariants.{Create, Publish, Subscribe, Items, Unsubscribe, Retract, Delete}
 use Rattle.ps_rehearse_laws.proofs.Changes.{changed-far, changed-fits, changed-own, published-to}

@@ -8,11 +8,11 @@ use Rattle.ps_types.specs.Same.{same_bare, same_jid}
 use Rattle.ps_types.specs.Tree.{Tree}
 use Rattle.ps_types.specs.declared.jid.Jid.{Jid}
 use Rattle.ps_types.specs.declared.request.Request.{Request}
-use Rattle.ps_model.specs.Stanza.{host_jid, jid_of}
-use Rattle.ps_model.specs.Steps.{is_short}
-use Rattle.ps_model.specs.Taken.{Taken}
-use Rattle.ps_model.specs.Taken as taken
-use Rattle.ps_model.specs.Taking.{tree_taken}
+use Rattle.ps_model.specs.requests.Stanza.{host_jid, jid_of}
+use Rattle.ps_model.specs.requests.Steps.{is_short}
+use Rattle.ps_model.specs.requests.Taken.{Taken}
+use Rattle.ps_model.specs.requests.Taken as taken
+use Rattle.ps_model.specs.requests.Taking.{tree_taken}
 use Rattle.ps_gen.specs.Dealt as dealt
 use Rattle.ps_gen.specs.Dealt.{iq, type_of}
 use Rattle.ps_gen.specs.declared.kind.Kind.{Kind}

@@ -7,9 +7,9 @@ use Rattle.ps_types.specs.Print.{print}
 use Rattle.ps_types.specs.Tree.{Tree}
 use Rattle.ps_types.specs.declared.request.Request.{Request}
 use Rattle.ps_model.specs.Book.{Book, empty_book}
-use Rattle.ps_model.specs.Changes.{changed}
-use Rattle.ps_model.specs.Check.{check}
-use Rattle.ps_model.specs.Commits.{makes_entry}
+use Rattle.ps_model.specs.requests.Changes.{changed}
+use Rattle.ps_model.specs.requests.Check.{check}
+use Rattle.ps_model.specs.requests.Commits.{makes_entry}
 use Rattle.ps_model.specs.Replies.{outcome_reply}
 use Rattle.ps_gen.specs.Dealt.{drawn, host_name, stanza_of}
 use Rattle.ps_rehearse_laws.proofs.Deal.{Deal, IsDeal, host_of, request, service}

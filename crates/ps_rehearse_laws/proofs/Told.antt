@@ -15,9 +15,9 @@ use Rattle.ps_types.specs.declared.request.Request.{Request}
 use Rattle.ps_types.specs.declared.rows.ItemRow.{ItemRow}
 use Rattle.ps_types.specs.declared.rows.NodeRow.{NodeRow}
 use Rattle.ps_model.specs.Book.{Book}
-use Rattle.ps_model.specs.ChangePublish.{item_row, published_by}
-use Rattle.ps_model.specs.Changes.{changed}
-use Rattle.ps_model.specs.Commits.{makes_entry}
+use Rattle.ps_model.specs.requests.ChangePublish.{item_row, published_by}
+use Rattle.ps_model.specs.requests.Changes.{changed}
+use Rattle.ps_model.specs.requests.Commits.{makes_entry}
 use Rattle.ps_gen.specs.Dealt as dealt
 use Rattle.ps_gen.specs.Dealt.{drawn, kind_of}
 use Rattle.ps_gen.specs.declared.kind.Kind.{Kind}

@@ -44,11 +44,11 @@ use Rattle.ps_types.specs.declared.entry.Entry.{Entry}
 use Rattle.ps_types.specs.declared.entry.Entry.TheVariants.{Change}
 use Rattle.ps_model.specs.After.{after, notices_at}
 use Rattle.ps_model.specs.Book.{Book, State, empty_state}
-use Rattle.ps_model.specs.Changes.{changed}
-use Rattle.ps_model.specs.Commits.{makes_entry}
+use Rattle.ps_model.specs.requests.Changes.{changed}
+use Rattle.ps_model.specs.requests.Commits.{makes_entry}
 use Rattle.ps_model.specs.Replay.{accepted, replay}
 use Rattle.ps_model.specs.Replies.{entry_of, reply_to}
-use Rattle.ps_model.specs.TheCore.{the_core}
+use Rattle.ps_model.specs.machine.TheCore.{the_core}
 use Rattle.ps_model.proofs.Going.{replay-append}
 use Rattle.ps_trace.specs.Lines.{AreLines, Came, StandsAt, changes_of, entries_of, onto, replies_of, size}
 use Rattle.ps_gen.specs.Dealt.{drawn, stanza_of}

@@ -10,8 +10,8 @@ use Rattle.ps_types.specs.declared.jid.Jid.{Jid}
 use Rattle.ps_model.specs.After.{after, notices_at}
 use Rattle.ps_model.specs.Book.{State, empty_state}
 use Rattle.ps_model.specs.Replay.{lawful, notices_from, of_bare, replay}
-use Rattle.ps_model.specs.TheCore.{the_core}
-use Rattle.ps_model.specs.World.{World}
+use Rattle.ps_model.specs.machine.TheCore.{the_core}
+use Rattle.ps_model.specs.machine.World.{World}
 use Rattle.ps_model.proofs.TheLaws.{places-of}
 use Rattle.ps_trace.specs.Lines.{AreLines, Came, changes_of, entries_of}
 use Rattle.ps_trace.specs.Over.{IsComplete}

@@ -12,9 +12,9 @@ use Rattle.ps_types.specs.declared.entry.Entry.TheVariants.{Boot, Change, Handed
 use Rattle.ps_types.specs.declared.entry.Notice.{Notice}
 use Rattle.ps_model.specs.After.{after, notices_at}
 use Rattle.ps_model.specs.Book.{State, empty_state}
-use Rattle.ps_model.specs.Stanza.{has_type, is_iq, is_message}
-use Rattle.ps_model.specs.TheCore.{the_core}
-use Rattle.ps_model.specs.World.{more_entries}
+use Rattle.ps_model.specs.requests.Stanza.{has_type, is_iq, is_message}
+use Rattle.ps_model.specs.machine.TheCore.{the_core}
+use Rattle.ps_model.specs.machine.World.{more_entries}
 use Rattle.ps_gen.specs.Dealt.{generated, host_name}
 
 -- ---- what is counted

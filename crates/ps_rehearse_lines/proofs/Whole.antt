@@ -37,7 +37,7 @@ use Rattle.ps_types.specs.LineTree.{line_tree}
 use Rattle.ps_types.specs.Lines.{NoNewline, joined, onto_whole, part_of, whole_lines}
 use Rattle.ps_types.specs.Tree.{Tree}
 use Rattle.ps_types.proofs.Lines.{written_is, written_one}
-use Rattle.ps_model.specs.Streams.{passes}
+use Rattle.ps_model.specs.machine.Streams.{passes}
 use Rattle.ps_types.specs.Reading.{Reads}
 use Rattle.ps_types.specs.declared.denial.LineRefusal.{LineRefusal}
 use Rattle.ps_types.specs.declared.denial.LineRefusal.TheVariants.{L2, L3, L4}

@@ -2,8 +2,8 @@
 use Rattle.std.specs.Prelude.{◌≡◌, ℕ, ◌+◌, ◌<◌, ◌^◌, Bool, not, ◌&&◌, List, [], ◌∷◌, codes, if◌then◌else◌}
 use Rattle.ps_types.specs.LineTree.{line_tree}
 use Rattle.ps_types.specs.Tree.{Tree}
-use Rattle.ps_model.specs.Stanza.{has_type, is_iq}
-use Rattle.ps_model.specs.Streams.{passes}
+use Rattle.ps_model.specs.requests.Stanza.{has_type, is_iq}
+use Rattle.ps_model.specs.machine.Streams.{passes}
 use Rattle.ps_rehearse_lines.specs.declared.counting.Counts.{Counts}
 
 -- an iq of type result, and one of type error

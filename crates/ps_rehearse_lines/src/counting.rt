@@ -1,7 +1,7 @@
 // The lines that were written to a sink, counted.
 ghost use Rattle.std.specs.Prelude.{◌≡◌, ◌<◌, ◌&&◌, length, take, slice_index, IfSome, IfNone, IfOk};
 ghost use Rattle.ps_types.specs.Lines.{NoNewline, whole_lines};
-ghost use Rattle.ps_model.specs.Stanza.{has_type, is_iq};
+ghost use Rattle.ps_model.specs.requests.Stanza.{has_type, is_iq};
 ghost use Rattle.ps_rehearse_lines.specs.Counted.{AreCounts, AreFew, HasLine, HasTree};
 
 use ps_base::Memory;

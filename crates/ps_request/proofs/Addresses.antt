@@ -4,7 +4,7 @@ use Rattle.ps_types.specs.Address.{Parts, Spells, address_of}
 use Rattle.ps_types.specs.Cutting.{parts_from}
 use Rattle.ps_types.specs.declared.jid.Jid.{Jid}
 use Rattle.ps_types.proofs.AddressLaws.{parts-again, spells-from}
-use Rattle.ps_model.specs.Stanza.{jid_of}
+use Rattle.ps_model.specs.requests.Stanza.{jid_of}
 
 pub jid-spelled : (text : List ℕ) (j : Jid) → Spells text j → Some j ≡ jid_of text
 jid-spelled text j s = ap (λ (k : Jid). Some k) s.3 ∙ sym (ap (option_map address_of) (ap parts_from s.2 ∙ parts-again s.0 s.1))

@@ -1,7 +1,7 @@
 -- Capabilities that have all their parts, and one contact.
 use Rattle.std.proofs.Common.{◌≡◌, ℕ, false, ◌==◌, List, [], ◌∷◌, length, Option, Some, refl}
 use Rattle.ps_types.specs.declared.rows.Caps.{Caps}
-use Rattle.ps_model.specs.AskRouter.{caps_by}
+use Rattle.ps_model.specs.requests.AskRouter.{caps_by}
 
 caps-whole : (h n v : List ℕ) → (length h == 0) ≡ false → (length n == 0) ≡ false → (length v == 0) ≡ false → Some (record { hash = h; node = n; ver = v }) ≡ caps_by h n v
 caps-whole [] n v p q r = absurd (cc)

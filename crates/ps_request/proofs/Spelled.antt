@@ -21,14 +21,14 @@ use Rattle.ps_types.specs.Tree.{Tree, tree, Nodes, none, branch, words, name_of,
 use Rattle.ps_types.specs.Values.{is_true}
 use Rattle.ps_types.proofs.AddressLaws.{text-spells}
 use Rattle.ps_forms.proofs.Printed.{form-again}
-use Rattle.ps_model.specs.AskPublish.{item_in}
-use Rattle.ps_model.specs.AskRouter.{caps_by, caps_of, caps_in, is_for_service}
-use Rattle.ps_model.specs.Asking.{value_in}
+use Rattle.ps_model.specs.requests.AskPublish.{item_in}
+use Rattle.ps_model.specs.requests.AskRouter.{caps_by, caps_of, caps_in, is_for_service}
+use Rattle.ps_model.specs.requests.Asking.{value_in}
 use Rattle.ps_model.specs.Grammar.{node_in, id_in, form_in, form_after}
-use Rattle.ps_model.specs.Spelled.{IsAsk, SpellsRequest}
-use Rattle.ps_model.specs.SpelledOwner.{AreRows}
-use Rattle.ps_model.specs.SpelledParts.{IsIq, IsQuery, IsPubsub}
-use Rattle.ps_model.specs.Stanza.{jid_of, host_jid, target_by, target_of, is_stanza, is_iq, is_asking, is_answering, is_whole_iq, is_message, is_presence, has_type, type_of}
+use Rattle.ps_model.specs.requests.Spelled.{IsAsk, SpellsRequest}
+use Rattle.ps_model.specs.requests.SpelledOwner.{AreRows}
+use Rattle.ps_model.specs.requests.SpelledParts.{IsIq, IsQuery, IsPubsub}
+use Rattle.ps_model.specs.requests.Stanza.{jid_of, host_jid, target_by, target_of, is_stanza, is_iq, is_asking, is_answering, is_whole_iq, is_message, is_presence, has_type, type_of}
 use Rattle.ps_model.proofs.AskedStanza.{taken-spelled}
 use Rattle.ps_model.proofs.Spelling.{spells-jid}
 use Rattle.ps_model.proofs.SpellingKinds.{spelled-taken}

@@ -1,5 +1,5 @@
 -- The head of a reply, as the model has it.
-use Rattle.ps_model.specs.Taken as model
+use Rattle.ps_model.specs.requests.Taken as model
 use Rattle.ps_request.specs.declared.head.Head.{Head}
 
 abbrev pub head_view : Head → model.Head

@@ -5,10 +5,10 @@ use Rattle.ps_types.specs.declared.plan.RequestRefusal.TheVariants.{Line, Denied
 use Rattle.ps_types.specs.declared.request.Request.{Request}
 use Rattle.ps_types.specs.Shape.{attr_text}
 use Rattle.ps_types.specs.Tree.{Tree}
-use Rattle.ps_model.specs.Stanza.{jid_of}
-use Rattle.ps_model.specs.Taken as taken
-use Rattle.ps_model.specs.Taken.{Taken}
-use Rattle.ps_model.specs.Taking.{sender_taken}
+use Rattle.ps_model.specs.requests.Stanza.{jid_of}
+use Rattle.ps_model.specs.requests.Taken as taken
+use Rattle.ps_model.specs.requests.Taken.{Taken}
+use Rattle.ps_model.specs.requests.Taking.{sender_taken}
 use Rattle.ps_request.specs.Heads.{head_view}
 use Rattle.ps_request.specs.declared.taking.TakenTree.{TakenTree}
 use Rattle.ps_request.specs.declared.taking.TakenTree.TheVariants as tree

@@ -18,8 +18,8 @@ use Rattle.ps_types.specs.declared.request.AskItem.{AskItem}
 use Rattle.ps_types.specs.declared.request.AskRow.{AskRow}
 use Rattle.ps_types.specs.declared.request.Request.{Request}
 use Rattle.ps_types.specs.declared.rows.Caps.{Caps}
-use Rattle.ps_model.specs.Asking.{authorization}
-use Rattle.ps_model.specs.Taken.{asked}
+use Rattle.ps_model.specs.requests.Asking.{authorization}
+use Rattle.ps_model.specs.requests.Taken.{asked}
 use Rattle.ps_request.specs.Taking.{taken_of}
 
 -- ---- the stanza

@@ -6,7 +6,7 @@ ghost use Rattle.ps_types.specs.Elem.{nodes};
 ghost use Rattle.ps_types.specs.Namespaces.{pubsub_ns, owner_ns};
 ghost use Rattle.ps_types.specs.Shape.{trees_of};
 ghost use Rattle.ps_types.specs.Tree.{name_of, ns_of, nodes_of, is_named};
-ghost use Rattle.ps_model.specs.Asking.{set_ask, get_ask, owner_set_ask, owner_get_ask, part_ask, pubsub_ask, child_ask, served_namespaces, iq_by, approve_ask, approval_by, message_ask, ask_of as ask_of_tree};
+ghost use Rattle.ps_model.specs.requests.Asking.{set_ask, get_ask, owner_set_ask, owner_get_ask, part_ask, pubsub_ask, child_ask, served_namespaces, iq_by, approve_ask, approval_by, message_ask, ask_of as ask_of_tree};
 ghost use Rattle.ps_model.specs.Grammar.{first_tree};
 ghost use Rattle.ps_request.specs.Answer.{Gives};
 

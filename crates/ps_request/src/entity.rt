@@ -1,7 +1,7 @@
 // What one who subscribes or reads asks (XEP-0060 §5, §6), and service discovery (XEP-0030).
 ghost use Rattle.std.specs.Prelude.{◌≡◌};
 ghost use Rattle.ps_types.specs.Elem.{nodes};
-ghost use Rattle.ps_model.specs.AskEntity.{my_affils_ask, my_subs_ask, subscribe_ask, unsubscribe_ask, options_get_ask, options_set_ask, items_get_ask, info_get_ask, nodes_get_ask};
+ghost use Rattle.ps_model.specs.requests.AskEntity.{my_affils_ask, my_subs_ask, subscribe_ask, unsubscribe_ask, options_get_ask, options_set_ask, items_get_ask, info_get_ask, nodes_get_ask};
 ghost use Rattle.ps_request.specs.Answer.{Gives};
 
 use crate::kids::{form_behind, ids_of};

@@ -1,8 +1,8 @@
 // The form that a message holds (XEP-0004).
 ghost use Rattle.std.specs.Prelude.{◌≡◌, option_map, IfOk};
 ghost use Rattle.ps_types.specs.Forms.{kind_of as kind_by, form_of as form_by_tree, first_value as value_by_var, has_form_type};
-ghost use Rattle.ps_model.specs.Asking.{message_form, value_in};
-ghost use Rattle.ps_model.specs.Taking.{is_cancelled};
+ghost use Rattle.ps_model.specs.requests.Asking.{message_form, value_in};
+ghost use Rattle.ps_model.specs.requests.Taking.{is_cancelled};
 
 use ps_forms::{FormRefusal, attr, form_type, get, has_name, read_form};
 use ps_namespaces::DATA_FORMS;

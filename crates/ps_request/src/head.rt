@@ -1,6 +1,6 @@
 // What the reply to a stanza is made of.
 ghost use Rattle.std.specs.Prelude.{◌≡◌, IfOk};
-ghost use Rattle.ps_model.specs.Taking.{is_answered as is_answered_tree, head_of as head_of_tree};
+ghost use Rattle.ps_model.specs.requests.Taking.{is_answered as is_answered_tree, head_of as head_of_tree};
 ghost use Rattle.ps_request.specs.Heads.{head_view};
 
 use crate::forms::holds_cancel;

@@ -2,7 +2,7 @@
 ghost use Rattle.std.specs.Prelude.{◌≡◌, ◌<◌, ◌==◌, length, map, option_map, IfOk, IfSome};
 ghost use Rattle.ps_types.specs.Elem.{nodes};
 ghost use Rattle.ps_types.specs.Shape.{attr_text, children_of, trees_of};
-ghost use Rattle.ps_model.specs.AskPublish.{item_in, items_in};
+ghost use Rattle.ps_model.specs.requests.AskPublish.{item_in, items_in};
 ghost use Rattle.ps_model.specs.Grammar.{first_tree, form_after, id_in, jid_in, row_by, rows_in};
 ghost use Rattle.ps_request.specs.Answer.{AreRows};
 

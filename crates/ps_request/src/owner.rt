@@ -1,6 +1,6 @@
 // What an owner asks (XEP-0060 §8).
 ghost use Rattle.std.specs.Prelude.{◌≡◌};
-ghost use Rattle.ps_model.specs.AskOwner.{purge_ask, delete_ask, config_get_ask, config_set_ask, affils_get_ask, affils_set_ask, subs_get_ask, subs_set_ask};
+ghost use Rattle.ps_model.specs.requests.AskOwner.{purge_ask, delete_ask, config_get_ask, config_set_ask, affils_get_ask, affils_set_ask, subs_get_ask, subs_set_ask};
 ghost use Rattle.ps_request.specs.Answer.{Gives};
 
 use crate::kids::rows_of;

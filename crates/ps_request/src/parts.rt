@@ -2,10 +2,10 @@
 ghost use Rattle.std.specs.Prelude.{◌≡◌, codes, IfOk};
 ghost use Rattle.ps_types.specs.Shape.{attr_text};
 ghost use Rattle.ps_types.specs.Tree.{is_named};
-ghost use Rattle.ps_model.specs.AskEntity.{own_address};
+ghost use Rattle.ps_model.specs.requests.AskEntity.{own_address};
 ghost use Rattle.ps_model.specs.Grammar.{node_in, id_in, jid_in, form_in};
-ghost use Rattle.ps_model.specs.Stanza.{jid_of, has_type};
-ghost use Rattle.ps_model.specs.Steps.{is_short, named_step, node_step};
+ghost use Rattle.ps_model.specs.requests.Stanza.{jid_of, has_type};
+ghost use Rattle.ps_model.specs.requests.Steps.{is_short, named_step, node_step};
 ghost use Rattle.ps_request.specs.Answer.{Gives, Names};
 
 use ps_forms::{attr, has_attr, has_name};

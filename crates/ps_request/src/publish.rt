@@ -2,7 +2,7 @@
 ghost use Rattle.std.specs.Prelude.{◌≡◌};
 ghost use Rattle.ps_types.specs.Elem.{nodes};
 ghost use Rattle.ps_types.specs.Values.{is_true};
-ghost use Rattle.ps_model.specs.AskPublish.{create_ask, publish_ask, retract_ask};
+ghost use Rattle.ps_model.specs.requests.AskPublish.{create_ask, publish_ask, retract_ask};
 ghost use Rattle.ps_request.specs.Answer.{Gives};
 
 use crate::kids::{form_behind, ids_of, items_of};

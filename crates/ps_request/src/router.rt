@@ -2,7 +2,7 @@
 ghost use Rattle.std.specs.Prelude.{◌≡◌, codes, option_map, IfOk};
 ghost use Rattle.ps_types.specs.Namespaces.{roster_ns};
 ghost use Rattle.ps_types.specs.Shape.{children_of};
-ghost use Rattle.ps_model.specs.AskRouter.{contact_by, contact_in, roster_set_ask, caps_of, caps_in, is_for_service, presence_by, presence_ask, answer_by, answer_ask};
+ghost use Rattle.ps_model.specs.requests.AskRouter.{contact_by, contact_in, roster_set_ask, caps_of, caps_in, is_for_service, presence_by, presence_ask, answer_by, answer_ask};
 ghost use Rattle.ps_model.specs.Grammar.{jid_in};
 ghost use Rattle.ps_request.specs.Answer.{Gives};
 ghost use Rattle.ps_request.specs.Only.{only};

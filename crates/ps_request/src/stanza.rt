@@ -1,7 +1,7 @@
 // What every stanza must have: its shape and a target that is served here.
 ghost use Rattle.std.specs.Prelude.{◌≡◌, IfOk};
 ghost use Rattle.ps_types.specs.Same.{same_jid};
-ghost use Rattle.ps_model.specs.Stanza.{host_jid, is_iq as is_iq_tree, is_message as is_message_tree, is_presence as is_presence_tree, is_asking as is_asking_tree, is_answering, is_whole_iq, is_stanza as is_stanza_tree, target_of as target_of_tree, is_served as is_served_jid};
+ghost use Rattle.ps_model.specs.requests.Stanza.{host_jid, is_iq as is_iq_tree, is_message as is_message_tree, is_presence as is_presence_tree, is_asking as is_asking_tree, is_answering, is_whole_iq, is_stanza as is_stanza_tree, target_of as target_of_tree, is_served as is_served_jid};
 ghost use Rattle.ps_model.specs.Access.{is_account};
 
 use crate::kids::has_one_tree;

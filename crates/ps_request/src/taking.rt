@@ -1,8 +1,8 @@
 // What a tree on the stream of a host is taken as: the first step that fails decides.
 ghost use Rattle.std.specs.Prelude.{◌≡◌, IfOk};
-ghost use Rattle.ps_model.specs.Asking.{ask_of as ask_of_tree};
-ghost use Rattle.ps_model.specs.Stanza.{target_of as target_of_tree};
-ghost use Rattle.ps_model.specs.Taking.{ask_taken, target_taken, shape_taken};
+ghost use Rattle.ps_model.specs.requests.Asking.{ask_of as ask_of_tree};
+ghost use Rattle.ps_model.specs.requests.Stanza.{target_of as target_of_tree};
+ghost use Rattle.ps_model.specs.requests.Taking.{ask_taken, target_taken, shape_taken};
 ghost use Rattle.ps_request.specs.Taking.{taken_of, taken_view, Tells};
 
 use crate::asking::ask_of;

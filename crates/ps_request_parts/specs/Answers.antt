@@ -7,7 +7,7 @@ use Rattle.ps_types.specs.declared.rows.Caps.{Caps}
 use Rattle.ps_types.specs.Resources.{is_resource_of}
 use Rattle.ps_types.specs.Vers.{vers_with}
 use Rattle.ps_model.specs.Book.{Book}
-use Rattle.ps_model.specs.ChangeRouter.{is_verified, with_features}
+use Rattle.ps_model.specs.requests.ChangeRouter.{is_verified, with_features}
 use Rattle.ps_request_parts.specs.declared.answers.Answered.{Answered}
 
 -- for its features where it is usable, and whether these have the hash that was shown

@@ -2,7 +2,7 @@
 ghost use Rattle.std.specs.Prelude.{◌≡◌, ◌==◌, ◌||◌, length, not, IfOk};
 ghost use Rattle.std.specs.Str.{bytes_eq};
 ghost use Rattle.ps_types.specs.CapString.{info_of, is_ill_formed};
-ghost use Rattle.ps_model.specs.ChangeRouter as model;
+ghost use Rattle.ps_model.specs.requests.ChangeRouter as model;
 ghost use Rattle.ps_request_parts.specs.Answers.{answered_by};
 
 use crate::known::is_sha1;

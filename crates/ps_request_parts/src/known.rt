@@ -1,7 +1,7 @@
 // What is known of a resource by the capabilities that it shows (XEP-0115 §5.4).
 ghost use Rattle.std.specs.Prelude.{◌≡◌, None, option_copied};
 ghost use Rattle.ps_types.specs.Resources.{resource_at};
-ghost use Rattle.ps_model.specs.ChangeRouter as model;
+ghost use Rattle.ps_model.specs.requests.ChangeRouter as model;
 ghost use Rattle.ps_access.specs.Tables.{book_of};
 
 use ps_access::{Tables, has_caps};

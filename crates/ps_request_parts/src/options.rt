@@ -2,7 +2,7 @@
 ghost use Rattle.std.specs.Prelude.{◌≡◌, IfOk};
 ghost use Rattle.std.specs.List.{list_all};
 ghost use Rattle.ps_types.specs.Forms.{form_of};
-ghost use Rattle.ps_model.specs.CheckOptions as model;
+ghost use Rattle.ps_model.specs.requests.CheckOptions as model;
 ghost use Rattle.ps_access.specs.Plans.{Gives};
 
 use ps_access::{config_from, form_in, is_submitted};

@@ -10,6 +10,7 @@ all_same alike same [] (y ∷ ys) h = absurd h
 all_same alike same (x ∷ xs) [] h = absurd h
 all_same alike same (x ∷ xs) (y ∷ ys) h = rw (same x y h.0, all_same alike same xs ys h.1) refl
 
-pub all_same_ok : {X T E : Type 0} (alike : X → X → Type 0) (same : (x y : X) → alike x y → y ≡ x) (items : T → List X) (xs : List X) (r : Result T E) → IfOk r (λ t. AllZip alike xs (items t)) → IfOk r (λ t. items t ≡ xs)
+pub all_same_ok : {X T E : Type 0} (alike : X → X → Type 0) (same : (x y : X) → alike x y → y ≡ x) (items : T → List X) (xs : List X) (r : Result T E) → IfOk r (λ t. AllZip alike xs (items t))
+    → IfOk r (λ t. items t ≡ xs)
 all_same_ok alike same items xs (Ok t) h = all_same alike same xs (items t) h
 all_same_ok alike same items xs (Err e) h = tt

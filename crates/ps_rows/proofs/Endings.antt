@@ -1,5 +1,38 @@
 -- A walk back from the end, and what it makes of the rows that pass.
-use Rattle.std.proofs.Common.{◌≡◌, ℕ, ◌+◌, ◌-◌, ◌<◌, ◌≤◌, Bool, true, false, not, cond, ◌&&◌, ◌||◌, List, [], ◌∷◌, ◌++◌, Option, Some, None, refl, ap, sym, subst, ◌∙◌, arith, zero, suc, length, drop, take, length-append}
+use Rattle.std.proofs.Common.{
+  ◌≡◌,
+  ℕ,
+  ◌+◌,
+  ◌-◌,
+  ◌<◌,
+  ◌≤◌,
+  Bool,
+  true,
+  false,
+  not,
+  cond,
+  ◌&&◌,
+  ◌||◌,
+  List,
+  [],
+  ◌∷◌,
+  ◌++◌,
+  Option,
+  Some,
+  None,
+  refl,
+  ap,
+  sym,
+  subst,
+  ◌∙◌,
+  arith,
+  zero,
+  suc,
+  length,
+  drop,
+  take,
+  length-append,
+}
 use Rattle.std.specs.Prelude.{filter, IfSome}
 use Rattle.std.specs.List.{AllZip, insert, list_all}
 use Rattle.std.proofs.lemmas.List.Elements.{length_all_zip}
@@ -25,7 +58,8 @@ insert-middle [] back x = refl
 insert-middle (u ∷ us) back x = ap (λ r. u ∷ r) (insert-middle us back x)
 
 -- a copy of a row is put in
-pub put-around : {R : Type 0} (Q : R → R → Type 0) (before rows new : List R) (at : ℕ) (slot : Option R) (row copy : R) → slot ≡ Some row → new ≡ insert rows at copy → Q row copy → AllZip Q before rows → AllZip Q (around_at before at slot) new
+pub put-around : {R : Type 0} (Q : R → R → Type 0) (before rows new : List R) (at : ℕ) (slot : Option R) (row copy : R) → slot ≡ Some row → new ≡ insert rows at copy → Q row copy
+    → AllZip Q before rows → AllZip Q (around_at before at slot) new
 put-around Q before rows new at slot row copy is set same all =
     subst (λ o. AllZip Q (around_at before at o) new) (sym is) (subst (λ l. AllZip Q (insert before at row) l) (sym set) (zip-insert Q before rows at row copy all same))
 
@@ -119,7 +153,8 @@ module _ {R : Type 0} (test : R → Bool) where
   filter-split [] back x t a = let f = all-filter back a in rw t f
   filter-split (y ∷ front) back x t a = by (filter-split front back x t a) (test y)
     where
-      by : filter test (front ++ x ∷ back) ≡ filter test front ++ back → (b : Bool) → cond b (y ∷ filter test (front ++ x ∷ back)) (filter test (front ++ x ∷ back)) ≡ cond b (y ∷ filter test front) (filter test front) ++ back
+      by : filter test (front ++ x ∷ back) ≡ filter test front ++ back → (b : Bool)
+          → cond b (y ∷ filter test (front ++ x ∷ back)) (filter test (front ++ x ∷ back)) ≡ cond b (y ∷ filter test front) (filter test front) ++ back
       by m true = ap (λ r. y ∷ r) m
       by m false = m
 
@@ -127,7 +162,8 @@ module _ {R : Type 0} (test : R → Bool) where
   around-split [] back x t a = let f = all-around back a in rw (t, a) (ap (λ r. x ∷ r) f)
   around-split (y ∷ front) back x t a = let no = other-among front back x t in rw no (by (around-split front back x t a) (test y))
     where
-      by : own_and_last test (front ++ x ∷ back) ≡ filter test front ++ x ∷ back → (b : Bool) → cond (b || false) (y ∷ own_and_last test (front ++ x ∷ back)) (own_and_last test (front ++ x ∷ back)) ≡ cond b (y ∷ filter test front) (filter test front) ++ x ∷ back
+      by : own_and_last test (front ++ x ∷ back) ≡ filter test front ++ x ∷ back → (b : Bool)
+          → cond (b || false) (y ∷ own_and_last test (front ++ x ∷ back)) (own_and_last test (front ++ x ∷ back)) ≡ cond b (y ∷ filter test front) (filter test front) ++ x ∷ back
       by m true = ap (λ r. y ∷ r) m
       by m false = m
 
@@ -177,17 +213,20 @@ module _ {R : Type 0} (test : R → Bool) where
     in-place = let e = long in omega (arith, e)
 
     -- it is put where it belongs
-    pub placed : (new : List R) (at : ℕ) → at ≡ length rows - tail → AllZip Q (around_at (filter test (standing slots)) at (mark_at slots place)) new → AllZip Q (own_and_last test (standing slots)) new
+    pub placed : (new : List R) (at : ℕ) → at ≡ length rows - tail → AllZip Q (around_at (filter test (standing slots)) at (mark_at slots place)) new
+        → AllZip Q (own_and_last test (standing slots)) new
     placed new at set done =
         let e = long in
         let i : at ≡ length (filter test front) = omega (arith, set, e) in
         let o : own_and_last test (standing slots) ≡ filter test front ++ other.0 ∷ back = ap (λ l. own_and_last test l) whole ∙ around-split front back other.0 other.1.1 all-back in
         let put : around_at (filter test (standing slots)) at (mark_at slots place) ≡ own_and_last test (standing slots) =
-        ap (λ o. around_at (filter test (standing slots)) at o) other.1.0 ∙ (ap (λ l. insert l at other.0) passing-parts ∙ (ap (λ k. insert (filter test front ++ back) k other.0) i ∙ (insert-middle (filter test front) back other.0 ∙ sym o))) in
+        ap (λ o. around_at (filter test (standing slots)) at o) other.1.0 ∙
+        (ap (λ l. insert l at other.0) passing-parts ∙ (ap (λ k. insert (filter test front ++ back) k other.0) i ∙ (insert-middle (filter test front) back other.0 ∙ sym o))) in
         subst (λ l. AllZip Q l new) put done
 
   -- where all rows pass they are the rows that pass
-  pub all-pass : (slots : List (Option R)) (Q : R → R → Type 0) (rows : List R) (end : Option ℕ) → end ≡ None → list_all test (standing (after end slots)) ≡ true → AllZip Q (filter test (standing slots)) rows
+  pub all-pass : (slots : List (Option R)) (Q : R → R → Type 0) (rows : List R) (end : Option ℕ) → end ≡ None → list_all test (standing (after end slots)) ≡ true
+      → AllZip Q (filter test (standing slots)) rows
       → AllZip Q (own_and_last test (standing slots)) rows
   all-pass slots Q rows end is all zip =
       let a = subst (λ o. list_all test (standing (after o slots)) ≡ true) is all in

@@ -1,5 +1,35 @@
 -- A walk back that copies the last rows that pass.
-use Rattle.std.proofs.Common.{◌≡◌, ℕ, ◌+◌, ◌-◌, ◌<◌, ◌≤◌, Bool, true, false, cond, List, [], ◌∷◌, ◌++◌, Option, Some, None, refl, ap, sym, subst, ◌∙◌, arith, zero, suc, length, take, drop, length-append}
+use Rattle.std.proofs.Common.{
+  ◌≡◌,
+  ℕ,
+  ◌+◌,
+  ◌-◌,
+  ◌<◌,
+  ◌≤◌,
+  Bool,
+  true,
+  false,
+  cond,
+  List,
+  [],
+  ◌∷◌,
+  ◌++◌,
+  Option,
+  Some,
+  None,
+  refl,
+  ap,
+  sym,
+  subst,
+  ◌∙◌,
+  arith,
+  zero,
+  suc,
+  length,
+  take,
+  drop,
+  length-append,
+}
 use Rattle.std.specs.Prelude.{filter, reverse}
 use Rattle.std.specs.List.{AllZip}
 use Rattle.std.proofs.Math.Seq.{drop-append_seam}
@@ -58,7 +88,9 @@ module _ {R : Type 0} (test : R → Bool) where
   parted (None ∷ xs) (suc place) = parted xs place
   parted (Some x ∷ xs) (suc place) = by (test x) (parted xs place)
     where
-      by : (b : Bool) → filter test (standing xs) ≡ filter test (standing (take place xs)) ++ filter test (standing (drop place xs)) → cond b (x ∷ filter test (standing xs)) (filter test (standing xs)) ≡ cond b (x ∷ filter test (standing (take place xs))) (filter test (standing (take place xs))) ++ filter test (standing (drop place xs))
+      by : (b : Bool) → filter test (standing xs) ≡ filter test (standing (take place xs)) ++ filter test (standing (drop place xs))
+          → cond b (x ∷ filter test (standing xs)) (filter test (standing xs)) ≡ cond b (x ∷ filter test (standing (take place xs))) (filter test (standing (take place xs))) ++ filter test
+          (standing (drop place xs))
       by true m = ap (λ r. x ∷ r) m
       by false m = m
 
@@ -79,7 +111,8 @@ module _ {R : Type 0} (test : R → Bool) where
       by false = omega arith
 
 module _ {R : Type 0} (test : R → Bool) (by : R → ℕ) (digest : ℕ) (asks : Asks test by digest) (alike : R → R → Type 0) (most : ℕ) where
-  pub newest_start : (slots : List (Option R)) (o : Option ℕ) (d : ℕ) (rows : List R) → rows ≡ [] → LastBelow (mark_at (marked_by by slots)) d (length slots) o → d ≡ digest → IsGatheringBack alike test by digest most o slots rows
+  pub newest_start : (slots : List (Option R)) (o : Option ℕ) (d : ℕ) (rows : List R) → rows ≡ [] → LastBelow (mark_at (marked_by by slots)) d (length slots) o → d ≡ digest
+      → IsGatheringBack alike test by digest most o slots rows
   newest_start slots o d rows r f e =
       let w = start_back test by digest asks slots o d f e in
       let g = subst (λ x. AllZip alike (reverse x) []) (sym w.after) tt in
@@ -87,7 +120,8 @@ module _ {R : Type 0} (test : R → Bool) (by : R → ℕ) (digest : ℕ) (asks 
       record { gathered = subst (λ x. AllZip alike (reverse (seen_after test o slots)) x) (sym r) g; here = w.here; few = l }
 
   -- all from the place on
-  from_here : (slots : List (Option R)) (at o : Option ℕ) (place : ℕ) → at ≡ Some place → LastBelow (mark_at (marked_by by slots)) digest place o → reverse (seen_after test o slots) ≡ reverse (seen_after test at slots) ++ passing test (mark_at slots place)
+  from_here : (slots : List (Option R)) (at o : Option ℕ) (place : ℕ) → at ≡ Some place → LastBelow (mark_at (marked_by by slots)) digest place o
+      → reverse (seen_after test o slots) ≡ reverse (seen_after test at slots) ++ passing test (mark_at slots place)
   from_here slots at o place e f =
       let s : suc place ≡ place + 1 = omega arith in
       let a = back_to test by digest asks slots place o f ∙ here_back test slots place in
@@ -95,7 +129,9 @@ module _ {R : Type 0} (test : R → Bool) (by : R → ℕ) (digest : ℕ) (asks 
       let c = ap (λ x. passing test (mark_at slots place) ++ seen_after test x slots) (sym e) in
       ap reverse (a ∙ (b ∙ c)) ∙ (reverse-append (passing test (mark_at slots place)) (seen_after test at slots) ∙ ap (λ x. reverse (seen_after test at slots) ++ x) (alone test (mark_at slots place)))
 
-  pub newest_on : (slots : List (Option R)) (at o : Option ℕ) (place : ℕ) (rows rows' : List R) → at ≡ Some place → IsGatheringBack alike test by digest most at slots rows → length rows < most → Prior test by digest asks slots place o → ((before : List R) → AllZip alike before rows → AllZip alike (before ++ passing test (mark_at slots place)) rows') → IsGatheringBack alike test by digest most o slots rows'
+  pub newest_on : (slots : List (Option R)) (at o : Option ℕ) (place : ℕ) (rows rows' : List R) → at ≡ Some place → IsGatheringBack alike test by digest most at slots rows → length rows < most
+      → Prior test by digest asks slots place o → ((before : List R) → AllZip alike before rows → AllZip alike (before ++ passing test (mark_at slots place)) rows')
+      → IsGatheringBack alike test by digest most o slots rows'
   newest_on slots at o place rows rows' e w less n more =
       let h = w.here place e in
       let f = n digest h in
@@ -111,7 +147,8 @@ module _ {R : Type 0} (test : R → Bool) (by : R → ℕ) (digest : ℕ) (asks 
       }
 
   -- the walk has met all
-  pub newest_end : (slots : List (Option R)) (at : Option ℕ) (rows : List R) → at ≡ None → IsGatheringBack alike test by digest most at slots rows → AllZip alike (reverse (newest_of most (filter test (standing slots)))) rows
+  pub newest_end : (slots : List (Option R)) (at : Option ℕ) (rows : List R) → at ≡ None → IsGatheringBack alike test by digest most at slots rows
+      → AllZip alike (reverse (newest_of most (filter test (standing slots)))) rows
   newest_end slots at rows e w =
       let g = subst (λ x. AllZip alike (reverse (seen_after test x slots)) rows) e w.gathered in
       let l = length_all_zip alike _ _ g in
@@ -121,7 +158,8 @@ module _ {R : Type 0} (test : R → Bool) (by : R → ℕ) (digest : ℕ) (asks 
       subst (λ x. AllZip alike (reverse x) rows) (sym (newest_all most (filter test (standing slots)) s)) g
 
   -- the walk has met as many as are asked for
-  pub newest_met : (slots : List (Option R)) (at : Option ℕ) (place : ℕ) (rows : List R) → at ≡ Some place → most ≤ length rows → IsGatheringBack alike test by digest most at slots rows → AllZip alike (reverse (newest_of most (filter test (standing slots)))) rows
+  pub newest_met : (slots : List (Option R)) (at : Option ℕ) (place : ℕ) (rows : List R) → at ≡ Some place → most ≤ length rows → IsGatheringBack alike test by digest most at slots rows
+      → AllZip alike (reverse (newest_of most (filter test (standing slots)))) rows
   newest_met slots at place rows e m w =
       let g = subst (λ x. AllZip alike (reverse (seen_after test x slots)) rows) e w.gathered in
       let l = length_all_zip alike _ _ g in

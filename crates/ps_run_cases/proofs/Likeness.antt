@@ -9,7 +9,7 @@ use Rattle.ps_types.specs.declared.node.NodeKey.{NodeKey}
 use Rattle.ps_model.specs.Access.{read}
 use Rattle.ps_model.specs.Book.{Book, State}
 use Rattle.ps_model.specs.Tallies.{handed_to, made_for}
-use Rattle.ps_model.specs.TwoWorlds.{IsShutOut, SameBut, counts_outside, items_outside}
+use Rattle.ps_model.specs.machine.TwoWorlds.{IsShutOut, SameBut, counts_outside, items_outside}
 
 -- ---- what is compared
 

@@ -8,7 +8,7 @@ use Rattle.json.specs.Text as content
 use Rattle.std.specs.Str as str
 use Rattle.std.specs.Fmt as fmt
 use Rattle.ps_types.specs.Same as same
-use Rattle.ps_model.specs.TheCore.{the_core}
+use Rattle.ps_model.specs.machine.TheCore.{the_core}
 use Rattle.ps_model_cases.proofs.Parts.{each-part}
 use Rattle.ps_model_cases.specs.Case.{Holds}
 use Rattle.ps_run_cases.specs.RunCases as it

@@ -17,9 +17,9 @@ use Rattle.ps_types.specs.declared.request.Ask.TheVariants.{Publish, Retract}
 use Rattle.ps_types.specs.declared.request.Request.{Request}
 use Rattle.ps_model.specs.Access.{read}
 use Rattle.ps_model.specs.Book.{State}
-use Rattle.ps_model.specs.Stanza.{host_jid}
-use Rattle.ps_model.specs.TheCore.{the_core}
-use Rattle.ps_model.specs.TwoWorlds.{IsPair, SameBut, Touches}
+use Rattle.ps_model.specs.requests.Stanza.{host_jid}
+use Rattle.ps_model.specs.machine.TheCore.{the_core}
+use Rattle.ps_model.specs.machine.TwoWorlds.{IsPair, SameBut, Touches}
 use Rattle.ps_model_cases.proofs.Parts.{each-part}
 use Rattle.ps_model_cases.specs.AccessCases.{w}
 use Rattle.ps_model_cases.specs.Denials.{closed_node, forbidden}

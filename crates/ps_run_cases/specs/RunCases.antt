@@ -4,9 +4,9 @@ use Rattle.ps_types.specs.Tree.{Tree}
 use Rattle.ps_types.specs.declared.entry.Entry.{Entry}
 use Rattle.ps_types.specs.declared.entry.Entry.TheVariants as entry
 use Rattle.ps_types.specs.declared.entry.Notice.{Notice}
-use Rattle.ps_model.specs.Machine as machine
-use Rattle.ps_model.specs.TheCore.{the_core}
-use Rattle.ps_model.specs.World.{World}
+use Rattle.ps_model.specs.machine.Machine as machine
+use Rattle.ps_model.specs.machine.TheCore.{the_core}
+use Rattle.ps_model.specs.machine.World.{World}
 use Rattle.ps_model.specs.declared.steps.Role.TheVariants.{Writer}
 use Rattle.ps_model.specs.declared.steps.Step.{Step}
 use Rattle.ps_model.specs.declared.steps.Step.TheVariants.{Emit, Ended, Flush, Gone, Record, Take}

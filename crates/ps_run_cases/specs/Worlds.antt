@@ -8,9 +8,9 @@ use Rattle.ps_types.specs.declared.entry.Notice.{Notice}
 use Rattle.ps_types.specs.declared.jid.Jid.{Jid}
 use Rattle.ps_types.specs.declared.node.NodeKey.{NodeKey}
 use Rattle.ps_model.specs.Book.{State}
-use Rattle.ps_model.specs.Heard.{heard, is_from}
+use Rattle.ps_model.specs.notices.Heard.{heard, is_from}
 use Rattle.ps_model.specs.Replay.{replay_from}
-use Rattle.ps_model.specs.TwoWorlds.{IsPair, SameBut}
+use Rattle.ps_model.specs.machine.TwoWorlds.{IsPair, SameBut}
 use Rattle.ps_model.specs.declared.steps.Step.{Step}
 use Rattle.ps_model.specs.declared.steps.Step.TheVariants.{Arrive, Broken, Gone, Record}
 use Rattle.ps_model_cases.specs.Case.{Exchange, Holds, Sent, answered, booted, kept, line_of, made, own}

@@ -8,11 +8,11 @@ use Rattle.ps_types.specs.declared.entry.Notice.{Notice}
 use Rattle.ps_types.specs.declared.jid.Jid.{Jid}
 use Rattle.ps_types.specs.declared.node.NodeKey.{NodeKey}
 use Rattle.ps_types.proofs.Same.{same_jid-Decides}
-use Rattle.ps_model.specs.Core.{Core, handed}
-use Rattle.ps_model.specs.Machine.{counted, emits}
-use Rattle.ps_model.specs.World.{AddressPart, Flight, Nothing, Recorded, Unrecorded, World, at_address, durable, ends}
+use Rattle.ps_model.specs.machine.Core.{Core, handed}
+use Rattle.ps_model.specs.machine.Machine.{counted, emits}
+use Rattle.ps_model.specs.machine.World.{AddressPart, Flight, Nothing, Recorded, Unrecorded, World, at_address, durable, ends}
 use Rattle.ps_secrecy.proofs.AlikeWorlds.{AlikeWorlds, IsHeard, IsIdle}
-use Rattle.ps_model.specs.Heard.{placeless}
+use Rattle.ps_model.specs.notices.Heard.{placeless}
 use Rattle.ps_secrecy.proofs.AlikeRuns.{AlikeRuns}
 use Rattle.ps_secrecy.proofs.FrontLaws.{now}
 use Rattle.ps_secrecy.proofs.HostLaws.{get-map}

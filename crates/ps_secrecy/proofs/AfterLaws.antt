@@ -21,15 +21,15 @@ use Rattle.ps_types.specs.Items.{last_item}
 use Rattle.ps_types.specs.Subs.{sub_at, subs_with, is_pending, is_subscribed}
 use Rattle.ps_types.specs.Values.{is_true}
 use Rattle.ps_model.specs.Book.{Book}
-use Rattle.ps_model.specs.ChangeOwner.{approved, sub_with}
-use Rattle.ps_model.specs.ChangePublish.{item_row}
-use Rattle.ps_model.specs.CheckForms.{node_of}
-use Rattle.ps_model.specs.Events.{events_by}
-use Rattle.ps_model.specs.EventNodes.{item_asked, made_events, retract_events}
-use Rattle.ps_model.specs.EventPresence.{question_events, wanted_events, is_newly_wanted}
-use Rattle.ps_model.specs.EventSubs.{last_event, moment_in, owners, rows_events, row_asked, subscribe_events, told_events, is_same}
+use Rattle.ps_model.specs.requests.ChangeOwner.{approved, sub_with}
+use Rattle.ps_model.specs.requests.ChangePublish.{item_row}
+use Rattle.ps_model.specs.requests.CheckForms.{node_of}
+use Rattle.ps_model.specs.notices.Events.{events_by}
+use Rattle.ps_model.specs.notices.EventNodes.{item_asked, made_events, retract_events}
+use Rattle.ps_model.specs.notices.EventPresence.{question_events, wanted_events, is_newly_wanted}
+use Rattle.ps_model.specs.notices.EventSubs.{last_event, moment_in, owners, rows_events, row_asked, subscribe_events, told_events, is_same}
 use Rattle.ps_model.specs.ItemIds.{item_id}
-use Rattle.ps_model.specs.TwoWorlds.{is_in, items_outside, counts_outside}
+use Rattle.ps_model.specs.machine.TwoWorlds.{is_in, items_outside, counts_outside}
 use Rattle.ps_secrecy.proofs.Blank.{blank}
 use Rattle.ps_secrecy.proofs.Twin.{twin}
 use Rattle.ps_secrecy.proofs.ChangeLaws.{id-same}

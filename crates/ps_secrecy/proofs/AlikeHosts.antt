@@ -6,9 +6,9 @@ use Rattle.ps_types.specs.declared.entry.Entry.{Entry}
 use Rattle.ps_types.specs.declared.jid.Jid.{Jid}
 use Rattle.ps_types.specs.declared.node.NodeKey.{NodeKey}
 use Rattle.ps_model.specs.Book.{empty_state}
-use Rattle.ps_model.specs.Core.{Core}
+use Rattle.ps_model.specs.machine.Core.{Core}
 use Rattle.ps_model.specs.Replay.{replay_from}
-use Rattle.ps_model.specs.World.{Said, World}
+use Rattle.ps_model.specs.machine.World.{Said, World}
 use Rattle.ps_secrecy.specs.Seen.{gist, is_for}
 use Rattle.ps_secrecy.proofs.AlikeRuns.{AlikeRuns}
 use Rattle.ps_secrecy.proofs.Fronts.{Fronts}

@@ -6,10 +6,10 @@ use Rattle.ps_types.specs.declared.jid.Jid.{Jid}
 use Rattle.ps_types.specs.declared.node.NodeKey.{NodeKey}
 use Rattle.ps_model.specs.After.{after, notices_at}
 use Rattle.ps_model.specs.Book.{State, empty_state}
-use Rattle.ps_model.specs.Core.{handed}
+use Rattle.ps_model.specs.machine.Core.{handed}
 use Rattle.ps_model.specs.Replay.{replay_from}
-use Rattle.ps_model.specs.TwoWorlds.{SameBut}
-use Rattle.ps_model.specs.Heard.{heard}
+use Rattle.ps_model.specs.machine.TwoWorlds.{SameBut}
+use Rattle.ps_model.specs.notices.Heard.{heard}
 
 -- all that the address hears
 abbrev pub hearing : Jid → State → List Entry → List Notice

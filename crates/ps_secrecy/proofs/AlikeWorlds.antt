@@ -6,10 +6,10 @@ use Rattle.ps_types.specs.declared.entry.Notice.{Notice}
 use Rattle.ps_types.specs.declared.jid.Jid.{Jid}
 use Rattle.ps_types.specs.declared.node.NodeKey.{NodeKey}
 use Rattle.ps_model.specs.Book.{empty_state}
-use Rattle.ps_model.specs.Core.{Core}
-use Rattle.ps_model.specs.World.{Nothing, World}
+use Rattle.ps_model.specs.machine.Core.{Core}
+use Rattle.ps_model.specs.machine.World.{Nothing, World}
 use Rattle.ps_secrecy.proofs.AlikeHosts.{AlikeHosts}
-use Rattle.ps_model.specs.Heard.{placeless}
+use Rattle.ps_model.specs.notices.Heard.{placeless}
 use Rattle.ps_secrecy.proofs.AlikeRuns.{hearing}
 
 -- the notices of the service are those that the address hears, other addresses of the bare address have none, and their places rise with the entries

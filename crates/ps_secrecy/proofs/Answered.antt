@@ -5,14 +5,14 @@ use Rattle.ps_types.specs.declared.entry.Arrival.{Arrival}
 use Rattle.ps_types.specs.declared.entry.Entry.{Entry}
 use Rattle.ps_types.specs.declared.entry.Entry.TheVariants.{Change}
 use Rattle.ps_model.specs.Book.{Book, State}
-use Rattle.ps_model.specs.Check.{check}
-use Rattle.ps_model.specs.Commits.{commits}
-use Rattle.ps_model.specs.Outcome.{Outcome, is_accepted}
-use Rattle.ps_model.specs.Outcome as outcome
+use Rattle.ps_model.specs.requests.Check.{check}
+use Rattle.ps_model.specs.requests.Commits.{commits}
+use Rattle.ps_model.specs.requests.Outcome.{Outcome, is_accepted}
+use Rattle.ps_model.specs.requests.Outcome as outcome
 use Rattle.ps_model.specs.Replies.{entry_by, entry_of, moment_of, outcome_entry, outcome_reply, reply_by, reply_to}
-use Rattle.ps_model.specs.Taken.{Taken}
-use Rattle.ps_model.specs.Taken as taken
-use Rattle.ps_model.specs.Taking as taking
+use Rattle.ps_model.specs.requests.Taken.{Taken}
+use Rattle.ps_model.specs.requests.Taken as taken
+use Rattle.ps_model.specs.requests.Taking as taking
 use Rattle.ps_secrecy.proofs.Lined.{entry_in, line_entry, line_reply, reply_in}
 
 and-false : (b : Bool) → (b && false) ≡ false

@@ -12,17 +12,17 @@ use Rattle.ps_types.specs.Same.{same_bare}
 use Rattle.ps_types.specs.Tree.{Tree}
 use Rattle.ps_model.specs.After.{after, notices_at, request_on}
 use Rattle.ps_model.specs.Book.{Book, State}
-use Rattle.ps_model.specs.CheckForms.{node_of}
+use Rattle.ps_model.specs.requests.CheckForms.{node_of}
 use Rattle.ps_model.specs.Replies.{moment_of, outcome_reply}
-use Rattle.ps_model.specs.Taken.{Taken}
-use Rattle.ps_model.specs.Taken as taken
-use Rattle.ps_model.specs.Taking.{request_in}
-use Rattle.ps_model.specs.Taking as taking
-use Rattle.ps_model.specs.TwoWorlds.{IsShutOut, SameBut, Touches, is_in}
-use Rattle.ps_model.specs.Check.{check}
-use Rattle.ps_model.specs.Commits.{makes_entry}
-use Rattle.ps_model.specs.Heard.{heard}
-use Rattle.ps_model.specs.Heard.{is_from}
+use Rattle.ps_model.specs.requests.Taken.{Taken}
+use Rattle.ps_model.specs.requests.Taken as taken
+use Rattle.ps_model.specs.requests.Taking.{request_in}
+use Rattle.ps_model.specs.requests.Taking as taking
+use Rattle.ps_model.specs.machine.TwoWorlds.{IsShutOut, SameBut, Touches, is_in}
+use Rattle.ps_model.specs.requests.Check.{check}
+use Rattle.ps_model.specs.requests.Commits.{makes_entry}
+use Rattle.ps_model.specs.notices.Heard.{heard}
+use Rattle.ps_model.specs.notices.Heard.{is_from}
 use Rattle.ps_secrecy.specs.Alike.{added, notes}
 use Rattle.ps_secrecy.proofs.Lined.{entry_in, reply_in, line_entry, line_to}
 use Rattle.ps_secrecy.proofs.Stepped.{stepped}

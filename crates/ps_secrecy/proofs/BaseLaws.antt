@@ -13,15 +13,15 @@ use Rattle.ps_types.specs.Items.{item_at, item_count}
 use Rattle.ps_types.specs.LineTree.{line_tree}
 use Rattle.ps_types.specs.Nodes.{config_at, stands}
 use Rattle.ps_types.specs.Same.{same_bare}
-use Rattle.ps_model.specs.BaseAfter.{accepts_row, book_with, has_place, is_bare, is_notice_line, is_number, is_well_formed, tallies_after_row, takes_item}
-use Rattle.ps_model.specs.BaseRows.{BaseRow, node, affiliation, subscription, item, link, contact, ver, made, counter, notice}
+use Rattle.ps_model.specs.store.BaseAfter.{accepts_row, book_with, has_place, is_bare, is_notice_line, is_number, is_well_formed, tallies_after_row, takes_item}
+use Rattle.ps_model.specs.store.BaseRows.{BaseRow, node, affiliation, subscription, item, link, contact, ver, made, counter, notice}
 use Rattle.ps_model.specs.Book.{Book, State}
-use Rattle.ps_model.specs.Numbered.{row_notices}
+use Rattle.ps_model.specs.notices.Numbered.{row_notices}
 use Rattle.ps_model.specs.Tallies.{handed_to, made_for}
-use Rattle.ps_model.specs.TwoWorlds.{IsShutOut, SameBut, is_in, items_outside, counts_outside}
+use Rattle.ps_model.specs.machine.TwoWorlds.{IsShutOut, SameBut, is_in, items_outside, counts_outside}
 use Rattle.ps_model.proofs.TallyLaws.{handed-kept, handed-made, handed-set, made-kept, made-like, made-more, made-set, same_bare-turned}
 use Rattle.ps_secrecy.proofs.BaseSteps.{base_said, base_step, based, is_lone}
-use Rattle.ps_model.specs.Heard.{heard}
+use Rattle.ps_model.specs.notices.Heard.{heard}
 use Rattle.ps_secrecy.proofs.Twin.{twin, Beside}
 use Rattle.ps_secrecy.proofs.ChangeLaws.{beside-back, beside-itself, beside-on, by-twin}
 use Rattle.ps_secrecy.proofs.ListLaws.{append-nothing, filter-more}

@@ -4,11 +4,11 @@ use Rattle.ps_types.specs.Same.{same_bare}
 use Rattle.ps_types.specs.declared.entry.Notice.{Notice}
 use Rattle.ps_types.specs.declared.jid.Jid.{Jid}
 use Rattle.ps_types.specs.declared.node.NodeKey.{NodeKey}
-use Rattle.ps_model.specs.BaseAfter.{book_with, tallies_after_row, accepts_row}
-use Rattle.ps_model.specs.BaseRows.{BaseRow, item, made, counter, notice}
+use Rattle.ps_model.specs.store.BaseAfter.{book_with, tallies_after_row, accepts_row}
+use Rattle.ps_model.specs.store.BaseRows.{BaseRow, item, made, counter, notice}
 use Rattle.ps_model.specs.Book.{State}
-use Rattle.ps_model.specs.Numbered.{row_notices}
-use Rattle.ps_model.specs.TwoWorlds.{is_in}
+use Rattle.ps_model.specs.notices.Numbered.{row_notices}
+use Rattle.ps_model.specs.machine.TwoWorlds.{is_in}
 use Rattle.ps_secrecy.proofs.Twin.{hides}
 
 abbrev pub based : State → BaseRow → State

@@ -30,16 +30,16 @@ use Rattle.ps_types.specs.Same.{same_bare}
 use Rattle.ps_types.specs.Subs.{sub_at}
 use Rattle.ps_types.specs.Tree.{Tree}
 use Rattle.ps_model.specs.Book.{Book}
-use Rattle.ps_model.specs.ChangeEntity.{subscribed_by, sub_options, base_options, new_state, subscribe_state}
-use Rattle.ps_model.specs.ChangeNodes.{created, created_by, deleted}
-use Rattle.ps_model.specs.ChangeOwner.{configured, configured_by, items_under}
-use Rattle.ps_model.specs.ChangePublish.{item_row, count_row, counted, published, published_by, published_new, retract_change, publish_change}
-use Rattle.ps_model.specs.ChangeRouter.{roster_by, usable_answer, is_usable, answer_by}
-use Rattle.ps_model.specs.Changes.{changed_by, changed}
-use Rattle.ps_model.specs.CheckForms.{config_given, node_of, new_config}
-use Rattle.ps_model.specs.CheckOptions.{options_config}
+use Rattle.ps_model.specs.requests.ChangeEntity.{subscribed_by, sub_options, base_options, new_state, subscribe_state}
+use Rattle.ps_model.specs.requests.ChangeNodes.{created, created_by, deleted}
+use Rattle.ps_model.specs.requests.ChangeOwner.{configured, configured_by, items_under}
+use Rattle.ps_model.specs.requests.ChangePublish.{item_row, count_row, counted, published, published_by, published_new, retract_change, publish_change}
+use Rattle.ps_model.specs.requests.ChangeRouter.{roster_by, usable_answer, is_usable, answer_by}
+use Rattle.ps_model.specs.requests.Changes.{changed_by, changed}
+use Rattle.ps_model.specs.requests.CheckForms.{config_given, node_of, new_config}
+use Rattle.ps_model.specs.requests.CheckOptions.{options_config}
 use Rattle.ps_model.specs.ItemIds.{item_id, auto_id, next_made}
-use Rattle.ps_model.specs.TwoWorlds.{is_in, items_outside, counts_outside}
+use Rattle.ps_model.specs.machine.TwoWorlds.{is_in, items_outside, counts_outside}
 use Rattle.ps_model.specs.Words.{RosterAsk, set, remove, roster_of}
 use Rattle.ps_secrecy.proofs.Twin.{twin, hides, Beside}
 use Rattle.ps_secrecy.proofs.ReadLaws.{subscribe-twin}

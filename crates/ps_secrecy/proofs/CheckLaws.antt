@@ -30,21 +30,21 @@ use Rattle.ps_types.specs.Same.{same_bare}
 use Rattle.ps_types.specs.Tree.{Tree}
 use Rattle.ps_types.proofs.Same.{same_node-Decides}
 use Rattle.ps_model.specs.Access.{read, read_at, affiliation, own, own_by}
-use Rattle.ps_model.specs.CheckConfig.{config_by, config_set_steps}
+use Rattle.ps_model.specs.requests.CheckConfig.{config_by, config_set_steps}
 use Rattle.ps_model.specs.Book.{Book}
-use Rattle.ps_model.specs.Check.{steps_of, child_of, check}
-use Rattle.ps_model.specs.CheckCreate.{new_node_step}
-use Rattle.ps_model.specs.CheckEntity.{given_read_step, is_most, items_get_steps, nodes_get_steps}
-use Rattle.ps_model.specs.CheckForms.{node_of, new_config, collection_step, collection_by, is_collection}
-use Rattle.ps_model.specs.CheckNode.{stands_step, leaf_step}
-use Rattle.ps_model.specs.CheckOptions.{options_config, made_step}
-use Rattle.ps_model.specs.CheckPublish.{publish_by, may_retract, retract_steps, retracted_step, has_length}
-use Rattle.ps_model.specs.Children.{published_items, about, items_child}
-use Rattle.ps_model.specs.Discovery.{nodes_child, node_entries, node_entry, kind_entries, is_listed}
-use Rattle.ps_model.specs.Due.{is_granted}
-use Rattle.ps_model.specs.Outcome.{outcome}
-use Rattle.ps_model.specs.Steps.{unless, first_denial, denied_by}
-use Rattle.ps_model.specs.TwoWorlds.{IsShutOut, is_in, items_outside, counts_outside}
+use Rattle.ps_model.specs.requests.Check.{steps_of, child_of, check}
+use Rattle.ps_model.specs.requests.CheckCreate.{new_node_step}
+use Rattle.ps_model.specs.requests.CheckEntity.{given_read_step, is_most, items_get_steps, nodes_get_steps}
+use Rattle.ps_model.specs.requests.CheckForms.{node_of, new_config, collection_step, collection_by, is_collection}
+use Rattle.ps_model.specs.requests.CheckNode.{stands_step, leaf_step}
+use Rattle.ps_model.specs.requests.CheckOptions.{options_config, made_step}
+use Rattle.ps_model.specs.requests.CheckPublish.{publish_by, may_retract, retract_steps, retracted_step, has_length}
+use Rattle.ps_model.specs.requests.Children.{published_items, about, items_child}
+use Rattle.ps_model.specs.requests.Discovery.{nodes_child, node_entries, node_entry, kind_entries, is_listed}
+use Rattle.ps_model.specs.notices.Due.{is_granted}
+use Rattle.ps_model.specs.requests.Outcome.{outcome}
+use Rattle.ps_model.specs.requests.Steps.{unless, first_denial, denied_by}
+use Rattle.ps_model.specs.machine.TwoWorlds.{IsShutOut, is_in, items_outside, counts_outside}
 use Rattle.ps_secrecy.proofs.Twin.{twin, hides}
 use Rattle.ps_secrecy.proofs.ReadLaws.{read-twin, subscribe-twin, publish-twin, denied-to}
 use Rattle.ps_secrecy.proofs.RowLaws.{item_at-seen, items_of-seen}

@@ -22,15 +22,15 @@ use Rattle.ps_types.specs.Nodes.{node_at}
 use Rattle.ps_types.specs.Same.{same_bare}
 use Rattle.ps_types.specs.Tree.{Tree}
 use Rattle.ps_model.specs.Book.{Book}
-use Rattle.ps_model.specs.ChangeOwner.{config_change, configured, configured_by, items_under}
-use Rattle.ps_model.specs.Changes.{changed_by, changed}
-use Rattle.ps_model.specs.Check.{steps_of, check}
-use Rattle.ps_model.specs.CheckForms.{config_given, node_of}
-use Rattle.ps_model.specs.Commits.{commits, commits_by, makes_entry}
+use Rattle.ps_model.specs.requests.ChangeOwner.{config_change, configured, configured_by, items_under}
+use Rattle.ps_model.specs.requests.Changes.{changed_by, changed}
+use Rattle.ps_model.specs.requests.Check.{steps_of, check}
+use Rattle.ps_model.specs.requests.CheckForms.{config_given, node_of}
+use Rattle.ps_model.specs.requests.Commits.{commits, commits_by, makes_entry}
 use Rattle.ps_model.specs.SameRows.{same_nodes}
-use Rattle.ps_model.specs.Outcome.{outcome, is_accepted}
-use Rattle.ps_model.specs.Steps.{first_denial}
-use Rattle.ps_model.specs.TwoWorlds.{IsShutOut, is_in, items_outside, counts_outside}
+use Rattle.ps_model.specs.requests.Outcome.{outcome, is_accepted}
+use Rattle.ps_model.specs.requests.Steps.{first_denial}
+use Rattle.ps_model.specs.machine.TwoWorlds.{IsShutOut, is_in, items_outside, counts_outside}
 use Rattle.ps_secrecy.proofs.Blank.{is_quiet}
 use Rattle.ps_secrecy.proofs.Twin.{twin, Beside}
 use Rattle.ps_secrecy.proofs.RowLaws.{count-seen, kept-hidden, without-hidden}

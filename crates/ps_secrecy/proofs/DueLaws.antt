@@ -15,14 +15,14 @@ use Rattle.ps_types.specs.Same.{same_bare}
 use Rattle.ps_types.specs.Tree.{Tree}
 use Rattle.ps_model.specs.After.{book_for, due_of, all_due}
 use Rattle.ps_model.specs.Book.{Book}
-use Rattle.ps_model.specs.Given.{asked, given}
-use Rattle.ps_model.specs.Numbered.{notice_of, numbered, tallied}
+use Rattle.ps_model.specs.notices.Given.{asked, given}
+use Rattle.ps_model.specs.notices.Numbered.{notice_of, numbered, tallied}
 use Rattle.ps_model.specs.Sorted.{sorted}
 use Rattle.ps_model.specs.Tallies.{made_for, handed_to, more_made}
-use Rattle.ps_model.specs.TwoWorlds.{IsShutOut, items_outside}
+use Rattle.ps_model.specs.machine.TwoWorlds.{IsShutOut, items_outside}
 use Rattle.ps_model.proofs.TallyLaws.{made-kept, made-like, made-more, handed-made, same_bare-turned}
 use Rattle.ps_secrecy.proofs.Blank.{blank, is_hidden}
-use Rattle.ps_model.specs.Heard.{heard}
+use Rattle.ps_model.specs.notices.Heard.{heard}
 use Rattle.ps_secrecy.proofs.Heard.{due_to, hears}
 use Rattle.ps_secrecy.proofs.Twin.{twin}
 use Rattle.ps_secrecy.proofs.EventLaws.{given-blank, given-hidden, given-twin}

@@ -10,14 +10,14 @@ use Rattle.ps_types.specs.declared.jid.Jid.{Jid}
 use Rattle.ps_types.specs.declared.node.NodeKey.{NodeKey}
 use Rattle.ps_types.specs.declared.request.Request.{Request}
 use Rattle.ps_model.specs.After.{after, book_based, notices_at, request_on}
-use Rattle.ps_model.specs.BaseRead.{row_of}
-use Rattle.ps_model.specs.BaseRows.{BaseRow}
+use Rattle.ps_model.specs.store.BaseRead.{row_of}
+use Rattle.ps_model.specs.store.BaseRows.{BaseRow}
 use Rattle.ps_model.specs.Book.{State}
-use Rattle.ps_model.specs.Numbered.{row_notices, row_tallies}
+use Rattle.ps_model.specs.notices.Numbered.{row_notices, row_tallies}
 use Rattle.ps_model.specs.Replay.{accepted, is_booted, request_accepted, row_accepted}
-use Rattle.ps_model.specs.Taking.{request_in, tree_taken}
+use Rattle.ps_model.specs.requests.Taking.{request_in, tree_taken}
 use Rattle.ps_model.specs.Tallies.{handed_to, is_next_line, made_for}
-use Rattle.ps_model.specs.TwoWorlds.{IsShutOut, SameBut}
+use Rattle.ps_model.specs.machine.TwoWorlds.{IsShutOut, SameBut}
 use Rattle.ps_model.proofs.TallyLaws.{handed-like, made-like}
 use Rattle.ps_secrecy.specs.Alike.{LookAlike}
 use Rattle.ps_secrecy.specs.Deeds.{IsAbove, applied, applied_notices}

@@ -15,12 +15,12 @@ use Rattle.ps_types.specs.Same.{same_bare, same_jid}
 use Rattle.ps_types.specs.Tree.{Tree}
 use Rattle.ps_types.proofs.Same.{same_jid-Decides}
 use Rattle.ps_model.specs.Book.{Book}
-use Rattle.ps_model.specs.Due.{About, about_node, about_new, always, items_inside, may_pass, may_read, node_notice, is_granted}
-use Rattle.ps_model.specs.Given.{asked, given}
-use Rattle.ps_model.specs.Last.{is_leaf, last_notice, sends_last}
-use Rattle.ps_model.specs.NoticeTrees.{named_tree, retract_tree}
-use Rattle.ps_model.specs.TwoWorlds.{IsShutOut, is_in, items_outside}
-use Rattle.ps_model.specs.Ways.{Way, NoWay, OwnRow, Through, is_interested}
+use Rattle.ps_model.specs.notices.Due.{About, about_node, about_new, always, items_inside, may_pass, may_read, node_notice, is_granted}
+use Rattle.ps_model.specs.notices.Given.{asked, given}
+use Rattle.ps_model.specs.notices.Last.{is_leaf, last_notice, sends_last}
+use Rattle.ps_model.specs.notices.NoticeTrees.{named_tree, retract_tree}
+use Rattle.ps_model.specs.machine.TwoWorlds.{IsShutOut, is_in, items_outside}
+use Rattle.ps_model.specs.notices.Ways.{Way, NoWay, OwnRow, Through, is_interested}
 use Rattle.ps_secrecy.proofs.Blank.{blank, is_hidden}
 use Rattle.ps_secrecy.proofs.Twin.{twin}
 use Rattle.ps_secrecy.proofs.ReadLaws.{read-twin, may_read-none}

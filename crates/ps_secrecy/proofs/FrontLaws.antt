@@ -4,9 +4,9 @@ use Rattle.std.specs.Prelude.{nat_le}
 use Rattle.std.proofs.lemmas.Bool.{leb-true, leb-false}
 use Rattle.ps_types.specs.declared.entry.Entry.{Entry}
 use Rattle.ps_types.specs.declared.entry.Entry.TheVariants.{Boot}
-use Rattle.ps_model.specs.Core.{Core}
-use Rattle.ps_model.specs.Machine.{counted, crashes, flushes}
-use Rattle.ps_model.specs.World.{World, ends, first, more_entries, with_entry}
+use Rattle.ps_model.specs.machine.Core.{Core}
+use Rattle.ps_model.specs.machine.Machine.{counted, crashes, flushes}
+use Rattle.ps_model.specs.machine.World.{World, ends, first, more_entries, with_entry}
 use Rattle.ps_world.proofs.Lists.{by-more, by-snoc, by-take, ends-all, ends-before, ends-le, take-front, take-whole}
 use Rattle.ps_secrecy.proofs.Fronts.{Fits, Fronts}
 

@@ -4,7 +4,7 @@ use Rattle.ps_types.specs.Same.{same_bare}
 use Rattle.ps_types.specs.Tree.{Tree}
 use Rattle.ps_types.specs.declared.entry.Notice.{Notice}
 use Rattle.ps_types.specs.declared.jid.Jid.{Jid}
-use Rattle.ps_model.specs.Numbered.{notice_of}
+use Rattle.ps_model.specs.notices.Numbered.{notice_of}
 
 -- what is due to addresses of a bare address
 abbrev pub due_to : Jid → List (Jid × Tree) → List (Jid × Tree)

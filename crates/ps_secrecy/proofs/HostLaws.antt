@@ -5,10 +5,10 @@ use Rattle.std.proofs.lemmas.Bool.{true≢false}
 use Rattle.std.proofs.lemmas.List.{map-append}
 use Rattle.ps_types.specs.declared.entry.Arrival.{Arrival}
 use Rattle.ps_types.specs.declared.jid.Jid.{Jid}
-use Rattle.ps_model.specs.Heard.{is_from}
-use Rattle.ps_model.specs.Machine.{answered}
-use Rattle.ps_model.specs.Taking.{taken}
-use Rattle.ps_model.specs.World.{HostPart, Said}
+use Rattle.ps_model.specs.notices.Heard.{is_from}
+use Rattle.ps_model.specs.machine.Machine.{answered}
+use Rattle.ps_model.specs.requests.Taking.{taken}
+use Rattle.ps_model.specs.machine.World.{HostPart, Said}
 use Rattle.ps_secrecy.specs.Seen.{gist, is_for, replies_to}
 use Rattle.ps_secrecy.proofs.AlikeHosts.{seen}
 

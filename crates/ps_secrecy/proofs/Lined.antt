@@ -7,12 +7,12 @@ use Rattle.ps_types.specs.declared.entry.Entry.TheVariants.{Change}
 use Rattle.ps_types.specs.declared.jid.Jid.{Jid}
 use Rattle.ps_model.specs.Book.{Book, State}
 use Rattle.ps_model.specs.Replies.{error_reply, if_answered, outcome_reply, refused_tree, moment_of}
-use Rattle.ps_model.specs.Taken.{Taken}
-use Rattle.ps_model.specs.Taken as taken
-use Rattle.ps_model.specs.Taking as taking
-use Rattle.ps_model.specs.Heard.{is_from}
-use Rattle.ps_model.specs.Check.{check}
-use Rattle.ps_model.specs.Commits.{makes_entry}
+use Rattle.ps_model.specs.requests.Taken.{Taken}
+use Rattle.ps_model.specs.requests.Taken as taken
+use Rattle.ps_model.specs.requests.Taking as taking
+use Rattle.ps_model.specs.notices.Heard.{is_from}
+use Rattle.ps_model.specs.requests.Check.{check}
+use Rattle.ps_model.specs.requests.Commits.{makes_entry}
 
 abbrev pub reply_in : Taken → Book → ℕ → Option Tree
 reply_in taken.silent book line = None

@@ -12,16 +12,16 @@ use Rattle.ps_types.specs.declared.jid.Jid.{Jid}
 use Rattle.ps_types.specs.declared.rows.TallyRow.{TallyRow}
 use Rattle.ps_types.proofs.Same.{same_jid-Decides, same_parts}
 use Rattle.ps_model.specs.After.{after, handed_out, notices_at}
-use Rattle.ps_model.specs.BaseRead.{row_of}
-use Rattle.ps_model.specs.BaseRows.{BaseRow, node, affiliation, subscription, item, link, contact, ver, made, counter, notice}
+use Rattle.ps_model.specs.store.BaseRead.{row_of}
+use Rattle.ps_model.specs.store.BaseRows.{BaseRow, node, affiliation, subscription, item, link, contact, ver, made, counter, notice}
 use Rattle.ps_model.specs.Book.{State, empty_state}
-use Rattle.ps_model.specs.Numbered.{numbered, row_notices}
+use Rattle.ps_model.specs.notices.Numbered.{numbered, row_notices}
 use Rattle.ps_model.specs.Replay.{notices_from, of_bare, to_address}
 use Rattle.ps_model.specs.Tallies.{more_made}
 use Rattle.ps_model.proofs.NumberLaws.{of-full}
 use Rattle.ps_model.proofs.TallyLaws.{same_bare-Decides}
-use Rattle.ps_model.specs.Core.{Core}
-use Rattle.ps_model.specs.Heard.{placeless}
+use Rattle.ps_model.specs.machine.Core.{Core}
+use Rattle.ps_model.specs.notices.Heard.{placeless}
 use Rattle.ps_secrecy.specs.Runs.{AnswersAs}
 use Rattle.ps_secrecy.proofs.AlikeRuns.{hearing}
 use Rattle.ps_secrecy.proofs.AlikeWorlds.{IsHeard}

@@ -14,8 +14,8 @@ use Rattle.ps_types.specs.Same.{same_bare, same_node}
 use Rattle.ps_types.proofs.Same.{same_node-Decides}
 use Rattle.ps_model.specs.Access.{read, read_at, read_by, read_by_model, publish, publish_at, subscribe, subscribe_at, subscribe_by_model, affiliation}
 use Rattle.ps_model.specs.Book.{Book}
-use Rattle.ps_model.specs.Due.{may_read, is_granted}
-use Rattle.ps_model.specs.TwoWorlds.{IsShutOut, is_in}
+use Rattle.ps_model.specs.notices.Due.{may_read, is_granted}
+use Rattle.ps_model.specs.machine.TwoWorlds.{IsShutOut, is_in}
 use Rattle.ps_model.proofs.ReadAlike.{read-like}
 use Rattle.ps_secrecy.proofs.Twin.{twin}
 

@@ -13,19 +13,19 @@ use Rattle.ps_types.specs.declared.rows.CountRow.{CountRow}
 use Rattle.ps_types.specs.declared.rows.ItemRow.{ItemRow}
 use Rattle.ps_types.specs.Tree.{Tree}
 use Rattle.ps_model.specs.Book.{Book, State}
-use Rattle.ps_model.specs.Check.{child_of, check, steps_of}
-use Rattle.ps_model.specs.Outcome.{Outcome, is_accepted}
-use Rattle.ps_model.specs.Outcome as outcome
+use Rattle.ps_model.specs.requests.Check.{child_of, check, steps_of}
+use Rattle.ps_model.specs.requests.Outcome.{Outcome, is_accepted}
+use Rattle.ps_model.specs.requests.Outcome as outcome
 use Rattle.ps_model.specs.Replies.{if_answered, outcome_reply}
-use Rattle.ps_model.specs.Spelled.{IsAsk, SpellsRequest}
-use Rattle.ps_model.specs.SpelledParts.{IsIq}
-use Rattle.ps_model.specs.Stanza.{is_iq}
-use Rattle.ps_model.specs.Steps.{first_denial}
-use Rattle.ps_model.specs.Taken.{Taken}
-use Rattle.ps_model.specs.Taken as taken
-use Rattle.ps_model.specs.Taking.{is_answered, tree_taken}
-use Rattle.ps_model.specs.Taking as taking
-use Rattle.ps_model.specs.TwoWorlds.{SameBut, Touches, item_node}
+use Rattle.ps_model.specs.requests.Spelled.{IsAsk, SpellsRequest}
+use Rattle.ps_model.specs.requests.SpelledParts.{IsIq}
+use Rattle.ps_model.specs.requests.Stanza.{is_iq}
+use Rattle.ps_model.specs.requests.Steps.{first_denial}
+use Rattle.ps_model.specs.requests.Taken.{Taken}
+use Rattle.ps_model.specs.requests.Taken as taken
+use Rattle.ps_model.specs.requests.Taking.{is_answered, tree_taken}
+use Rattle.ps_model.specs.requests.Taking as taking
+use Rattle.ps_model.specs.machine.TwoWorlds.{SameBut, Touches, item_node}
 use Rattle.ps_model.proofs.AskedStanza.{taken-spelled}
 use Rattle.ps_secrecy.proofs.ChangeLaws.{by-twin}
 use Rattle.ps_secrecy.proofs.CheckLaws.{steps-twin}

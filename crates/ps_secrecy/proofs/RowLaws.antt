@@ -12,8 +12,8 @@ use Rattle.ps_types.specs.Counts.{is_count_at, is_count_of, made_at, made_in, co
 use Rattle.ps_types.specs.Items.{is_item_at, is_item_of, item_at, item_count, items_of, items_with, items_except, items_without, items_kept, last_item}
 use Rattle.ps_types.specs.Same.{same_bare, same_node}
 use Rattle.ps_types.proofs.Same.{same_node-Decides, same_node-itself}
-use Rattle.ps_model.specs.ChangePublish.{count_row}
-use Rattle.ps_model.specs.TwoWorlds.{is_in, items_outside, counts_outside}
+use Rattle.ps_model.specs.requests.ChangePublish.{count_row}
+use Rattle.ps_model.specs.machine.TwoWorlds.{is_in, items_outside, counts_outside}
 use Rattle.ps_model.proofs.TallyLaws.{same_bare-Decides, same_bare-like}
 use Rattle.ps_secrecy.proofs.Twin.{hides}
 use Rattle.ps_secrecy.proofs.ListLaws.{append-nothing, filter-more, filter-reverse, hidden-gone, hidden-newest, hidden-put, seen-find, seen-part, seen-newest, seen-put, seen-count, gone-both}

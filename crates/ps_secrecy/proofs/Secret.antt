@@ -10,14 +10,14 @@ use Rattle.ps_types.specs.declared.jid.Jid.{Jid}
 use Rattle.ps_types.specs.declared.node.NodeKey.{NodeKey}
 use Rattle.ps_model.specs.declared.steps.Step.{Step}
 use Rattle.ps_model.specs.Book.{State}
-use Rattle.ps_model.specs.Core.{Core}
-use Rattle.ps_model.specs.Heard.{is_from, reply_for}
-use Rattle.ps_model.specs.Machine.{run, start}
+use Rattle.ps_model.specs.machine.Core.{Core}
+use Rattle.ps_model.specs.notices.Heard.{is_from, reply_for}
+use Rattle.ps_model.specs.machine.Machine.{run, start}
 use Rattle.ps_model.specs.Replay.{replay}
 use Rattle.ps_model.specs.Replies.{entry_of}
-use Rattle.ps_model.specs.Taking as taking
-use Rattle.ps_model.specs.TwoWorlds.{IsShutOut, SameBut, Touches}
-use Rattle.ps_model.specs.World.{Said, World, all_taken}
+use Rattle.ps_model.specs.requests.Taking as taking
+use Rattle.ps_model.specs.machine.TwoWorlds.{IsShutOut, SameBut, Touches}
+use Rattle.ps_model.specs.machine.World.{Said, World, all_taken}
 use Rattle.ps_secrecy.specs.Alike.{LookAlike, added, notes}
 use Rattle.ps_secrecy.specs.Runs.{AnswersAs, AreDenied, ArePairs}
 use Rattle.ps_secrecy.specs.Seen.{GetsTheSame, replies_to}

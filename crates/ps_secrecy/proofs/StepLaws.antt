@@ -20,17 +20,17 @@ use Rattle.ps_types.specs.Same.{same_bare}
 use Rattle.ps_types.specs.Tree.{Tree}
 use Rattle.ps_model.specs.After.{after, all_due, book_changed, handed_out, notices_at, request_on}
 use Rattle.ps_model.specs.Book.{Book, State}
-use Rattle.ps_model.specs.Changes.{changed, changed_by}
-use Rattle.ps_model.specs.CheckForms.{node_of}
-use Rattle.ps_model.specs.Events.{events_by, events_of}
-use Rattle.ps_model.specs.EventNodes.{retract_events, tells_retract}
+use Rattle.ps_model.specs.requests.Changes.{changed, changed_by}
+use Rattle.ps_model.specs.requests.CheckForms.{node_of}
+use Rattle.ps_model.specs.notices.Events.{events_by, events_of}
+use Rattle.ps_model.specs.notices.EventNodes.{retract_events, tells_retract}
 use Rattle.ps_model.specs.SameRows.{same_nodes}
 use Rattle.ps_model.specs.Tallies.{made_for, handed_to}
-use Rattle.ps_model.specs.TwoWorlds.{IsShutOut, SameBut, is_in, items_outside, counts_outside, item_node}
+use Rattle.ps_model.specs.machine.TwoWorlds.{IsShutOut, SameBut, is_in, items_outside, counts_outside, item_node}
 use Rattle.ps_model.proofs.TallyLaws.{made-handed, handed-one}
 use Rattle.ps_secrecy.proofs.Blank.{is_hidden, is_quiet}
 use Rattle.ps_secrecy.specs.Alike.{LookAlike}
-use Rattle.ps_model.specs.Commits.{makes_entry}
+use Rattle.ps_model.specs.requests.Commits.{makes_entry}
 use Rattle.ps_secrecy.proofs.Heard.{due_to, hears}
 use Rattle.ps_secrecy.proofs.Stepped.{outs, stepped, said}
 use Rattle.ps_secrecy.proofs.Twin.{twin, Beside}

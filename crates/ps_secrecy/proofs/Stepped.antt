@@ -8,7 +8,7 @@ use Rattle.ps_types.specs.declared.request.Request.{Request}
 use Rattle.ps_model.specs.After.{book_changed, all_due, after, notices_at}
 use Rattle.ps_model.specs.After as after
 use Rattle.ps_model.specs.Book.{Book, State}
-use Rattle.ps_model.specs.Commits.{makes_entry}
+use Rattle.ps_model.specs.requests.Commits.{makes_entry}
 
 -- what a request hands out
 abbrev pub outs : Option Request → Option ℕ → Book → List (Jid × Tree)

@@ -6,11 +6,11 @@ use Rattle.ps_types.specs.declared.jid.Jid.{Jid}
 use Rattle.ps_types.specs.declared.node.NodeKey.{NodeKey}
 use Rattle.ps_model.specs.declared.steps.Step.{Step}
 use Rattle.ps_model.specs.Book.{State, empty_state}
-use Rattle.ps_model.specs.Core.{Core}
-use Rattle.ps_model.specs.Machine.{run, start}
+use Rattle.ps_model.specs.machine.Core.{Core}
+use Rattle.ps_model.specs.machine.Machine.{run, start}
 use Rattle.ps_model.specs.Replay.{replay_from}
-use Rattle.ps_model.specs.TwoWorlds.{IsShutOut}
-use Rattle.ps_model.specs.World.{zeros}
+use Rattle.ps_model.specs.machine.TwoWorlds.{IsShutOut}
+use Rattle.ps_model.specs.machine.World.{zeros}
 use Rattle.ps_secrecy.proofs.AlikeHosts.{IsCore}
 use Rattle.ps_secrecy.proofs.AlikeWorlds.{AlikeWorlds, IsHeard}
 use Rattle.ps_secrecy.proofs.Fronts.{Fits}

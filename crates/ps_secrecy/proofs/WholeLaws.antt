@@ -14,17 +14,17 @@ use Rattle.ps_model.specs.declared.steps.Role.TheVariants.{Reader, Writer}
 use Rattle.ps_model.specs.declared.steps.Step.{Step}
 use Rattle.ps_model.specs.declared.steps.Step.TheVariants as steps
 use Rattle.ps_model.specs.Book.{State, empty_state}
-use Rattle.ps_model.specs.Core.{Core}
-use Rattle.ps_model.specs.Machine.{counted, crashes, ends_role, flushes, happens, landed, records, run, took}
+use Rattle.ps_model.specs.machine.Core.{Core}
+use Rattle.ps_model.specs.machine.Machine.{counted, crashes, ends_role, flushes, happens, landed, records, run, took}
 use Rattle.ps_model.specs.Replay.{replay_from}
-use Rattle.ps_model.specs.TwoWorlds.{IsPair, IsShutOut, Touches}
-use Rattle.ps_model.specs.World.{AddressPart, Flight, HostPart, Nothing, Recorded, Said, Unrecorded, World, at_host, with_entry}
+use Rattle.ps_model.specs.machine.TwoWorlds.{IsPair, IsShutOut, Touches}
+use Rattle.ps_model.specs.machine.World.{AddressPart, Flight, HostPart, Nothing, Recorded, Said, Unrecorded, World, at_host, with_entry}
 use Rattle.ps_types.specs.declared.entry.Notice.{Notice}
 use Rattle.std.proofs.lemmas.List.{map-append}
 use Rattle.ps_secrecy.proofs.HostLaws.{get-map}
 use Rattle.ps_secrecy.proofs.AlikeHosts.{AlikeHosts, IsCore, seen}
 use Rattle.ps_secrecy.proofs.AlikeWorlds.{AlikeWorlds, IsHeard, IsIdle}
-use Rattle.ps_model.specs.Heard.{placeless}
+use Rattle.ps_model.specs.notices.Heard.{placeless}
 use Rattle.ps_secrecy.specs.Alike.{added}
 use Rattle.ps_secrecy.specs.Runs.{ArePairs, AreDenied, IsRoomy}
 use Rattle.ps_secrecy.proofs.AlikeRuns.{AlikeRuns}

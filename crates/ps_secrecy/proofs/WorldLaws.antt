@@ -14,20 +14,20 @@ use Rattle.ps_types.specs.Print.{print}
 use Rattle.ps_types.specs.Tree.{Tree}
 use Rattle.ps_model.specs.After.{book_changed, request_on}
 use Rattle.ps_model.specs.Book.{Book, State, empty_state}
-use Rattle.ps_model.specs.Core.{Core}
-use Rattle.ps_model.specs.Machine.{answered, arrives, counted, crashes, flushes}
+use Rattle.ps_model.specs.machine.Core.{Core}
+use Rattle.ps_model.specs.machine.Machine.{answered, arrives, counted, crashes, flushes}
 use Rattle.ps_model.specs.Replay.{replay_from}
 use Rattle.ps_model.specs.Replies.{moment_of}
-use Rattle.ps_model.specs.Taken.{Taken}
-use Rattle.ps_model.specs.Taken as taken
-use Rattle.ps_model.specs.Taking as taking
-use Rattle.ps_model.specs.TwoWorlds.{IsShutOut, Touches}
-use Rattle.ps_model.specs.World.{AddressPart, HostPart, Said, World, all_taken, at_host, first, more_entries, with_entry}
+use Rattle.ps_model.specs.requests.Taken.{Taken}
+use Rattle.ps_model.specs.requests.Taken as taken
+use Rattle.ps_model.specs.requests.Taking as taking
+use Rattle.ps_model.specs.machine.TwoWorlds.{IsShutOut, Touches}
+use Rattle.ps_model.specs.machine.World.{AddressPart, HostPart, Said, World, all_taken, at_host, first, more_entries, with_entry}
 use Rattle.ps_model.proofs.ServiceStays.{service-stays}
 use Rattle.ps_secrecy.proofs.AlikeHosts.{AlikeHosts, IsCore, seen}
-use Rattle.ps_model.specs.Commits.{makes_entry}
+use Rattle.ps_model.specs.requests.Commits.{makes_entry}
 use Rattle.ps_secrecy.proofs.Fronts.{Fits, Fronts}
-use Rattle.ps_model.specs.Heard.{is_from}
+use Rattle.ps_model.specs.notices.Heard.{is_from}
 use Rattle.ps_secrecy.specs.Alike.{added}
 use Rattle.ps_secrecy.proofs.Lined.{entry_in, line_entry, line_reply, line_to}
 use Rattle.ps_secrecy.proofs.AlikeRuns.{AlikeRuns}

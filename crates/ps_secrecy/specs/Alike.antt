@@ -6,8 +6,8 @@ use Rattle.ps_types.specs.declared.jid.Jid.{Jid}
 use Rattle.ps_types.specs.declared.node.NodeKey.{NodeKey}
 use Rattle.ps_model.specs.After.{after, notices_at}
 use Rattle.ps_model.specs.Book.{State}
-use Rattle.ps_model.specs.Heard.{heard}
-use Rattle.ps_model.specs.TwoWorlds.{SameBut}
+use Rattle.ps_model.specs.notices.Heard.{heard}
+use Rattle.ps_model.specs.machine.TwoWorlds.{SameBut}
 
 -- the State after an entry, or after none, and the notices of the entry
 abbrev pub added : State → Option Entry → State

@@ -8,12 +8,12 @@ use Rattle.ps_types.specs.declared.node.NodeKey.{NodeKey}
 use Rattle.ps_model.specs.declared.steps.Step.{Step}
 use Rattle.ps_model.specs.declared.steps.Step.TheVariants as steps
 use Rattle.ps_model.specs.Book.{State}
-use Rattle.ps_model.specs.Core.{Core}
-use Rattle.ps_model.specs.Machine.{happens}
+use Rattle.ps_model.specs.machine.Core.{Core}
+use Rattle.ps_model.specs.machine.Machine.{happens}
 use Rattle.ps_model.specs.Replay.{notices, replay}
 use Rattle.ps_model.specs.Replies.{entry_of, reply_to}
-use Rattle.ps_model.specs.TwoWorlds.{IsPair, IsShutOut}
-use Rattle.ps_model.specs.World.{World}
+use Rattle.ps_model.specs.machine.TwoWorlds.{IsPair, IsShutOut}
+use Rattle.ps_model.specs.machine.World.{World}
 
 -- the service answers as the model says where the journal has room, and its notices are those of the model
 pub record AnswersAs (core : Core) : Type 0 where

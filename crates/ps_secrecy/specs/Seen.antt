@@ -1,9 +1,9 @@
 -- What an address gets of a world: the replies to its lines, and its notices.
 use Rattle.std.specs.Prelude.{◌≡◌, ℕ, Bool, nat_le, List, filter, map}
 use Rattle.ps_types.specs.declared.jid.Jid.{Jid}
-use Rattle.ps_model.specs.Heard.{is_from, placeless}
-use Rattle.ps_model.specs.Taking.{taken}
-use Rattle.ps_model.specs.World.{Said, World, all_taken}
+use Rattle.ps_model.specs.notices.Heard.{is_from, placeless}
+use Rattle.ps_model.specs.requests.Taking.{taken}
+use Rattle.ps_model.specs.machine.World.{Said, World, all_taken}
 
 -- a reply as its address has it: its line and its bytes, wherever it stands in the list
 abbrev pub gist : Said → Said

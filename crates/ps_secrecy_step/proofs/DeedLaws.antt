@@ -7,13 +7,13 @@ use Rattle.ps_types.specs.declared.jid.Jid.{Jid}
 use Rattle.ps_types.specs.declared.node.NodeKey.{NodeKey}
 use Rattle.ps_model.specs.After.{after, notices_at}
 use Rattle.ps_model.specs.Book.{Book, State}
-use Rattle.ps_model.specs.Heard.{heard, is_from, reply_for}
+use Rattle.ps_model.specs.notices.Heard.{heard, is_from, reply_for}
 use Rattle.ps_model.specs.Replay.{accepted}
 use Rattle.ps_model.specs.Replies.{reply_by as reply_in, reply_to}
-use Rattle.ps_model.specs.Taken.{Taken}
-use Rattle.ps_model.specs.Taken as taken
-use Rattle.ps_model.specs.Taking as taking
-use Rattle.ps_model.specs.TwoWorlds.{IsPair, IsShutOut, SameBut, Touches}
+use Rattle.ps_model.specs.requests.Taken.{Taken}
+use Rattle.ps_model.specs.requests.Taken as taken
+use Rattle.ps_model.specs.requests.Taking as taking
+use Rattle.ps_model.specs.machine.TwoWorlds.{IsPair, IsShutOut, SameBut, Touches}
 use Rattle.ps_model.specs.declared.steps.Step.TheVariants.{Arrive}
 use Rattle.ps_secrecy.specs.Alike.{LookAlike, added, notes}
 use Rattle.ps_secrecy.specs.Deeds.{IsAbove}

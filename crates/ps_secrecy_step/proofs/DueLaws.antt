@@ -5,15 +5,15 @@ use Rattle.ps_types.specs.declared.entry.Arrival.{Arrival}
 use Rattle.ps_types.specs.declared.entry.Entry.{Entry}
 use Rattle.ps_types.specs.declared.entry.Entry.TheVariants.{Change}
 use Rattle.ps_types.specs.declared.request.Request.{Request}
-use Rattle.ps_model.specs.BaseAfter.{is_early}
+use Rattle.ps_model.specs.store.BaseAfter.{is_early}
 use Rattle.ps_model.specs.Book.{State}
-use Rattle.ps_model.specs.Commits.{makes_entry}
+use Rattle.ps_model.specs.requests.Commits.{makes_entry}
 use Rattle.ps_model.specs.Replay.{accepted, is_booted, request_accepted}
 use Rattle.ps_model.specs.Replies.{entry_of, moment_of}
-use Rattle.ps_model.specs.Taken.{Taken}
-use Rattle.ps_model.specs.Taken as taken
-use Rattle.ps_model.specs.Taking as taking
-use Rattle.ps_model.specs.Taking.{request_in}
+use Rattle.ps_model.specs.requests.Taken.{Taken}
+use Rattle.ps_model.specs.requests.Taken as taken
+use Rattle.ps_model.specs.requests.Taking as taking
+use Rattle.ps_model.specs.requests.Taking.{request_in}
 use Rattle.ps_model.specs.Tallies.{is_next_line}
 use Rattle.ps_book_laws.specs.Addressed.{IsTimely}
 use Rattle.ps_secrecy.proofs.Answered.{entries-are}

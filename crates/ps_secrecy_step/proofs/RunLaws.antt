@@ -1,6 +1,6 @@
 -- The service answers as the law of whole runs asks.
 use Rattle.std.proofs.Common.{refl}
-use Rattle.ps_model.specs.TheCore.{the_core}
+use Rattle.ps_model.specs.machine.TheCore.{the_core}
 use Rattle.ps_secrecy.specs.Runs.{AnswersAs}
 use Rattle.ps_secrecy.proofs.Secret.{run-secret}
 use Rattle.ps_secrecy_step.specs.Laws.{EachServiceIsSecret}

@@ -5,14 +5,14 @@ use Rattle.ps_types.specs.declared.entry.Entry.{Entry}
 use Rattle.ps_types.specs.declared.entry.Entry.TheVariants.{Boot}
 use Rattle.ps_types.specs.declared.jid.Jid.{Jid}
 use Rattle.ps_types.specs.declared.node.NodeKey.{NodeKey}
-use Rattle.ps_model.specs.BaseAfter.{is_early}
+use Rattle.ps_model.specs.store.BaseAfter.{is_early}
 use Rattle.ps_model.specs.Book.{State}
-use Rattle.ps_model.specs.Machine.{start}
+use Rattle.ps_model.specs.machine.Machine.{start}
 use Rattle.ps_model.specs.Replay.{is_booted, replay}
 use Rattle.ps_model.specs.Replies.{moment_of}
 use Rattle.ps_model.specs.Tallies.{is_next_line}
-use Rattle.ps_model.specs.TheCore.{the_core, world}
-use Rattle.ps_model.specs.TwoWorlds.{IsShutOut}
+use Rattle.ps_model.specs.machine.TheCore.{the_core, world}
+use Rattle.ps_model.specs.machine.TwoWorlds.{IsShutOut}
 use Rattle.ps_model.specs.declared.steps.Step.{Step}
 use Rattle.ps_secrecy.specs.Runs.{AreDenied, ArePairs}
 use Rattle.ps_secrecy.specs.Seen.{GetsTheSame}

@@ -3,9 +3,9 @@ use Rattle.std.specs.Prelude.{◌≡◌, ℕ, false, cond, List, []}
 use Rattle.ps_types.specs.declared.jid.Jid.{Jid}
 use Rattle.ps_types.specs.declared.node.NodeKey.{NodeKey}
 use Rattle.ps_model.specs.Book.{State}
-use Rattle.ps_model.specs.Heard.{heard, is_from}
-use Rattle.ps_model.specs.Taking.{taken}
-use Rattle.ps_model.specs.TwoWorlds.{IsPair, IsShutOut, SameBut}
+use Rattle.ps_model.specs.notices.Heard.{heard, is_from}
+use Rattle.ps_model.specs.requests.Taking.{taken}
+use Rattle.ps_model.specs.machine.TwoWorlds.{IsPair, IsShutOut, SameBut}
 use Rattle.ps_model.specs.declared.steps.Step.TheVariants.{Arrive}
 use Rattle.ps_secrecy.specs.Deeds.{IsAbove}
 use Rattle.ps_secrecy_step.specs.declared.deed.Deed.{Deed}

@@ -1,5 +1,5 @@
 // Laws of deeds. Each function is its contract.
-ghost use Rattle.ps_model.specs.TheCore.{the_core};
+ghost use Rattle.ps_model.specs.machine.TheCore.{the_core};
 ghost use Rattle.ps_secrecy.specs.Runs.{AnswersAs};
 ghost use Rattle.ps_secrecy_step.specs.Laws.{EachDeedIsSecret, EachLineIsDue, EachServiceIsSecret};
 

@@ -7,9 +7,9 @@ use Rattle.ps_disk.specs.declared.device.Disk.{Ghosts as DiskGhosts}
 use Rattle.ps_disk.specs.Disk.{MayLeave}
 use Rattle.ps_base.specs.Causes.{Rose}
 use Rattle.ps_journal.specs.Opened.{HasLength, IsShortIfUnbegun}
-use Rattle.ps_model.specs.Entries.{body}
-use Rattle.ps_model.specs.Store.{Begun, gate_at, spelled}
-use Rattle.ps_model.specs.World.{World, durable, ends}
+use Rattle.ps_model.specs.store.Entries.{body}
+use Rattle.ps_model.specs.store.Store.{Begun, gate_at, spelled}
+use Rattle.ps_model.specs.machine.World.{World, durable, ends}
 use Rattle.ps_hall_open.specs.Left.{Fronts, IsOpenLeft, OpenLeaves}
 use Rattle.ps_hall_open.specs.Opens.{IsOpen, IsStill, OpenNot, StaysButVersion, StaysIfDamaged}
 use Rattle.ps_hall_open.specs.declared.opened.OpenWhy.{OpenWhy}

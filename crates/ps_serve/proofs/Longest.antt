@@ -5,8 +5,8 @@ use Rattle.ps_types.specs.declared.entry.Entry.{Entry}
 use Rattle.ps_types.specs.declared.jid.Jid.{Jid}
 use Rattle.ps_disk.specs.Disk.{MayLeave, furthest}
 use Rattle.ps_hall_store.specs.Left.{IsFront}
-use Rattle.ps_model.specs.Core.{handed}
-use Rattle.ps_model.specs.Store.{spelled}
+use Rattle.ps_model.specs.machine.Core.{handed}
+use Rattle.ps_model.specs.store.Store.{spelled}
 use Rattle.ps_model.proofs.OneList.{one_list}
 use Rattle.ps_trace.specs.Words.{Word}
 use Rattle.ps_workers.specs.Told.{LacksAtMostOne}

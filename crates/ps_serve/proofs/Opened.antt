@@ -4,7 +4,7 @@ use Rattle.ps_types.specs.declared.entry.Entry.{Entry}
 use Rattle.ps_types.specs.declared.entry.Entry.TheVariants.{Boot}
 use Rattle.ps_disk.specs.declared.device.Disk.{Ghosts as DiskGhosts}
 use Rattle.ps_journal.specs.Opened.{IsShortIfUnbegun}
-use Rattle.ps_model.specs.Store.{spelled}
+use Rattle.ps_model.specs.store.Store.{spelled}
 use Rattle.ps_model.proofs.OneList.{one_list}
 use Rattle.ps_hall_open.specs.Left.{Fronts, OpenLeaves}
 use Rattle.ps_hall_open.specs.Opens.{IsOpen, IsStill}

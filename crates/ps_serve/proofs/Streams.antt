@@ -1,7 +1,7 @@
 -- The streams of a command: their hosts, and their objects from the opening to the giving back.
 use Rattle.std.proofs.Common.{◌≡◌, ◌≢◌, ◌⊎◌, inl, inr, ℕ, zero, suc, ◌≤◌, List, [], ◌∷◌, Some, length, refl, sym, ◌∙◌, ap, subst, arith}
 use Rattle.std.specs.Prelude.{slice_get}
-use Rattle.ps_model.specs.Entries.{IsHostName}
+use Rattle.ps_model.specs.store.Entries.{IsHostName}
 use Rattle.ps_hall_open.specs.Fresh.{AreHosts}
 use Rattle.ps_io.specs.declared.clock.Clock.{Ghosts as ClockGhosts}
 use Rattle.ps_io.specs.declared.world.Kind.{Kind}

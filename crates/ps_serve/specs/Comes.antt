@@ -1,7 +1,7 @@
 -- What comes of serving streams over a disk.
 use Rattle.std.specs.Prelude.{◌≡◌, ◌⊎◌, ℕ, ◌+◌, List, None, true, is_some, length, map}
 use Rattle.ps_disk.specs.declared.device.Disk.{Ghosts as DiskGhosts}
-use Rattle.ps_model.specs.Store.{Begun, gate_at}
+use Rattle.ps_model.specs.store.Store.{Begun, gate_at}
 use Rattle.ps_endpoints.specs.declared.port.Port.{Port}
 use Rattle.ps_workers.specs.Origin.{Origin}
 use Rattle.ps_workers.specs.State.{State}

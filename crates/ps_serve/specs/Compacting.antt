@@ -7,7 +7,7 @@ use Rattle.ps_compact.specs.declared.compacting.CompactOutcome.TheVariants as ho
 use Rattle.ps_disk.specs.Disk.{MayLeave}
 use Rattle.ps_disk.specs.declared.device.Disk.{Ghosts}
 use Rattle.ps_journal.specs.Opened.{IsShortIfUnbegun}
-use Rattle.ps_model.specs.At.{IsDamagedAt}
+use Rattle.ps_model.specs.store.At.{IsDamagedAt}
 use Rattle.ps_io.specs.Held.{HeldStore, SameLeft}
 use Rattle.ps_commands.specs.declared.command.Command.{Command}
 use Rattle.ps_commands.specs.declared.command.Command.TheVariants.{Compact}

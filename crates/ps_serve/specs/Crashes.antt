@@ -4,7 +4,7 @@ use Rattle.ps_types.specs.declared.entry.Entry.{Entry}
 use Rattle.ps_disk.specs.Disk.{MayLeave}
 use Rattle.ps_journal.specs.Left.{IsFrontOfLeft, LeavesList}
 use Rattle.ps_journal.specs.Opened.{HasLength}
-use Rattle.ps_model.specs.Store.{is_unbegun, spelled}
+use Rattle.ps_model.specs.store.Store.{is_unbegun, spelled}
 use Rattle.ps_io.specs.Held.{HeldStore}
 use Rattle.ps_hall_store.specs.Left.{IsFront}
 

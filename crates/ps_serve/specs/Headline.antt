@@ -5,13 +5,13 @@ use Rattle.ps_types.specs.declared.entry.Entry.{Entry}
 use Rattle.ps_types.specs.declared.entry.Entry.TheVariants.{Boot}
 use Rattle.ps_types.specs.declared.jid.Jid.{Jid}
 use Rattle.ps_disk.specs.Disk.{MayLeave}
-use Rattle.ps_model.specs.At.{IsDamagedAt, IsStore}
-use Rattle.ps_model.specs.Core.{handed}
-use Rattle.ps_model.specs.CoreLaws.{IsLawful}
-use Rattle.ps_model.specs.Entries.{AreEntries}
-use Rattle.ps_model.specs.Store.{spelled}
-use Rattle.ps_model.specs.TheCore.{the_core}
-use Rattle.ps_model.specs.World.{World, durable}
+use Rattle.ps_model.specs.store.At.{IsDamagedAt, IsStore}
+use Rattle.ps_model.specs.machine.Core.{handed}
+use Rattle.ps_model.specs.machine.CoreLaws.{IsLawful}
+use Rattle.ps_model.specs.store.Entries.{AreEntries}
+use Rattle.ps_model.specs.store.Store.{spelled}
+use Rattle.ps_model.specs.machine.TheCore.{the_core}
+use Rattle.ps_model.specs.machine.World.{World, durable}
 use Rattle.ps_hall_open.specs.Opens.{IsStill, PassesBy, StaysButVersion}
 use Rattle.ps_io.specs.Held.{HeldStore}
 use Rattle.ps_trace.specs.Own.{IsServed}

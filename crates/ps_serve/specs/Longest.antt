@@ -2,7 +2,7 @@
 use Rattle.std.specs.Prelude.{◌≡◌, ℕ, ◌++◌, List}
 use Rattle.ps_types.specs.declared.entry.Entry.{Entry}
 use Rattle.ps_disk.specs.Disk.{MayLeave}
-use Rattle.ps_model.specs.Store.{spelled}
+use Rattle.ps_model.specs.store.Store.{spelled}
 use Rattle.ps_trace.specs.Words.{Word}
 use Rattle.ps_workers.specs.Told.{LacksAtMostOne}
 

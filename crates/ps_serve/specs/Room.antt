@@ -3,9 +3,9 @@ use Rattle.std.specs.Prelude.{◌⊎◌, ℕ, ◌+◌, ◌<◌, List, length}
 use Rattle.ps_types.specs.declared.entry.Entry.{Entry}
 use Rattle.ps_types.specs.declared.entry.Entry.TheVariants.{Gone, Handed}
 use Rattle.ps_types.specs.declared.jid.Jid.{Jid}
-use Rattle.ps_model.specs.Core.{handed}
-use Rattle.ps_model.specs.Entries.{IsBare, spelling}
-use Rattle.ps_model.specs.TheCore.{the_core}
+use Rattle.ps_model.specs.machine.Core.{handed}
+use Rattle.ps_model.specs.store.Entries.{IsBare, spelling}
+use Rattle.ps_model.specs.machine.TheCore.{the_core}
 use Rattle.ps_trace.specs.Own.{IsServed}
 
 -- at most this many bytes are written for all entries

@@ -9,12 +9,12 @@ use Rattle.ps_types.specs.Address.{IsAddress}
 use Rattle.ps_types.specs.Namespaces.{info_ns, items_ns, owner_ns, pubsub_ns}
 use Rattle.ps_types.specs.Tree.{Tree, Nodes}
 use Rattle.ps_model.specs.Book.{Book}
-use Rattle.ps_model.specs.Check.{child_of}
+use Rattle.ps_model.specs.requests.Check.{child_of}
 use Rattle.ps_model.specs.Grammar.{node_in}
 use Rattle.ps_model.specs.Replies.{child_list}
-use Rattle.ps_model.specs.Spelled.{IsAsk}
-use Rattle.ps_model.specs.SpelledEntity.{IsDiscovery}
-use Rattle.ps_model.specs.SpelledParts.{IsPubsub}
+use Rattle.ps_model.specs.requests.Spelled.{IsAsk}
+use Rattle.ps_model.specs.requests.SpelledEntity.{IsDiscovery}
+use Rattle.ps_model.specs.requests.SpelledParts.{IsPubsub}
 use Rattle.ps_book_laws.specs.Addressed.{IsAskOfAddresses}
 use Rattle.ps_compact_laws.proofs.AskedTexts.{ask-text, part-fits}
 use Rattle.ps_compact_laws.proofs.Fitting.{Fits, attr-utf8, trees-fit}

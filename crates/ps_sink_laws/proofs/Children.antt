@@ -33,9 +33,9 @@ use Rattle.ps_types.specs.Subs.{is_sub_at, is_sub_by, subs_held, subs_of}
 use Rattle.ps_types.specs.Tree.{Tree}
 use Rattle.ps_model.specs.Access.{is_account}
 use Rattle.ps_model.specs.Book.{Book}
-use Rattle.ps_model.specs.ChangeEntity.{base_options, new_state}
-use Rattle.ps_model.specs.CheckForms.{node_of}
-use Rattle.ps_model.specs.Children.{
+use Rattle.ps_model.specs.requests.ChangeEntity.{base_options, new_state}
+use Rattle.ps_model.specs.requests.CheckForms.{node_of}
+use Rattle.ps_model.specs.requests.Children.{
   about,
   affil_tree,
   affils_child,
@@ -57,7 +57,7 @@ use Rattle.ps_model.specs.Children.{
   subs_child,
   subscribe_child,
 }
-use Rattle.ps_model.specs.Discovery.{
+use Rattle.ps_model.specs.requests.Discovery.{
   all_features,
   entity_type,
   feature_tree,
@@ -76,7 +76,7 @@ use Rattle.ps_model.specs.Discovery.{
   nodes_child,
 }
 use Rattle.ps_model.specs.ItemIds.{item_id}
-use Rattle.ps_model.specs.Lists.{is_asked_affil, is_asked_sub, is_named_item, is_of_other, listed_affils, listed_items, named_items, newest, own_affils, own_subs}
+use Rattle.ps_model.specs.requests.Lists.{is_asked_affil, is_asked_sub, is_named_item, is_of_other, listed_affils, listed_items, named_items, newest, own_affils, own_subs}
 use Rattle.ps_model.specs.Words.{affil_text, sub_text}
 use Rattle.ps_book_laws.proofs.Keys.{each-cond, each-filter}
 use Rattle.ps_compact_laws.proofs.Fitting.{Fits, fit-more}

@@ -29,17 +29,17 @@ use Rattle.ps_types.specs.Subs.{sub_at}
 use Rattle.ps_types.specs.Tree.{Tree, Nodes, child_at, nodes_of}
 use Rattle.ps_model.specs.Access.{is_account}
 use Rattle.ps_model.specs.Book.{Book}
-use Rattle.ps_model.specs.ChangeEntity.{base_options, new_state, sub_options, subscribed_by}
-use Rattle.ps_model.specs.ChangeNodes.{created, created_by, new_node}
-use Rattle.ps_model.specs.ChangeOwner.{configured, configured_by}
-use Rattle.ps_model.specs.ChangePublish.{published, published_by, published_new, retract_change}
-use Rattle.ps_model.specs.ChangeRouter.{answer_by, is_usable, roster_by, usable_answer}
-use Rattle.ps_model.specs.Changes.{changed_by}
-use Rattle.ps_model.specs.CheckForms.{config_given, config_or, new_config, node_of}
-use Rattle.ps_model.specs.CheckOptions.{form_options, is_known, known_options, options_config, publish_type}
+use Rattle.ps_model.specs.requests.ChangeEntity.{base_options, new_state, sub_options, subscribed_by}
+use Rattle.ps_model.specs.requests.ChangeNodes.{created, created_by, new_node}
+use Rattle.ps_model.specs.requests.ChangeOwner.{configured, configured_by}
+use Rattle.ps_model.specs.requests.ChangePublish.{published, published_by, published_new, retract_change}
+use Rattle.ps_model.specs.requests.ChangeRouter.{answer_by, is_usable, roster_by, usable_answer}
+use Rattle.ps_model.specs.requests.Changes.{changed_by}
+use Rattle.ps_model.specs.requests.CheckForms.{config_given, config_or, new_config, node_of}
+use Rattle.ps_model.specs.requests.CheckOptions.{form_options, is_known, known_options, options_config, publish_type}
 use Rattle.ps_model.specs.Grammar.{form_after, form_in}
-use Rattle.ps_model.specs.Spelled.{IsAsk}
-use Rattle.ps_model.specs.SpelledParts.{IsPubsub}
+use Rattle.ps_model.specs.requests.Spelled.{IsAsk}
+use Rattle.ps_model.specs.requests.SpelledParts.{IsPubsub}
 use Rattle.ps_model.specs.Words.{RosterAsk, set, remove, roster_of}
 use Rattle.ps_book_laws.proofs.Keys.{each-change, each-filter, each-push}
 use Rattle.ps_compact_laws.proofs.AskedTexts.{FieldIs, form-is, part-fits}

@@ -15,14 +15,14 @@ use Rattle.ps_types.specs.Shape.{attr_text}
 use Rattle.ps_types.specs.Tree.{Tree}
 use Rattle.ps_types.proofs.AddressLaws.{text-spells}
 use Rattle.ps_model.specs.After as step
-use Rattle.ps_model.specs.BaseRows.{notice}
+use Rattle.ps_model.specs.store.BaseRows.{notice}
 use Rattle.ps_model.specs.Book.{State, empty_state}
-use Rattle.ps_model.specs.Entries.{AreEntries, IsEntry}
-use Rattle.ps_model.specs.NoticeTrees.{with_id}
-use Rattle.ps_model.specs.Numbered.{numbered}
+use Rattle.ps_model.specs.store.Entries.{AreEntries, IsEntry}
+use Rattle.ps_model.specs.notices.NoticeTrees.{with_id}
+use Rattle.ps_model.specs.notices.Numbered.{numbered}
 use Rattle.ps_model.specs.Replay.{IsLawfulFrom, accepted, lawful, notices, notices_from, of_bare, to_address}
-use Rattle.ps_model.specs.Stanza.{jid_of}
-use Rattle.ps_model.specs.Streams.{is_reply}
+use Rattle.ps_model.specs.requests.Stanza.{jid_of}
+use Rattle.ps_model.specs.machine.Streams.{is_reply}
 use Rattle.ps_model.specs.Tallies.{made_for, more_made}
 use Rattle.ps_model.proofs.LineLaws.{spells-jid}
 use Rattle.ps_book_laws.proofs.Keys.{each-both}

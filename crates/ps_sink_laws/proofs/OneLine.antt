@@ -12,13 +12,13 @@ use Rattle.ps_types.specs.Same.{same_bare}
 use Rattle.ps_types.specs.Tree.{Tree}
 use Rattle.ps_model.specs.After as step
 use Rattle.ps_model.specs.Book.{State, empty_state}
-use Rattle.ps_model.specs.CoreLaws.{IsLawful}
-use Rattle.ps_model.specs.NoticeTrees.{with_id}
-use Rattle.ps_model.specs.Numbered.{numbered}
+use Rattle.ps_model.specs.machine.CoreLaws.{IsLawful}
+use Rattle.ps_model.specs.notices.NoticeTrees.{with_id}
+use Rattle.ps_model.specs.notices.Numbered.{numbered}
 use Rattle.ps_model.specs.Replay.{IsLawfulFrom, accepted, notices, notices_from, of_bare, replay, to_address}
 use Rattle.ps_model.specs.Replies.{reply_to}
 use Rattle.ps_model.specs.Tallies.{made_for, more_made}
-use Rattle.ps_model.specs.TheCore.{the_core}
+use Rattle.ps_model.specs.machine.TheCore.{the_core}
 use Rattle.ps_model.proofs.OneLine.{print-line}
 use Rattle.ps_model.proofs.TheLaws.{places-of}
 use Rattle.ps_book_laws.proofs.Keys.{each-both, each-by, each-filter}

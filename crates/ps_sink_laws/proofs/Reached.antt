@@ -6,10 +6,10 @@ use Rattle.ps_types.specs.declared.entry.Entry.TheVariants.{Boot, Change, Handed
 use Rattle.ps_types.specs.Tree.{Tree}
 use Rattle.ps_model.specs.After as step
 use Rattle.ps_model.specs.Book.{Book, State, empty_state}
-use Rattle.ps_model.specs.Entries.{AreEntries, IsEntry}
+use Rattle.ps_model.specs.store.Entries.{AreEntries, IsEntry}
 use Rattle.ps_model.specs.Replay.{IsLawfulFrom, accepted, lawful, replay, replay_from}
-use Rattle.ps_model.specs.Taken.{Taken, silent, refused, denied, asked}
-use Rattle.ps_model.specs.Taking.{request_in, tree_taken}
+use Rattle.ps_model.specs.requests.Taken.{Taken, silent, refused, denied, asked}
+use Rattle.ps_model.specs.requests.Taking.{request_in, tree_taken}
 use Rattle.ps_model.proofs.AskedStanza.{taken-spelled}
 use Rattle.ps_book_laws.proofs.Addressed.{lawful-addresses}
 use Rattle.ps_book_laws.proofs.Reached.{lawful-sound}

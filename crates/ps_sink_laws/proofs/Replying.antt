@@ -23,19 +23,19 @@ use Rattle.ps_types.specs.Namespaces.{line_ns}
 use Rattle.ps_types.specs.Print.{client}
 use Rattle.ps_types.specs.Shape.{holding}
 use Rattle.ps_types.specs.Tree.{Tree, name_of, ns_of}
-use Rattle.ps_model.specs.Asking.{message_form}
+use Rattle.ps_model.specs.requests.Asking.{message_form}
 use Rattle.ps_model.specs.Book.{Book}
-use Rattle.ps_model.specs.Check.{child_of, steps_of}
-use Rattle.ps_model.specs.Commits.{commits}
+use Rattle.ps_model.specs.requests.Check.{child_of, steps_of}
+use Rattle.ps_model.specs.requests.Commits.{commits}
 use Rattle.ps_model.specs.Conditions.{error_tree}
-use Rattle.ps_model.specs.Outcome.{outcome}
+use Rattle.ps_model.specs.requests.Outcome.{outcome}
 use Rattle.ps_model.specs.Replies.{accepted_reply, child_list, error_reply, feature_of, full_reply, if_answered, outcome_reply, refused_tree, reply_by, reply_to, result_reply, stanza, why_text}
-use Rattle.ps_model.specs.Spelled.{SpellsRequest}
-use Rattle.ps_model.specs.Stanza.{has_type, is_asking, is_iq, is_message, is_presence}
-use Rattle.ps_model.specs.Steps.{first_denial}
-use Rattle.ps_model.specs.Streams.{is_reply}
-use Rattle.ps_model.specs.Taken.{Head, Taken, silent, refused, denied, asked}
-use Rattle.ps_model.specs.Taking.{head_of, is_answered, is_cancelled, is_white, result_taken, tree_taken}
+use Rattle.ps_model.specs.requests.Spelled.{SpellsRequest}
+use Rattle.ps_model.specs.requests.Stanza.{has_type, is_asking, is_iq, is_message, is_presence}
+use Rattle.ps_model.specs.requests.Steps.{first_denial}
+use Rattle.ps_model.specs.machine.Streams.{is_reply}
+use Rattle.ps_model.specs.requests.Taken.{Head, Taken, silent, refused, denied, asked}
+use Rattle.ps_model.specs.requests.Taking.{head_of, is_answered, is_cancelled, is_white, result_taken, tree_taken}
 use Rattle.ps_model.proofs.AskedStanza.{taken-spelled}
 use Rattle.ps_book_laws.proofs.AddressedTaken.{spelled-addresses}
 use Rattle.ps_spelling_laws.proofs.Trees.{line-exact}

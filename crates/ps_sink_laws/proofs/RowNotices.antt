@@ -15,15 +15,15 @@ use Rattle.ps_types.specs.LineTree.{line_tree}
 use Rattle.ps_types.specs.Print.{print}
 use Rattle.ps_types.specs.Shape.{attr_text}
 use Rattle.ps_types.specs.Tree.{Tree}
-use Rattle.ps_model.specs.BaseAfter.{has_place, is_notice_line, is_well_formed}
-use Rattle.ps_model.specs.BaseRead.{row_of}
-use Rattle.ps_model.specs.BaseRows as base
-use Rattle.ps_model.specs.BaseRows.{BaseRow}
+use Rattle.ps_model.specs.store.BaseAfter.{has_place, is_notice_line, is_well_formed}
+use Rattle.ps_model.specs.store.BaseRead.{row_of}
+use Rattle.ps_model.specs.store.BaseRows as base
+use Rattle.ps_model.specs.store.BaseRows.{BaseRow}
 use Rattle.ps_model.specs.Book.{State}
-use Rattle.ps_model.specs.NoticeTrees.{notice_id}
-use Rattle.ps_model.specs.Numbered.{row_notices}
+use Rattle.ps_model.specs.notices.NoticeTrees.{notice_id}
+use Rattle.ps_model.specs.notices.Numbered.{row_notices}
 use Rattle.ps_model.specs.Replay.{accepted, is_booted, row_accepted}
-use Rattle.ps_model.specs.Streams.{is_reply}
+use Rattle.ps_model.specs.machine.Streams.{is_reply}
 use Rattle.ps_model.specs.Tallies.{made_for}
 use Rattle.ps_book_laws.proofs.Reached.{not-true}
 

@@ -19,11 +19,11 @@ use Rattle.ps_types.specs.Print.{print}
 use Rattle.ps_types.specs.Shape.{attr_text, tree_text}
 use Rattle.ps_types.specs.Tree.{Tree, child_of, is_named}
 use Rattle.ps_model.specs.After as step
-use Rattle.ps_model.specs.BaseAfter.{book_with, in_collection}
-use Rattle.ps_model.specs.BaseFields.{◌>>=◌, config_at, config_in, jid_at, number_at}
-use Rattle.ps_model.specs.BaseRead.{row_of}
-use Rattle.ps_model.specs.BaseRows as base
-use Rattle.ps_model.specs.BaseRows.{BaseRow}
+use Rattle.ps_model.specs.store.BaseAfter.{book_with, in_collection}
+use Rattle.ps_model.specs.store.BaseFields.{◌>>=◌, config_at, config_in, jid_at, number_at}
+use Rattle.ps_model.specs.store.BaseRead.{row_of}
+use Rattle.ps_model.specs.store.BaseRows as base
+use Rattle.ps_model.specs.store.BaseRows.{BaseRow}
 use Rattle.ps_model.specs.Book.{Book}
 use Rattle.ps_book_laws.proofs.Keys.{each-change, each-push}
 use Rattle.ps_compact_laws.proofs.AskedTexts.{FieldIs, form-is}

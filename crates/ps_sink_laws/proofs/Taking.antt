@@ -10,10 +10,10 @@ use Rattle.ps_types.specs.declared.request.Ask.{Ask}
 use Rattle.ps_types.specs.Address.{IsAddress, jid_text}
 use Rattle.ps_types.specs.Shape.{attr_text}
 use Rattle.ps_types.specs.Tree.{Tree, name_of}
-use Rattle.ps_model.specs.Asking.{ask_of}
-use Rattle.ps_model.specs.Stanza.{host_jid, is_served, is_stanza, jid_of, target_of}
-use Rattle.ps_model.specs.Taken.{Head, Taken, silent, refused, denied, asked}
-use Rattle.ps_model.specs.Taking.{ask_taken, head_of, is_answered, sender_taken, shape_taken, target_taken, tree_taken}
+use Rattle.ps_model.specs.requests.Asking.{ask_of}
+use Rattle.ps_model.specs.requests.Stanza.{host_jid, is_served, is_stanza, jid_of, target_of}
+use Rattle.ps_model.specs.requests.Taken.{Head, Taken, silent, refused, denied, asked}
+use Rattle.ps_model.specs.requests.Taking.{ask_taken, head_of, is_answered, sender_taken, shape_taken, target_taken, tree_taken}
 use Rattle.ps_book_laws.proofs.AddressedTaken.{jid-is, target-is}
 use Rattle.ps_compact_laws.proofs.Fitting.{Fits, attr-utf8}
 use Rattle.ps_compact_laws.proofs.Texts.{jid-utf8}

@@ -11,12 +11,12 @@ use Rattle.ps_types.specs.Lines.{NoNewline, joined}
 use Rattle.ps_types.specs.Print.{print}
 use Rattle.ps_types.specs.Same.{same_bare, same_jid}
 use Rattle.ps_types.specs.Tree.{Tree}
-use Rattle.ps_model.specs.Entries.{AreEntries}
+use Rattle.ps_model.specs.store.Entries.{AreEntries}
 use Rattle.ps_model.specs.Replay.{lawful, notices, replay}
 use Rattle.ps_model.specs.Replies.{reply_to}
-use Rattle.ps_model.specs.Streams as sink
-use Rattle.ps_model.specs.Streams.{IsSaying, Saying, is_reply, line_of}
-use Rattle.ps_model.specs.TheCore.{the_core}
+use Rattle.ps_model.specs.machine.Streams as sink
+use Rattle.ps_model.specs.machine.Streams.{IsSaying, Saying, is_reply, line_of}
+use Rattle.ps_model.specs.machine.TheCore.{the_core}
 use Rattle.ps_model.proofs.StreamLaws.{notes-kept, replies-kept}
 use Rattle.ps_model.proofs.TheLaws.{places-of}
 use Rattle.ps_book_laws.proofs.Keys.{each-by}

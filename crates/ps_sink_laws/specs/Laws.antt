@@ -6,10 +6,10 @@ use Rattle.ps_types.specs.declared.entry.Arrival.{Arrival}
 use Rattle.ps_types.specs.declared.entry.Entry.{Entry}
 use Rattle.ps_types.specs.declared.entry.Notice.{Notice}
 use Rattle.ps_types.specs.declared.jid.Jid.{Jid}
-use Rattle.ps_model.specs.CoreLaws.{IsLawful}
-use Rattle.ps_model.specs.Entries.{AreEntries}
-use Rattle.ps_model.specs.Streams as sink
-use Rattle.ps_model.specs.TheCore.{the_core}
+use Rattle.ps_model.specs.machine.CoreLaws.{IsLawful}
+use Rattle.ps_model.specs.store.Entries.{AreEntries}
+use Rattle.ps_model.specs.machine.Streams as sink
+use Rattle.ps_model.specs.machine.TheCore.{the_core}
 use Rattle.ps_trace.specs.Words.{Note, Reply, Word, bytes_of, notes_in, replies_in, text_of}
 
 -- the reply to a line at a place of the list

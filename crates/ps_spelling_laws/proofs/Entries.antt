@@ -47,8 +47,8 @@ use Rattle.ps_types.specs.declared.entry.Entry.TheVariants.{Boot, Change, Handed
 use Rattle.ps_types.specs.declared.jid.Jid.{Jid}
 use Rattle.ps_types.proofs.AddressLaws.{parts-again, parts-are, text-spells}
 use Rattle.ps_types.proofs.PrintLaws.{print_reads}
-use Rattle.ps_model.specs.Entries.{IsBare, IsEntry, IsEntryIn, IsMoment, IsWritten, end_of_time, in_version, long, of_host, short, spelling}
-use Rattle.ps_model.specs.Stanza.{jid_of}
+use Rattle.ps_model.specs.store.Entries.{IsBare, IsEntry, IsEntryIn, IsMoment, IsWritten, end_of_time, in_version, long, of_host, short, spelling}
+use Rattle.ps_model.specs.requests.Stanza.{jid_of}
 use Rattle.ps_model.proofs.LineLaws.{reads-line, spells-jid}
 use Rattle.ps_spelling_laws.proofs.Decided.{Decided, both, either-way, found, is-below, is-true, same-bytes}
 use Rattle.ps_spelling_laws.proofs.Fields.{number_at, text_at, number-again, text-again, wide16, wide32, wide64}

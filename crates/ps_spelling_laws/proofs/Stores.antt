@@ -43,9 +43,9 @@ use Rattle.std.proofs.lemmas.Bool.{eq-eqb, eqb-true, true≢false}
 use Rattle.std.proofs.lemmas.List.{drop_at}
 use Rattle.ps_types.specs.declared.entry.Entry.{Entry}
 use Rattle.ps_model.specs.Book.{empty_state}
-use Rattle.ps_model.specs.Entries.{AreEntriesIn, IsEntryIn, body, spelling}
+use Rattle.ps_model.specs.store.Entries.{AreEntriesIn, IsEntryIn, body, spelling}
 use Rattle.ps_model.specs.Replay.{accepted, lawful, replay}
-use Rattle.ps_model.specs.Store.{AreBodies, AreParts, Begun, IsBody, IsShut, frame, frames, gate_at, is_header, is_second, is_unbegun, joined}
+use Rattle.ps_model.specs.store.Store.{AreBodies, AreParts, Begun, IsBody, IsShut, frame, frames, gate_at, is_header, is_second, is_unbegun, joined}
 use Rattle.ps_model.proofs.Going.{lawful-more}
 use Rattle.ps_model.proofs.OneList.{NoFrame, header_size, starts}
 use Rattle.ps_spelling_laws.specs.Store.{HasDamage, HasList}

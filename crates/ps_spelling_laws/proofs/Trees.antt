@@ -34,7 +34,7 @@ use Rattle.ps_types.specs.Reading.{
   kid_then,
 }
 use Rattle.ps_types.specs.Tree.{Tree, tree, Nodes, branch, words}
-use Rattle.ps_model.specs.ReadFrom.{IsReadFrom}
+use Rattle.ps_model.specs.machine.ReadFrom.{IsReadFrom}
 use Rattle.ps_model.proofs.LineLaws.{line-read}
 use Rattle.ps_spelling_laws.proofs.Values.{AllAfter, IsSound, AreSound, HaveSound, read-sound}
 use Rattle.ps_spelling_laws.proofs.When.{When, whichever, then-when, map-when}

@@ -3,7 +3,7 @@ use Rattle.std.specs.Prelude.{◌≡◌, ◌⊎◌, ℕ, List, Ok}
 use Rattle.ps_types.specs.LineTree.{line_tree}
 use Rattle.ps_types.specs.Reading.{Reads}
 use Rattle.ps_types.specs.Tree.{Tree}
-use Rattle.ps_model.specs.CoreLaws.{AreSame}
+use Rattle.ps_model.specs.machine.CoreLaws.{AreSame}
 use Rattle.ps_spelling_laws.specs.Store.{HasDamage, HasList}
 
 -- a line has a tree exactly where its text reads as that tree

@@ -1,7 +1,7 @@
 -- What the bytes of a store have.
 use Rattle.std.specs.Prelude.{ℕ, List}
 use Rattle.ps_types.specs.declared.entry.Entry.{Entry}
-use Rattle.ps_model.specs.At.{IsDamagedAt, IsStore}
+use Rattle.ps_model.specs.store.At.{IsDamagedAt, IsStore}
 
 -- a list of entries
 abbrev pub HasList : List ℕ → Type 0

@@ -31,12 +31,12 @@ use Rattle.ps_model.proofs.Going.{notices-append, replay-append}
 use Rattle.ps_model.proofs.TallyLaws.{same_bare-Decides}
 use Rattle.ps_model.specs.After.{after}
 use Rattle.ps_model.specs.Book.{State, empty_state}
-use Rattle.ps_model.specs.Core.{handed}
-use Rattle.ps_model.specs.Heard.{placeless}
-use Rattle.ps_model.specs.Stanza.{host_jid}
+use Rattle.ps_model.specs.machine.Core.{handed}
+use Rattle.ps_model.specs.notices.Heard.{placeless}
+use Rattle.ps_model.specs.requests.Stanza.{host_jid}
 use Rattle.ps_model.specs.Replay.{IsLawfulFrom, accepted, lawful, notices, notices_from, of_bare, replay, to_address}
 use Rattle.ps_model_cases.proofs.Parts.{all_from, part-of}
-use Rattle.ps_model.specs.Base.{base}
+use Rattle.ps_model.specs.store.Base.{base}
 use Rattle.ps_model_cases.specs.AccessCases.{q}
 use Rattle.ps_model_cases.specs.HomeCases.{t}
 use Rattle.ps_model_cases.specs.PresenceCases.{ver}

@@ -5,8 +5,8 @@ use Rattle.std.proofs.lemmas.Nat.{from_be_bytes-to_be_bytes_4}
 use Rattle.std.proofs.lemmas.Str.{IsUtf8-from_is_utf8}
 use Rattle.std.specs.Prelude.{IsUtf8, codes}
 use Rattle.std.specs.Str.{is_utf8}
-use Rattle.ps_model.specs.Entries.{IsHostName}
-use Rattle.ps_model.specs.Store.{IsBody, frame}
+use Rattle.ps_model.specs.store.Entries.{IsHostName}
+use Rattle.ps_model.specs.store.Store.{IsBody, frame}
 use Rattle.ps_model.proofs.OneList.{front_one}
 
 size : (n m : ℕ) (x y : List ℕ) → n < 2 ^ 32 → m < 2 ^ 32 → to_be_bytes w32 n ++ x ≡ to_be_bytes w32 m ++ y → (n ≡ m) × (x ≡ y)

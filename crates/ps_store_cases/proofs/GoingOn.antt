@@ -10,11 +10,11 @@ use Rattle.ps_types.specs.declared.entry.Notice.{Notice}
 use Rattle.ps_types.specs.declared.jid.Jid.{Jid}
 use Rattle.ps_types.specs.declared.rows.TallyRow.{TallyRow}
 use Rattle.ps_model.specs.After.{after, handed_out, notices_at}
-use Rattle.ps_model.specs.BaseRead.{row_of}
-use Rattle.ps_model.specs.BaseRows.{BaseRow, affiliation, subscription, item, link, contact, ver, counter, notice}
+use Rattle.ps_model.specs.store.BaseRead.{row_of}
+use Rattle.ps_model.specs.store.BaseRows.{BaseRow, affiliation, subscription, item, link, contact, ver, counter, notice}
 use Rattle.ps_model.specs.Book.{State}
-use Rattle.ps_model.specs.Heard.{placeless}
-use Rattle.ps_model.specs.Numbered.{numbered, row_notices}
+use Rattle.ps_model.specs.notices.Heard.{placeless}
+use Rattle.ps_model.specs.notices.Numbered.{numbered, row_notices}
 use Rattle.ps_model.specs.Replay.{IsLawfulFrom, accepted, is_booted, notices_from, of_bare, replay_from, row_accepted, to_address}
 use Rattle.ps_model.specs.Tallies.{more_made}
 use Rattle.ps_model.proofs.OneAt.{lawful-rest}

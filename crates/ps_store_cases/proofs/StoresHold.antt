@@ -9,10 +9,10 @@ use Rattle.ps_types.specs.Form.{HasForm}
 use Rattle.ps_types.specs.Same as same
 use Rattle.ps_types.specs.declared.entry.Entry.{Entry}
 use Rattle.ps_types.specs.declared.entry.Entry.TheVariants.{Boot, Change, Handed}
-use Rattle.ps_model.specs.At.{IsDamagedAt, IsStore}
-use Rattle.ps_model.specs.Damage.{NoEntry}
-use Rattle.ps_model.specs.Entries.{IsBare, IsEntryIn, IsWritten, spelling}
-use Rattle.ps_model.specs.Store.{Begun, IsBody, is_unbegun}
+use Rattle.ps_model.specs.store.At.{IsDamagedAt, IsStore}
+use Rattle.ps_model.specs.store.Damage.{NoEntry}
+use Rattle.ps_model.specs.store.Entries.{IsBare, IsEntryIn, IsWritten, spelling}
+use Rattle.ps_model.specs.store.Store.{Begun, IsBody, is_unbegun}
 use Rattle.ps_model_cases.specs.LineCases.{first_tree}
 use Rattle.ps_store_cases.proofs.Frames.{a-host, not-empty, not-whole, pubsub-host, is-text}
 use Rattle.ps_store_cases.specs.Stores as it

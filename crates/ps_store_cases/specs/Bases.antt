@@ -6,8 +6,8 @@ use Rattle.ps_types.specs.declared.entry.Entry.{Entry}
 use Rattle.ps_types.specs.declared.entry.Entry.TheVariants.{Base, Boot, Handed}
 use Rattle.ps_types.specs.declared.entry.Notice.{Notice}
 use Rattle.ps_types.specs.declared.jid.Jid.{Jid}
-use Rattle.ps_model.specs.Core.{handed}
-use Rattle.ps_model.specs.Heard.{placeless}
+use Rattle.ps_model.specs.machine.Core.{handed}
+use Rattle.ps_model.specs.notices.Heard.{placeless}
 use Rattle.ps_model.specs.Replay.{lawful, notices, replay}
 use Rattle.ps_model_cases.specs.AccessCases.{pending, q, question}
 use Rattle.ps_model_cases.specs.Case.{Exchange, kept, list_of, own}

@@ -1,6 +1,6 @@
 // What stands for a list of entries once it is compacted. Each function is its contract.
 ghost use Rattle.std.specs.Prelude.{◌≡◌};
-ghost use Rattle.ps_model.specs.Base.{base};
+ghost use Rattle.ps_model.specs.store.Base.{base};
 ghost use Rattle.ps_model.specs.Replay.{lawful};
 ghost use Rattle.ps_store_cases.specs.Bases as cases;
 

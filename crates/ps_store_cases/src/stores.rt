@@ -1,7 +1,7 @@
 // The bytes of small stores. Each function is its contract.
 ghost use Rattle.std.specs.Prelude.{ℕ, List, [], ◌∷◌, ◌++◌};
 ghost use Rattle.ps_store_cases.specs.Stores as cases;
-ghost use Rattle.ps_model.specs.At.{IsDamagedAt, IsStore};
+ghost use Rattle.ps_model.specs.store.At.{IsDamagedAt, IsStore};
 
 /// The bytes of a store with one boot. Its eighth byte tells the version, and all versions have boots.
 pub fn one_boot_store()

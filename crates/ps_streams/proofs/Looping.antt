@@ -1,7 +1,7 @@
 -- Parts of a loop, and the last step of a writer.
 use Rattle.std.proofs.Common.{◌≡◌, ℕ, inl, inr, List, [], ◌++◌, Option, Result, Err, length, length-append, refl, ap, sym, ◌∙◌, subst, arith}
 use Rattle.ps_types.specs.declared.jid.Jid.{Jid}
-use Rattle.ps_model.specs.TheCore.{the_core}
+use Rattle.ps_model.specs.machine.TheCore.{the_core}
 use Rattle.ps_model.specs.declared.steps.Role.TheVariants.{Writer}
 use Rattle.ps_model.specs.declared.steps.Step.TheVariants.{Ended}
 use Rattle.ps_world.proofs.Lists.{assoc, nil-right}

@@ -2,12 +2,12 @@
 use Rattle.std.proofs.Common.{◌≡◌, ◌≢◌, ℕ, suc, ◌+◌, ◌<◌, ◌≤◌, inl, inr, Bool, true, false, cond, List, [], ◌∷◌, ◌++◌, length, length-append, Result, Ok, Err, refl, ap, sym, ◌∙◌, subst, arith}
 use Rattle.ps_types.specs.Same.{same_jid}
 use Rattle.ps_types.specs.declared.jid.Jid.{Jid}
-use Rattle.ps_model.specs.Machine.{happens}
+use Rattle.ps_model.specs.machine.Machine.{happens}
 use Rattle.ps_trace.specs.Did.{records_of}
-use Rattle.ps_model.specs.World.{World}
+use Rattle.ps_model.specs.machine.World.{World}
 use Rattle.ps_model.specs.declared.steps.Step.{Step}
 use Rattle.ps_model.specs.declared.steps.Step.TheVariants.{Broken, Flush, Record}
-use Rattle.ps_model.specs.TheCore.{the_core}
+use Rattle.ps_model.specs.machine.TheCore.{the_core}
 use Rattle.ps_model.proofs.TheLaws.{the-laws}
 use Rattle.ps_world.proofs.Lists.{assoc, nil-right}
 use Rattle.ps_trace.specs.declared.deed.Deed.{Deed}

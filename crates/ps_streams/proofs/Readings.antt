@@ -1,7 +1,7 @@
 -- Lines that are read one after another, and the end of a stream.
 use Rattle.std.proofs.Common.{◌≡◌, ◌≢◌, ℕ, ◌⊎◌, inl, inr, true, List, [], ◌∷◌, ◌++◌, Option, Result, Err, refl, ap, sym, ◌∙◌, subst}
 use Rattle.ps_types.specs.declared.entry.Arrival.{Arrival}
-use Rattle.ps_model.specs.TheCore.{the_core}
+use Rattle.ps_model.specs.machine.TheCore.{the_core}
 use Rattle.ps_model.specs.declared.steps.Role.TheVariants.{Reader}
 use Rattle.ps_model.specs.declared.steps.Step.TheVariants.{Ended as Ends}
 use Rattle.ps_model.proofs.TheLaws.{the-laws}

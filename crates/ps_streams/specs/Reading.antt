@@ -7,7 +7,7 @@ use Rattle.ps_io.specs.Clock.{noted}
 use Rattle.ps_wire.specs.Reading.{IsWithoutLine, held_of}
 use Rattle.ps_wire.specs.declared.lines.Lines.{Lines}
 use Rattle.ps_wire.specs.declared.streams.Source.{Ghosts as SourceGhosts}
-use Rattle.ps_model.specs.TheCore.{the_core}
+use Rattle.ps_model.specs.machine.TheCore.{the_core}
 use Rattle.ps_model.specs.declared.steps.Step.{Step}
 use Rattle.ps_model.specs.declared.steps.Step.TheVariants.{Arrive, Flush, Take, Emit, Record, Gone, Ended as Ends, Broken, Crash}
 use Rattle.ps_twin.specs.declared.twin.TwinSeat.{TwinSeat}

@@ -4,9 +4,9 @@ use Rattle.std.specs.Io.KnownBytes.{Appends}
 use Rattle.ps_types.specs.declared.entry.Entry.TheVariants.{Handed}
 use Rattle.ps_types.specs.Same.{same_jid}
 use Rattle.ps_types.specs.declared.jid.Jid.{Jid}
-use Rattle.ps_model.specs.Machine.{start}
-use Rattle.ps_model.specs.TheCore.{the_core}
-use Rattle.ps_model.specs.World.{Nothing, Unrecorded, World}
+use Rattle.ps_model.specs.machine.Machine.{start}
+use Rattle.ps_model.specs.machine.TheCore.{the_core}
+use Rattle.ps_model.specs.machine.World.{Nothing, Unrecorded, World}
 use Rattle.ps_model.specs.declared.steps.Role.TheVariants.{Reader, Writer}
 use Rattle.ps_model.specs.declared.steps.Step.{Step}
 use Rattle.ps_model.specs.declared.steps.Step.TheVariants.{Arrive, Flush, Take, Emit, Record, Gone, Ended, Broken, Crash}

@@ -4,7 +4,7 @@ ghost use Rattle.ps_base.specs.Causes.{Rose};
 ghost use Rattle.ps_wire.specs.AtEnd.{nothing_of};
 ghost use Rattle.ps_wire.specs.Reading.{Gave, IsWithoutLine, given_of, rest_of, source_of, stopped_of};
 ghost use Rattle.ps_types.specs.declared.entry.Entry.{Entry};
-ghost use Rattle.ps_model.specs.Entries.{IsMoment};
+ghost use Rattle.ps_model.specs.store.Entries.{IsMoment};
 ghost use Rattle.ps_hall_state.specs.Shape.{IsArrival};
 ghost use Rattle.ps_twin.specs.Seats.{number_of, seen_of};
 ghost use Rattle.ps_hall_flush.specs.Flush.{SeatFlushes};

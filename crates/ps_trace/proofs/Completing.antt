@@ -11,10 +11,10 @@ use Rattle.ps_types.specs.declared.entry.Entry.TheVariants.{Boot}
 use Rattle.ps_model.specs.declared.steps.Step.{Step}
 use Rattle.ps_model.specs.declared.steps.Step.TheVariants.{Ended}
 use Rattle.ps_model.specs.declared.steps.Role.TheVariants.{Reader}
-use Rattle.ps_model.specs.Core.{Core, handed}
-use Rattle.ps_model.specs.CoreLaws.{Laws, IsLawful}
-use Rattle.ps_model.specs.World.{Said, Flight, World, ends, durable}
-use Rattle.ps_model.specs.Machine.{happens, run, start, world}
+use Rattle.ps_model.specs.machine.Core.{Core, handed}
+use Rattle.ps_model.specs.machine.CoreLaws.{Laws, IsLawful}
+use Rattle.ps_model.specs.machine.World.{Said, Flight, World, ends, durable}
+use Rattle.ps_model.specs.machine.Machine.{happens, run, start, world}
 use Rattle.ps_world.specs.Sound.{Sound, behind}
 use Rattle.ps_world.proofs.Lists.{take-front, take-whole, assoc, nil-right, ends-all}
 use Rattle.ps_world.proofs.Grows.{handed-append, handed-few}

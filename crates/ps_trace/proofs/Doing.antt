@@ -7,10 +7,10 @@ use Rattle.ps_types.specs.declared.entry.Entry.{Entry}
 use Rattle.ps_types.specs.Same.{same_jid}
 use Rattle.ps_types.proofs.Same.{same_jid-Decides}
 use Rattle.ps_model.specs.declared.steps.Step.{Step}
-use Rattle.ps_model.specs.Core.{Core}
-use Rattle.ps_model.specs.CoreLaws.{Laws}
-use Rattle.ps_model.specs.World.{Nothing, Unrecorded, World}
-use Rattle.ps_model.specs.Machine.{happens, run, start, world}
+use Rattle.ps_model.specs.machine.Core.{Core}
+use Rattle.ps_model.specs.machine.CoreLaws.{Laws}
+use Rattle.ps_model.specs.machine.World.{Nothing, Unrecorded, World}
+use Rattle.ps_model.specs.machine.Machine.{happens, run, start, world}
 use Rattle.ps_world.proofs.Lists.{nil-right}
 use Rattle.ps_world.proofs.Read.{run-append}
 use Rattle.ps_trace.specs.declared.deed.Deed.{Deed}

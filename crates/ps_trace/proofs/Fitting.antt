@@ -7,9 +7,9 @@ use Rattle.ps_types.specs.declared.entry.Notice.{Notice}
 use Rattle.ps_types.specs.declared.entry.Entry.{Entry}
 use Rattle.ps_model.specs.declared.steps.Step.{Step}
 use Rattle.ps_model.specs.declared.steps.Step.TheVariants.{Arrive, Flush, Take, Emit, Record, Gone, Ended, Broken, Crash}
-use Rattle.ps_model.specs.Core.{Core, handed}
-use Rattle.ps_model.specs.World.{Said, Flight, Nothing, Unrecorded, Recorded, World, durable, at_host, at_address}
-use Rattle.ps_model.specs.Machine.{flushes, took, emits, records, counted, happens, run, start, world}
+use Rattle.ps_model.specs.machine.Core.{Core, handed}
+use Rattle.ps_model.specs.machine.World.{Said, Flight, Nothing, Unrecorded, Recorded, World, durable, at_host, at_address}
+use Rattle.ps_model.specs.machine.Machine.{flushes, took, emits, records, counted, happens, run, start, world}
 use Rattle.ps_world.proofs.Read.{steps_one}
 use Rattle.ps_world.specs.Calm.{IsCalm, AreCalm}
 use Rattle.ps_world.proofs.Kept.{chosen}

@@ -10,9 +10,9 @@ use Rattle.ps_types.specs.Same.{same_jid}
 use Rattle.ps_types.proofs.Same.{same_jid-Decides}
 use Rattle.ps_model.specs.declared.steps.Step.{Step}
 use Rattle.ps_model.specs.declared.steps.Step.TheVariants.{Arrive, Flush, Take, Emit, Record, Gone, Ended, Broken, Crash}
-use Rattle.ps_model.specs.Core.{Core, handed}
-use Rattle.ps_model.specs.World.{Said, Flight, Nothing, Unrecorded, Recorded, AddressPart, World, durable, at_host, at_address}
-use Rattle.ps_model.specs.Machine.{landed, flushes, took, emits, records, counted, happens, run}
+use Rattle.ps_model.specs.machine.Core.{Core, handed}
+use Rattle.ps_model.specs.machine.World.{Said, Flight, Nothing, Unrecorded, Recorded, AddressPart, World, durable, at_host, at_address}
+use Rattle.ps_model.specs.machine.Machine.{landed, flushes, took, emits, records, counted, happens, run}
 use Rattle.ps_trace.specs.declared.deed.Deed.{Deed}
 use Rattle.ps_trace.specs.Own.{steps_in, IsWriterOf, AllDiffer, MayMake, AreOwned, NoneOf}
 use Rattle.ps_trace.specs.Words.{Note, noted_word}

@@ -6,7 +6,7 @@ use Rattle.ps_types.specs.declared.entry.Entry.TheVariants.{Handed}
 use Rattle.ps_types.specs.declared.entry.Notice.{Notice}
 use Rattle.ps_model.specs.Book.{empty_state}
 use Rattle.ps_model.specs.Replay.{notices, of_bare}
-use Rattle.ps_model.specs.TheCore.{the_core}
+use Rattle.ps_model.specs.machine.TheCore.{the_core}
 use Rattle.ps_model.proofs.Going.{notices-append}
 use Rattle.ps_trace.specs.Over.{HandsNone}
 

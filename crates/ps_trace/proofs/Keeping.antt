@@ -6,10 +6,10 @@ use Rattle.ps_types.specs.declared.entry.Entry.{Entry}
 use Rattle.ps_model.specs.declared.steps.Step.{Step}
 use Rattle.ps_model.specs.declared.steps.Step.TheVariants.{Flush, Ended}
 use Rattle.ps_model.specs.declared.steps.Role.TheVariants.{Reader}
-use Rattle.ps_model.specs.Core.{Core}
-use Rattle.ps_model.specs.CoreLaws.{Laws}
-use Rattle.ps_model.specs.World.{World}
-use Rattle.ps_model.specs.Machine.{flushes, counted, happens, run, start}
+use Rattle.ps_model.specs.machine.Core.{Core}
+use Rattle.ps_model.specs.machine.CoreLaws.{Laws}
+use Rattle.ps_model.specs.machine.World.{World}
+use Rattle.ps_model.specs.machine.Machine.{flushes, counted, happens, run, start}
 use Rattle.ps_world.proofs.Lists.{assoc, nil-right}
 use Rattle.ps_world.proofs.Read.{steps_one}
 use Rattle.ps_trace.specs.declared.deed.Deed.{Deed}

@@ -10,9 +10,9 @@ use Rattle.ps_types.specs.Same.{same_jid}
 use Rattle.ps_types.proofs.Same.{same_jid-Decides}
 use Rattle.ps_model.specs.declared.steps.Step.{Step}
 use Rattle.ps_model.specs.declared.steps.Step.TheVariants.{Arrive, Flush, Take, Emit, Record, Gone, Ended, Broken, Crash}
-use Rattle.ps_model.specs.Core.{Core}
-use Rattle.ps_model.specs.World.{World}
-use Rattle.ps_model.specs.Machine.{happens, run}
+use Rattle.ps_model.specs.machine.Core.{Core}
+use Rattle.ps_model.specs.machine.World.{World}
+use Rattle.ps_model.specs.machine.Machine.{happens, run}
 use Rattle.ps_world.proofs.Lists.{assoc}
 use Rattle.ps_trace.specs.declared.deed.Deed.{Deed}
 use Rattle.ps_world.specs.Calm.{IsCalm, AreCalm}

@@ -11,10 +11,10 @@ use Rattle.ps_model.specs.declared.steps.Step.{Step}
 use Rattle.ps_model.specs.declared.steps.Step.TheVariants.{Arrive, Flush, Take, Emit, Record, Gone, Ended, Broken, Crash}
 use Rattle.ps_model.specs.declared.steps.Role.{Role}
 use Rattle.ps_model.specs.declared.steps.Role.TheVariants.{Reader, Writer}
-use Rattle.ps_model.specs.Core.{Core, handed}
-use Rattle.ps_model.specs.CoreLaws.{Laws}
-use Rattle.ps_model.specs.World.{Said, Flight, Nothing, Unrecorded, Recorded, HostPart, World, ends, durable, with_entry, zeros, at_host, at_address}
-use Rattle.ps_model.specs.Machine.{answered, flushes, took, emits, records, ends_role, counted, happens, start}
+use Rattle.ps_model.specs.machine.Core.{Core, handed}
+use Rattle.ps_model.specs.machine.CoreLaws.{Laws}
+use Rattle.ps_model.specs.machine.World.{Said, Flight, Nothing, Unrecorded, Recorded, HostPart, World, ends, durable, with_entry, zeros, at_host, at_address}
+use Rattle.ps_model.specs.machine.Machine.{answered, flushes, took, emits, records, ends_role, counted, happens, start}
 use Rattle.ps_world.specs.Sound.{Sound, AllBy}
 use Rattle.ps_world.proofs.Lists.{get-snoc, front-more, length-front}
 use Rattle.ps_world.specs.Calm.{IsCalm}

@@ -7,10 +7,10 @@ use Rattle.ps_types.specs.declared.entry.Entry.{Entry}
 use Rattle.ps_types.specs.declared.entry.Entry.TheVariants.{Boot}
 use Rattle.ps_model.specs.declared.steps.Step.{Step}
 use Rattle.ps_model.specs.declared.steps.Step.TheVariants.{Arrive, Flush, Take, Emit, Record, Gone, Ended, Broken, Crash}
-use Rattle.ps_model.specs.Core.{Core, handed}
-use Rattle.ps_model.specs.CoreLaws.{Laws, IsLawful}
-use Rattle.ps_model.specs.World.{World}
-use Rattle.ps_model.specs.Machine.{happens, start, world}
+use Rattle.ps_model.specs.machine.Core.{Core, handed}
+use Rattle.ps_model.specs.machine.CoreLaws.{Laws, IsLawful}
+use Rattle.ps_model.specs.machine.World.{World}
+use Rattle.ps_model.specs.machine.Machine.{happens, start, world}
 use Rattle.ps_world.proofs.Grows.{handed-append}
 use Rattle.ps_trace.specs.declared.deed.Deed.{Deed}
 use Rattle.ps_trace.specs.Lines.{came_if, came}

@@ -6,9 +6,9 @@ use Rattle.ps_types.specs.declared.jid.Jid.{Jid}
 use Rattle.ps_types.specs.declared.entry.Entry.{Entry}
 use Rattle.ps_model.specs.declared.steps.Step.{Step}
 use Rattle.ps_model.specs.declared.steps.Step.TheVariants.{Record}
-use Rattle.ps_model.specs.Core.{Core}
-use Rattle.ps_model.specs.World.{Nothing, Unrecorded, World}
-use Rattle.ps_model.specs.Machine.{world}
+use Rattle.ps_model.specs.machine.Core.{Core}
+use Rattle.ps_model.specs.machine.World.{Nothing, Unrecorded, World}
+use Rattle.ps_model.specs.machine.Machine.{world}
 use Rattle.ps_trace.specs.declared.deed.Deed.{Deed}
 use Rattle.ps_trace.specs.Own.{steps_in, deeds, AreOwned, NoneOf, LaidWithin}
 

@@ -5,10 +5,10 @@ use Rattle.ps_types.specs.declared.entry.Entry.{Entry}
 use Rattle.ps_types.specs.declared.entry.Entry.TheVariants.{Boot}
 use Rattle.ps_model.specs.declared.steps.Step.{Step}
 use Rattle.ps_model.specs.declared.steps.Step.TheVariants.{Flush}
-use Rattle.ps_model.specs.Core.{Core, handed}
-use Rattle.ps_model.specs.CoreLaws.{IsLawful}
-use Rattle.ps_model.specs.Machine.{start, world}
-use Rattle.ps_model.specs.World.{World}
+use Rattle.ps_model.specs.machine.Core.{Core, handed}
+use Rattle.ps_model.specs.machine.CoreLaws.{IsLawful}
+use Rattle.ps_model.specs.machine.Machine.{start, world}
+use Rattle.ps_model.specs.machine.World.{World}
 use Rattle.ps_world.specs.Calm.{AreCalm}
 use Rattle.ps_trace.specs.declared.deed.Deed.{Deed}
 use Rattle.ps_trace.specs.Lines.{Came, came, HasLines}

@@ -5,9 +5,9 @@ use Rattle.ps_types.specs.declared.entry.Entry.{Entry}
 use Rattle.ps_types.specs.declared.entry.Entry.TheVariants.{Boot, Change, Handed, Gone as GoneEntry, Base}
 use Rattle.ps_model.specs.declared.steps.Step.{Step}
 use Rattle.ps_model.specs.declared.steps.Step.TheVariants.{Arrive, Flush, Take, Emit, Record, Gone, Ended, Broken, Crash}
-use Rattle.ps_model.specs.Core.{Core}
-use Rattle.ps_model.specs.World.{Said, World}
-use Rattle.ps_model.specs.Machine.{happens}
+use Rattle.ps_model.specs.machine.Core.{Core}
+use Rattle.ps_model.specs.machine.World.{Said, World}
+use Rattle.ps_model.specs.machine.Machine.{happens}
 
 -- a line that came: its place, and the reply and the entry that it got, if any
 pub record Came : Type 0 where

@@ -6,9 +6,9 @@ use Rattle.ps_types.specs.declared.entry.Entry.{Entry}
 use Rattle.ps_types.specs.declared.entry.Entry.TheVariants.{Handed}
 use Rattle.ps_model.specs.declared.steps.Step.TheVariants.{Ended}
 use Rattle.ps_model.specs.declared.steps.Role.TheVariants.{Reader, Writer}
-use Rattle.ps_model.specs.Core.{Core, handed}
-use Rattle.ps_model.specs.World.{Said, Nothing, World, durable}
-use Rattle.ps_model.specs.Machine.{world}
+use Rattle.ps_model.specs.machine.Core.{Core, handed}
+use Rattle.ps_model.specs.machine.World.{Said, Nothing, World, durable}
+use Rattle.ps_model.specs.machine.Machine.{world}
 use Rattle.ps_trace.specs.declared.deed.Deed.{Deed}
 use Rattle.ps_trace.specs.Own.{steps_in, deeds, own_steps, LaidWithin, HasNoEnd, NoneOf}
 use Rattle.ps_trace.specs.Lines.{Came, replies_of}

@@ -5,9 +5,9 @@ use Rattle.ps_types.specs.declared.entry.Notice.{Notice}
 use Rattle.ps_types.specs.Same.{same_jid}
 use Rattle.ps_model.specs.declared.steps.Step.{Step}
 use Rattle.ps_model.specs.declared.steps.Step.TheVariants.{Arrive, Flush, Take, Emit, Record, Gone, Ended, Broken, Crash}
-use Rattle.ps_model.specs.Core.{Core, handed}
-use Rattle.ps_model.specs.World.{Said, Flight, Nothing, Unrecorded, Recorded, World, durable}
-use Rattle.ps_model.specs.Machine.{happens}
+use Rattle.ps_model.specs.machine.Core.{Core, handed}
+use Rattle.ps_model.specs.machine.World.{Said, Flight, Nothing, Unrecorded, Recorded, World, durable}
+use Rattle.ps_model.specs.machine.Machine.{happens}
 
 -- one line of a sink
 pub data Word : Type 0 where

@@ -3,9 +3,9 @@ ghost use Rattle.ps_trace.specs.Laws.{EachFlushKeeps, EachOtherRests, EachRecord
 ghost use Rattle.ps_trace.specs.Laws.{SaidIsComplete, SaidIsFront};
 ghost use Rattle.ps_trace.specs.Laws.{ReadersBringLines, WritersRecord, WritersSayWords};
 ghost use Rattle.ps_trace.specs.Over.{HandsNone};
-ghost use Rattle.ps_model.specs.Core.{Core};
-ghost use Rattle.ps_model.specs.CoreLaws.{Laws};
-ghost use Rattle.ps_model.specs.TheCore.{the_core};
+ghost use Rattle.ps_model.specs.machine.Core.{Core};
+ghost use Rattle.ps_model.specs.machine.CoreLaws.{Laws};
+ghost use Rattle.ps_model.specs.machine.TheCore.{the_core};
 
 /// After every list of steps without a crash each host's lines stand in the list in order, each answered at its place; and the machine's rows keep what was said.
 pub fn each_run_has_lines()

@@ -12,7 +12,8 @@ module _ {I : Type 0} (maker : I → ℕ) where
 
   pub own_all : (k : ℕ) (xs : List I) → AllBy maker k xs → own maker k xs ≡ xs
   own_all k [] h = refl
-  own_all k (x ∷ xs) h = ap (λ (b : Bool). cond b (x ∷ own maker k xs) (own maker k xs)) (eq-eqb (maker x) k (h 0 x (omega arith))) ∙ ap (λ l. x ∷ l) (own_all k xs (λ i d lt. h (suc i) d (omega arith)))
+  own_all k (x ∷ xs) h = ap (λ (b : Bool). cond b (x ∷ own maker k xs) (own maker k xs)) (eq-eqb (maker x) k (h 0 x (omega arith))) ∙ ap (λ l. x ∷ l)
+      (own_all k xs (λ i d lt. h (suc i) d (omega arith)))
 
   -- others added nothing of the seat's
   pub own_later : (k : ℕ) (xs ys : List I) → Later maker k xs ys → own maker k ys ≡ own maker k xs

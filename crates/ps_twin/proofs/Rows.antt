@@ -33,18 +33,21 @@ module _ {V J I : Type 0} where
       × ((i : ℕ) (s : TwinSeat V J I) → slice_get others i ≡ Some s → IsAs t (newcome (i + 1)) s)
 
   -- one more
-  pub row_more : (t : Twin V J I) (k : ℕ) (items : List (TwinSeat V J I)) (x s : TwinSeat V J I) → Row t k items → IsAs t (crafted (k + 1)) x → IsAs t (newcome k) s → Row t (k + 1) (set items 0 x ++ s ∷ [])
+  pub row_more : (t : Twin V J I) (k : ℕ) (items : List (TwinSeat V J I)) (x s : TwinSeat V J I) → Row t k items → IsAs t (crafted (k + 1)) x → IsAs t (newcome k) s
+      → Row t (k + 1) (set items 0 x ++ s ∷ [])
   row_more t k items x s r new more = (
     x,
     r.1 ++ s ∷ [],
     ap (λ (l : List (TwinSeat V J I)). set l 0 x ++ s ∷ []) r.2,
     new,
     (let e : length r.1 + 1 ≡ k = r.4 in omega (arith, length-append r.1 (s ∷ []))),
-    λ i u e. ⊎_elim (λ old. r.5 i u old) (λ (h : (i ≡ length r.1) × (s ≡ u)). subst (λ (y : ℕ × TwinSeat V J I). IsAs t (newcome y.0) y.1) (λ j. ((let q : k ≡ i + 1 = (let e' : length r.1 + 1 ≡ k = r.4 in let z : i ≡ length r.1 = h.0 in omega arith) in q) j, h.1 j)) more) (get_snoc r.1 s i u e),
+    λ i u e. ⊎_elim (λ old. r.5 i u old) (λ (h : (i ≡ length r.1) × (s ≡ u)). subst (λ (y : ℕ × TwinSeat V J I). IsAs t (newcome y.0) y.1)
+        (λ j. ((let q : k ≡ i + 1 = (let e' : length r.1 + 1 ≡ k = r.4 in let z : i ≡ length r.1 = h.0 in omega arith) in q) j, h.1 j)) more) (get_snoc r.1 s i u e),
   )
 
   -- a seat that is new is one of the turn, and free
-  is_new : (t : Twin V J I) (k : ℕ) (v : TwinView I) (s : TwinSeat V J I) → IsAs t v s → v.base.live ≡ true → v.base.place.stage ≡ Idle → v.journal.stage ≡ Idle → v.base.number ≡ k → v.base.seen ≡ [] → IsNew t k s
+  is_new : (t : Twin V J I) (k : ℕ) (v : TwinView I) (s : TwinSeat V J I) → IsAs t v s → v.base.live ≡ true → v.base.place.stage ≡ Idle → v.journal.stage ≡ Idle → v.base.number ≡ k → v.base.seen ≡ []
+      → IsNew t k s
   is_new t k v s n live idle jidle number seen =
       let m = n.1 in
       record {
@@ -85,7 +88,8 @@ module _ {V J I : Type 0} where
   keep_more : (v w : View I) (s : TwinSeat V J I) → InKeep v s → InKeep (keeping v w) s
   keep_more v w s h = ⊎_elim (λ a. inl a) (λ (b : (i : ℕ) × (get_elem? v.kept i ≡ some (ended s.seat.me.0.base))). inr (b.0, at_longer v.kept (ended w ∷ []) b.0 (ended s.seat.me.0.base) b.1)) h
 
-  kept_at : (v : View I) (x s : TwinSeat V J I) (rest : List (TwinSeat V J I)) → ((k : ℕ) (u : TwinSeat V J I) → slice_get rest k ≡ Some u → InKeep v u) → InKeep v x → (k : ℕ) (u : TwinSeat V J I) → slice_get (x ∷ rest) k ≡ Some u → InKeep v u
+  kept_at : (v : View I) (x s : TwinSeat V J I) (rest : List (TwinSeat V J I)) → ((k : ℕ) (u : TwinSeat V J I) → slice_get rest k ≡ Some u → InKeep v u) → InKeep v x → (k : ℕ) (u : TwinSeat V J I)
+      → slice_get (x ∷ rest) k ≡ Some u → InKeep v u
   kept_at v x s rest each here zero u e = let same : x ≡ u = cc e in subst (InKeep v) same here
   kept_at v x s rest each here (suc k) u e = each k u e
 
@@ -103,7 +107,8 @@ module _ {V J I : Type 0} where
   pub taken_all : (v : View I) (all : List (TwinSeat V J I)) → Taken v [] all → (k : ℕ) (s : TwinSeat V J I) → slice_get all k ≡ Some s → InKeep v s
   taken_all v all t k s e = t.2 k s (ap (λ l. slice_get l k) (sym t.1) ∙ e)
 
-  pub keeps_all : (t : Twin V J I) (v : View I) (all : List (TwinSeat V J I)) → AreAll t all → Taken v [] all → (n : ℕ) → n < seats_of t → (v.number ≡ n) ⊎ ((i : ℕ) × (e : Ended I) × (get_elem? v.kept i ≡ some e) × (e.number ≡ n))
+  pub keeps_all : (t : Twin V J I) (v : View I) (all : List (TwinSeat V J I)) → AreAll t all → Taken v [] all → (n : ℕ) → n < seats_of t
+      → (v.number ≡ n) ⊎ ((i : ℕ) × (e : Ended I) × (get_elem? v.kept i ≡ some e) × (e.number ≡ n))
   keeps_all t v all h k n low =
       let x = h.all n low in
       ⊎_elim
@@ -111,7 +116,8 @@ module _ {V J I : Type 0} where
       (λ (b : (i : ℕ) × (get_elem? v.kept i ≡ some (ended x.1.seat.me.0.base))). inr (b.0, ended x.1.seat.me.0.base, b.1, x.3))
       (taken_all v all k x.0 x.1 x.2)
 
-  pub gathers : (stands : V → List I → Type 0) (firm : V → ℕ) (mark : V → ℕ × ℕ) (jstands : J → List I → Type 0) (jfirm : J → ℕ) (jmark : J → ℕ × ℕ) (maker : I → ℕ) (v : TwinView I) (all : List (TwinSeat V J I)) (x : V) (y : J) → Taken v.base [] all → TCloses stands firm mark jstands jfirm jmark maker v x y → Gathers stands firm mark jstands jfirm jmark maker x y all
+  pub gathers : (stands : V → List I → Type 0) (firm : V → ℕ) (mark : V → ℕ × ℕ) (jstands : J → List I → Type 0) (jfirm : J → ℕ) (jmark : J → ℕ × ℕ) (maker : I → ℕ) (v : TwinView I)
+      (all : List (TwinSeat V J I)) (x : V) (y : J) → Taken v.base [] all → TCloses stands firm mark jstands jfirm jmark maker v x y → Gathers stands firm mark jstands jfirm jmark maker x y all
   gathers stands firm mark jstands jfirm jmark maker v all x y k h = record {
     log = h.0;
     list = h.1;
@@ -155,7 +161,8 @@ element (x ∷ xs) n low = (get_or (x ∷ xs) n x, slice_get-get_or (x ∷ xs) n
 
 module _ {V J I : Type 0} where
   -- as many seats as the twin has, each free and at the place of its number
-  pub all_back : (t : Twin V J I) (seats : List (TwinSeat V J I)) → length seats ≡ seats_of t → ((k : ℕ) (s : TwinSeat V J I) → slice_get seats k ≡ Some s → IsSeatOf t s × IsFree s × (number_of s ≡ k)) → AreAll t seats
+  pub all_back : (t : Twin V J I) (seats : List (TwinSeat V J I)) → length seats ≡ seats_of t
+      → ((k : ℕ) (s : TwinSeat V J I) → slice_get seats k ≡ Some s → IsSeatOf t s × IsFree s × (number_of s ≡ k)) → AreAll t seats
   all_back t seats len each = record {
     each = λ k s e. (let h = each k s e in (h.0, h.1));
     all = λ n low. (let x = element seats n (omega (arith, len)) in (n, x.0, x.1, (each n x.0 x.1).2));

@@ -1,5 +1,37 @@
 -- Each step of the twin keeps its rule.
-use Rattle.std.proofs.Common.{◌≡◌, ◌≢◌, ◌⊎◌, ℕ, ◌+◌, ◌%◌, ◌^◌, ◌<◌, ◌≤◌, max, List, [], ◌∷◌, ◌++◌, map, length, set, true, false, refl, sym, ap, ◌∙◌, subst, inl, inr, ⊎_elim, arith, append_assoc, length-set, lit<}
+use Rattle.std.proofs.Common.{
+  ◌≡◌,
+  ◌≢◌,
+  ◌⊎◌,
+  ℕ,
+  ◌+◌,
+  ◌%◌,
+  ◌^◌,
+  ◌<◌,
+  ◌≤◌,
+  max,
+  List,
+  [],
+  ◌∷◌,
+  ◌++◌,
+  map,
+  length,
+  set,
+  true,
+  false,
+  refl,
+  sym,
+  ap,
+  ◌∙◌,
+  subst,
+  inl,
+  inr,
+  ⊎_elim,
+  arith,
+  append_assoc,
+  length-set,
+  lit<,
+}
 use Rattle.std.specs.Prelude.{slice_index}
 use Rattle.std.proofs.lemmas.List.{append-nil, length-map}
 use mathlib.Core.Option as maybe
@@ -27,7 +59,36 @@ use Rattle.ps_turn.proofs.Steps.{word_set, word_else, word_same, reworded}
 use Rattle.ps_twin.specs.declared.view.TwinView.{TwinView}
 use Rattle.ps_twin.specs.declared.part.Part.{Part}
 use Rattle.ps_twin.specs.Parts.{state_part, journal_part}
-use Rattle.ps_twin.specs.Twins.{tmaking, tmade_by, tkeeping, tgone, tfounder, base_of, journal_of, Prefix, based, jplaced, jholding, jidling, raised, sholding, sidling, StateHome, JournalHome, Knows, Twinned, Draws, Looks, Raises, Counts, Passes, JDraws, JLooks, JRaises, JPasses}
+use Rattle.ps_twin.specs.Twins.{
+  tmaking,
+  tmade_by,
+  tkeeping,
+  tgone,
+  tfounder,
+  base_of,
+  journal_of,
+  Prefix,
+  based,
+  jplaced,
+  jholding,
+  jidling,
+  raised,
+  sholding,
+  sidling,
+  StateHome,
+  JournalHome,
+  Knows,
+  Twinned,
+  Draws,
+  Looks,
+  Raises,
+  Counts,
+  Passes,
+  JDraws,
+  JLooks,
+  JRaises,
+  JPasses,
+}
 
 prefix_self : {I : Type 0} (xs : List I) → Prefix xs xs
 prefix_self xs = ([], sym (append-nil xs))
@@ -36,11 +97,13 @@ prefix_more : {I : Type 0} (xs ys added : List I) → Prefix xs ys → Prefix xs
 prefix_more xs ys added p = (p.0 ++ added, ap (λ l. l ++ added) p.1 ∙ append_assoc xs p.0 added)
 
 -- a line at the same words
-rejoined : {S W : Type 0} (place : W → Place) (Home : S → Type 0) (a a' b b' : ℕ) (slot slot' : maybe.Option (maybe.Option S)) (views : List W) → a' ≡ a → b' ≡ b → slot' ≡ slot → Line place Home a b slot views → Line place Home a' b' slot' views
+rejoined : {S W : Type 0} (place : W → Place) (Home : S → Type 0) (a a' b b' : ℕ) (slot slot' : maybe.Option (maybe.Option S)) (views : List W) → a' ≡ a → b' ≡ b → slot' ≡ slot
+    → Line place Home a b slot views → Line place Home a' b' slot' views
 rejoined {S} place Home a a' b b' slot slot' views ea eb es l = subst (λ (x : ℕ × ℕ × maybe.Option (maybe.Option S)). Line place Home x.0 x.1 x.2 views) (λ i. (sym ea i, sym eb i, sym es i)) l
 
 -- what is asked of the value at home may change, as far as it still holds of it
-line_weakens : {S W : Type 0} (place : W → Place) (Home Home' : S → Type 0) (a b : ℕ) (slot : maybe.Option (maybe.Option S)) (views : List W) → ((x : S) → Home x → Home' x) → Line place Home a b slot views → Line place Home' a b slot views
+line_weakens : {S W : Type 0} (place : W → Place) (Home Home' : S → Type 0) (a b : ℕ) (slot : maybe.Option (maybe.Option S)) (views : List W) → ((x : S) → Home x → Home' x)
+    → Line place Home a b slot views → Line place Home' a b slot views
 line_weakens place Home Home' a b slot views turns l = record {
   drawn = l.drawn;
   served = l.served;
@@ -89,7 +152,8 @@ module _ {V J I : Type 0} (stands : V → List I → Type 0) (firm : V → ℕ) 
 
     -- a step of this seat: the word i has the number n
     steps : (i n : ℕ) → i < 8 → (w : TwinView I) (log : List I) (both : ℕ × ℕ) (homes : List (maybe.Option S)) (a b c d e f : ℕ) (one two : maybe.Option (maybe.Option S))
-        → slice_index (set s.words i n) 0 ≡ a → slice_index (set s.words i n) 1 ≡ b → slice_index (set s.words i n) 2 ≡ c → slice_index (set s.words i n) 3 ≡ d → slice_index (set s.words i n) 4 ≡ e → slice_index (set s.words i n) 5 ≡ f
+        → slice_index (set s.words i n) 0 ≡ a → slice_index (set s.words i n) 1 ≡ b → slice_index (set s.words i n) 2 ≡ c → slice_index (set s.words i n) 3 ≡ d → slice_index (set s.words i n) 4 ≡ e
+        → slice_index (set s.words i n) 5 ≡ f
         → length homes ≡ 2 → get_elem? homes 0 ≡ one → get_elem? homes 1 ≡ two
         → Core (SH f both) maker seats log a b c one (set (map base_of s.views) id w.base)
         → Line journal_of (JH f both log) d e two (set s.views id w)
@@ -97,7 +161,8 @@ module _ {V J I : Type 0} (stands : V → List I → Type 0) (firm : V → ℕ) 
         → K f both log w
         → T seats record { words = set s.words i n; homes = homes; views = set s.views id w }
     steps i n small w log both homes a b c d e f one two ea eb ec ed ee ef len e1 e2 core line others me =
-        let P : ℕ → Type 0 = λ (x : ℕ). Core (SH x both) maker seats log (slice_index (set s.words i n) 0) (slice_index (set s.words i n) 1) (slice_index (set s.words i n) 2) (get_elem? homes 0) (map base_of (set s.views id w)) in
+        let P : ℕ → Type 0 = λ (x : ℕ). Core (SH x both) maker seats log (slice_index (set s.words i n) 0) (slice_index (set s.words i n) 1) (slice_index (set s.words i n) 2) (get_elem? homes 0)
+        (map base_of (set s.views id w)) in
         let Q : ℕ → Type 0 = λ (x : ℕ). Line journal_of (JH x both log) (slice_index (set s.words i n) 3) (slice_index (set s.words i n) 4) (get_elem? homes 1) (set s.views id w) in
         let R : ℕ → Type 0 = λ (x : ℕ). (j : ℕ) (u : TwinView I) → get_elem? (set s.views id w) j ≡ some u → K x both log u in
         record {
@@ -105,7 +170,8 @@ module _ {V J I : Type 0} (stands : V → List I → Type 0) (firm : V → ℕ) 
           both = both;
           words = length-set s.words i n ∙ r.words;
           slots = len;
-          core = subst P (sym ef) (subst (λ (vs : List (View I)). Core (SH f both) maker seats log (slice_index (set s.words i n) 0) (slice_index (set s.words i n) 1) (slice_index (set s.words i n) 2) (get_elem? homes 0) vs) (sym (map-set base_of s.views id w))
+          core = subst P (sym ef) (subst (λ (vs : List (View I)). Core (SH f both) maker seats log (slice_index (set s.words i n) 0) (slice_index (set s.words i n) 1)
+              (slice_index (set s.words i n) 2) (get_elem? homes 0) vs) (sym (map-set base_of s.views id w))
               (reworded (SH f both) maker seats log a _ b _ c _ one _ (set (map base_of s.views) id w.base) ea eb ec e1 core));
           line = subst Q (sym ef) (rejoined journal_of (JH f both log) d _ e _ two _ (set s.views id w) ed ee e2 line);
           each = subst R (sym ef) (each_set s.views id w (λ j u. K f both log u) others me);
@@ -120,14 +186,17 @@ module _ {V J I : Type 0} (stands : V → List I → Type 0) (firm : V → ℕ) 
         → T seats record { words = set s.words i (word i); homes = s.homes; views = set s.views id w }
     loads i small w core line me =
         let l : i < length s.words = low i small in
-        steps i (word i) small w r.log r.both s.homes _ _ _ _ _ _ _ _ (word_same s.words i 0 l) (word_same s.words i 1 l) (word_same s.words i 2 l) (word_same s.words i 3 l) (word_same s.words i 4 l) (word_same s.words i 5 l) r.slots refl refl core line still_known me
+        steps i (word i) small w r.log r.both s.homes _ _ _ _ _ _ _ _ (word_same s.words i 0 l) (word_same s.words i 1 l) (word_same s.words i 2 l) (word_same s.words i 3 l) (word_same s.words i 4 l)
+        (word_same s.words i 5 l) r.slots refl refl core line still_known me
 
     still : (i : ℕ) → i < 8 → T seats record { words = set s.words i (word i); homes = s.homes; views = set s.views id v }
-    still i small = loads i small v (core_stays maker (SH (word 5) r.both) seats r.log _ _ _ _ (map base_of s.views) r.core id v.base base_at live) (stays journal_of _ _ _ _ _ r.line id v v at refl) mine
+    still i small = loads i small v (core_stays maker (SH (word 5) r.both) seats r.log _ _ _ _ (map base_of s.views) r.core id v.base base_at live) (stays journal_of _ _ _ _ _ r.line id v v at refl)
+        mine
 
   -- the journal's line
 
-  pub jdraws_ok : (seats slots id : ℕ) (me : Me S (TwinView I)) → me.0.base.live ≡ true → me.0.journal.stage ≡ Idle → Allows (T seats) slots id me 3 (λ n. (n + 1) % 2 ^ 64) (JDraws stands firm mark jstands jfirm jmark maker me)
+  pub jdraws_ok : (seats slots id : ℕ) (me : Me S (TwinView I)) → me.0.base.live ≡ true → me.0.journal.stage ≡ Idle
+      → Allows (T seats) slots id me 3 (λ n. (n + 1) % 2 ^ 64) (JDraws stands firm mark jstands jfirm jmark maker me)
   jdraws_ok seats slots id me live idle s r wide at bound =
       let n : ℕ = (slice_index s.words 3 + 1) % 2 ^ 64 in
       let t = r.line.drawn in
@@ -138,7 +207,8 @@ module _ {V J I : Type 0} (stands : V → List I → Type 0) (firm : V → ℕ) 
         keeps,
         tt,
         steps seats s r id v at live 3 n (lit< tt) w r.log r.both s.homes _ _ _ _ _ _ _ _
-            (word_else s.words 3 0 n (λ e. omega arith)) (word_else s.words 3 1 n (λ e. omega arith)) (word_else s.words 3 2 n (λ e. omega arith)) (word_set s.words 3 n (omega (arith, r.words))) (word_else s.words 3 4 n (λ e. omega arith)) (word_else s.words 3 5 n (λ e. omega arith))
+            (word_else s.words 3 0 n (λ e. omega arith)) (word_else s.words 3 1 n (λ e. omega arith)) (word_else s.words 3 2 n (λ e. omega arith)) (word_set s.words 3 n (omega (arith, r.words)))
+            (word_else s.words 3 4 n (λ e. omega arith)) (word_else s.words 3 5 n (λ e. omega arith))
             r.slots refl refl
             (core_stays maker (SH (slice_index s.words 5) r.both) seats r.log _ _ _ _ (map base_of s.views) r.core id v.base (at_map base_of s.views id v at) live)
             (draws journal_of _ _ _ _ _ r.line id v w at idle refl)
@@ -147,7 +217,8 @@ module _ {V J I : Type 0} (stands : V → List I → Type 0) (firm : V → ℕ) 
         (t, r.line.ticket_is, refl),
       )
 
-  pub jlooks_ok : (seats slots id : ℕ) (me : Me S (TwinView I)) → me.0.base.live ≡ true → me.0.journal.stage ≡ Waiting → Allows (T seats) slots id me 4 (λ n. n) (JLooks stands firm mark jstands jfirm jmark maker me)
+  pub jlooks_ok : (seats slots id : ℕ) (me : Me S (TwinView I)) → me.0.base.live ≡ true → me.0.journal.stage ≡ Waiting
+      → Allows (T seats) slots id me 4 (λ n. n) (JLooks stands firm mark jstands jfirm jmark maker me)
   jlooks_ok seats slots id me live waiting s r wide at bound =
       let n : ℕ = slice_index s.words 4 in
       let v = me.0 in
@@ -179,7 +250,8 @@ module _ {V J I : Type 0} (stands : V → List I → Type 0) (firm : V → ℕ) 
       (λ (miss : n ≢ t % 2 ^ 64). (v, keeps, tt, still seats s r id v at live 4 (lit< tt), ((λ hit. absurd (miss hit)), (λ _. refl))))
 
   -- the firm word goes up to that of the journal in hand
-  pub jraises_ok : (seats slots id : ℕ) (me : Me S (TwinView I)) (f : ℕ) → me.0.base.live ≡ true → me.0.journal.stage ≡ Holding → me.0.firm ≤ f → Allows (T seats) slots id me 5 (λ n. max n f) (λ _ w. JRaises stands firm mark jstands jfirm jmark maker f me w)
+  pub jraises_ok : (seats slots id : ℕ) (me : Me S (TwinView I)) (f : ℕ) → me.0.base.live ≡ true → me.0.journal.stage ≡ Holding → me.0.firm ≤ f
+      → Allows (T seats) slots id me 5 (λ n. max n f) (λ _ w. JRaises stands firm mark jstands jfirm jmark maker f me w)
   jraises_ok seats slots id me f live held le s r wide at bound =
       let old : ℕ = slice_index s.words 5 in
       let v = me.0 in
@@ -196,7 +268,8 @@ module _ {V J I : Type 0} (stands : V → List I → Type 0) (firm : V → ℕ) 
         keeps,
         tt,
         steps seats s r id v at live 5 n (lit< tt) w r.log r.both s.homes _ _ _ _ _ f _ _
-            (word_else s.words 5 0 n (λ e. omega arith)) (word_else s.words 5 1 n (λ e. omega arith)) (word_else s.words 5 2 n (λ e. omega arith)) (word_else s.words 5 3 n (λ e. omega arith)) (word_else s.words 5 4 n (λ e. omega arith)) (word_set s.words 5 n (omega (arith, r.words)) ∙ is)
+            (word_else s.words 5 0 n (λ e. omega arith)) (word_else s.words 5 1 n (λ e. omega arith)) (word_else s.words 5 2 n (λ e. omega arith)) (word_else s.words 5 3 n (λ e. omega arith))
+            (word_else s.words 5 4 n (λ e. omega arith)) (word_set s.words 5 n (omega (arith, r.words)) ∙ is)
             r.slots refl refl
             (core_weakens maker (SH old r.both) seats r.log _ _ _ _ _ stayed (SH f r.both) (λ x h. (h.0, h.1, h.2, (let g : firm h.0 ≤ old = h.3 in omega arith), h.4)))
             (stays journal_of _ _ _ _ _ (rehomes journal_of _ _ _ _ _ r.line (JH f r.both r.log) id v at held) id v w at refl)
@@ -225,8 +298,10 @@ module _ {V J I : Type 0} (stands : V → List I → Type 0) (firm : V → ℕ) 
         gives,
         tt,
         steps seats s r id v at live 4 n (lit< tt) w r.log r.both (set s.homes 1 (some (journal_part y))) _ _ _ _ _ _ _ _
-            (word_else s.words 4 0 n (λ e. omega arith)) (word_else s.words 4 1 n (λ e. omega arith)) (word_else s.words 4 2 n (λ e. omega arith)) (word_else s.words 4 3 n (λ e. omega arith)) (word_set s.words 4 n (omega (arith, r.words))) (word_else s.words 4 5 n (λ e. omega arith))
-            (length-set s.homes 1 (some (journal_part y)) ∙ r.slots) (set_else s.homes 1 0 (some (journal_part y)) (λ e. omega arith)) (set_here s.homes 1 (some (journal_part y)) (omega (arith, r.slots)))
+            (word_else s.words 4 0 n (λ e. omega arith)) (word_else s.words 4 1 n (λ e. omega arith)) (word_else s.words 4 2 n (λ e. omega arith)) (word_else s.words 4 3 n (λ e. omega arith))
+            (word_set s.words 4 n (omega (arith, r.words))) (word_else s.words 4 5 n (λ e. omega arith))
+            (length-set s.homes 1 (some (journal_part y)) ∙ r.slots) (set_else s.homes 1 0 (some (journal_part y)) (λ e. omega arith))
+            (set_here s.homes 1 (some (journal_part y)) (omega (arith, r.slots)))
             (core_stays maker (SH (slice_index s.words 5) r.both) seats r.log _ _ _ _ (map base_of s.views) r.core id v.base b live)
             (passes journal_of _ _ _ _ _ r.line (JH (slice_index s.words 5) r.both r.log) id v w (journal_part y) at held refl (y, l, refl, fits, pre', le, same_mark ∙ j.2))
             (λ i u _ there. r.each i u there)
@@ -236,7 +311,8 @@ module _ {V J I : Type 0} (stands : V → List I → Type 0) (firm : V → ℕ) 
 
   -- the state's line
 
-  pub draws_ok : (seats slots id : ℕ) (me : Me S (TwinView I)) → me.0.base.live ≡ true → me.0.base.place.stage ≡ Idle → Allows (T seats) slots id me 0 (λ n. (n + 1) % 2 ^ 64) (Draws stands firm mark jstands jfirm jmark maker me)
+  pub draws_ok : (seats slots id : ℕ) (me : Me S (TwinView I)) → me.0.base.live ≡ true → me.0.base.place.stage ≡ Idle
+      → Allows (T seats) slots id me 0 (λ n. (n + 1) % 2 ^ 64) (Draws stands firm mark jstands jfirm jmark maker me)
   draws_ok seats slots id me live idle s r wide at bound =
       let n : ℕ = (slice_index s.words 0 + 1) % 2 ^ 64 in
       let v = me.0 in
@@ -247,7 +323,8 @@ module _ {V J I : Type 0} (stands : V → List I → Type 0) (firm : V → ℕ) 
         keeps,
         tt,
         steps seats s r id v at live 0 n (lit< tt) w r.log r.both s.homes _ _ _ _ _ _ _ _
-            (word_set s.words 0 n (omega (arith, r.words))) (word_else s.words 0 1 n (λ e. omega arith)) (word_else s.words 0 2 n (λ e. omega arith)) (word_else s.words 0 3 n (λ e. omega arith)) (word_else s.words 0 4 n (λ e. omega arith)) (word_else s.words 0 5 n (λ e. omega arith))
+            (word_set s.words 0 n (omega (arith, r.words))) (word_else s.words 0 1 n (λ e. omega arith)) (word_else s.words 0 2 n (λ e. omega arith)) (word_else s.words 0 3 n (λ e. omega arith))
+            (word_else s.words 0 4 n (λ e. omega arith)) (word_else s.words 0 5 n (λ e. omega arith))
             r.slots refl refl
             d.2
             (stays journal_of _ _ _ _ _ r.line id v w at refl)
@@ -256,7 +333,8 @@ module _ {V J I : Type 0} (stands : V → List I → Type 0) (firm : V → ℕ) 
         (d.0, d.1, refl),
       )
 
-  pub looks_ok : (seats slots id : ℕ) (me : Me S (TwinView I)) → me.0.base.live ≡ true → me.0.base.place.stage ≡ Waiting → Allows (T seats) slots id me 1 (λ n. n) (Looks stands firm mark jstands jfirm jmark maker me)
+  pub looks_ok : (seats slots id : ℕ) (me : Me S (TwinView I)) → me.0.base.live ≡ true → me.0.base.place.stage ≡ Waiting
+      → Allows (T seats) slots id me 1 (λ n. n) (Looks stands firm mark jstands jfirm jmark maker me)
   looks_ok seats slots id me live waiting s r wide at bound =
       let n : ℕ = slice_index s.words 1 in
       let v = me.0 in
@@ -281,11 +359,23 @@ module _ {V J I : Type 0} (stands : V → List I → Type 0) (firm : V → ℕ) 
             (stays journal_of _ _ _ _ _ r.line id v w at refl)
             (λ j u _ there. r.each j u there)
             (record { known = omega arith; journal = λ q. (let g = k.journal q in (g.0, g.1, h.4)); state = λ _. h.4; dead = λ e. absurd (not_both true refl (sym live ∙ e)) }),
-        ((λ _. (y, r.log, refl, h.2, core_later maker (SH (slice_index s.words 5) r.both) seats r.log _ _ _ _ (map base_of s.views) r.core id v.base b live, λ q. (let g = k.journal q in (g.0, h.4 ∙ sym g.2)))), (λ miss. absurd (miss hit))),
+        (
+          (λ _. (
+            y,
+            r.log,
+            refl,
+            h.2,
+            core_later maker (SH (slice_index s.words 5) r.both) seats r.log _ _ _ _ (map base_of s.views) r.core id v.base b live,
+            λ q.
+                (let g = k.journal q in (g.0, h.4 ∙ sym g.2)),
+          )),
+          (λ miss. absurd (miss hit)),
+        ),
       ))
       (λ (miss : n ≢ v.base.place.ticket % 2 ^ 64). (v, keeps, tt, still seats s r id v at live 1 (lit< tt), ((λ hit. absurd (miss hit)), (λ _. refl))))
 
-  pub raises_ok : (seats slots id : ℕ) (me : Me S (TwinView I)) (added : List I) (k : ℕ) → me.0.base.live ≡ true → me.0.base.place.stage ≡ Holding → k ≡ length added → length me.0.base.seen + k < 2 ^ 64 → AllBy maker me.0.base.number added
+  pub raises_ok : (seats slots id : ℕ) (me : Me S (TwinView I)) (added : List I) (k : ℕ) → me.0.base.live ≡ true → me.0.base.place.stage ≡ Holding → k ≡ length added
+      → length me.0.base.seen + k < 2 ^ 64 → AllBy maker me.0.base.number added
       → Allows (T seats) slots id me 2 (λ n. (n + k) % 2 ^ 64) (λ _ w. Raises stands firm mark jstands jfirm jmark maker added me w)
   raises_ok seats slots id me added k live held is short own s r wide at bound =
       let n : ℕ = (slice_index s.words 2 + k) % 2 ^ 64 in
@@ -294,23 +384,27 @@ module _ {V J I : Type 0} (stands : V → List I → Type 0) (firm : V → ℕ) 
       let w = based v (seeing v.base (v.base.seen ++ added)) in
       let log' = r.log ++ added in
       let f : ℕ = slice_index s.words 5 in
-      let more : (u : TwinView I) → K f r.both r.log u → K f r.both log' u = λ u g. record { known = g.known; journal = λ h. (let j = g.journal h in (prefix_more u.list r.log added j.0, j.1, j.2)); state = g.state; dead = g.dead } in
+      let more : (u : TwinView I) → K f r.both r.log u → K f r.both log' u = λ u g. record
+      { known = g.known; journal = λ h. (let j = g.journal h in (prefix_more u.list r.log added j.0, j.1, j.2)); state = g.state; dead = g.dead } in
       let m = more v q in (
         w,
         keeps,
         tt,
         steps seats s r id v at live 2 n (lit< tt) w log' r.both s.homes _ _ _ _ _ _ _ _
-            (word_else s.words 2 0 n (λ e. omega arith)) (word_else s.words 2 1 n (λ e. omega arith)) (word_set s.words 2 n (omega (arith, r.words))) (word_else s.words 2 3 n (λ e. omega arith)) (word_else s.words 2 4 n (λ e. omega arith)) (word_else s.words 2 5 n (λ e. omega arith))
+            (word_else s.words 2 0 n (λ e. omega arith)) (word_else s.words 2 1 n (λ e. omega arith)) (word_set s.words 2 n (omega (arith, r.words))) (word_else s.words 2 3 n (λ e. omega arith))
+            (word_else s.words 2 4 n (λ e. omega arith)) (word_else s.words 2 5 n (λ e. omega arith))
             r.slots refl refl
             (core_raises maker (SH f r.both) seats r.log _ _ _ _ (map base_of s.views) r.core id v.base (at_map base_of s.views id v at) live added k held is short own)
-            (stays journal_of _ _ _ _ _ (line_weakens journal_of (JH f r.both r.log) (JH f r.both log') _ _ _ _ (λ x h. (h.0, h.1, h.2, h.3, prefix_more h.1 r.log added h.4, h.5, h.6)) r.line) id v w at refl)
+            (stays journal_of _ _ _ _ _ (line_weakens journal_of (JH f r.both r.log) (JH f r.both log') _ _ _ _ (λ x h. (h.0, h.1, h.2, h.3, prefix_more h.1 r.log added h.4, h.5, h.6)) r.line) id v w
+            at refl)
             (λ j u _ there. more u (r.each j u there))
             (record { known = m.known; journal = m.journal; state = m.state; dead = λ e. absurd (not_both true refl (sym live ∙ e)) }),
         refl,
       )
 
   -- the mark may change only where the seat has the journal too
-  passes_at : (seats slots id : ℕ) (v : TwinView I) (y : V) (c : List (ℕ × S)) → v.base.live ≡ true → v.base.place.stage ≡ Holding → stands y v.base.seen → firm y ≤ v.known → (v.journal.stage ≡ Holding) ⊎ (mark y ≡ v.mark)
+  passes_at : (seats slots id : ℕ) (v : TwinView I) (y : V) (c : List (ℕ × S)) → v.base.live ≡ true → v.base.place.stage ≡ Holding → stands y v.base.seen → firm y ≤ v.known
+      → (v.journal.stage ≡ Holding) ⊎ (mark y ≡ v.mark)
       → Allows (T seats) slots id (v, (0, state_part y) ∷ c) 1 (λ n. (n + 1) % 2 ^ 64) (λ _ w. Passes stands firm mark jstands jfirm jmark maker (v, (0, state_part y) ∷ c) w)
   passes_at seats slots id v y c live held fits small marked s r wide at bound =
       let n : ℕ = (slice_index s.words 1 + 1) % 2 ^ 64 in
@@ -341,19 +435,28 @@ module _ {V J I : Type 0} (stands : V → List I → Type 0) (firm : V → ℕ) 
         gives,
         tt,
         steps seats s r id v at live 1 n (lit< tt) w r.log (mark y) (set s.homes 0 (some (state_part y))) _ _ _ _ _ _ _ _
-            (word_else s.words 1 0 n (λ e. omega arith)) (word_set s.words 1 n (omega (arith, r.words))) (word_else s.words 1 2 n (λ e. omega arith)) (word_else s.words 1 3 n (λ e. omega arith)) (word_else s.words 1 4 n (λ e. omega arith)) (word_else s.words 1 5 n (λ e. omega arith))
+            (word_else s.words 1 0 n (λ e. omega arith)) (word_set s.words 1 n (omega (arith, r.words))) (word_else s.words 1 2 n (λ e. omega arith)) (word_else s.words 1 3 n (λ e. omega arith))
+            (word_else s.words 1 4 n (λ e. omega arith)) (word_else s.words 1 5 n (λ e. omega arith))
             (length-set s.homes 0 (some (state_part y)) ∙ r.slots) (set_here s.homes 0 (some (state_part y)) (omega (arith, r.slots))) (set_else s.homes 0 1 (some (state_part y)) (λ e. omega arith))
             core
             (stays journal_of _ _ _ _ _ line id v w at refl)
             others
-            (record { known = k.known; journal = λ h. (let g = k.journal h in (g.0, g.1, refl)); state = λ h. absurd (let e : Idle ≡ Holding = h in cc e); dead = λ e. absurd (not_both true refl (sym live ∙ e)) }),
+            (record {
+              known = k.known;
+              journal = λ h. (let g = k.journal h in (g.0, g.1, refl));
+              state = λ h. absurd (let e : Idle ≡ Holding = h in cc e);
+              dead = λ e. absurd
+                  (not_both true refl (sym live ∙ e));
+            }),
         (y, refl, refl),
       )
 
-  pub jpasses_ok : (seats slots id : ℕ) (me : Me S (TwinView I)) (y : J) (l : List I) → me.0.base.live ≡ true → me.0.journal.stage ≡ Holding → me.1 ≡ (1, journal_part y) ∷ [] → jstands y l → Prefix l me.0.base.seen → jfirm y ≡ me.0.firm → jmark y ≡ me.0.mark
+  pub jpasses_ok : (seats slots id : ℕ) (me : Me S (TwinView I)) (y : J) (l : List I) → me.0.base.live ≡ true → me.0.journal.stage ≡ Holding → me.1 ≡ (1, journal_part y) ∷ [] → jstands y l
+      → Prefix l me.0.base.seen → jfirm y ≡ me.0.firm → jmark y ≡ me.0.mark
       → Allows (T seats) slots id me 4 (λ n. (n + 1) % 2 ^ 64) (λ _ w. JPasses stands firm mark jstands jfirm jmark maker me w)
   jpasses_ok seats slots id me y l live held has fits pre same_firm same_mark =
-      subst (λ (c : List (ℕ × S)). Allows (T seats) slots id (me.0, c) 4 (λ n. (n + 1) % 2 ^ 64) (λ _ w. JPasses stands firm mark jstands jfirm jmark maker (me.0, c) w)) (sym has) (jpasses_at seats slots id me.0 y l live held fits pre same_firm same_mark)
+      subst (λ (c : List (ℕ × S)). Allows (T seats) slots id (me.0, c) 4 (λ n. (n + 1) % 2 ^ 64) (λ _ w. JPasses stands firm mark jstands jfirm jmark maker (me.0, c) w)) (sym has)
+      (jpasses_at seats slots id me.0 y l live held fits pre same_firm same_mark)
 
   pub counts_ok : (seats slots id : ℕ) (me : Me S (TwinView I)) → me.0.base.live ≡ true → Allows (T seats) slots id me 2 (λ n. n) (Counts stands firm mark jstands jfirm jmark maker me)
   counts_ok seats slots id me live s r wide at bound = (
@@ -361,13 +464,19 @@ module _ {V J I : Type 0} (stands : V → List I → Type 0) (firm : V → ℕ) 
     keeps,
     tt,
     still seats s r id me.0 at live 2 (lit< tt),
-    (refl, (λ h. r.core.count ∙ ap length (sym (core_seen maker (SH (slice_index s.words 5) r.both) seats r.log _ _ _ _ (map base_of s.views) r.core id me.0.base (at_map base_of s.views id me.0 at) live h)))),
+    (
+      refl,
+      (λ h. r.core.count ∙ ap length (sym (core_seen maker (SH (slice_index s.words 5) r.both) seats r.log _ _ _ _ (map base_of s.views) r.core id me.0.base (at_map base_of s.views id me.0 at)
+          live h))),
+    ),
   )
 
-  pub passes_ok : (seats slots id : ℕ) (me : Me S (TwinView I)) (y : V) → me.0.base.live ≡ true → me.0.base.place.stage ≡ Holding → me.1 ≡ (0, state_part y) ∷ rest me.1 → stands y me.0.base.seen → firm y ≤ me.0.known → (me.0.journal.stage ≡ Holding) ⊎ (mark y ≡ me.0.mark)
+  pub passes_ok : (seats slots id : ℕ) (me : Me S (TwinView I)) (y : V) → me.0.base.live ≡ true → me.0.base.place.stage ≡ Holding → me.1 ≡ (0, state_part y) ∷ rest me.1 → stands y me.0.base.seen
+      → firm y ≤ me.0.known → (me.0.journal.stage ≡ Holding) ⊎ (mark y ≡ me.0.mark)
       → Allows (T seats) slots id me 1 (λ n. (n + 1) % 2 ^ 64) (λ _ w. Passes stands firm mark jstands jfirm jmark maker me w)
   passes_ok seats slots id me y live held has fits small marked =
-      subst (λ (c : List (ℕ × S)). Allows (T seats) slots id (me.0, c) 1 (λ n. (n + 1) % 2 ^ 64) (λ _ w. Passes stands firm mark jstands jfirm jmark maker (me.0, c) w)) (sym has) (passes_at seats slots id me.0 y (rest me.1) live held fits small marked)
+      subst (λ (c : List (ℕ × S)). Allows (T seats) slots id (me.0, c) 1 (λ n. (n + 1) % 2 ^ 64) (λ _ w. Passes stands firm mark jstands jfirm jmark maker (me.0, c) w)) (sym has)
+      (passes_at seats slots id me.0 y (rest me.1) live held fits small marked)
 
   -- what a seat needs to wait in a line: a look at a word, of which it learns nothing, and a change of a bell
   stays_ok : (seats slots id i : ℕ) (me : Me S (TwinView I)) → i < 8 → me.0.base.live ≡ true → Allows (T seats) slots id me i (λ n. n) (λ _ w. w ≡ me)
@@ -382,7 +491,8 @@ module _ {V J I : Type 0} (stands : V → List I → Type 0) (firm : V → ℕ) 
           keeps,
           tt,
           steps seats s r id v at live i n low v r.log r.both s.homes _ _ _ _ _ _ _ _
-              (word_else s.words i 0 n (λ e. omega arith)) (word_else s.words i 1 n (λ e. omega arith)) (word_else s.words i 2 n (λ e. omega arith)) (word_else s.words i 3 n (λ e. omega arith)) (word_else s.words i 4 n (λ e. omega arith)) (word_else s.words i 5 n (λ e. omega arith))
+              (word_else s.words i 0 n (λ e. omega arith)) (word_else s.words i 1 n (λ e. omega arith)) (word_else s.words i 2 n (λ e. omega arith)) (word_else s.words i 3 n (λ e. omega arith))
+              (word_else s.words i 4 n (λ e. omega arith)) (word_else s.words i 5 n (λ e. omega arith))
               r.slots refl refl
               (core_stays maker (SH (slice_index s.words 5) r.both) seats r.log _ _ _ _ (map base_of s.views) r.core id v.base (at_map base_of s.views id v at) live)
               (stays journal_of _ _ _ _ _ r.line id v v at refl)
@@ -392,10 +502,12 @@ module _ {V J I : Type 0} (stands : V → List I → Type 0) (firm : V → ℕ) 
         );
   }
 
-  pub may_draw : (seats slots id : ℕ) (me : Me S (TwinView I)) → me.0.base.live ≡ true → me.0.base.place.stage ≡ Idle → MayDraw (T seats) slots id me (λ _ m n w. Draws stands firm mark jstands jfirm jmark maker m n w) 0
+  pub may_draw : (seats slots id : ℕ) (me : Me S (TwinView I)) → me.0.base.live ≡ true → me.0.base.place.stage ≡ Idle
+      → MayDraw (T seats) slots id me (λ _ m n w. Draws stands firm mark jstands jfirm jmark maker m n w) 0
   may_draw seats slots id me live idle = record { draw = draws_ok seats slots id me live idle; look = stays_ok seats slots id 0 me (lit< tt) live }
 
-  pub may_draw_journal : (seats slots id : ℕ) (me : Me S (TwinView I)) → me.0.base.live ≡ true → me.0.journal.stage ≡ Idle → MayDraw (T seats) slots id me (λ _ m n w. JDraws stands firm mark jstands jfirm jmark maker m n w) 3
+  pub may_draw_journal : (seats slots id : ℕ) (me : Me S (TwinView I)) → me.0.base.live ≡ true → me.0.journal.stage ≡ Idle
+      → MayDraw (T seats) slots id me (λ _ m n w. JDraws stands firm mark jstands jfirm jmark maker m n w) 3
   may_draw_journal seats slots id me live idle = record { draw = jdraws_ok seats slots id me live idle; look = stays_ok seats slots id 3 me (lit< tt) live }
 
   pub may_look : (seats slots id ticket : ℕ) (me : Me S (TwinView I)) → me.0.base.live ≡ true → me.0.base.place.stage ≡ Waiting → ticket ≡ me.0.base.place.ticket % 2 ^ 64
@@ -408,7 +520,8 @@ module _ {V J I : Type 0} (stands : V → List I → Type 0) (firm : V → ℕ) 
 
   -- seats come and go
 
-  pub topens_ok : (seats : ℕ) (x : V) (y : J) → 0 < seats → stands x [] → jstands y [] → firm x ≡ 0 → mark x ≡ jmark y → T seats (opening (0 ∷ 0 ∷ 0 ∷ 0 ∷ 0 ∷ 0 ∷ 0 ∷ 0 ∷ []) (state_part x ∷ journal_part y ∷ []) tfounder)
+  pub topens_ok : (seats : ℕ) (x : V) (y : J) → 0 < seats → stands x [] → jstands y [] → firm x ≡ 0 → mark x ≡ jmark y
+      → T seats (opening (0 ∷ 0 ∷ 0 ∷ 0 ∷ 0 ∷ 0 ∷ 0 ∷ 0 ∷ []) (state_part x ∷ journal_part y ∷ []) tfounder)
   topens_ok seats x y some_seat fits jfits zero_firm same = record {
     log = [];
     both = mark x;
@@ -420,13 +533,20 @@ module _ {V J I : Type 0} (stands : V → List I → Type 0) (firm : V → ℕ) 
   }
     where
       first : K 0 (mark x) [] tfounder
-      first = record { known = omega arith; journal = λ h. absurd (let e : Idle ≡ Holding = h in cc e); state = λ h. absurd (let e : Idle ≡ Holding = h in cc e); dead = λ e. absurd (not_both true refl e) }
+      first = record {
+        known = omega arith;
+        journal = λ h. absurd (let e : Idle ≡ Holding = h in cc e);
+        state = λ h. absurd (let e : Idle ≡ Holding = h in cc e);
+        dead = λ e. absurd
+            (not_both true refl e);
+      }
 
   map_snoc : (l : List (TwinView I)) (w : TwinView I) → map base_of (l ++ w ∷ []) ≡ map base_of l ++ base_of w ∷ []
   map_snoc [] w = refl
   map_snoc (x ∷ xs) w = ap (λ l. x.base ∷ l) (map_snoc xs w)
 
-  pub tsplits_ok : (seats id : ℕ) (v : TwinView I) → v.base.live ≡ true → v.base.place.stage ≡ Idle → 0 < v.base.made → v.base.made < seats → seats < 2 ^ 32 → Splits (T seats) id v (tmaking v) (tmade_by v)
+  pub tsplits_ok : (seats id : ℕ) (v : TwinView I) → v.base.live ≡ true → v.base.place.stage ≡ Idle → 0 < v.base.made → v.base.made < seats → seats < 2 ^ 32
+      → Splits (T seats) id v (tmaking v) (tmade_by v)
   tsplits_ok seats id v live idle makes room small s r at =
       let w = tmaking v in
       let u = tmade_by v in
@@ -434,8 +554,10 @@ module _ {V J I : Type 0} (stands : V → List I → Type 0) (firm : V → ℕ) 
       let k = r.each id v at in
       let b = at_map base_of s.views id v at in
       let core = core_splits maker (SH f r.both) seats r.log _ _ _ _ (map base_of s.views) r.core id v.base b live idle makes room small in
-      let same : map base_of (set s.views id w ++ u ∷ []) ≡ set (map base_of s.views) id w.base ++ u.base ∷ [] = map_snoc (set s.views id w) u ∙ ap (λ (l : List (View I)). l ++ u.base ∷ []) (map-set base_of s.views id w) in
-      let few : length (set s.views id w) + 1 < 2 ^ 64 = (let m : length (map base_of s.views) ≤ seats = r.core.most in let lm : length (map base_of s.views) ≡ length s.views = length-map s.views base_of in rw length-set (omega arith)) in
+      let same : map base_of (set s.views id w ++ u ∷ []) ≡ set (map base_of s.views) id w.base ++ u.base ∷ [] = map_snoc (set s.views id w) u ∙ ap (λ (l : List (View I)). l ++ u.base ∷ [])
+      (map-set base_of s.views id w) in
+      let few : length (set s.views id w) + 1 < 2 ^ 64 = (let m : length (map base_of s.views) ≤ seats = r.core.most in let lm : length (map base_of s.views) ≡ length s.views = length-map s.views
+      base_of in rw length-set (omega arith)) in
       record {
         log = r.log;
         both = r.both;
@@ -445,20 +567,29 @@ module _ {V J I : Type 0} (stands : V → List I → Type 0) (firm : V → ℕ) 
         line = comes journal_of _ _ _ _ _ (stays journal_of _ _ _ _ _ r.line id v w at refl) u refl few;
         each = λ j x e. ⊎_elim
             (λ old. each_set s.views id w (λ _ y. K f r.both r.log y) (λ i y _ there. r.each i y there) (record { known = k.known; journal = k.journal; state = k.state; dead = k.dead }) j x old)
-            (λ (t : u ≡ x). subst (K f r.both r.log) t (record { known = omega arith; journal = λ h. absurd (let q : Idle ≡ Holding = h in cc q); state = λ h. absurd (let q : Idle ≡ Holding = h in cc q); dead = λ _. refl }))
+            (λ (t : u ≡ x). subst (K f r.both r.log) t (record {
+              known = omega arith;
+              journal = λ h. absurd (let q : Idle ≡ Holding = h in cc q);
+              state = λ h. absurd
+                  (let q : Idle ≡ Holding = h in cc q);
+              dead = λ _. refl;
+            }))
             (at_snoc (set s.views id w) u x j e);
       }
 
-  pub tjoins_ok : (seats id other : ℕ) (v u : TwinView I) → v.base.live ≡ true → v.base.place.stage ≡ Idle → u.base.live ≡ true → u.base.place.stage ≡ Idle → u.journal.stage ≡ Idle → Joins (T seats) id v other u (tkeeping v u) tgone
+  pub tjoins_ok : (seats id other : ℕ) (v u : TwinView I) → v.base.live ≡ true → v.base.place.stage ≡ Idle → u.base.live ≡ true → u.base.place.stage ≡ Idle → u.journal.stage ≡ Idle
+      → Joins (T seats) id v other u (tkeeping v u) tgone
   tjoins_ok seats id other v u live idle lives idles jidle s r at apart there =
       let w = tkeeping v u in
       let f : ℕ = slice_index s.words 5 in
       let k = r.each id v at in
       let b = at_map base_of s.views id v at in
       let views1 = set s.views id w in
-      let bt : get_elem? (set (map base_of s.views) id w.base) other ≡ some u.base = ap (λ (l : List (View I)). get_elem? l other) (sym (map-set base_of s.views id w)) ∙ at_map base_of views1 other u there in
+      let bt : get_elem? (set (map base_of s.views) id w.base) other ≡ some u.base = ap (λ (l : List (View I)). get_elem? l other) (sym (map-set base_of s.views id w)) ∙ at_map base_of views1 other u
+      there in
       let core = core_joins maker (SH f r.both) seats r.log _ _ _ _ (map base_of s.views) r.core id v.base b live other u.base idle lives idles apart bt in
-      let same : map base_of (set views1 other tgone) ≡ set (set (map base_of s.views) id w.base) other gone = map-set base_of views1 other tgone ∙ ap (λ (l : List (View I)). set l other gone) (map-set base_of s.views id w) in
+      let same : map base_of (set views1 other tgone) ≡ set (set (map base_of s.views) id w.base) other gone = map-set base_of views1 other tgone ∙ ap (λ (l : List (View I)). set l other gone)
+      (map-set base_of s.views id w) in
       record {
         log = r.log;
         both = r.both;
@@ -494,7 +625,8 @@ module _ {V J I : Type 0} (stands : V → List I → Type 0) (firm : V → ℕ) 
       ⊎_elim
       (λ q. q)
       (λ (q : (j : ℕ) × (u : TwinView I) × (get_elem? s.views j ≡ some u) × ((journal_of u).stage ≡ Holding)).
-      let low : q.0 < seats = (let a : q.0 < length s.views = at_below s.views q.0 q.1 q.2 in let m : length (map base_of s.views) ≤ seats = r.core.most in let lm : length (map base_of s.views) ≡ length s.views = length-map s.views base_of in omega arith) in
+      let low : q.0 < seats = (let a : q.0 < length s.views = at_below s.views q.0 q.1 q.2 in let m : length (map base_of s.views) ≤ seats = r.core.most in let lm : length (map base_of s.views) ≡
+      length s.views = length-map s.views base_of in omega arith) in
       absurd (⊎_elim
       (λ (e : v.base.number ≡ q.0).
       let same : v ≡ q.1 = same_at s.views id v q.1 at (ap (get_elem? s.views) (sym (fits.number live) ∙ e) ∙ q.2) in

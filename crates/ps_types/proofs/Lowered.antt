@@ -54,7 +54,8 @@ all-local (x ∷ xs) h =
 labels : (begun : Bool) (xs : List ℕ) → are_labels begun xs ≡ true → are_labels begun (map lower xs) ≡ true
 labels true [] h = h
 labels false [] h = h
-labels begun (x ∷ xs) h = ap (λ (b : Bool). cond b (begun && are_labels false (map lower xs)) (is_label (lower x) && are_labels true (map lower xs))) (lowered-dot x) ∙ at (x == 46) h (labels false xs) (labels true xs)
+labels begun (x ∷ xs) h = ap (λ (b : Bool). cond b (begun && are_labels false (map lower xs)) (is_label (lower x) && are_labels true (map lower xs))) (lowered-dot x) ∙ at (x == 46) h
+    (labels false xs) (labels true xs)
   where
     at : (b : Bool) → cond b (begun && are_labels false xs) (is_label x && are_labels true xs) ≡ true
         → (are_labels false xs ≡ true → are_labels false (map lower xs) ≡ true) → (are_labels true xs ≡ true → are_labels true (map lower xs) ≡ true)

@@ -26,7 +26,8 @@ consumed_same (Some x) (Some y) None one a b = absurd b
 consumed_same (Some x) (Some y) (Some z) one a b = a ∙ ap (λ (l : List ℕ). one ++ l) (sym b)
 
 -- a read gave more
-pub gave_more : (first second third : Option (List ℕ)) (given given_then given_now : ℕ) (piece : List ℕ) → Gave first second given given_then → Consumes second third piece → given_now ≡ given_then + length piece → Gave first third given given_now
+pub gave_more : (first second third : Option (List ℕ)) (given given_then given_now : ℕ) (piece : List ℕ) → Gave first second given given_then → Consumes second third piece
+    → given_now ≡ given_then + length piece → Gave first third given given_now
 gave_more first second third given given_then given_now piece so_far more count =
     (so_far.0 ++ piece, consumed_more first second third so_far.0 piece so_far.1 more, omega (arith, so_far.2, count, length-append so_far.0 piece))
 

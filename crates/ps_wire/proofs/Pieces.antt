@@ -1,5 +1,33 @@
 -- A line taken in pieces.
-use Rattle.std.proofs.Common.{◌≡◌, ◌≢◌, ℕ, suc, ◌+◌, ◌<◌, List, [], ◌∷◌, ◌++◌, length, take, drop, Some, None, Option, refl, sym, ◌∙◌, ap, subst, arith, append_assoc, drop-cons, add-one, length-append, length-take}
+use Rattle.std.proofs.Common.{
+  ◌≡◌,
+  ◌≢◌,
+  ℕ,
+  suc,
+  ◌+◌,
+  ◌<◌,
+  List,
+  [],
+  ◌∷◌,
+  ◌++◌,
+  length,
+  take,
+  drop,
+  Some,
+  None,
+  Option,
+  refl,
+  sym,
+  ◌∙◌,
+  ap,
+  subst,
+  arith,
+  append_assoc,
+  drop-cons,
+  add-one,
+  length-append,
+  length-take,
+}
 use Rattle.std.specs.Prelude.{Bool, IsTrue, slice_index}
 use Rattle.std.specs.Io.KnownBytes.{prepend_known, Consumes, Keeps}
 use Rattle.std.proofs.lemmas.List.{take-append-drop, append-nil, drop_all, length-drop}
@@ -236,7 +264,8 @@ goes_on before left later held next piece bytes line new budget_before unread st
       counted = omega (arith, off.counted, fewer, length-append off.front held);
     }
   where
-    taken : (before left later : Option (List ℕ)) (front held next : List ℕ) → Consumes before (prepend_known held left) front → Consumes left later next → Consumes before (prepend_known next later) (front ++ held)
+    taken : (before left later : Option (List ℕ)) (front held next : List ℕ) → Consumes before (prepend_known held left) front → Consumes left later next
+        → Consumes before (prepend_known next later) (front ++ held)
     taken None left later front held next c took = tt
     taken (Some all) None later front held next c took = absurd c
     taken (Some all) (Some left) None front held next c took = absurd took

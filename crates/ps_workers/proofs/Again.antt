@@ -2,11 +2,11 @@
 use Rattle.std.proofs.Common.{◌≡◌, ℕ, ◌+◌, ◌≤◌, List, [], length, take, ap, ◌∙◌, arith}
 use Rattle.ps_types.specs.declared.entry.Entry.{Entry}
 use Rattle.ps_types.specs.declared.jid.Jid.{Jid}
-use Rattle.ps_model.specs.Core.{handed}
-use Rattle.ps_model.specs.CoreLaws.{IsLawful}
-use Rattle.ps_model.specs.Machine.{start}
-use Rattle.ps_model.specs.TheCore.{the_core}
-use Rattle.ps_model.specs.World.{World, durable}
+use Rattle.ps_model.specs.machine.Core.{handed}
+use Rattle.ps_model.specs.machine.CoreLaws.{IsLawful}
+use Rattle.ps_model.specs.machine.Machine.{start}
+use Rattle.ps_model.specs.machine.TheCore.{the_core}
+use Rattle.ps_model.specs.machine.World.{World, durable}
 use Rattle.ps_model.proofs.TheLaws.{the-laws}
 use Rattle.ps_world.specs.Sound.{Sound}
 use Rattle.ps_world.proofs.Following.{run_follows}

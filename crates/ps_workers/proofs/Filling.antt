@@ -6,10 +6,10 @@ use Rattle.ps_types.specs.declared.entry.Arrival.{Arrival}
 use Rattle.ps_types.specs.declared.entry.Entry.{Entry}
 use Rattle.ps_model.specs.declared.steps.Step.{Step}
 use Rattle.ps_model.specs.declared.steps.Step.TheVariants.{Arrive, Flush, Take, Emit, Record, Gone, Ended, Broken, Crash}
-use Rattle.ps_model.specs.CoreLaws.{Laws}
-use Rattle.ps_model.specs.Machine.{happens, run}
-use Rattle.ps_model.specs.TheCore.{the_core}
-use Rattle.ps_model.specs.World.{World}
+use Rattle.ps_model.specs.machine.CoreLaws.{Laws}
+use Rattle.ps_model.specs.machine.Machine.{happens, run}
+use Rattle.ps_model.specs.machine.TheCore.{the_core}
+use Rattle.ps_model.specs.machine.World.{World}
 use Rattle.ps_world.specs.Calm.{AreCalm}
 use Rattle.ps_world.proofs.Following.{follows_then, one_follows, run_follows}
 use Rattle.ps_world.proofs.Lists.{nil-right, take-front, take-whole}

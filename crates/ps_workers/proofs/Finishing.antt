@@ -8,10 +8,10 @@ use Rattle.ps_types.specs.declared.entry.Notice.{Notice}
 use Rattle.ps_model.specs.declared.steps.Step.{Step}
 use Rattle.ps_model.specs.declared.steps.Step.TheVariants.{Arrive, Flush, Take, Emit, Record, Gone, Ended, Broken, Crash}
 use Rattle.ps_model.specs.declared.steps.Role.TheVariants.{Reader, Writer}
-use Rattle.ps_model.specs.Core.{handed}
-use Rattle.ps_model.specs.Machine.{answered, counted, emits, flushes, happens, records, run, start, took}
-use Rattle.ps_model.specs.TheCore.{the_core}
-use Rattle.ps_model.specs.World.{Flight, HostPart, Nothing, Recorded, Said, Unrecorded, World, at_address, at_host, durable, with_entry}
+use Rattle.ps_model.specs.machine.Core.{handed}
+use Rattle.ps_model.specs.machine.Machine.{answered, counted, emits, flushes, happens, records, run, start, took}
+use Rattle.ps_model.specs.machine.TheCore.{the_core}
+use Rattle.ps_model.specs.machine.World.{Flight, HostPart, Nothing, Recorded, Said, Unrecorded, World, at_address, at_host, durable, with_entry}
 use Rattle.ps_world.proofs.Kept.{chosen}
 use Rattle.ps_trace.specs.Own.{AllDiffer, AreOwned, HasNoEnd, IsWriterOf, MayMake, own_steps, steps_in}
 use Rattle.ps_trace.specs.declared.deed.Deed.{Deed}

@@ -5,13 +5,13 @@ use Rattle.ps_types.specs.declared.entry.Arrival.{Arrival}
 use Rattle.ps_types.specs.declared.entry.Entry.{Entry}
 use Rattle.ps_types.specs.declared.jid.Jid.{Jid}
 use Rattle.ps_journal.specs.Opened.{HasLength}
-use Rattle.ps_model.specs.Core.{handed}
-use Rattle.ps_model.specs.CoreLaws.{IsLawful}
-use Rattle.ps_model.specs.Entries.{AreEntries}
-use Rattle.ps_model.specs.Machine.{start}
-use Rattle.ps_model.specs.TheCore.{the_core}
-use Rattle.ps_model.specs.Store.{spelled}
-use Rattle.ps_model.specs.World.{World, durable}
+use Rattle.ps_model.specs.machine.Core.{handed}
+use Rattle.ps_model.specs.machine.CoreLaws.{IsLawful}
+use Rattle.ps_model.specs.store.Entries.{AreEntries}
+use Rattle.ps_model.specs.machine.Machine.{start}
+use Rattle.ps_model.specs.machine.TheCore.{the_core}
+use Rattle.ps_model.specs.store.Store.{spelled}
+use Rattle.ps_model.specs.machine.World.{World, durable}
 use Rattle.ps_model.specs.declared.steps.Role.TheVariants.{Writer}
 use Rattle.ps_model.specs.declared.steps.Step.TheVariants.{Ended as Ends}
 use Rattle.ps_model.proofs.TheLaws.{the-laws}

@@ -5,10 +5,10 @@ use Rattle.std.proofs.lemmas.Bool.{false≢true}
 use Rattle.ps_base.specs.Causes.{Rose}
 use Rattle.ps_types.specs.declared.entry.Entry.{Entry}
 use Rattle.ps_disk.specs.declared.device.Disk.{Ghosts}
-use Rattle.ps_model.specs.Entries.{body}
-use Rattle.ps_model.specs.Machine.{start}
-use Rattle.ps_model.specs.TheCore.{the_core}
-use Rattle.ps_model.specs.World.{World, ends}
+use Rattle.ps_model.specs.store.Entries.{body}
+use Rattle.ps_model.specs.machine.Machine.{start}
+use Rattle.ps_model.specs.machine.TheCore.{the_core}
+use Rattle.ps_model.specs.machine.World.{World, ends}
 use Rattle.ps_twin.specs.declared.twin.TwinSeat.{TwinSeat}
 use Rattle.ps_trace.specs.declared.deed.Deed.{Deed}
 use Rattle.ps_hall_state.specs.Stand.{Stands, entries_of}

@@ -5,10 +5,10 @@ use Rattle.ps_types.specs.declared.entry.Entry.{Entry}
 use Rattle.ps_types.specs.declared.entry.Entry.TheVariants.{Boot, Gone as GoneEntry}
 use Rattle.ps_model.specs.declared.steps.Step.{Step}
 use Rattle.ps_model.specs.declared.steps.Step.TheVariants.{Gone}
-use Rattle.ps_model.specs.Core.{Core}
-use Rattle.ps_model.specs.CoreLaws.{Laws}
-use Rattle.ps_model.specs.World.{World}
-use Rattle.ps_model.specs.Machine.{happens, run, start, world}
+use Rattle.ps_model.specs.machine.Core.{Core}
+use Rattle.ps_model.specs.machine.CoreLaws.{Laws}
+use Rattle.ps_model.specs.machine.World.{World}
+use Rattle.ps_model.specs.machine.Machine.{happens, run, start, world}
 use Rattle.ps_world.specs.Calm.{AreCalm}
 use Rattle.ps_world.proofs.Following.{calm_front, calm_rest, run_follows}
 use Rattle.ps_world.proofs.Lists.{assoc}

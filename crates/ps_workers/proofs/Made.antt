@@ -44,10 +44,10 @@ use Rattle.ps_types.specs.declared.entry.Notice.{Notice}
 use Rattle.ps_types.specs.declared.jid.Jid.{Jid}
 use Rattle.ps_model.specs.declared.steps.Step.{Step}
 use Rattle.ps_model.specs.declared.steps.Step.TheVariants.{Arrive, Flush, Take, Emit, Record, Gone, Ended, Broken, Crash}
-use Rattle.ps_model.specs.Core.{handed}
-use Rattle.ps_model.specs.Machine.{emits, flushes, happens, records, run, took}
-use Rattle.ps_model.specs.TheCore.{the_core}
-use Rattle.ps_model.specs.World.{Flight, Nothing, Recorded, Said, Unrecorded, World, at_address, at_host, durable, more_entries}
+use Rattle.ps_model.specs.machine.Core.{handed}
+use Rattle.ps_model.specs.machine.Machine.{emits, flushes, happens, records, run, took}
+use Rattle.ps_model.specs.machine.TheCore.{the_core}
+use Rattle.ps_model.specs.machine.World.{Flight, Nothing, Recorded, Said, Unrecorded, World, at_address, at_host, durable, more_entries}
 use Rattle.ps_model.proofs.TheLaws.{the-laws}
 use Rattle.ps_trace.specs.declared.deed.Deed.{Deed}
 use Rattle.ps_trace.specs.Lines.{Came, came, came_if}

@@ -4,9 +4,9 @@ use Rattle.std.specs.Prelude.{Option, Some, None, bytes_eq, nat_le, nat_lt, slic
 use Rattle.std.proofs.lemmas.Slice.Eq.{bytes_eq-Decides}
 use Rattle.ps_types.specs.declared.entry.Notice.{Notice}
 use Rattle.ps_types.specs.declared.jid.Jid.{Jid}
-use Rattle.ps_model.specs.Core.{Core, handed}
-use Rattle.ps_model.specs.Machine.{happens}
-use Rattle.ps_model.specs.World.{Flight, Nothing, Recorded, Said, Unrecorded, World, durable}
+use Rattle.ps_model.specs.machine.Core.{Core, handed}
+use Rattle.ps_model.specs.machine.Machine.{happens}
+use Rattle.ps_model.specs.machine.World.{Flight, Nothing, Recorded, Said, Unrecorded, World, durable}
 use Rattle.ps_model.specs.declared.steps.Step.{Step}
 use Rattle.ps_model.specs.declared.steps.Step.TheVariants.{Arrive, Flush, Take, Emit, Record, Gone, Ended, Broken, Crash}
 use Rattle.ps_trace.specs.Words.{Note, Reply, Word, noted_word, said_by, taken_word, word_if, words}

@@ -3,9 +3,9 @@ use Rattle.std.proofs.Common.{◌≡◌, inl, inr, ℕ, zero, suc, ◌≤◌, Bo
 use Rattle.ps_types.specs.declared.entry.Entry.{Entry}
 use Rattle.ps_disk.specs.Disk.{MayLeave}
 use Rattle.ps_disk.specs.declared.device.Disk.{Ghosts}
-use Rattle.ps_model.specs.Entries.{AreEntries, AreEntriesIn, IsEntry}
-use Rattle.ps_model.specs.Store.{AreParts, is_second, joined, spelled}
-use Rattle.ps_model.specs.World.{World, durable, ends}
+use Rattle.ps_model.specs.store.Entries.{AreEntries, AreEntriesIn, IsEntry}
+use Rattle.ps_model.specs.store.Store.{AreParts, is_second, joined, spelled}
+use Rattle.ps_model.specs.machine.World.{World, durable, ends}
 use Rattle.ps_book_laws.proofs.Keys.{each-both}
 use Rattle.ps_world.proofs.Lists.{take-both}
 use Rattle.ps_hall_store.specs.Stand.{EntriesAreKept, OpenedAt}

@@ -10,10 +10,10 @@ use Rattle.ps_wire.specs.declared.lines.Lines.{Lines}
 use Rattle.ps_wire.specs.declared.streams.Source.{Ghosts as SourceGhosts}
 use Rattle.ps_io.specs.Held.{Held, HeldClock}
 use Rattle.ps_endpoints.specs.declared.port.Port.{Port}
-use Rattle.ps_model.specs.Entries.{AreEntries}
-use Rattle.ps_model.specs.Machine.{start}
-use Rattle.ps_model.specs.TheCore.{the_core}
-use Rattle.ps_model.specs.World.{durable}
+use Rattle.ps_model.specs.store.Entries.{AreEntries}
+use Rattle.ps_model.specs.machine.Machine.{start}
+use Rattle.ps_model.specs.machine.TheCore.{the_core}
+use Rattle.ps_model.specs.machine.World.{durable}
 use Rattle.ps_model.proofs.TheLaws.{the-laws}
 use Rattle.ps_world.proofs.Following.{run_follows}
 use Rattle.ps_twin.specs.Seats.{number_of, seen_of}

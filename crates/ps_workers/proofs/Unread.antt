@@ -1,6 +1,6 @@
 -- A reader that ends without a line, and a writer that ends without a word.
 use Rattle.std.proofs.Common.{◌≡◌, ◌⊎◌, ℕ, inl, inr, true, List, [], Option, Result, Err, refl, sym, subst, arith}
-use Rattle.ps_model.specs.TheCore.{the_core}
+use Rattle.ps_model.specs.machine.TheCore.{the_core}
 use Rattle.ps_model.specs.declared.steps.Role.TheVariants.{Writer}
 use Rattle.ps_model.specs.declared.steps.Step.TheVariants.{Ended as Ends}
 use Rattle.ps_world.proofs.Lists.{nil-right}

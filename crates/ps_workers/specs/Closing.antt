@@ -2,9 +2,9 @@
 use Rattle.std.specs.Prelude.{◌≡◌, ◌≢◌, ℕ, ◌+◌, ◌≤◌, true, false, List, [], None, Some, is_some, slice_get}
 use Rattle.ps_base.specs.Causes.{Rose}
 use Rattle.ps_disk.specs.declared.device.Disk.{Ghosts}
-use Rattle.ps_model.specs.CoreLaws.{IsLawful}
-use Rattle.ps_model.specs.Machine.{start}
-use Rattle.ps_model.specs.TheCore.{the_core}
+use Rattle.ps_model.specs.machine.CoreLaws.{IsLawful}
+use Rattle.ps_model.specs.machine.Machine.{start}
+use Rattle.ps_model.specs.machine.TheCore.{the_core}
 use Rattle.ps_turn.specs.History.{Later}
 use Rattle.ps_twin.specs.Seats.{number_of, seen_of}
 use Rattle.ps_twin.specs.declared.twin.TwinSeat.{TwinSeat}

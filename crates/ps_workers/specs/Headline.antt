@@ -9,10 +9,10 @@ use Rattle.ps_types.specs.declared.entry.Entry.TheVariants.{Boot, Gone, Handed}
 use Rattle.ps_wire.specs.AtEnd.{nothing_of}
 use Rattle.ps_disk.specs.Disk.{MayLeave}
 use Rattle.ps_disk.specs.declared.device.Disk.{Ghosts}
-use Rattle.ps_model.specs.Core.{handed}
-use Rattle.ps_model.specs.Entries.{AreEntries, IsBare, spelling}
-use Rattle.ps_model.specs.TheCore.{the_core}
-use Rattle.ps_model.specs.World.{World, durable}
+use Rattle.ps_model.specs.machine.Core.{handed}
+use Rattle.ps_model.specs.store.Entries.{AreEntries, IsBare, spelling}
+use Rattle.ps_model.specs.machine.TheCore.{the_core}
+use Rattle.ps_model.specs.machine.World.{World, durable}
 use Rattle.ps_io.specs.Held.{Held, HeldClock}
 use Rattle.ps_trace.specs.Lines.{Came, HasLines}
 use Rattle.ps_trace.specs.Over.{IsComplete, IsFront}

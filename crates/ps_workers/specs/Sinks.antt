@@ -3,9 +3,9 @@ use Rattle.std.specs.Prelude.{◌≡◌, ◌≢◌, ℕ, ◌+◌, ◌≤◌, ◌
 use Rattle.ps_types.specs.declared.entry.Entry.{Entry}
 use Rattle.ps_types.specs.declared.entry.Notice.{Notice}
 use Rattle.ps_types.specs.declared.jid.Jid.{Jid}
-use Rattle.ps_model.specs.Core.{handed}
-use Rattle.ps_model.specs.Streams as sink
-use Rattle.ps_model.specs.TheCore.{the_core}
+use Rattle.ps_model.specs.machine.Core.{handed}
+use Rattle.ps_model.specs.machine.Streams as sink
+use Rattle.ps_model.specs.machine.TheCore.{the_core}
 use Rattle.ps_trace.specs.Lines.{Came, replies_of}
 
 -- where the sink tells its bytes, this holds of those that were written to it

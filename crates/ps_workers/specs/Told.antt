@@ -5,11 +5,11 @@ use Rattle.ps_types.specs.declared.jid.Jid.{Jid}
 use Rattle.ps_types.specs.declared.entry.Entry.{Entry}
 use Rattle.ps_types.specs.declared.entry.Entry.TheVariants.{Boot, Change, Handed, Gone, Base}
 use Rattle.ps_types.specs.declared.entry.Notice.{Notice}
-use Rattle.ps_model.specs.Core.{handed}
+use Rattle.ps_model.specs.machine.Core.{handed}
 use Rattle.ps_journal.specs.Opened.{HasLength}
-use Rattle.ps_model.specs.Entries.{spelling}
-use Rattle.ps_model.specs.Store.{spelled}
-use Rattle.ps_model.specs.TheCore.{the_core}
+use Rattle.ps_model.specs.store.Entries.{spelling}
+use Rattle.ps_model.specs.store.Store.{spelled}
+use Rattle.ps_model.specs.machine.TheCore.{the_core}
 use Rattle.ps_trace.specs.Lines.{Came}
 use Rattle.ps_trace.specs.Own.{IsServed}
 use Rattle.ps_trace.specs.Words.{Note, Reply, Word, notes_in, replies_in}

@@ -7,9 +7,9 @@ use Rattle.ps_types.specs.declared.entry.Notice.{Notice}
 use Rattle.ps_types.specs.declared.jid.Jid.{Jid}
 use Rattle.ps_model.specs.declared.steps.Step.{Step}
 use Rattle.ps_model.specs.declared.steps.Step.TheVariants.{Arrive, Flush, Take, Emit, Record, Gone, Ended, Broken, Crash}
-use Rattle.ps_model.specs.Core.{Core, handed}
-use Rattle.ps_model.specs.Machine.{took, emits, records, flushes, counted, happens, run}
-use Rattle.ps_model.specs.World.{World, Said, Flight, Nothing, Unrecorded, Recorded, HostPart, AddressPart, ends, durable, more_entries, more_made, at_host, at_address}
+use Rattle.ps_model.specs.machine.Core.{Core, handed}
+use Rattle.ps_model.specs.machine.Machine.{took, emits, records, flushes, counted, happens, run}
+use Rattle.ps_model.specs.machine.World.{World, Said, Flight, Nothing, Unrecorded, Recorded, HostPart, AddressPart, ends, durable, more_entries, more_made, at_host, at_address}
 use Rattle.ps_world.proofs.Lists.{nil-right, assoc, ends-before}
 use Rattle.ps_world.specs.Calm.{IsCalm, AreCalm, Follows}
 

@@ -12,9 +12,9 @@ use Rattle.ps_model.specs.declared.steps.Step.{Step}
 use Rattle.ps_model.specs.declared.steps.Step.TheVariants.{Arrive, Flush, Take, Emit, Record, Gone, Ended, Broken, Crash}
 use Rattle.ps_model.specs.declared.steps.Role.{Role}
 use Rattle.ps_model.specs.declared.steps.Role.TheVariants.{Reader, Writer}
-use Rattle.ps_model.specs.Core.{Core, handed}
-use Rattle.ps_model.specs.World.{Said, Flight, Nothing, Unrecorded, Recorded, HostPart, AddressPart, World, at_address, at_host, durable, ends, more_entries, more_made, with_entry}
-use Rattle.ps_model.specs.Machine.{answered, counted, crashes, emits, ends_role, flushes, happens, records, took}
+use Rattle.ps_model.specs.machine.Core.{Core, handed}
+use Rattle.ps_model.specs.machine.World.{Said, Flight, Nothing, Unrecorded, Recorded, HostPart, AddressPart, World, at_address, at_host, durable, ends, more_entries, more_made, with_entry}
+use Rattle.ps_model.specs.machine.Machine.{answered, counted, crashes, emits, ends_role, flushes, happens, records, took}
 use Rattle.ps_world.specs.Sound.{Sound, as_list}
 use Rattle.ps_world.proofs.Kept.{chosen}
 use Rattle.ps_world.proofs.Lists.{ends-before, ends-mono, get-snoc, nil-right, take-front}

@@ -9,8 +9,8 @@ use Rattle.ps_types.specs.declared.entry.Entry.TheVariants.{Boot, Change, Handed
 use Rattle.ps_types.specs.Same.{same_jid}
 use Rattle.std.proofs.lemmas.Bool.{cases_lt}
 use Rattle.ps_types.proofs.Same.{same_jid-Decides}
-use Rattle.ps_model.specs.Core.{Core, handed}
-use Rattle.ps_model.specs.CoreLaws.{Laws, IsLawful, HasBoot}
+use Rattle.ps_model.specs.machine.Core.{Core, handed}
+use Rattle.ps_model.specs.machine.CoreLaws.{Laws, IsLawful, HasBoot}
 use Rattle.ps_world.proofs.Lists.{get-snoc, get-take, take-front, take-both, take-whole, length-front, length-take-le, take-drop, front-more, assoc, nil-right}
 
 within : (k n : ℕ) → (k < n) ⊎ (n ≤ k)

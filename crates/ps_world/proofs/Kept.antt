@@ -47,10 +47,28 @@ use Rattle.ps_model.specs.declared.steps.Step.{Step}
 use Rattle.ps_model.specs.declared.steps.Step.TheVariants.{Arrive, Flush, Take, Emit, Record, Gone, Ended, Broken, Crash}
 use Rattle.ps_model.specs.declared.steps.Role.{Role}
 use Rattle.ps_model.specs.declared.steps.Role.TheVariants.{Reader, Writer}
-use Rattle.ps_model.specs.Core.{Core, handed}
-use Rattle.ps_model.specs.CoreLaws.{Laws, IsLawful, HasBoot}
-use Rattle.ps_model.specs.World.{Said, Flight, Nothing, Unrecorded, Recorded, HostPart, AddressPart, World, ends, durable, with_entry, at_host, at_address, host_with, address_with, all_taken, zeros}
-use Rattle.ps_model.specs.Machine.{answered, landed, flushes, took, emits, records, ends_role, crashes, counted, happens, run, start, world}
+use Rattle.ps_model.specs.machine.Core.{Core, handed}
+use Rattle.ps_model.specs.machine.CoreLaws.{Laws, IsLawful, HasBoot}
+use Rattle.ps_model.specs.machine.World.{
+  Said,
+  Flight,
+  Nothing,
+  Unrecorded,
+  Recorded,
+  HostPart,
+  AddressPart,
+  World,
+  ends,
+  durable,
+  with_entry,
+  at_host,
+  at_address,
+  host_with,
+  address_with,
+  all_taken,
+  zeros,
+}
+use Rattle.ps_model.specs.machine.Machine.{answered, landed, flushes, took, emits, records, ends_role, crashes, counted, happens, run, start, world}
 use Rattle.ps_world.specs.Sound.{IsAnswer, IsSaid, AreInOrder, HostSound, AddressSound, Sound, behind, IsBy, AllBy, as_list}
 use Rattle.ps_world.proofs.Lists.{get-snoc, take-whole, length-front, ends-le, ends-mono, ends-all, by-more, by-snoc, by-take, piece-more}
 use Rattle.ps_world.proofs.Grows.{boot-front, boot-last, handed-append, notices-take, notice-within, lawful-take, lawful-snoc, handed-few}

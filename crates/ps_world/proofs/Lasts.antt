@@ -5,11 +5,11 @@ use Rattle.ps_types.specs.declared.jid.Jid.{Jid}
 use Rattle.ps_types.specs.declared.entry.Notice.{Notice}
 use Rattle.ps_types.specs.declared.entry.Entry.{Entry}
 use Rattle.ps_types.specs.declared.entry.Entry.TheVariants.{Boot}
-use Rattle.ps_model.specs.Core.{Core, handed}
-use Rattle.ps_model.specs.CoreLaws.{IsLawful, Laws}
+use Rattle.ps_model.specs.machine.Core.{Core, handed}
+use Rattle.ps_model.specs.machine.CoreLaws.{IsLawful, Laws}
 use Rattle.ps_model.specs.declared.steps.Step.{Step}
-use Rattle.ps_model.specs.World.{Flight, HostPart, Nothing, Recorded, Said, Unrecorded, World, ends}
-use Rattle.ps_model.specs.Machine.{counted, crashes, happens, run, start, world}
+use Rattle.ps_model.specs.machine.World.{Flight, HostPart, Nothing, Recorded, Said, Unrecorded, World, ends}
+use Rattle.ps_model.specs.machine.Machine.{counted, crashes, happens, run, start, world}
 use Rattle.ps_world.specs.Holds.{AreRounds}
 use Rattle.ps_world.specs.Lasting.{HostLasts, IsLasting, Lasting}
 use Rattle.ps_world.specs.Sound.{IsAnswer, Sound, behind}

@@ -4,9 +4,9 @@ use Rattle.std.proofs.lemmas.Bool.{cases_lt}
 use Rattle.ps_types.specs.declared.jid.Jid.{Jid}
 use Rattle.ps_types.specs.declared.entry.Notice.{Notice}
 use Rattle.ps_types.specs.declared.entry.Entry.{Entry}
-use Rattle.ps_model.specs.Core.{Core, handed}
-use Rattle.ps_model.specs.CoreLaws.{Laws}
-use Rattle.ps_model.specs.World.{Said, Flight, HostPart, AddressPart, ends}
+use Rattle.ps_model.specs.machine.Core.{Core, handed}
+use Rattle.ps_model.specs.machine.CoreLaws.{Laws}
+use Rattle.ps_model.specs.machine.World.{Said, Flight, HostPart, AddressPart, ends}
 use Rattle.ps_world.specs.Sound.{IsAnswer, IsSaid, HostSound, AddressSound, behind, IsBy, AllBy, as_list}
 use Rattle.ps_world.proofs.Lists.{take-front, take-whole, ends-le, ends-mono, nil-right, ends-all, ends-before, by-more, by-snoc, piece-front}
 use Rattle.ps_world.proofs.Grows.{begins, notices-take, notices-mono}

@@ -8,10 +8,10 @@ use Rattle.ps_types.specs.declared.entry.Notice.{Notice}
 use Rattle.ps_types.specs.declared.entry.Entry.TheVariants.{Boot}
 use Rattle.ps_model.specs.declared.steps.Step.{Step}
 use Rattle.ps_model.specs.declared.steps.Step.TheVariants.{Arrive, Flush, Take, Emit, Record, Gone, Ended, Broken, Crash}
-use Rattle.ps_model.specs.Core.{Core, handed}
-use Rattle.ps_model.specs.CoreLaws.{Laws, IsLawful}
-use Rattle.ps_model.specs.World.{Said, Flight, Nothing, Unrecorded, Recorded, World, ends, durable, at_host, at_address}
-use Rattle.ps_model.specs.Machine.{took, emits, records, flushes, counted, crashes, effect, happens, run, start, world}
+use Rattle.ps_model.specs.machine.Core.{Core, handed}
+use Rattle.ps_model.specs.machine.CoreLaws.{Laws, IsLawful}
+use Rattle.ps_model.specs.machine.World.{Said, Flight, Nothing, Unrecorded, Recorded, World, ends, durable, at_host, at_address}
+use Rattle.ps_model.specs.machine.Machine.{took, emits, records, flushes, counted, crashes, effect, happens, run, start, world}
 use Rattle.ps_world.specs.Sound.{IsAnswer, Sound, as_list}
 use Rattle.ps_world.specs.Holds.{AreRounds, CrashHolds, IsReleased, IsSaidIn, StillHolds, WorldHolds, sent_count}
 use Rattle.ps_world.specs.Lasting.{Lasting}

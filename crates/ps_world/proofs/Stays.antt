@@ -4,11 +4,11 @@ use Rattle.std.specs.List.{flat_map}
 use Rattle.ps_types.specs.declared.jid.Jid.{Jid}
 use Rattle.ps_types.specs.declared.entry.Notice.{Notice}
 use Rattle.ps_types.specs.declared.entry.Entry.TheVariants.{Boot}
-use Rattle.ps_model.specs.Core.{Core}
-use Rattle.ps_model.specs.CoreLaws.{Laws}
+use Rattle.ps_model.specs.machine.Core.{Core}
+use Rattle.ps_model.specs.machine.CoreLaws.{Laws}
 use Rattle.ps_model.specs.declared.steps.Step.{Step}
-use Rattle.ps_model.specs.World.{Said, World, all_sent, all_taken, durable, ends}
-use Rattle.ps_model.specs.Machine.{counted, crashes, happens, run}
+use Rattle.ps_model.specs.machine.World.{Said, World, all_sent, all_taken, durable, ends}
+use Rattle.ps_model.specs.machine.Machine.{counted, crashes, happens, run}
 use Rattle.ps_world.specs.Sound.{Sound}
 use Rattle.ps_world.proofs.Goes.{Goes, goes-or-crashes}
 use Rattle.ps_world.proofs.Kept.{happens_kept}

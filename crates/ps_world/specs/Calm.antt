@@ -3,7 +3,7 @@ use Rattle.std.specs.Prelude.{◌≡◌, ℕ, ◌≤◌, ◌++◌, ◌∷◌, []
 use Rattle.ps_types.specs.declared.entry.Entry.{Entry}
 use Rattle.ps_model.specs.declared.steps.Step.{Step}
 use Rattle.ps_model.specs.declared.steps.Step.TheVariants.{Arrive, Flush, Take, Emit, Record, Gone, Ended, Broken, Crash}
-use Rattle.ps_model.specs.World.{World, ends}
+use Rattle.ps_model.specs.machine.World.{World, ends}
 
 abbrev pub IsCalm : Step → Type 0
 IsCalm (Arrive h arrival full) = Unit {0}

@@ -2,8 +2,8 @@
 use Rattle.std.specs.Prelude.{◌≡◌, ℕ, ◌<◌, ◌≤◌, List, length, take, Some, slice_get}
 use Rattle.ps_types.specs.declared.entry.Entry.{Entry}
 use Rattle.ps_types.specs.declared.jid.Jid.{Jid}
-use Rattle.ps_model.specs.Core.{Core, handed}
-use Rattle.ps_model.specs.World.{HostPart, Said, World}
+use Rattle.ps_model.specs.machine.Core.{Core, handed}
+use Rattle.ps_model.specs.machine.World.{HostPart, Said, World}
 use Rattle.ps_world.specs.Holds.{AreRounds}
 use Rattle.ps_world.specs.Sound.{IsAnswer}
 

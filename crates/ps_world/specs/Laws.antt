@@ -4,9 +4,9 @@ use Rattle.ps_types.specs.declared.entry.Entry.{Entry}
 use Rattle.ps_types.specs.declared.entry.Entry.TheVariants.{Boot}
 use Rattle.ps_model.specs.declared.steps.Step.{Step}
 use Rattle.ps_model.specs.declared.steps.Step.TheVariants.{Crash}
-use Rattle.ps_model.specs.Core.{Core}
-use Rattle.ps_model.specs.CoreLaws.{IsLawful}
-use Rattle.ps_model.specs.Machine.{world}
+use Rattle.ps_model.specs.machine.Core.{Core}
+use Rattle.ps_model.specs.machine.CoreLaws.{IsLawful}
+use Rattle.ps_model.specs.machine.Machine.{world}
 use Rattle.ps_world.specs.Holds.{CrashHolds, StillHolds, WorldHolds}
 
 -- begun with a lawful list and a boot of the service, what is said and sent after these steps is what the list says

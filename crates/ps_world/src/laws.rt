@@ -1,10 +1,10 @@
 // The laws of the machine. Each function is its contract.
 ghost use Rattle.std.specs.Prelude.{ℕ, List};
-ghost use Rattle.ps_model.specs.Core.{Core};
-ghost use Rattle.ps_model.specs.CoreLaws.{Laws};
-ghost use Rattle.ps_model.specs.Machine.{run};
-ghost use Rattle.ps_model.specs.TheCore.{the_core};
-ghost use Rattle.ps_model.specs.World.{World};
+ghost use Rattle.ps_model.specs.machine.Core.{Core};
+ghost use Rattle.ps_model.specs.machine.CoreLaws.{Laws};
+ghost use Rattle.ps_model.specs.machine.Machine.{run};
+ghost use Rattle.ps_model.specs.machine.TheCore.{the_core};
+ghost use Rattle.ps_model.specs.machine.World.{World};
 ghost use Rattle.ps_model.specs.declared.steps.Step.{Step};
 ghost use Rattle.ps_world.specs.Calm.{AreCalm, Follows};
 ghost use Rattle.ps_world.specs.Laws.{EachCrashHolds, EachRunHolds, EachStepStays};

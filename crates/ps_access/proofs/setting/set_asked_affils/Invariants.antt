@@ -1,5 +1,5 @@
 use Rattle.std.proofs.Common.{◌≡◌, take}
-use Rattle.ps_model.specs.ChangeOwner.{affils_asked}
+use Rattle.ps_model.specs.requests.ChangeOwner.{affils_asked}
 use Rattle.ps_access.proofs.setting.set_asked_affils.Given as goal
 
 abbrev pub invariant-loop-row : goal.invariant-loop-row

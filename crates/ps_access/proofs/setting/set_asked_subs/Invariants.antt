@@ -1,5 +1,5 @@
 use Rattle.std.proofs.Common.{◌≡◌, take}
-use Rattle.ps_model.specs.ChangeOwner.{subs_asked}
+use Rattle.ps_model.specs.requests.ChangeOwner.{subs_asked}
 use Rattle.ps_access.proofs.setting.set_asked_subs.Given as goal
 
 abbrev pub invariant-loop-row : goal.invariant-loop-row

@@ -33,8 +33,11 @@ returns-clause-chained c =
     let set = c.set.ensures.links ∙ (ap (λ e. set_at e.last c.to.result c.args.nexts.now.items) at ∙ ap (λ o. set_at last.last o c.args.nexts.now.items) (c.to.ensures ∙ ap Some place)) in
     let next = c.add.ensures.items ∙ (ap (λ o. c.set.new.links.items ++ o ∷ []) c.none.ensures ∙ ap (λ l. l ++ None ∷ []) set) in
     let prior = c.add-2.ensures.items ∙ ap (λ e. c.args.priors.now.items ++ e.last ∷ []) at in
-    let few : length c.put.new.ends.entries ≤ length c.args.ends.now.entries + 1 = subst (λ n. n ≤ length c.args.ends.now.entries + 1) (sym c.put.ensures.few) (one_more _ (length c.args.ends.now.entries)) in
-    linked rows c.args.nexts.now.items c.args.priors.now.items c.args.ends.now c.put.new.ends c.args.digest c.requires.chained c.add-3.new.items.items c.add.new.items.items c.add-2.new.items.items mark next prior (λ q. c.put.ensures.ends q ∙ ap (λ e. cond (nat_eq c.args.digest q) e (ends_at q c.args.ends.now.entries)) ends) few c.put.ensures.room (omega (arith, c.requires.room)) (omega (arith, c.requires.room))
+    let few : length c.put.new.ends.entries ≤ length c.args.ends.now.entries + 1 = subst (λ n. n ≤ length c.args.ends.now.entries + 1) (sym c.put.ensures.few)
+    (one_more _ (length c.args.ends.now.entries)) in
+    linked rows c.args.nexts.now.items c.args.priors.now.items c.args.ends.now c.put.new.ends c.args.digest c.requires.chained c.add-3.new.items.items c.add.new.items.items c.add-2.new.items.items
+    mark next prior (λ q. c.put.ensures.ends q ∙ ap (λ e. cond (nat_eq c.args.digest q) e (ends_at q c.args.ends.now.entries)) ends) few c.put.ensures.room (omega (arith, c.requires.room))
+    (omega (arith, c.requires.room))
 
 pub returns-clause-room : goal.returns-clause-room
 returns-clause-room c =

@@ -6,4 +6,5 @@ pub returns-then-is_child : goal.returns-then-is_child
 returns-then-is_child c = either-then (is_link_of c.args.node.now) (is_link_to c.args.node.now) c.args.rows.now.rows c.is_child.result c.is_child.ensures c.if-is_child.true
 
 pub returns-else-is_child : goal.returns-else-is_child
-returns-else-is_child c = either-else (is_link_of c.args.node.now) (is_link_to c.args.node.now) c.args.rows.now.rows c.is_child.result c.has_child.result c.is_child.ensures c.if-is_child.false c.has_child.ensures
+returns-else-is_child c = either-else (is_link_of c.args.node.now) (is_link_to c.args.node.now) c.args.rows.now.rows c.is_child.result c.has_child.result c.is_child.ensures c.if-is_child.false
+    c.has_child.ensures

@@ -11,4 +11,5 @@ pub take_away-requires-2 : goal.take_away-requires-2
 take_away-requires-2 c = record { asks = under c.args.node.now }
 
 pub returns-clause-rows : goal.returns-clause-rows
-returns-clause-rows c = c.take_away-2.ensures.rows ∙ (ap (without (is_link_to c.args.node.now)) c.take_away.ensures.rows ∙ without-either (is_link_of c.args.node.now) (is_link_to c.args.node.now) c.args.rows.now.rows)
+returns-clause-rows c = c.take_away-2.ensures.rows ∙ (ap (without (is_link_to c.args.node.now)) c.take_away.ensures.rows ∙ without-either (is_link_of c.args.node.now) (is_link_to c.args.node.now)
+    c.args.rows.now.rows)

@@ -1,7 +1,7 @@
 use Rattle.std.proofs.Common.{◌≡◌, inl, inr, ℕ, refl, sym, subst, ◌∙◌}
 use Rattle.std.specs.Prelude.{IfErr, IfOk}
 use Rattle.ps_disk.proofs.Moments.{started}
-use Rattle.ps_model.specs.At.{IsDamagedAt, IsStore}
+use Rattle.ps_model.specs.store.At.{IsDamagedAt, IsStore}
 use Rattle.ps_hall_open.specs.Reads.{ListIsKept, ReadNot, entries_of}
 use Rattle.ps_compact.specs.Compacted.{IfDamaged, LeftEmptyOrBase, NewStays}
 use Rattle.ps_compact.proofs.Endings.{

@@ -3,7 +3,7 @@ use Rattle.std.specs.Prelude.{OnOk}
 use Rattle.ps_disk.specs.Disk.{LeavesOnly}
 use Rattle.ps_disk.proofs.Moments.{started}
 use Rattle.ps_journal.specs.Left.{LeavesList}
-use Rattle.ps_model.specs.Base.{base}
+use Rattle.ps_model.specs.store.Base.{base}
 use Rattle.ps_hall_open.specs.Reads.{entries_of}
 use Rattle.ps_types.specs.declared.entry.Entry.{Entry}
 use Rattle.ps_compact.specs.Stores.{IsWrittenNew, LeftEmptyOrWhole}

@@ -1,8 +1,8 @@
 use Rattle.std.proofs.Common.{List, ℕ, [], Result, Err, ap, sym, subst}
 use Rattle.std.specs.Prelude.{OnOk}
 use Rattle.ps_journal.specs.Opened.{IsShortIfUnbegun}
-use Rattle.ps_model.specs.Base.{base}
-use Rattle.ps_model.specs.Store.{spelled}
+use Rattle.ps_model.specs.store.Base.{base}
+use Rattle.ps_model.specs.store.Store.{spelled}
 use Rattle.ps_hall_open.specs.Reads.{entries_of}
 use Rattle.ps_compact.specs.Stores.{IsWrittenNew}
 use Rattle.ps_compact.specs.declared.writing.WriteWhy.{WriteWhy}

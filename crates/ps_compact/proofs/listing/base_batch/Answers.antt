@@ -2,9 +2,9 @@ use Rattle.std.proofs.Common.{◌≡◌, ◌<◌, ◌^◌, List, length, refl, s
 use Rattle.std.specs.Prelude.{IfOk, map}
 use Rattle.ps_types.specs.declared.entry.Entry.{Entry}
 use Rattle.ps_compact_laws.specs.Laws.{ServesOn}
-use Rattle.ps_model.specs.Base.{base}
+use Rattle.ps_model.specs.store.Base.{base}
 use Rattle.ps_model.specs.Book.{Book}
-use Rattle.ps_model.specs.Entries.{body}
+use Rattle.ps_model.specs.store.Entries.{body}
 use Rattle.ps_hall_open.specs.Reads.{ListIsKept, entries_of}
 use Rattle.ps_hall_open.specs.declared.opened.Kept.{Kept}
 use Rattle.ps_record.specs.Formed.{AreFormed}

@@ -1,8 +1,8 @@
 use Rattle.std.proofs.Common.{[], ◌+◌, ◌^◌, length, Result, Err, ap, sym, subst, ◌∙◌}
 use Rattle.ps_disk.specs.Disk.{LeavesOnly, MayLeave}
 use Rattle.ps_journal.specs.Journal.{length_of}
-use Rattle.ps_model.specs.Entries.{body}
-use Rattle.ps_model.specs.Store.{spelled}
+use Rattle.ps_model.specs.store.Entries.{body}
+use Rattle.ps_model.specs.store.Store.{spelled}
 use Rattle.ps_compact.specs.Stores.{LeftEmptyOrWhole}
 use Rattle.ps_journal.specs.declared.journal.AppendRefusal.{AppendRefusal}
 use Rattle.ps_compact.proofs.Stores.{appended-still, no-body, not-over, still-left, then-left}

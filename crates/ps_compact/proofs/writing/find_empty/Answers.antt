@@ -1,7 +1,7 @@
 use Rattle.std.proofs.Common.{◌≡◌, [], length, sym, ap, subst, ◌∙◌, eqb-true}
 use Rattle.std.proofs.lemmas.Bool.{eqb-false}
 use Rattle.ps_journal.specs.Places.{entries_in}
-use Rattle.ps_model.specs.Store.{spelled}
+use Rattle.ps_model.specs.store.Store.{spelled}
 use Rattle.ps_compact.specs.declared.writing.WriteWhy.TheVariants.{Occupied}
 use Rattle.ps_compact.proofs.Stores.{is-some, none-long, not-empty, opened-spells}
 use Rattle.ps_compact.proofs.writing.find_empty.Goals as goal

@@ -1,7 +1,7 @@
 use Rattle.std.proofs.Common.{◌≡◌, [], length, sym, ap, subst, ◌∙◌, arith, eqb-true}
 use Rattle.std.proofs.lemmas.Bool.{eqb-false}
 use Rattle.ps_disk.specs.Disk.{LeavesOnly}
-use Rattle.ps_model.specs.Store.{spelled}
+use Rattle.ps_model.specs.store.Store.{spelled}
 use Rattle.ps_compact.specs.Stores.{LeftEmptyOrWhole}
 use Rattle.ps_journal.specs.Journal.{Has, Keeps}
 use Rattle.ps_journal.specs.Places.{entries_in}

@@ -3,7 +3,7 @@ use Rattle.std.specs.Prelude.{codes}
 use Rattle.ps_types.specs.Elem.{nodes}
 use Rattle.ps_types.specs.Shape.{attr_text}
 use Rattle.ps_forms.proofs.Children.{named}
-use Rattle.ps_model.specs.BaseRows.{base_ns}
+use Rattle.ps_model.specs.store.BaseRows.{base_ns}
 use Rattle.ps_compact_codec.specs.Kinds.{features_in}
 use Rattle.ps_compact_codec.proofs.parts.features_of.Given as goal
 

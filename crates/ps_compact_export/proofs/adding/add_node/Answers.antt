@@ -1,7 +1,7 @@
 use Rattle.std.proofs.Common.{◌≡◌, ◌++◌, ◌∷◌, [], subst}
 use Rattle.std.specs.Prelude.{OnOk}
 use Rattle.ps_types.specs.declared.entry.Entry.TheVariants as entry
-use Rattle.ps_model.specs.Base.{unlinked}
+use Rattle.ps_model.specs.store.Base.{unlinked}
 use Rattle.ps_compact_export.specs.Written.{if_written}
 use Rattle.ps_compact_export.proofs.adding.add_node.Goals as goal
 

@@ -1,4 +1,4 @@
-use Rattle.ps_model.specs.Base.{unlinked}
+use Rattle.ps_model.specs.store.Base.{unlinked}
 use Rattle.ps_compact_export.proofs.Rows.{row-more}
 use Rattle.ps_compact_export.proofs.adding.add_nodes.Goals as goal
 

@@ -1,5 +1,5 @@
 use Rattle.std.proofs.Common.{◌≡◌, ◌++◌, take}
-use Rattle.ps_model.specs.Base.{unlinked}
+use Rattle.ps_model.specs.store.Base.{unlinked}
 use Rattle.ps_compact_export.specs.Written.{all_written}
 use Rattle.ps_compact_export.proofs.adding.add_nodes.Given as goal
 

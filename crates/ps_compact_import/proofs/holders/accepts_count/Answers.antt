@@ -1,7 +1,7 @@
 use Rattle.std.proofs.Common.{Bool, sym, ap, ◌∙◌}
 use Rattle.std.specs.Prelude.{◌&&◌}
-use Rattle.ps_model.specs.BaseAfter.{has_place}
-use Rattle.ps_model.specs.BaseRows as base
+use Rattle.ps_model.specs.store.BaseAfter.{has_place}
+use Rattle.ps_model.specs.store.BaseRows as base
 use Rattle.ps_access.specs.Tables.{book_of}
 use Rattle.ps_compact_import.specs.States.{state_at}
 use Rattle.ps_compact_import.proofs.holders.accepts_count.Goals as goal

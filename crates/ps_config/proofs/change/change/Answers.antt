@@ -12,12 +12,14 @@ use Rattle.ps_config.proofs.change.change.Goals as goal
 pub returns-in-DeliverPayloads-clause-ok : goal.returns-in-DeliverPayloads-clause-ok
 unfolding row_of
 returns-in-DeliverPayloads-clause-ok c =
-    put-row (λ (x : Bool). record c.args.config.now { deliver_payloads = x }) row.DeliverPayloads _ _ _ _ c.in-DeliverPayloads.is c.boolean_in-in-DeliverPayloads.ensures refl c.put-in-DeliverPayloads.ensures.ok
+    put-row (λ (x : Bool). record c.args.config.now { deliver_payloads = x }) row.DeliverPayloads _ _ _ _ c.in-DeliverPayloads.is c.boolean_in-in-DeliverPayloads.ensures refl
+    c.put-in-DeliverPayloads.ensures.ok
 
 pub returns-in-DeliverPayloads-clause-bad : goal.returns-in-DeliverPayloads-clause-bad
 unfolding row_of
 returns-in-DeliverPayloads-clause-bad c =
-    refused-row (λ (x : Bool). record c.args.config.now { deliver_payloads = x }) row.DeliverPayloads _ _ c.in-DeliverPayloads.is c.boolean_in-in-DeliverPayloads.ensures refl c.put-in-DeliverPayloads.ensures.bad
+    refused-row (λ (x : Bool). record c.args.config.now { deliver_payloads = x }) row.DeliverPayloads _ _ c.in-DeliverPayloads.is c.boolean_in-in-DeliverPayloads.ensures refl
+    c.put-in-DeliverPayloads.ensures.bad
 
 pub returns-in-NotifyConfig-clause-ok : goal.returns-in-NotifyConfig-clause-ok
 unfolding row_of
@@ -47,7 +49,8 @@ returns-in-NotifyRetract-clause-ok c =
 pub returns-in-NotifyRetract-clause-bad : goal.returns-in-NotifyRetract-clause-bad
 unfolding row_of
 returns-in-NotifyRetract-clause-bad c =
-    refused-row (λ (x : Bool). record c.args.config.now { notify_retract = x }) row.NotifyRetract _ _ c.in-NotifyRetract.is c.boolean_in-in-NotifyRetract.ensures refl c.put-in-NotifyRetract.ensures.bad
+    refused-row (λ (x : Bool). record c.args.config.now { notify_retract = x }) row.NotifyRetract _ _ c.in-NotifyRetract.is c.boolean_in-in-NotifyRetract.ensures refl
+    c.put-in-NotifyRetract.ensures.bad
 
 pub returns-in-PersistItems-clause-ok : goal.returns-in-PersistItems-clause-ok
 unfolding row_of
@@ -92,22 +95,26 @@ returns-in-PublishModel-clause-bad c =
 pub returns-in-SendLastPublishedItem-clause-ok : goal.returns-in-SendLastPublishedItem-clause-ok
 unfolding row_of
 returns-in-SendLastPublishedItem-clause-ok c =
-    put-row (λ (x : SendLast). record c.args.config.now { send_last_published_item = x }) row.SendLastPublishedItem _ _ _ _ c.in-SendLastPublishedItem.is c.send_in.ensures refl c.put-in-SendLastPublishedItem.ensures.ok
+    put-row (λ (x : SendLast). record c.args.config.now { send_last_published_item = x }) row.SendLastPublishedItem _ _ _ _ c.in-SendLastPublishedItem.is c.send_in.ensures refl
+    c.put-in-SendLastPublishedItem.ensures.ok
 
 pub returns-in-SendLastPublishedItem-clause-bad : goal.returns-in-SendLastPublishedItem-clause-bad
 unfolding row_of
 returns-in-SendLastPublishedItem-clause-bad c =
-    refused-row (λ (x : SendLast). record c.args.config.now { send_last_published_item = x }) row.SendLastPublishedItem _ _ c.in-SendLastPublishedItem.is c.send_in.ensures refl c.put-in-SendLastPublishedItem.ensures.bad
+    refused-row (λ (x : SendLast). record c.args.config.now { send_last_published_item = x }) row.SendLastPublishedItem _ _ c.in-SendLastPublishedItem.is c.send_in.ensures refl
+    c.put-in-SendLastPublishedItem.ensures.bad
 
 pub returns-in-PresenceBasedDelivery-clause-ok : goal.returns-in-PresenceBasedDelivery-clause-ok
 unfolding row_of
 returns-in-PresenceBasedDelivery-clause-ok c =
-    put-row (λ (x : Bool). record c.args.config.now { presence_based_delivery = x }) row.PresenceBasedDelivery _ _ _ _ c.in-PresenceBasedDelivery.is c.boolean_in-in-PresenceBasedDelivery.ensures refl c.put-in-PresenceBasedDelivery.ensures.ok
+    put-row (λ (x : Bool). record c.args.config.now { presence_based_delivery = x }) row.PresenceBasedDelivery _ _ _ _ c.in-PresenceBasedDelivery.is c.boolean_in-in-PresenceBasedDelivery.ensures refl
+    c.put-in-PresenceBasedDelivery.ensures.ok
 
 pub returns-in-PresenceBasedDelivery-clause-bad : goal.returns-in-PresenceBasedDelivery-clause-bad
 unfolding row_of
 returns-in-PresenceBasedDelivery-clause-bad c =
-    refused-row (λ (x : Bool). record c.args.config.now { presence_based_delivery = x }) row.PresenceBasedDelivery _ _ c.in-PresenceBasedDelivery.is c.boolean_in-in-PresenceBasedDelivery.ensures refl c.put-in-PresenceBasedDelivery.ensures.bad
+    refused-row (λ (x : Bool). record c.args.config.now { presence_based_delivery = x }) row.PresenceBasedDelivery _ _ c.in-PresenceBasedDelivery.is c.boolean_in-in-PresenceBasedDelivery.ensures refl
+    c.put-in-PresenceBasedDelivery.ensures.bad
 
 pub returns-in-NotificationType-clause-ok : goal.returns-in-NotificationType-clause-ok
 unfolding row_of
@@ -117,7 +124,8 @@ returns-in-NotificationType-clause-ok c =
 pub returns-in-NotificationType-clause-bad : goal.returns-in-NotificationType-clause-bad
 unfolding row_of
 returns-in-NotificationType-clause-bad c =
-    refused-row (λ (x : NoticeKind). record c.args.config.now { notification_type = x }) row.NotificationType _ _ c.in-NotificationType.is c.notice_in.ensures refl c.put-in-NotificationType.ensures.bad
+    refused-row (λ (x : NoticeKind). record c.args.config.now { notification_type = x }) row.NotificationType _ _ c.in-NotificationType.is c.notice_in.ensures refl
+    c.put-in-NotificationType.ensures.bad
 
 pub returns-in-MaxPayloadSize-clause-ok : goal.returns-in-MaxPayloadSize-clause-ok
 unfolding row_of

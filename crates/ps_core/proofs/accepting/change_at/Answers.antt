@@ -1,7 +1,7 @@
 use Rattle.std.proofs.Common.{sym, ◌∙◌}
 use Rattle.std.specs.Prelude.{◌&&◌}
 use Rattle.ps_model.specs.Replay.{is_booted, request_accepted}
-use Rattle.ps_model.specs.Taking.{request_in, tree_taken}
+use Rattle.ps_model.specs.requests.Taking.{request_in, tree_taken}
 use Rattle.ps_model.specs.Tallies.{is_next_line}
 use Rattle.ps_core.specs.States.{state_of}
 use Rattle.ps_core.proofs.Both.{not_right}

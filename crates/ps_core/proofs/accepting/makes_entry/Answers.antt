@@ -1,9 +1,9 @@
 use Rattle.std.proofs.Common.{◌≡◌, false, refl, sym, subst}
 use Rattle.std.specs.Prelude.{◌&&◌}
 use Rattle.ps_access.specs.Tables.{book_of}
-use Rattle.ps_model.specs.Check.{check}
-use Rattle.ps_model.specs.Commits.{commits}
-use Rattle.ps_model.specs.Outcome.{Outcome, is_accepted}
+use Rattle.ps_model.specs.requests.Check.{check}
+use Rattle.ps_model.specs.requests.Commits.{commits}
+use Rattle.ps_model.specs.requests.Outcome.{Outcome, is_accepted}
 use Rattle.ps_core.proofs.Answered.{is_accepted as is_planned, is_denied}
 use Rattle.ps_core.proofs.accepting.makes_entry.Goals as goal
 

@@ -2,9 +2,9 @@ use Rattle.std.proofs.Common.{◌≡◌, sym, ◌∙◌, subst}
 use Rattle.std.specs.Prelude.{◌&&◌, Bool, false, true, IfOk}
 use Rattle.ps_types.specs.declared.entry.Entry.TheVariants.{Change}
 use Rattle.ps_access.specs.Tables.{book_of}
-use Rattle.ps_model.specs.Check.{check}
-use Rattle.ps_model.specs.Commits.{commits}
-use Rattle.ps_model.specs.Outcome.{Outcome, accepted}
+use Rattle.ps_model.specs.requests.Check.{check}
+use Rattle.ps_model.specs.requests.Commits.{commits}
+use Rattle.ps_model.specs.requests.Outcome.{Outcome, accepted}
 use Rattle.ps_model.specs.Replies.{outcome_reply, outcome_entry}
 use Rattle.ps_core.specs.Answers.{full_by}
 use Rattle.ps_core.proofs.Answered.{is_denied, is_accepted, accepted_here, entry_here, full_here, if_ok}

@@ -3,7 +3,7 @@ use Rattle.std.specs.Prelude.{◌^◌, Option, Some}
 use Rattle.ps_types.specs.declared.entry.Entry.{Entry}
 use Rattle.ps_types.specs.declared.entry.Entry.TheVariants.{Base, Change}
 use Rattle.ps_types.specs.declared.request.Request.{Request}
-use Rattle.ps_model.specs.BaseRead.{row_of}
+use Rattle.ps_model.specs.store.BaseRead.{row_of}
 use Rattle.ps_book_laws.specs.Addressed.{IsTimely}
 use Rattle.ps_core.specs.Requests.{IsRequestOf}
 use Rattle.ps_core.specs.States.{Part, fits_book, part_after, part_of}

@@ -1,7 +1,7 @@
 use Rattle.std.proofs.Common.{◌≡◌, Option, Some, subst}
 use Rattle.std.specs.Prelude.{IfOk, option_map}
-use Rattle.ps_model.specs.BaseRows.{BaseRow}
-use Rattle.ps_model.specs.Numbered.{row_notices}
+use Rattle.ps_model.specs.store.BaseRows.{BaseRow}
+use Rattle.ps_model.specs.notices.Numbered.{row_notices}
 use Rattle.ps_compact_codec.specs.Held.{held_row_of}
 use Rattle.ps_compact_codec.specs.Said.{row_said}
 use Rattle.ps_compact_codec.specs.declared.row.StoredRow.{StoredRow}

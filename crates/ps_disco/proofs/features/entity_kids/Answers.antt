@@ -1,7 +1,7 @@
 use Rattle.std.proofs.Common.{rules, ◌≡◌, ◌++◌, ◌∷◌, [], true, ap, map, ◌∙◌}
 use Rattle.ps_types.specs.declared.tree.Child.TheVariants as child
 use Rattle.ps_types.specs.Elem.{nodes}
-use Rattle.ps_model.specs.Discovery.{all_features, entity_type, identity_tree}
+use Rattle.ps_model.specs.requests.Discovery.{all_features, entity_type, identity_tree}
 use Rattle.ps_disco.specs.Features.{offered_children}
 use Rattle.ps_disco.proofs.Offered.{entity-children}
 use Rattle.ps_disco.proofs.features.entity_kids.Goals as goal

@@ -1,6 +1,6 @@
 use Rattle.std.proofs.Common.{rules, ◌≡◌, ap, ◌∙◌}
 use Rattle.ps_types.specs.Elem.{nodes}
-use Rattle.ps_model.specs.Discovery.{is_held_by}
+use Rattle.ps_model.specs.requests.Discovery.{is_held_by}
 use Rattle.ps_access.specs.Tables.{book_of}
 use Rattle.ps_nodes.proofs.Places.{places-listed}
 use Rattle.ps_nodes.specs.Places.{rows_at}

@@ -4,8 +4,8 @@ use Rattle.ps_types.specs.declared.rows.NodeRow.{NodeRow}
 use Rattle.ps_types.specs.Nodes.{node_at}
 use Rattle.ps_types.specs.Tree.{Tree}
 use Rattle.ps_model.specs.Book.{Book}
-use Rattle.ps_model.specs.ChangeNodes.{new_node}
-use Rattle.ps_model.specs.ChangePublish.{published, published_by}
+use Rattle.ps_model.specs.requests.ChangeNodes.{new_node}
+use Rattle.ps_model.specs.requests.ChangePublish.{published, published_by}
 use Rattle.ps_access.specs.Tables.{book_of}
 use Rattle.ps_effects.proofs.Made.{made-last}
 use Rattle.ps_effects.proofs.publishing.publish_made.Goals as goal

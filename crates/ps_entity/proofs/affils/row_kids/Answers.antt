@@ -1,7 +1,7 @@
 use Rattle.std.proofs.Common.{arith, ◌≡◌, map, ap, ◌∙◌}
 use Rattle.std.proofs.lemmas.Grind.{common_steps}
 use Rattle.ps_types.specs.Elem.{nodes}
-use Rattle.ps_model.specs.Children.{own_affil_tree}
+use Rattle.ps_model.specs.requests.Children.{own_affil_tree}
 use Rattle.ps_forms.proofs.Printed.{trees, nodes-trees}
 use Rattle.ps_entity.proofs.affils.row_kids.Goals as goal
 

@@ -2,7 +2,7 @@ use Rattle.std.proofs.Common.{ap, ◌∙◌}
 use Rattle.std.specs.Prelude.{Option}
 use Rattle.ps_types.specs.CapString.{info_of}
 use Rattle.ps_model.specs.Book.{Book}
-use Rattle.ps_model.specs.ChangeRouter.{is_usable}
+use Rattle.ps_model.specs.requests.ChangeRouter.{is_usable}
 use Rattle.ps_access.specs.Tables.{book_of}
 use Rattle.ps_request_parts.specs.declared.answers.Answered.{Answered}
 use Rattle.ps_request_parts.specs.Answers.{answer_taken}

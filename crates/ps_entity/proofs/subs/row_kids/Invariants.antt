@@ -1,5 +1,5 @@
 use Rattle.std.proofs.Common.{◌≡◌, map, take}
-use Rattle.ps_model.specs.Children.{own_row_tree}
+use Rattle.ps_model.specs.requests.Children.{own_row_tree}
 use Rattle.ps_forms.proofs.Printed.{trees}
 use Rattle.ps_entity.proofs.subs.row_kids.Given as goal
 

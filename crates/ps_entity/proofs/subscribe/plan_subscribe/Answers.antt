@@ -6,12 +6,12 @@ use Rattle.ps_types.specs.declared.plan.PlanRefusal.{PlanRefusal}
 use Rattle.ps_types.specs.declared.request.Request.{Request}
 use Rattle.ps_types.specs.Tree.{Tree}
 use Rattle.ps_model.specs.Book.{Book}
-use Rattle.ps_model.specs.ChangeEntity.{subscribe_change}
-use Rattle.ps_model.specs.CheckEntity.{subscribe_steps}
-use Rattle.ps_model.specs.Children.{subscribe_child}
-use Rattle.ps_model.specs.Outcome.{outcome}
+use Rattle.ps_model.specs.requests.ChangeEntity.{subscribe_change}
+use Rattle.ps_model.specs.requests.CheckEntity.{subscribe_steps}
+use Rattle.ps_model.specs.requests.Children.{subscribe_child}
+use Rattle.ps_model.specs.requests.Outcome.{outcome}
 use Rattle.ps_model.specs.SameRows.{same_subs}
-use Rattle.ps_model.specs.Steps.{first_denial}
+use Rattle.ps_model.specs.requests.Steps.{first_denial}
 use Rattle.ps_access.specs.Plans.{Agrees}
 use Rattle.ps_access.specs.Tables.{book_of}
 use Rattle.ps_entity.proofs.subscribe.plan_subscribe.Goals as goal

@@ -1,6 +1,6 @@
 use Rattle.std.proofs.Common.{◌≡◌, take}
-use Rattle.ps_model.specs.ChangeOwner.{subs_asked}
-use Rattle.ps_model.specs.EventSubs.{rows_events}
+use Rattle.ps_model.specs.requests.ChangeOwner.{subs_asked}
+use Rattle.ps_model.specs.notices.EventSubs.{rows_events}
 use Rattle.ps_access.specs.Tables.{book_of}
 use Rattle.ps_events.specs.Parts.{Adds}
 use Rattle.ps_events.proofs.row_events.add_rows.Given as goal

@@ -1,6 +1,6 @@
 use Rattle.std.proofs.Common.{◌++◌, List, ap, ◌∙◌}
 use Rattle.ps_types.specs.declared.event.Event.{Event}
-use Rattle.ps_model.specs.EventSubs.{rows_events}
+use Rattle.ps_model.specs.notices.EventSubs.{rows_events}
 use Rattle.ps_access.specs.Tables.{book_of}
 use Rattle.ps_events.proofs.States.{those-told}
 use Rattle.ps_events.proofs.row_events.rows_set.Goals as goal

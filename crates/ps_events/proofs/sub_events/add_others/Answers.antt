@@ -1,6 +1,6 @@
 use Rattle.std.proofs.Common.{◌<◌, length, arith}
 use Rattle.ps_types.specs.declared.event.Event.TheVariants as event
-use Rattle.ps_model.specs.EventSubs.{is_other_owner}
+use Rattle.ps_model.specs.notices.EventSubs.{is_other_owner}
 use Rattle.ps_events.proofs.Lists.{chosen-more}
 use Rattle.ps_events.proofs.sub_events.add_others.Goals as goal
 

@@ -2,7 +2,7 @@ use Rattle.std.proofs.Common.{◌≡◌, ℕ, List, [], ◌++◌, length, arith,
 use Rattle.std.specs.Prelude.{OnOk, filter, vec_len}
 use Rattle.std.proofs.lemmas.Bool.{eqb-true}
 use Rattle.ps_types.specs.declared.event.Event.{Event}
-use Rattle.ps_model.specs.EventPresence.{wanted_events}
+use Rattle.ps_model.specs.notices.EventPresence.{wanted_events}
 use Rattle.ps_access.specs.Tables.{book_of}
 use Rattle.ps_events.specs.Wanted.{is_new}
 use Rattle.ps_events.proofs.Wanting.{wanted-new, wanted-none}

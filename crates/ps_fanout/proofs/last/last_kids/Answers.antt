@@ -1,5 +1,5 @@
 use Rattle.std.proofs.Common.{ap, ◌∙◌, Option, ℕ}
-use Rattle.ps_model.specs.NoticeTrees.{delay_nodes}
+use Rattle.ps_model.specs.notices.NoticeTrees.{delay_nodes}
 use Rattle.ps_drafts.proofs.Kids.{two-kids}
 use Rattle.ps_fanout.proofs.last.last_kids.Goals as goal
 

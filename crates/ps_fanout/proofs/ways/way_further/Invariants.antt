@@ -1,5 +1,5 @@
 use Rattle.std.proofs.Common.{◌≡◌, true, drop}
-use Rattle.ps_model.specs.Ways.{way_above}
+use Rattle.ps_model.specs.notices.Ways.{way_above}
 use Rattle.ps_fanout.proofs.ways.way_further.Given as goal
 
 abbrev pub invariant-loop-collection : goal.invariant-loop-collection

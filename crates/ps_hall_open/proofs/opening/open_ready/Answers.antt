@@ -6,7 +6,7 @@ use Rattle.ps_journal.proofs.Lists.{one_list}
 use Rattle.ps_journal.specs.Left.{LeavesList}
 use Rattle.ps_journal.specs.Places.{entries_in}
 use Rattle.ps_journal.specs.declared.trail.Trail.{Trail}
-use Rattle.ps_model.specs.Store.{spelled}
+use Rattle.ps_model.specs.store.Store.{spelled}
 use Rattle.ps_hall_open.specs.Begun.{frame_of}
 use Rattle.ps_hall_open.specs.Left.{Fronts, IsOpenLeft, OpenLeaves}
 use Rattle.ps_hall_open.specs.Opens.{IsOpen, IsRestored, OpenNot, StaysIfDamaged}

@@ -1,10 +1,10 @@
 use Rattle.std.proofs.Common.{◌<◌, ◌^◌, List, length, sym, subst}
 use Rattle.ps_types.specs.declared.entry.Entry.{Entry}
 use Rattle.ps_journal.specs.Left.{LeavesList}
-use Rattle.ps_model.specs.At.{IsStore}
-use Rattle.ps_model.specs.Entries.{AreEntries}
+use Rattle.ps_model.specs.store.At.{IsStore}
+use Rattle.ps_model.specs.store.Entries.{AreEntries}
 use Rattle.ps_model.specs.Replay.{lawful}
-use Rattle.ps_model.specs.Store.{spelled}
+use Rattle.ps_model.specs.store.Store.{spelled}
 use Rattle.ps_hall_open.specs.OpenRead.{AreShort, IsBegunEmpty}
 use Rattle.ps_hall_open.proofs.read_only.open_read.Goals as goal
 

@@ -1,5 +1,5 @@
 use Rattle.std.proofs.Common.{subst, sym}
-use Rattle.ps_model.specs.Entries.{IsHostName}
+use Rattle.ps_model.specs.store.Entries.{IsHostName}
 use Rattle.ps_journal.specs.Places.{entries_in}
 use Rattle.ps_hall_open.specs.Fresh.{AreHosts}
 use Rattle.ps_hall_tests.proofs.Starting.{may_start, name_is, one_is}

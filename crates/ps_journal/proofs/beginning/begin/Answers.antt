@@ -1,6 +1,6 @@
 use Rattle.std.proofs.Common.{[], drop, arith, length-drop}
 use Rattle.ps_disk.proofs.Moments.{then_on}
-use Rattle.ps_model.specs.Store.{spelled}
+use Rattle.ps_model.specs.store.Store.{spelled}
 use Rattle.ps_journal.proofs.beginning.begin.Goals as goal
 
 pub returns-in-Err-finish-clause-any_moment : goal.returns-in-Err-finish-clause-any_moment

@@ -1,7 +1,7 @@
 use Rattle.std.proofs.Common.{◌≡◌, true, ℕ, ◌≤◌, List, [], ◌∷◌, ◌++◌, length, drop, ◌∙◌, ap}
 use Rattle.std.proofs.lemmas.List.{append-nil, drop_all}
 use Rattle.ps_disk.proofs.Moments.{then_on, weaker}
-use Rattle.ps_model.specs.Store.{is_unbegun, spelled}
+use Rattle.ps_model.specs.store.Store.{is_unbegun, spelled}
 use Rattle.ps_journal.specs.Beginning.{middle}
 use Rattle.ps_journal.proofs.Begins.{unbegun_spells, zero_unbegun, empty_list, middle_torn, middle_written, last_torn, last_written, quiet_failed, quiet_done}
 use Rattle.ps_journal.proofs.beginning.finish.Goals as goal
@@ -27,8 +27,10 @@ returns-in-Err-write_kept-clause-any_moment g c tells t is short quiet =
     let kept = c.in-Ok.ensures.kept tells in
     let failed = c.in-Err-write_kept.ensures.failed tells in
     then_on D.moment D.left_since old mid new _ _ (λ f. spelled f []) (c.in-Ok.ensures.during tells) (c.in-Err-write_kept.ensures.grows tells)
-    (λ f left. unbegun_spells f (quiet_done (D.seen old) (D.synced old) (D.written old) 1 8 (λ f. is_unbegun f ≡ true) quiet (λ f. middle_torn (D.seen old) t f is) (D.seen mid) f (ap is_unbegun written ∙ zero_unbegun (middle ++ drop 8 t)) left))
-    (λ f left. unbegun_spells f (quiet_failed (D.seen mid) (D.synced mid) (D.written mid) 0 1 (λ f. is_unbegun f ≡ true) (record { kept = kept.0; nothing = kept.1 }) (λ f. last_torn (D.seen mid) f (mid_is (D.seen old) t (D.seen mid) is short written)) _ _ f failed.0 failed.1 left))
+    (λ f left. unbegun_spells f (quiet_done (D.seen old) (D.synced old) (D.written old) 1 8 (λ f. is_unbegun f ≡ true) quiet (λ f. middle_torn (D.seen old) t f is) (D.seen mid) f
+    (ap is_unbegun written ∙ zero_unbegun (middle ++ drop 8 t)) left))
+    (λ f left. unbegun_spells f (quiet_failed (D.seen mid) (D.synced mid) (D.written mid) 0 1 (λ f. is_unbegun f ≡ true) (record { kept = kept.0; nothing = kept.1 })
+    (λ f. last_torn (D.seen mid) f (mid_is (D.seen old) t (D.seen mid) is short written)) _ _ f failed.0 failed.1 left))
 
 pub returns-in-Ok-write_kept-clause-any_moment : goal.returns-in-Ok-write_kept-clause-any_moment
 returns-in-Ok-write_kept-clause-any_moment g c tells t is short quiet =
@@ -39,7 +41,8 @@ returns-in-Ok-write_kept-clause-any_moment g c tells t is short quiet =
     let written = middle_written (D.seen old) t (D.seen mid) is (c.in-Ok.ensures.ok tells) in
     let kept = c.in-Ok.ensures.kept tells in
     then_on D.moment D.left_since old mid new _ _ (λ f. spelled f []) (c.in-Ok.ensures.during tells) (c.in-Ok-write_kept.ensures.during tells)
-    (λ f left. unbegun_spells f (quiet_done (D.seen old) (D.synced old) (D.written old) 1 8 (λ f. is_unbegun f ≡ true) quiet (λ f. middle_torn (D.seen old) t f is) (D.seen mid) f (ap is_unbegun written ∙ zero_unbegun (middle ++ drop 8 t)) left))
+    (λ f left. unbegun_spells f (quiet_done (D.seen old) (D.synced old) (D.written old) 1 8 (λ f. is_unbegun f ≡ true) quiet (λ f. middle_torn (D.seen old) t f is) (D.seen mid) f
+    (ap is_unbegun written ∙ zero_unbegun (middle ++ drop 8 t)) left))
     (λ f left. quiet_done (D.seen mid) (D.synced mid) (D.written mid) 0 1 (λ f. spelled f []) (record { kept = kept.0; nothing = kept.1 })
     (λ f leaves. unbegun_spells f (last_torn (D.seen mid) f (mid_is (D.seen old) t (D.seen mid) is short written) leaves))
     (D.seen new) f (empty_list (D.seen new) (last_written (D.seen mid) (drop 8 t) (D.seen new) written (c.in-Ok-write_kept.ensures.ok tells)).begun) left)

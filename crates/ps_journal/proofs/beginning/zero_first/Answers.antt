@@ -1,6 +1,6 @@
 use Rattle.std.proofs.Common.{◌≡◌, true, ℕ, List, [], drop, sym, ◌∙◌, ap, subst}
 use Rattle.ps_disk.proofs.Moments.{started, weaker}
-use Rattle.ps_model.specs.Store.{is_unbegun, spelled}
+use Rattle.ps_model.specs.store.Store.{is_unbegun, spelled}
 use Rattle.ps_journal.specs.Beginning.{has_zero_first}
 use Rattle.ps_journal.proofs.Begins.{unbegun_spells, zero_unbegun, first_zero, not_zero, zero_written, quiet_failed, quiet_done, quiet_rest}
 use Rattle.ps_journal.proofs.beginning.zero_first.Goals as goal

@@ -10,7 +10,8 @@ returns-in-Bad-clause-bad g c = bad_frame g.T.Taker.refused c.args.bytes.now c.f
 pub more_entries-next-requires-clause-fits : goal.more_entries-next-requires-clause-fits
 more_entries-next-requires-clause-fits g c =
     let fits : IsBytes c.args.bytes.now = λ i. omega (arith, c.type_inv.bytes i) in
-    frame_fits g.T.Taker.refused c.args.bytes.now c.frames.trail.items c.frames.stop c.frames.rest.now c.requires.header c.frames.invariant.0 c.in-Frame.body.now c.in-Frame.after.now fits (sym c.in-Frame.ensures)
+    frame_fits g.T.Taker.refused c.args.bytes.now c.frames.trail.items c.frames.stop c.frames.rest.now c.requires.header c.frames.invariant.0 c.in-Frame.body.now c.in-Frame.after.now fits
+    (sym c.in-Frame.ensures)
 
 pub frames-preserved : goal.frames-preserved
 frames-preserved g c =
@@ -22,7 +23,8 @@ frames-preserved g c =
     let second = c.is_second-second.ensures in
     let judged = subst (λ (b : Bool). Judged refused b s.bodies c.frames.trail.items c.frames.stop) (sym second) s.judged in
     let next = c.in-Ok.ensures.judged s.bodies judged (ap (λ (n : ℕ). n + 5) (stands refused bytes c.frames.trail.items c.frames.stop rest c.requires.header s)) in (
-      one_more refused bytes c.frames.trail.items c.frames.stop rest c.requires.header s c.in-Frame.body.now c.in-Frame.after.now c.more_entries-next.new.trail.items c.in-Ok.next fits (sym c.in-Frame.ensures)
+      one_more refused bytes c.frames.trail.items c.frames.stop rest c.requires.header s c.in-Frame.body.now c.in-Frame.after.now c.more_entries-next.new.trail.items c.in-Ok.next fits
+          (sym c.in-Frame.ensures)
           (subst (λ (b : Bool). Judged refused b (s.bodies ++ c.in-Frame.body.now ∷ []) c.more_entries-next.new.trail.items c.in-Ok.next) second next),
       λ start s. c.in-Ok.ensures.stands start (c.frames.invariant.1 start s),
     )

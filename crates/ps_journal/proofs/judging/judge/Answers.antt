@@ -13,4 +13,5 @@ returns-in-Bad c = bad_damaged c.args.bytes.now c.in-Bad.at c.new.result.items c
 pub returns-in-Stopped : goal.returns-in-Stopped
 returns-in-Stopped c =
     let s = c.in-Stopped.ensures in
-    inr (inr (subst (λ (l : List Placed). BadEntry c.args.bytes.now c.in-Stopped.at l) (sym s.stands) (bad_entry (λ ps. c.judge_giving.new.taker.items ≡ ps) c.args.bytes.now c.in-Stopped.at c.in-Stopped.field-1.items s)))
+    inr (inr (subst (λ (l : List Placed). BadEntry c.args.bytes.now c.in-Stopped.at l) (sym s.stands)
+    (bad_entry (λ ps. c.judge_giving.new.taker.items ≡ ps) c.args.bytes.now c.in-Stopped.at c.in-Stopped.field-1.items s)))

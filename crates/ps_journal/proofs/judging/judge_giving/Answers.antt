@@ -8,4 +8,5 @@ pub returns-in-Some : goal.returns-in-Some
 returns-in-Some g c =
     let refused = g.T.Taker.refused in
     let read = subst (λ (stop : Option ℕ). FramesRead refused c.args.bytes.now c.in-Ok.trail.items stop c.in-Ok.gate) c.in-Some.is c.in-Ok.ensures.read in
-    stopped_there (g.T.Taker.stands c.args.taker.now c.frames_of.new.taker) refused c.args.bytes.now c.in-Ok.trail.items c.in-Some.at c.in-Ok.gate (c.in-Ok.ensures.stands c.args.taker.now c.requires.stands) read
+    stopped_there (g.T.Taker.stands c.args.taker.now c.frames_of.new.taker) refused c.args.bytes.now c.in-Ok.trail.items c.in-Some.at c.in-Ok.gate
+    (c.in-Ok.ensures.stands c.args.taker.now c.requires.stands) read

@@ -2,8 +2,8 @@ use Rattle.std.proofs.Common.{◌≡◌, ◌⊎◌, ◌+◌, ◌≤◌, true, in
 use Rattle.ps_disk.specs.Disk.{MayLeave}
 use Rattle.ps_disk.proofs.Moments.{then_on}
 use Rattle.ps_types.specs.declared.entry.Entry.{Entry}
-use Rattle.ps_model.specs.Entries.{body}
-use Rattle.ps_model.specs.Store.{is_header, is_unbegun, Lists, spelled}
+use Rattle.ps_model.specs.store.Entries.{body}
+use Rattle.ps_model.specs.store.Store.{is_header, is_unbegun, Lists, spelled}
 use Rattle.ps_journal.specs.Judged.{IsFound, IsStopped, StoppedAt}
 use Rattle.ps_journal.specs.Opened.{HasLength}
 use Rattle.ps_journal.proofs.Opens.{bad_stopped, stopped_before, found_placed, found_length, none_before, same_entries, upgraded_spells, lists_in, upgrading_spells}

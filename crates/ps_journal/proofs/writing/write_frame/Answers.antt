@@ -47,7 +47,8 @@ returns-in-Ok-write_kept-clause-kept g c tells bs b s is rest_is =
     let mid = c.write_kept.new.disk in
     let kept = c.in-Ok.ensures.kept tells in
     let kept_new = c.in-Ok-write_kept.ensures.kept tells in
-    settled_again bs _ _ _ _ s b is c.args.rest.now (D.seen mid) (D.synced mid) (D.written mid) rest_is (c.in-Ok.ensures.ok tells) kept.0 kept.1 (c.args.at - 1) refl _ _ _ (c.in-Ok-write_kept.ensures.ok tells) kept_new.0 kept_new.1
+    settled_again bs _ _ _ _ s b is c.args.rest.now (D.seen mid) (D.synced mid) (D.written mid) rest_is (c.in-Ok.ensures.ok tells) kept.0 kept.1 (c.args.at - 1) refl _ _ _
+    (c.in-Ok-write_kept.ensures.ok tells) kept_new.0 kept_new.1
 
 pub returns-in-Ok-write_kept-clause-any_moment : goal.returns-in-Ok-write_kept-clause-any_moment
 returns-in-Ok-write_kept-clause-any_moment g c tells bs b s is rest_is =
@@ -58,4 +59,5 @@ returns-in-Ok-write_kept-clause-any_moment g c tells bs b s is rest_is =
     let at = c.args.at - 1 in
     then_on D.moment D.left_since c.args.disk.now mid new _ _ (IsBeforeOrAfter bs b) (c.in-Ok.ensures.during tells) (c.in-Ok-write_kept.ensures.during tells)
     (λ f left. inl (first_done bs _ _ _ _ s b is c.args.rest.now (D.seen mid) (D.synced mid) (D.written mid) rest_is (c.in-Ok.ensures.ok tells) kept.0 kept.1 at refl f left))
-    (λ f left. second_done bs _ _ _ _ s b is c.args.rest.now (D.seen mid) (D.synced mid) (D.written mid) rest_is (c.in-Ok.ensures.ok tells) kept.0 kept.1 at refl (D.seen new) f (c.in-Ok-write_kept.ensures.ok tells) left)
+    (λ f left. second_done bs _ _ _ _ s b is c.args.rest.now (D.seen mid) (D.synced mid) (D.written mid) rest_is (c.in-Ok.ensures.ok tells) kept.0 kept.1 at refl (D.seen new) f
+    (c.in-Ok-write_kept.ensures.ok tells) left)

@@ -25,7 +25,8 @@ loop-at-preserved c =
     let slots = c.args.slots.now.rows in
     let name = c.args.name.now in
     let seed = c.args.slots.now.seed in
-    let next = subst (λ r. (d : ℕ) → mark_at r c.in-Some.place ≡ Some d → FirstFrom (mark_at r) d (c.in-Some.place + 1) c.next-at.result) (c.requires.marked ∙ marks-beside seed 0 slots) c.next-at.ensures.next in
+    let next = subst (λ r. (d : ℕ) → mark_at r c.in-Some.place ≡ Some d → FirstFrom (mark_at r) d (c.in-Some.place + 1) c.next-at.result) (c.requires.marked ∙ marks-beside seed 0 slots)
+    c.next-at.ensures.next in
     listing-on (is_named_in name) (digest_in seed) (text_digest seed name) place_in (of_name seed name) (ranked 0 slots) c.loop-at.at c.next-at.result c.in-Some.place c.loop-at.places.items
     c.add_place.new.places.items c.in-Some.is c.loop-at.invariant next c.in_ok-add_place.ensures
 
@@ -34,7 +35,8 @@ loop-at-smaller c =
     let slots = c.args.slots.now.rows in
     let name = c.args.name.now in
     let seed = c.args.slots.now.seed in
-    let next = subst (λ r. (d : ℕ) → mark_at r c.in-Some.place ≡ Some d → FirstFrom (mark_at r) d (c.in-Some.place + 1) c.next-at.result) (c.requires.marked ∙ marks-beside seed 0 slots) c.next-at.ensures.next in
+    let next = subst (λ r. (d : ℕ) → mark_at r c.in-Some.place ≡ Some d → FirstFrom (mark_at r) d (c.in-Some.place + 1) c.next-at.result) (c.requires.marked ∙ marks-beside seed 0 slots)
+    c.next-at.ensures.next in
     shorter (is_named_in name) (digest_in seed) (text_digest seed name) (of_name seed name) (ranked 0 slots) (ranked 0 slots) c.loop-at.at c.next-at.result c.in-Some.place c.in-Some.is
     (c.loop-at.invariant.here c.in-Some.place c.in-Some.is) next refl
 

@@ -21,7 +21,8 @@ returns-clause-kept c =
     let fewer = packed-le c.args.slots.now.rows in
     let places = ap length c.pack.ensures.rows in
     record {
-      names = c.mark.ensures.marks ∙ (ap (λ s. marks_of (name_digest s) c.places.result.now) c.seed.ensures ∙ (ap (marks_of (name_digest c.pack.new.self.seed)) c.places.ensures ∙ marks-full (name_digest c.pack.new.self.seed) slots full));
+      names = c.mark.ensures.marks ∙ (ap (λ s. marks_of (name_digest s) c.places.result.now) c.seed.ensures ∙
+          (ap (marks_of (name_digest c.pack.new.self.seed)) c.places.ensures ∙ marks-full (name_digest c.pack.new.self.seed) slots full));
       empty = c.clear.ensures.items ∙ sym (gaps-full 0 slots full);
       once = subst AreOnce (sym (ap standing c.pack.ensures.rows ∙ standing-packed c.args.slots.now.rows)) c.requires.kept.once;
       held = omega (arith, fewer, places, c.requires.kept.held, c.clear.ensures.capacity);

@@ -41,4 +41,5 @@ pub returns : goal.returns
 returns c =
     let service = c.args.service.now in
     let seed = c.args.slots.now.seed in
-    listing-end (is_node_of service) (node_by seed Bare) (bare_digest seed service) key_in (of_service seed service) c.args.slots.now.rows c.loop-at.at c.loop-at.keys.items c.in_default.is c.loop-at.invariant
+    listing-end (is_node_of service) (node_by seed Bare) (bare_digest seed service) key_in (of_service seed service) c.args.slots.now.rows c.loop-at.at c.loop-at.keys.items c.in_default.is
+    c.loop-at.invariant

@@ -4,7 +4,7 @@ use Rattle.ps_types.specs.Tree.{Tree}
 use Rattle.ps_types.specs.declared.jid.Jid.{Jid}
 use Rattle.ps_access.specs.Tables.{book_of}
 use Rattle.ps_model.specs.After.{all_due}
-use Rattle.ps_model.specs.Numbered as model
+use Rattle.ps_model.specs.notices.Numbered as model
 use Rattle.ps_notices.specs.Due.{arranged}
 use Rattle.ps_notices.proofs.Due.{one-told, told-due}
 use Rattle.ps_notices.proofs.notices.notices_of.Goals as goal

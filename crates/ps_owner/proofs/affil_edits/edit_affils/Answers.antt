@@ -1,6 +1,6 @@
 use Rattle.std.proofs.Common.{List, ap, ◌∙◌}
 use Rattle.ps_types.specs.declared.rows.AffilRow.{AffilRow}
-use Rattle.ps_model.specs.ChangeOwner.{affils_asked}
+use Rattle.ps_model.specs.requests.ChangeOwner.{affils_asked}
 use Rattle.ps_affil.specs.Among.{is_among}
 use Rattle.ps_rows.specs.Around.{own_and_last}
 use Rattle.ps_owner.proofs.AffilSets.{edited-affils}

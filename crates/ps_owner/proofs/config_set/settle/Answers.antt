@@ -3,8 +3,8 @@ use Rattle.std.specs.Prelude.{Option}
 use Rattle.ps_types.specs.declared.form.Form.{Form}
 use Rattle.ps_types.specs.Config.{config_type}
 use Rattle.ps_types.specs.Forms.{form_of}
-use Rattle.ps_model.specs.CheckConfig.{is_cancelled}
-use Rattle.ps_model.specs.CheckForms.{config_given}
+use Rattle.ps_model.specs.requests.CheckConfig.{is_cancelled}
+use Rattle.ps_model.specs.requests.CheckForms.{config_given}
 use Rattle.ps_nodes.specs.NodeRows.{row_seen}
 use Rattle.ps_access.specs.Tables.{book_of}
 use Rattle.ps_owner.proofs.Configuring.{cancelled, given, passes, cancelled-passes}

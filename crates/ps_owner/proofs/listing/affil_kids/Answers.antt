@@ -2,7 +2,7 @@ use Rattle.std.proofs.Common.{arith, ◌≡◌, map, ap, ◌∙◌}
 use Rattle.std.proofs.lemmas.Grind.{common_steps}
 use Rattle.ps_types.specs.Elem.{nodes}
 use Rattle.ps_forms.proofs.Printed.{trees, nodes-trees}
-use Rattle.ps_model.specs.Children.{affil_tree}
+use Rattle.ps_model.specs.requests.Children.{affil_tree}
 use Rattle.ps_owner.proofs.listing.affil_kids.Goals as goal
 
 pub returns : goal.returns

@@ -1,6 +1,6 @@
 use Rattle.std.proofs.Common.{◌≡◌, map, take}
 use Rattle.ps_forms.proofs.Printed.{trees}
-use Rattle.ps_model.specs.Children.{sub_tree}
+use Rattle.ps_model.specs.requests.Children.{sub_tree}
 use Rattle.ps_owner.proofs.listing.sub_kids.Given as goal
 
 abbrev pub invariant-loop-row : goal.invariant-loop-row

@@ -1,6 +1,6 @@
 use Rattle.std.proofs.Common.{List, ap, ◌∙◌}
 use Rattle.ps_types.specs.declared.rows.SubRow.{SubRow}
-use Rattle.ps_model.specs.ChangeOwner.{subs_asked}
+use Rattle.ps_model.specs.requests.ChangeOwner.{subs_asked}
 use Rattle.ps_subs.specs.Among.{is_among}
 use Rattle.ps_rows.specs.Around.{own_and_last}
 use Rattle.ps_owner.proofs.SubSets.{edited-subs}

@@ -1,7 +1,7 @@
 use Rattle.std.proofs.Common.{List, ap, ◌∙◌}
 use Rattle.ps_types.specs.declared.rows.SubRow.{SubRow}
 use Rattle.ps_types.specs.Subs.{sub_count}
-use Rattle.ps_model.specs.CheckOwner.{max_subs}
+use Rattle.ps_model.specs.requests.CheckOwner.{max_subs}
 use Rattle.ps_owner.proofs.SubSets.{few-edit}
 use Rattle.ps_owner.proofs.subs_set.are_few.Goals as goal
 

@@ -1,6 +1,6 @@
 use Rattle.std.proofs.Common.{[], ◌∷◌}
-use Rattle.ps_model.specs.CheckCreate.{node_limit_step}
-use Rattle.ps_model.specs.CheckPublish.{item_steps}
+use Rattle.ps_model.specs.requests.CheckCreate.{node_limit_step}
+use Rattle.ps_model.specs.requests.CheckPublish.{item_steps}
 use Rattle.ps_access.proofs.Denials.{Passes-denied, Passes-last}
 use Rattle.ps_access.specs.Tables.{book_of}
 use Rattle.ps_publish.proofs.publish.check_rest.Goals as goal

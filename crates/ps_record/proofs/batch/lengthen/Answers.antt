@@ -13,6 +13,7 @@ returns c =
     let count : c.push.new.self.len ≡ length c.push.new.self.items = grind (arith, common_steps) in
     let head = to_be_bytes w32 (length old + length e - 5) in
     let bytes : c.to_be_bytes.result ≡ head = grind (arith, common_steps) in
-    let written : c.write_front.new.bytes ≡ head ++ drop (length head) c.push.new.self.items = c.write_front.ensures ∙ ap (λ (l : List ℕ). l ++ drop (length l) c.deref_mut.result.now) bytes ∙ ap (λ (l : List ℕ). head ++ drop (length head) l) c.deref_mut.ensures.value in
+    let written : c.write_front.new.bytes ≡ head ++ drop (length head) c.push.new.self.items = c.write_front.ensures ∙ ap (λ (l : List ℕ). l ++ drop (length l) c.deref_mut.result.now) bytes ∙ ap
+    (λ (l : List ℕ). head ++ drop (length head) l) c.deref_mut.ensures.value in
     let same : length c.write_front.new.bytes ≡ length c.push.new.self.items = grind (arith, common_steps) in
     whole c.write_front.new.bytes c.push.new.self.items c.push.new.self.len same count ∙ written ∙ lengthened old e head c.push.new.self.items c.requires.long refl pushed

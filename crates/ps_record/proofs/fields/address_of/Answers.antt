@@ -17,4 +17,5 @@ returns-else-is_bare_text c to is printed =
     absurd cc
 
 pub returns-in-Err-Malformed : goal.returns-in-Err-Malformed
-returns-in-Err-Malformed c to is printed = c.in-Err-Malformed.ensures.malformed (λ i. Err (c.in-Err-Malformed.field-0-is i)) to (subst (λ (l : List ℕ). Spells l to) printed (text-spells to is.address))
+returns-in-Err-Malformed c to is printed = c.in-Err-Malformed.ensures.malformed (λ i. Err (c.in-Err-Malformed.field-0-is i)) to
+    (subst (λ (l : List ℕ). Spells l to) printed (text-spells to is.address))

@@ -1,6 +1,6 @@
 use Rattle.std.proofs.Common.{Err}
 use Rattle.ps_record.proofs.Printed.{host_spells, only_host}
-use Rattle.ps_model.specs.Entries.{of_host}
+use Rattle.ps_model.specs.store.Entries.{of_host}
 use Rattle.ps_record.proofs.fields.host_of.Goals as goal
 
 pub returns-else-is_only_host : goal.returns-else-is_only_host

@@ -1,7 +1,7 @@
 use Rattle.std.proofs.Common.{◌≡◌, ℕ, ◌+◌, List, ◌++◌, length, drop, refl, sym, ◌∙◌, ap, arith, length-append, length-drop}
 use Rattle.std.specs.Prelude.{Some}
 use Rattle.ps_types.specs.declared.entry.Entry.{Entry}
-use Rattle.ps_model.specs.Entries.{spelling}
+use Rattle.ps_model.specs.store.Entries.{spelling}
 use Rattle.ps_record.specs.Raw.{Fields, view, fields_of, bytes_of, raw_at}
 use Rattle.ps_record.proofs.Pieces.{IsBytes, IsBytes-drop, to_end}
 use Rattle.ps_record.proofs.RawLaws.{fields_takes}
@@ -11,7 +11,8 @@ use Rattle.ps_record.proofs.reading.read_entry.Goals as goal
 pub entry_of-requires : goal.entry_of-requires
 entry_of-requires c =
     let fits : IsBytes c.args.bytes.now = λ i. omega (arith, c.type_inv.bytes i) in
-    (fields_takes (drop c.args.from c.args.bytes.now) (view c.in-Some.fields, c.in-Some.rest.now) (IsBytes-drop c.args.from c.args.bytes.now fits) (sym (ap raw_at (to_end c.args.from c.args.bytes.now)) ∙ sym c.in-Some.ensures)).1
+    (fields_takes (drop c.args.from c.args.bytes.now) (view c.in-Some.fields, c.in-Some.rest.now) (IsBytes-drop c.args.from c.args.bytes.now fits)
+    (sym (ap raw_at (to_end c.args.from c.args.bytes.now)) ∙ sym c.in-Some.ensures)).1
 
 -- the entry stands at the front
 parts : (bytes rest : List ℕ) (f : Fields) (e : Entry) → IsBytes bytes → raw_at bytes ≡ Some (f, rest) → fields_of e ≡ f → bytes ≡ spelling e ++ rest
@@ -22,7 +23,8 @@ overflow_sub-result c =
     let bytes = c.args.bytes.now in
     let from = c.args.from in
     let fits : IsBytes bytes = λ i. omega (arith, c.type_inv.bytes i) in
-    let t = parts (drop from bytes) c.in-Some.rest.now (view c.in-Some.fields) c.in-Ok.entry (IsBytes-drop from bytes fits) (sym (ap raw_at (to_end from bytes)) ∙ sym c.in-Some.ensures) c.in-Ok.ensures.1 in
+    let t = parts (drop from bytes) c.in-Some.rest.now (view c.in-Some.fields) c.in-Ok.entry (IsBytes-drop from bytes fits) (sym (ap raw_at (to_end from bytes)) ∙ sym c.in-Some.ensures)
+    c.in-Ok.ensures.1 in
     omega (arith, ap length t, length-append (spelling c.in-Ok.entry) c.in-Some.rest.now, length-drop from bytes)
 
 pub returns-in-Ok-clause-entry : goal.returns-in-Ok-clause-entry
@@ -30,7 +32,8 @@ returns-in-Ok-clause-entry c =
     let bytes = c.args.bytes.now in
     let from = c.args.from in
     let fits : IsBytes bytes = λ i. omega (arith, c.type_inv.bytes i) in
-    let t = parts (drop from bytes) c.in-Some.rest.now (view c.in-Some.fields) c.in-Ok.entry (IsBytes-drop from bytes fits) (sym (ap raw_at (to_end from bytes)) ∙ sym c.in-Some.ensures) c.in-Ok.ensures.1 in
+    let t = parts (drop from bytes) c.in-Some.rest.now (view c.in-Some.fields) c.in-Ok.entry (IsBytes-drop from bytes fits) (sym (ap raw_at (to_end from bytes)) ∙ sym c.in-Some.ensures)
+    c.in-Ok.ensures.1 in
     let sizes : length (drop from bytes) ≡ length (spelling c.in-Ok.entry) + length c.in-Some.rest.now = ap length t ∙ length-append (spelling c.in-Ok.entry) c.in-Some.rest.now in
     (c.in-Ok.ensures.0, (c.in-Some.rest.now, t), omega (arith, sizes, length-drop from bytes), omega arith)
 

@@ -1,6 +1,6 @@
 use Rattle.std.proofs.Common.{◌≡◌, ℕ, List, Option, [], ◌∷◌, ◌++◌, sym, ◌∙◌, ap, append_assoc}
 use Rattle.std.specs.Int.{w64, to_be_bytes}
-use Rattle.ps_model.specs.Entries.{short, long}
+use Rattle.ps_model.specs.store.Entries.{short, long}
 use Rattle.ps_record.specs.Raw.{change_bytes}
 use Rattle.ps_record.proofs.writing.put_change.Goals as goal
 

@@ -1,9 +1,9 @@
 use Rattle.std.proofs.Common.{◌≡◌, ◌≢◌, List, ℕ, [], length, refl, sym, ap, subst, ◌∙◌, arith}
-use Rattle.ps_model.specs.Entries.{IsHostName}
+use Rattle.ps_model.specs.store.Entries.{IsHostName}
 use Rattle.ps_hall_open.specs.Fresh.{AreHosts}
 use Rattle.ps_rehearse.specs.Entries.{the_hosts, the_service}
 use Rattle.ps_disk.specs.contracts.memory.MemDiskDisk.TheImpl.{ghosts}
-use Rattle.ps_model.specs.Store.{spelled}
+use Rattle.ps_model.specs.store.Store.{spelled}
 use Rattle.ps_rehearse.specs.Running.{IsEmpty}
 use Rattle.ps_rehearse.specs.Streams.{AreDone}
 use Rattle.ps_rehearse.proofs.Ending.{are-fresh, finish, two-ports}

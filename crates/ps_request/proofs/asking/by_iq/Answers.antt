@@ -2,7 +2,7 @@ use Rattle.std.proofs.Common.{List, sym, ap, subst, ◌∙◌}
 use Rattle.ps_types.specs.Elem.{nodes}
 use Rattle.ps_types.specs.Shape.{trees_in}
 use Rattle.ps_types.specs.Tree.{Tree, nodes_of}
-use Rattle.ps_model.specs.Asking.{iq_by}
+use Rattle.ps_model.specs.requests.Asking.{iq_by}
 use Rattle.ps_request.specs.Answer.{Gives}
 use Rattle.ps_request.proofs.Children.{first-found, first-absent}
 use Rattle.ps_request.proofs.asking.by_iq.Goals as goal

@@ -2,7 +2,7 @@ use Rattle.std.proofs.Common.{◌≡◌, ◌++◌, map, length}
 use Rattle.std.specs.Prelude.{codes}
 use Rattle.ps_types.specs.Elem.{nodes}
 use Rattle.ps_types.specs.Namespaces.{pubsub_ns}
-use Rattle.ps_model.specs.AskPublish.{items_in}
+use Rattle.ps_model.specs.requests.AskPublish.{items_in}
 use Rattle.ps_model.specs.Grammar.{id_in}
 use Rattle.ps_forms.proofs.Children.{named}
 use Rattle.ps_request.proofs.kids.ids_of.Given as goal

@@ -2,7 +2,7 @@ use Rattle.std.proofs.Common.{sym}
 use Rattle.std.specs.Prelude.{codes}
 use Rattle.ps_types.specs.Elem.{nodes}
 use Rattle.ps_types.specs.Namespaces.{pubsub_ns}
-use Rattle.ps_model.specs.AskPublish.{item_in}
+use Rattle.ps_model.specs.requests.AskPublish.{item_in}
 use Rattle.ps_forms.proofs.Children.{found, absent, one-more, no-more}
 use Rattle.ps_request.proofs.kids.items_of.Goals as goal
 

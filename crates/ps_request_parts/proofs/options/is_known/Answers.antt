@@ -3,7 +3,7 @@ use Rattle.std.specs.List.{list_any}
 use Rattle.std.specs.Str.{bytes_eq}
 use Rattle.ps_types.specs.Config.{config_rows}
 use Rattle.ps_types.specs.Forms.{form_type_var}
-use Rattle.ps_model.specs.CheckOptions.{is_var_of}
+use Rattle.ps_model.specs.requests.CheckOptions.{is_var_of}
 use Rattle.ps_request_parts.proofs.options.is_known.Goals as goal
 
 or-false : (a b : Bool) → a ≡ false → b ≡ (a || b)

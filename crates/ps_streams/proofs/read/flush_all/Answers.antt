@@ -1,5 +1,5 @@
 use Rattle.std.proofs.Common.{ℕ, refl, sym, subst}
-use Rattle.ps_model.specs.TheCore.{the_core}
+use Rattle.ps_model.specs.machine.TheCore.{the_core}
 use Rattle.ps_trace.specs.Did.{IsKept}
 use Rattle.ps_twin.specs.Seats.{number_of, seen_of}
 use Rattle.ps_streams.proofs.Bringing.{brought-flushes, brought-not-flushed, flushes-keep}

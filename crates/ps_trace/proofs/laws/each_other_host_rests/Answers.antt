@@ -1,4 +1,4 @@
-use Rattle.ps_model.specs.Machine.{start}
+use Rattle.ps_model.specs.machine.Machine.{start}
 use Rattle.ps_trace.proofs.Unserved.{no-lines, no-words, none-handed}
 use Rattle.ps_trace.proofs.laws.each_other_host_rests.Goals as goal
 

@@ -1,6 +1,6 @@
 use Rattle.std.proofs.Common.{[], ◌++◌, ◌∷◌}
 use Rattle.ps_types.specs.declared.entry.Entry.TheVariants.{Boot}
-use Rattle.ps_model.specs.Machine.{start}
+use Rattle.ps_model.specs.machine.Machine.{start}
 use Rattle.ps_trace.proofs.Lining.{run-lines, begun-lines}
 use Rattle.ps_trace.proofs.Wording.{run-words, begun-words}
 use Rattle.ps_trace.proofs.laws.each_run_has_lines.Goals as goal

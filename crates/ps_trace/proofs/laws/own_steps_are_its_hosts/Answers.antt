@@ -1,4 +1,4 @@
-use Rattle.ps_model.specs.Machine.{start}
+use Rattle.ps_model.specs.machine.Machine.{start}
 use Rattle.ps_trace.proofs.Owning.{own-arrivals, own-records, own-words}
 use Rattle.ps_trace.proofs.laws.own_steps_are_its_hosts.Goals as goal
 

@@ -32,4 +32,5 @@ pub send_kids-returns : goal.send_kids-returns
 send_kids-returns g t c =
     let written = g.S.Serializer.written in
     let some = eqb-false (length c.args.kids.now) 0 (sym c.is_empty.ensures ∙ c.if-is_empty.false) in
-    on_ok_weaker c.send_each_kid.result (precede_kids c.args.ns.now c.args.kids.now (written c.args.out.now) (written c.key.new.self) (written c.send_each_kid.new.out) some c.in_ok-key.ensures) c.send_each_kid.ensures
+    on_ok_weaker c.send_each_kid.result (precede_kids c.args.ns.now c.args.kids.now (written c.args.out.now) (written c.key.new.self) (written c.send_each_kid.new.out) some c.in_ok-key.ensures)
+    c.send_each_kid.ensures

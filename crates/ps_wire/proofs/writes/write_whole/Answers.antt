@@ -7,6 +7,7 @@ pieces-init g c = ((starts (g.K.Sink.written c.args.sink.now) c.args.piece.now, 
 
 pub pieces-preserved : goal.pieces-preserved
 pieces-preserved g c = (
-  goes_on _ (g.K.Sink.written c.pieces.sink) (g.K.Sink.written c.write.new.self) c.args.piece.now c.pieces.rest.now c.in_ok-count.count c.pieces.invariant.0.0 c.pieces.invariant.0.1 c.in_ok-count.ensures.bytes,
+  goes_on _ (g.K.Sink.written c.pieces.sink) (g.K.Sink.written c.write.new.self) c.args.piece.now c.pieces.rest.now c.in_ok-count.count c.pieces.invariant.0.0 c.pieces.invariant.0.1
+      c.in_ok-count.ensures.bytes,
   omega (arith, c.pieces.invariant.1, c.write.ensures.cause.later),
 )

@@ -1,5 +1,5 @@
 use Rattle.ps_model.proofs.TheLaws.{the-laws}
-use Rattle.ps_model.specs.TheCore.{the_core}
+use Rattle.ps_model.specs.machine.TheCore.{the_core}
 use Rattle.ps_world.proofs.Read.{stays-ok}
 use Rattle.ps_world.proofs.laws.each_step_stays.Goals as goal
 

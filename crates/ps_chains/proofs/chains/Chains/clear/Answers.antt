@@ -18,5 +18,7 @@ returns-clause-room c =
     let is = c.self.invariant in
     let nexts = i.nexts.ok.0 ∙ is.afters in
     let priors = i.priors.ok.0 ∙ is.befores in
-    let room = cleared (length i.marks.items) most_places _ _ _ _ _ _ _ _ _ _ _ _ _ _ i.marks.ok.0 nexts priors (within i.marks.ok.0 i.marks.ok.1) is.fits (within nexts i.nexts.ok.1) (within priors i.priors.ok.1) is.held c.clear.ensures.len c.clear-2.ensures.len c.clear-3.ensures.len (as_much c.clear.ensures.capacity) (as_much c.clear-2.ensures.capacity) (as_much c.clear-3.ensures.capacity) (held c.clear-4.ensures.len c.clear-4.ensures.capacity) in
+    let room = cleared (length i.marks.items) most_places _ _ _ _ _ _ _ _ _ _ _ _ _ _ i.marks.ok.0 nexts priors (within i.marks.ok.0 i.marks.ok.1) is.fits (within nexts i.nexts.ok.1)
+    (within priors i.priors.ok.1) is.held c.clear.ensures.len c.clear-2.ensures.len c.clear-3.ensures.len (as_much c.clear.ensures.capacity) (as_much c.clear-2.ensures.capacity)
+    (as_much c.clear-3.ensures.capacity) (held c.clear-4.ensures.len c.clear-4.ensures.capacity) in
     subst (λ t. length t.rows + t.spare ≤ room_of c.clear.new.self c.clear-2.new.self c.clear-3.new.self c.clear-4.new.self) c.self.view_is room

@@ -10,7 +10,8 @@ pub returns-clause-one : goal.returns-clause-one
 returns-clause-one c =
     let after = state_after c.args.calls c.args.self.now in
     IfOk-weaker c.new.result _ _
-    (λ d is. subst (λ (l : List ℕ). MayLeave after.synced after.written l) (sym (ap (λ (d : Recorded). d.start) is ∙ c.deref.ensures.value ∙ c.in_ok-bytes.ensures.which)) (outcome_left c.args.torn c.args.calls c.args.self.now))
+    (λ d is. subst (λ (l : List ℕ). MayLeave after.synced after.written l) (sym (ap (λ (d : Recorded). d.start) is ∙ c.deref.ensures.value ∙ c.in_ok-bytes.ensures.which))
+    (outcome_left c.args.torn c.args.calls c.args.self.now))
     c.new.ensures
 
 pub returns-clause-bytes : goal.returns-clause-bytes

@@ -14,7 +14,8 @@ returns-in-Ok-keep-clause-seen c =
 pub returns-in-Ok-keep-clause-ok : goal.returns-in-Ok-keep-clause-ok
 returns-in-Ok-keep-clause-ok c =
     let one : Kept = record { number = c.begin.new.self.calls; call = Synced } in
-    let after = state_then c.args.self.now c.begin.new.self c.keep.new.self one (ap (λ (d : Recorded). d.start) c.in-Ok.ensures.ok) (ap (λ (d : Recorded). d.kept) c.in-Ok.ensures.ok) c.in-Ok-keep.ensures.ok in
+    let after = state_then c.args.self.now c.begin.new.self c.keep.new.self one (ap (λ (d : Recorded). d.start) c.in-Ok.ensures.ok) (ap (λ (d : Recorded). d.kept) c.in-Ok.ensures.ok)
+    c.in-Ok-keep.ensures.ok in
     (ap (λ (s : State). s.synced) after, ap (λ (s : State). s.written) after)
 
 pub returns-in-Ok-keep-clause-counted : goal.returns-in-Ok-keep-clause-counted

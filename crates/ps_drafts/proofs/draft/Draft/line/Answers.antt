@@ -1,7 +1,7 @@
 use Rattle.std.proofs.Common.{◌≡◌, ℕ, List, ap, sym, subst, ◌∙◌}
 use Rattle.std.specs.Arc.{arc_value}
 use Rattle.std.specs.Prelude.{IfOk}
-use Rattle.ps_model.specs.NoticeTrees as trees
+use Rattle.ps_model.specs.notices.NoticeTrees as trees
 use Rattle.ps_types.specs.Print.{print}
 use Rattle.ps_types.specs.Tree.{Tree}
 use Rattle.ps_drafts.specs.Drafts.{draft_tree}

@@ -1,7 +1,7 @@
 use Rattle.std.proofs.Common.{◌≡◌, ◌+◌, ◌≤◌, Option, refl, sym, subst, arith, length}
 use Rattle.std.specs.Prelude.{◌^◌, IfSome, IsSome}
 use Rattle.ps_types.specs.declared.entry.Entry.{Entry}
-use Rattle.ps_model.specs.Entries.{IsEntry, body, spelling}
+use Rattle.ps_model.specs.store.Entries.{IsEntry, body, spelling}
 use Rattle.ps_record.specs.Texts.{print_in}
 use Rattle.ps_hall_state.specs.Stand.{entries_of}
 use Rattle.ps_hall_state.proofs.Sizes.{body-more}

@@ -1,8 +1,8 @@
 use Rattle.std.proofs.Common.{◌≡◌, ◌∷◌, [], sym, subst, Option}
 use Rattle.std.specs.Prelude.{IfNone, IfSome}
 use Rattle.ps_types.specs.declared.jid.Jid.{Jid}
-use Rattle.ps_model.specs.Machine.{run}
-use Rattle.ps_model.specs.TheCore.{the_core}
+use Rattle.ps_model.specs.machine.Machine.{run}
+use Rattle.ps_model.specs.machine.TheCore.{the_core}
 use Rattle.ps_model.specs.declared.steps.Step.TheVariants.{Emit}
 use Rattle.ps_hall_state.specs.declared.next.Telling.{Telling}
 use Rattle.ps_hall_state.specs.Next.{IsShown, ShowsNone}

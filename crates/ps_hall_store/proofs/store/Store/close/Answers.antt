@@ -1,5 +1,5 @@
 use Rattle.std.proofs.Common.{sym, subst, ◌∙◌}
-use Rattle.ps_model.specs.Store.{Begun}
+use Rattle.ps_model.specs.store.Store.{Begun}
 use Rattle.ps_journal.specs.Journal.{length_of}
 use Rattle.ps_journal.specs.Left.{LeavesAtLeast}
 use Rattle.ps_hall_store.proofs.store.Store.close.Goals as goal

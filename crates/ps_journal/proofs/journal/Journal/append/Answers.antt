@@ -1,5 +1,5 @@
 use Rattle.std.proofs.Common.{◌≡◌, ◌+◌, None, arith, rules}
-use Rattle.ps_model.specs.Entries.{body}
+use Rattle.ps_model.specs.store.Entries.{body}
 use Rattle.ps_disk.proofs.Moments.{started, weaker}
 use Rattle.ps_journal.specs.Left.{IsWithOrWithout, IsFrontOfLeft}
 use Rattle.ps_journal.proofs.Lists.{is_body}
@@ -76,7 +76,8 @@ returns-in-Ok-clause-entries g c tells E spells =
     let es = c.args.batch.now in
     let none : c.args.self.now.broken ≡ None = search rules in
     let settled = c.args.self.now.settled none tells in
-    let done = c.in-Ok.ensures.kept tells _ (body es) (known (D.seen d) (D.synced d) (D.written d) c.args.self.now.length settled E es spells c.len-more.ensures.each) (is_body es c.requires (fits c.len-more.ensures.length c.len-more.ensures.fits)) c.frame.ensures in
+    let done = c.in-Ok.ensures.kept tells _ (body es) (known (D.seen d) (D.synced d) (D.written d) c.args.self.now.length settled E es spells c.len-more.ensures.each)
+    (is_body es c.requires (fits c.len-more.ensures.length c.len-more.ensures.fits)) c.frame.ensures in
     appended (D.seen d) (D.synced d) (D.written d) c.args.self.now.length settled E es spells c.len-more.ensures.each _ _ _ _ done
 
 pub returns-in-Ok-clause-durable : goal.returns-in-Ok-clause-durable
@@ -86,7 +87,8 @@ returns-in-Ok-clause-durable g c tells E spells =
     let es = c.args.batch.now in
     let none : c.args.self.now.broken ≡ None = search rules in
     let settled = c.args.self.now.settled none tells in
-    let done = c.in-Ok.ensures.kept tells _ (body es) (known (D.seen d) (D.synced d) (D.written d) c.args.self.now.length settled E es spells c.len-more.ensures.each) (is_body es c.requires (fits c.len-more.ensures.length c.len-more.ensures.fits)) c.frame.ensures in
+    let done = c.in-Ok.ensures.kept tells _ (body es) (known (D.seen d) (D.synced d) (D.written d) c.args.self.now.length settled E es spells c.len-more.ensures.each)
+    (is_body es c.requires (fits c.len-more.ensures.length c.len-more.ensures.fits)) c.frame.ensures in
     appended_only (D.seen d) (D.synced d) (D.written d) c.args.self.now.length settled E es spells c.len-more.ensures.each _ _ _ _ done
 
 pub returns-in-Ok-clause-any_moment : goal.returns-in-Ok-clause-any_moment
@@ -95,8 +97,10 @@ returns-in-Ok-clause-any_moment g c tells none E spells =
     let d = c.args.self.now.disk in
     let es = c.args.batch.now in
     let settled = c.args.self.now.settled none tells in
-    let run = c.in-Ok.ensures.any_moment tells _ (body es) (known (D.seen d) (D.synced d) (D.written d) c.args.self.now.length settled E es spells c.len-more.ensures.each) (is_body es c.requires (fits c.len-more.ensures.length c.len-more.ensures.fits)) c.frame.ensures in
-    weaker D.moment D.left_since d c.write_frame.new.disk _ (IsWithOrWithout E es) run (λ f left. either (D.seen d) (D.synced d) (D.written d) c.args.self.now.length settled E es spells c.len-more.ensures.each f left)
+    let run = c.in-Ok.ensures.any_moment tells _ (body es) (known (D.seen d) (D.synced d) (D.written d) c.args.self.now.length settled E es spells c.len-more.ensures.each)
+    (is_body es c.requires (fits c.len-more.ensures.length c.len-more.ensures.fits)) c.frame.ensures in
+    weaker D.moment D.left_since d c.write_frame.new.disk _ (IsWithOrWithout E es) run
+    (λ f left. either (D.seen d) (D.synced d) (D.written d) c.args.self.now.length settled E es spells c.len-more.ensures.each f left)
 
 pub returns-in-Ok-clause-front : goal.returns-in-Ok-clause-front
 returns-in-Ok-clause-front g c tells none E spells =
@@ -109,7 +113,8 @@ returns-in-Ok-clause-front g c tells none E spells =
     let is = is_body es c.requires (fits c.len-more.ensures.length c.len-more.ensures.fits) in
     let run = c.in-Ok.ensures.any_moment tells _ (body es) at is c.frame.ensures in
     let done = c.in-Ok.ensures.kept tells _ (body es) at is c.frame.ensures in
-    weaker D.moment D.left_since d n _ (IsFrontOfLeft (D.synced n) (D.written n)) run (λ f left. done_front (D.seen d) (D.synced d) (D.written d) c.args.self.now.length settled E es spells c.len-more.ensures.each _ _ _ _ done f left)
+    weaker D.moment D.left_since d n _ (IsFrontOfLeft (D.synced n) (D.written n)) run
+    (λ f left. done_front (D.seen d) (D.synced d) (D.written d) c.args.self.now.length settled E es spells c.len-more.ensures.each _ _ _ _ done f left)
 
 pub returns-in-Err-clause-any_moment : goal.returns-in-Err-clause-any_moment
 returns-in-Err-clause-any_moment g c tells none E spells =
@@ -117,8 +122,10 @@ returns-in-Err-clause-any_moment g c tells none E spells =
     let d = c.args.self.now.disk in
     let es = c.args.batch.now in
     let settled = c.args.self.now.settled none tells in
-    let run = c.in-Err.ensures.any_moment tells _ (body es) (known (D.seen d) (D.synced d) (D.written d) c.args.self.now.length settled E es spells c.len-more.ensures.each) (is_body es c.requires (fits c.len-more.ensures.length c.len-more.ensures.fits)) c.frame.ensures in
-    weaker D.moment D.left_since d c.write_frame.new.disk _ (IsWithOrWithout E es) run (λ f left. either (D.seen d) (D.synced d) (D.written d) c.args.self.now.length settled E es spells c.len-more.ensures.each f left)
+    let run = c.in-Err.ensures.any_moment tells _ (body es) (known (D.seen d) (D.synced d) (D.written d) c.args.self.now.length settled E es spells c.len-more.ensures.each)
+    (is_body es c.requires (fits c.len-more.ensures.length c.len-more.ensures.fits)) c.frame.ensures in
+    weaker D.moment D.left_since d c.write_frame.new.disk _ (IsWithOrWithout E es) run
+    (λ f left. either (D.seen d) (D.synced d) (D.written d) c.args.self.now.length settled E es spells c.len-more.ensures.each f left)
 
 pub returns-in-Err-clause-front : goal.returns-in-Err-clause-front
 returns-in-Err-clause-front g c tells none E spells =
@@ -127,8 +134,10 @@ returns-in-Err-clause-front g c tells none E spells =
     let n = c.write_frame.new.disk in
     let es = c.args.batch.now in
     let settled = c.args.self.now.settled none tells in
-    let run = c.in-Err.ensures.still tells _ (body es) (known (D.seen d) (D.synced d) (D.written d) c.args.self.now.length settled E es spells c.len-more.ensures.each) (is_body es c.requires (fits c.len-more.ensures.length c.len-more.ensures.fits)) c.frame.ensures in
-    weaker D.moment D.left_since d n _ (IsFrontOfLeft (D.synced n) (D.written n)) run (λ f left. still_front (D.seen d) (D.synced d) (D.written d) c.args.self.now.length settled E es spells c.len-more.ensures.each (D.synced n) (D.written n) f left)
+    let run = c.in-Err.ensures.still tells _ (body es) (known (D.seen d) (D.synced d) (D.written d) c.args.self.now.length settled E es spells c.len-more.ensures.each)
+    (is_body es c.requires (fits c.len-more.ensures.length c.len-more.ensures.fits)) c.frame.ensures in
+    weaker D.moment D.left_since d n _ (IsFrontOfLeft (D.synced n) (D.written n)) run
+    (λ f left. still_front (D.seen d) (D.synced d) (D.written d) c.args.self.now.length settled E es spells c.len-more.ensures.each (D.synced n) (D.written n) f left)
 
 pub returns-in-Err-clause-torn : goal.returns-in-Err-clause-torn
 returns-in-Err-clause-torn g c tells none E spells f may =
@@ -137,5 +146,6 @@ returns-in-Err-clause-torn g c tells none E spells f may =
     let n = c.write_frame.new.disk in
     let es = c.args.batch.now in
     let settled = c.args.self.now.settled none tells in
-    let run = c.in-Err.ensures.any_moment tells _ (body es) (known (D.seen d) (D.synced d) (D.written d) c.args.self.now.length settled E es spells c.len-more.ensures.each) (is_body es c.requires (fits c.len-more.ensures.length c.len-more.ensures.fits)) c.frame.ensures in
+    let run = c.in-Err.ensures.any_moment tells _ (body es) (known (D.seen d) (D.synced d) (D.written d) c.args.self.now.length settled E es spells c.len-more.ensures.each)
+    (is_body es c.requires (fits c.len-more.ensures.length c.len-more.ensures.fits)) c.frame.ensures in
     either_long (D.seen d) (D.synced d) (D.written d) c.args.self.now.length settled E es spells c.len-more.ensures.each f (run.each f (g.met.D.Disk.counts_now n (D.moment d) f run.later may))

@@ -20,7 +20,8 @@ invariant_of-self c =
     let room = subst (λ t. 0 < t.spare) (sym c.self.view_is) c.requires.room in
     record {
       names = c.push-2.ensures.rows ∙ (ap (λ n. c.self.inside.named.rows ++ Some n ∷ []) digest ∙ (ap (λ m. m ++ Some (name_digest seed row) ∷ []) kept.names
-          ∙ (sym (marked-push (name_digest seed) slots row) ∙ (ap (marked_by (name_digest seed)) (sym c.push.ensures.rows) ∙ ap (λ s. marked_by (name_digest s) c.push.new.self.rows) (sym c.push.ensures.seed)))));
+          ∙ (sym (marked-push (name_digest seed) slots row) ∙ (ap (marked_by (name_digest seed)) (sym c.push.ensures.rows) ∙ ap (λ s. marked_by (name_digest s) c.push.new.self.rows)
+          (sym c.push.ensures.seed)))));
       empty = kept.empty ∙ (sym (gaps-push 0 slots row) ∙ ap (empties 0) (sym c.push.ensures.rows));
       once = subst AreOnce (sym (ap standing c.push.ensures.rows ∙ standing-push slots row)) (once-push (standing slots) row kept.once (sym c.holds.ensures ∙ c.if-holds.false));
       held = omega (arith, longer, room);

@@ -9,7 +9,8 @@ use Rattle.ps_nodes.proofs.nodes.Nodes.delete.Goals as goal
 
 pub returns-in-Some-clause-there : goal.returns-in-Some-clause-there
 returns-in-Some-clause-there c =
-    stands-found c.args.node.now c.self.inside.slots.rows c.seek_node.result c.in-Some.place c.seek_node.ensures.before c.in-Some.is c.in-Some.ensures.here ∙ ap (λ t. stands c.args.node.now t.rows) c.self.view_is
+    stands-found c.args.node.now c.self.inside.slots.rows c.seek_node.result c.in-Some.place c.seek_node.ensures.before c.in-Some.is c.in-Some.ensures.here ∙ ap (λ t. stands c.args.node.now t.rows)
+    c.self.view_is
 
 pub returns-in-Some-clause-rows : goal.returns-in-Some-clause-rows
 returns-in-Some-clause-rows c =

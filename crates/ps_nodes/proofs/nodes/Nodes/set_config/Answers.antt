@@ -30,11 +30,13 @@ invariant_of-self c =
 
 pub returns-in-Some-clause-there : goal.returns-in-Some-clause-there
 returns-in-Some-clause-there c =
-    stands-found c.args.node.now c.self.inside.slots.rows c.seek_node.result c.in-Some.place c.seek_node.ensures.before c.in-Some.is c.in-Some.ensures.here ∙ ap (λ t. stands c.args.node.now t.rows) c.self.view_is
+    stands-found c.args.node.now c.self.inside.slots.rows c.seek_node.result c.in-Some.place c.seek_node.ensures.before c.in-Some.is c.in-Some.ensures.here ∙ ap (λ t. stands c.args.node.now t.rows)
+    c.self.view_is
 
 pub returns-in-Some-clause-rows : goal.returns-in-Some-clause-rows
 returns-in-Some-clause-rows c =
-    change_found (is_node c.args.node.now) (with_config c.args.config) c.self.inside.slots.rows c.update.new.self.rows c.seek_node.result c.in-Some.place c.seek_node.ensures.before c.in-Some.is c.in-Some.ensures.here c.update.ensures.rows
+    change_found (is_node c.args.node.now) (with_config c.args.config) c.self.inside.slots.rows c.update.new.self.rows c.seek_node.result c.in-Some.place c.seek_node.ensures.before c.in-Some.is
+    c.in-Some.ensures.here c.update.ensures.rows
     ∙ ap (λ t. nodes_with c.args.node.now c.args.config t.rows) c.self.view_is
 
 pub returns-in-None-clause-there : goal.returns-in-None-clause-there
@@ -44,4 +46,5 @@ returns-in-None-clause-there c =
 pub returns-in-None-clause-rows : goal.returns-in-None-clause-rows
 returns-in-None-clause-rows c =
     let none = none-pass c.args.node.now c.self.inside.slots.rows c.seek_node.result c.seek_node.ensures.before c.in-None.is in
-    subst (λ t. t.rows ≡ nodes_with c.args.node.now c.args.config t.rows) c.self.view_is (sym (change_none (is_node c.args.node.now) (with_config c.args.config) (standing c.self.inside.slots.rows) none))
+    subst (λ t. t.rows ≡ nodes_with c.args.node.now c.args.config t.rows) c.self.view_is
+    (sym (change_none (is_node c.args.node.now) (with_config c.args.config) (standing c.self.inside.slots.rows) none))

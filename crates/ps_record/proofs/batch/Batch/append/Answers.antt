@@ -1,6 +1,6 @@
 use Rattle.std.proofs.Common.{◌≡◌, List, [], ◌∷◌, ◌++◌, ◌+◌, ◌^◌, ◌≤◌, length, sym, ◌∙◌, ap, subst, arith, length-append}
 use Rattle.ps_types.specs.declared.entry.Entry.{Entry}
-use Rattle.ps_model.specs.Entries.{spelling, body, AreEntries}
+use Rattle.ps_model.specs.store.Entries.{spelling, body, AreEntries}
 use Rattle.ps_record.specs.Batch.{piece}
 use Rattle.ps_record.proofs.Batches.{body_push, piece_push, are_entries_push}
 use Rattle.ps_record.proofs.batch.Batch.append.Goals as goal

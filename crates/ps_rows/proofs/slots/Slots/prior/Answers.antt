@@ -7,5 +7,10 @@ use Rattle.ps_rows.proofs.slots.Slots.prior.Goals as goal
 pub returns : goal.returns
 returns g c =
     let i = c.self.inside in
-    let same : c.chain.result.now.rows ≡ marked_by (g.R.Row.by i.seed c.args.index) i.slots.items = ap (λ t. t.rows) c.chain.ensures ∙ picked (g.R.Row.by i.seed) i.slots.items i.key i.node i.bare i.standing g.R.Row.kin i.pure c.self.invariant c.args.index in
-    record { prior = subst (λ t. (digest : ℕ) → mark_at (marked_by (g.R.Row.by t.seed c.args.index) t.rows) c.args.place ≡ Some digest → LastBelow (mark_at (marked_by (g.R.Row.by t.seed c.args.index) t.rows)) digest c.args.place c.prior.result) c.self.view_is (subst (λ m. (digest : ℕ) → mark_at m c.args.place ≡ Some digest → LastBelow (mark_at m) digest c.args.place c.prior.result) same c.prior.ensures.prior) }
+    let same : c.chain.result.now.rows ≡ marked_by (g.R.Row.by i.seed c.args.index) i.slots.items = ap (λ t. t.rows) c.chain.ensures ∙ picked (g.R.Row.by i.seed) i.slots.items i.key i.node i.bare
+    i.standing g.R.Row.kin i.pure c.self.invariant c.args.index in
+    record {
+      prior = subst (λ t. (digest : ℕ) → mark_at (marked_by (g.R.Row.by t.seed c.args.index) t.rows) c.args.place ≡ Some digest
+          → LastBelow (mark_at (marked_by (g.R.Row.by t.seed c.args.index) t.rows)) digest c.args.place c.prior.result) c.self.view_is
+          (subst (λ m. (digest : ℕ) → mark_at m c.args.place ≡ Some digest → LastBelow (mark_at m) digest c.args.place c.prior.result) same c.prior.ensures.prior);
+    }

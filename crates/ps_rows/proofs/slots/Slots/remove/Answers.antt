@@ -8,7 +8,8 @@ use Rattle.ps_rows.specs.declared.index.Index.TheVariants.{Node}
 use Rattle.ps_rows.proofs.Kept.{pure_removed}
 use Rattle.ps_rows.proofs.slots.Slots.remove.Goals as goal
 
-one : {R : Type 0} (by : R → ℕ) (old new : List (Option R)) (place : ℕ) (before after : List (Option ℕ)) → new ≡ slice_set old place None → before ≡ marked_by by old → after ≡ slice_set before place None → after ≡ marked_by by new
+one : {R : Type 0} (by : R → ℕ) (old new : List (Option R)) (place : ℕ) (before after : List (Option ℕ)) → new ≡ slice_set old place None → before ≡ marked_by by old
+    → after ≡ slice_set before place None → after ≡ marked_by by new
 one by old new place before after n b a = a ∙ (ap (λ x. slice_set x place None) b ∙ (sym (marked-set by old place None) ∙ ap (marked_by by) (sym n)))
 
 some : {R : Type 0} (old seen : List (Option R)) (place count : ℕ) (stood : Bool) → seen ≡ old → stood ≡ is_some (mark_at seen place) → count ≡ length (standing old) → stood ≡ true → 1 ≤ count
@@ -18,7 +19,8 @@ some old seen place count stood s b c t =
     let g = rw u at f in
     omega (arith, g, c)
 
-fewer_one : {R : Type 0} (old seen new : List (Option R)) (place count left : ℕ) (stood : Bool) → seen ≡ old → stood ≡ is_some (mark_at seen place) → count ≡ length (standing old) → new ≡ slice_set old place None → count ≡ left + (if stood then 1 else 0) → left ≡ length (standing new)
+fewer_one : {R : Type 0} (old seen new : List (Option R)) (place count left : ℕ) (stood : Bool) → seen ≡ old → stood ≡ is_some (mark_at seen place) → count ≡ length (standing old)
+    → new ≡ slice_set old place None → count ≡ left + (if stood then 1 else 0) → left ≡ length (standing new)
 fewer_one old seen new place count left stood s b c n l =
     let f = fewer old place in
     let u : stood ≡ is_some (mark_at old place) = b ∙ ap (λ x. is_some (mark_at x place)) s in

@@ -9,14 +9,16 @@ use Rattle.ps_rows.proofs.Walk.{as_many_made}
 use Rattle.ps_rows.proofs.Kept.{pure_made}
 use Rattle.ps_rows.proofs.slots.Slots.update.Goals as goal
 
-one : {R : Type 0} (by : R → ℕ) (f : R → R) (old new : List (Option R)) (place : ℕ) (marks : List (Option ℕ)) → new ≡ slice_set old place (option_map f (mark_at old place)) → marks ≡ marked_by by old → ((x : R) → mark_at old place ≡ Some x → by (f x) ≡ by x) → marks ≡ marked_by by new
+one : {R : Type 0} (by : R → ℕ) (f : R → R) (old new : List (Option R)) (place : ℕ) (marks : List (Option ℕ)) → new ≡ slice_set old place (option_map f (mark_at old place)) → marks ≡ marked_by by old
+    → ((x : R) → mark_at old place ≡ Some x → by (f x) ≡ by x) → marks ≡ marked_by by new
 one by f old new place marks n b h = b ∙ (sym (marked-made by f old place h) ∙ ap (marked_by by) (sym n))
 
 pub invariant_of-self : goal.invariant_of-self
 invariant_of-self g c =
     let f = g.C.Change.makes c.args.change in
     let old = c.self.inside.slots.items in
-    let alike = λ (index : Index). subst (λ t. (x : g.row.R.Denot) → mark_at t.rows c.args.place ≡ Some x → g.R.Row.by t.seed index (f x) ≡ g.R.Row.by t.seed index x) (sym c.self.view_is) (c.requires.alike index) in
+    let alike = λ (index : Index). subst (λ t. (x : g.row.R.Denot) → mark_at t.rows c.args.place ≡ Some x → g.R.Row.by t.seed index (f x) ≡ g.R.Row.by t.seed index x) (sym c.self.view_is)
+    (c.requires.alike index) in
     let kin = subst (λ t. (x : g.row.R.Denot) → mark_at t.rows c.args.place ≡ Some x → g.R.Row.kin x (f x) ≡ true) (sym c.self.view_is) c.requires.kin in
     record {
       key = one _ f old _ c.args.place _ c.apply.ensures.rows c.self.invariant.key (alike Key);

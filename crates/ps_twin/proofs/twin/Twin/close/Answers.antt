@@ -37,7 +37,8 @@ join_seat-requires g c =
       ap (λ s. s.table_id) k ∙ f.0.0,
       ap (λ s. s.me.1) k ∙ f.1.2,
       search rules,
-      tjoins_ok g.V.Annals.stands g.V.Annals.firm g.V.Annals.mark g.J.Annals.stands g.J.Annals.firm g.J.Annals.mark g.V.Annals.maker _ _ _ _ _ i.2 i.3 (ap (λ s. s.me.0.base.live) k ∙ f.0.1) (ap (λ s. s.me.0.base.place.stage) k ∙ f.1.0) (ap (λ s. s.me.0.journal.stage) k ∙ f.1.1),
+      tjoins_ok g.V.Annals.stands g.V.Annals.firm g.V.Annals.mark g.J.Annals.stands g.J.Annals.firm g.J.Annals.mark g.V.Annals.maker _ _ _ _ _ i.2 i.3 (ap (λ s. s.me.0.base.live) k ∙ f.0.1)
+          (ap (λ s. s.me.0.base.place.stage) k ∙ f.1.0) (ap (λ s. s.me.0.journal.stage) k ∙ f.1.1),
     )
 
 pub loop-seat-preserved : goal.loop-seat-preserved
@@ -65,40 +66,51 @@ into_state-value-requires g c =
     let i = c.loop-seat.invariant in
     let t = taken_whole c.loop-seat.keeper.me.0.base c.loop-seat.seats.items c.args.seats.items (sym c.loop-seat.seats.ok.0 ∙ c.in_default.ensures.cases.0) i.0 in
     let all = keeps_all c.args.self c.loop-seat.keeper.me.0.base c.args.seats.items c.requires t in
-    let x = tcloses_ok g.V.Annals.stands g.V.Annals.firm g.V.Annals.mark g.J.Annals.stands g.J.Annals.firm g.J.Annals.mark g.V.Annals.maker _ _ _ _ _ i.2 i.3 i.4 all c.close_with-closed.ensures.values.2 in
+    let x = tcloses_ok g.V.Annals.stands g.V.Annals.firm g.V.Annals.mark g.J.Annals.stands g.J.Annals.firm g.J.Annals.mark g.V.Annals.maker _ _ _ _ _ i.2 i.3 i.4 all
+    c.close_with-closed.ensures.values.2 in
     (x.0, sym (some-injective _ _ (sym x.2 ∙ c.take.ensures.value)))
 
 pub take-requires-2 : goal.take-requires-2
 take-requires-2 g c =
     let two = c.close_with-closed.ensures.counts.1 ∙ c.args.self.sized.1 in
-    let o = c.take.ensures.others in
-    (omega (arith, two, o.2), subst (λ (f : List Bool). IsTrue (get_or f 1 false)) (sym o.1) (still_full (slots_filled c.close_with-closed.result.slots) (c.close_with-closed.ensures.values.1 1 (omega arith) (omega (arith, two)))))
+    let o = c.take.ensures.others in (
+      omega (arith, two, o.2),
+      subst (λ (f : List Bool). IsTrue (get_or f 1 false)) (sym o.1)
+          (still_full (slots_filled c.close_with-closed.result.slots) (c.close_with-closed.ensures.values.1 1 (omega arith) (omega (arith, two)))),
+    )
 
 pub into_journal-journal-requires : goal.into_journal-journal-requires
 into_journal-journal-requires g c =
     let i = c.loop-seat.invariant in
     let t = taken_whole c.loop-seat.keeper.me.0.base c.loop-seat.seats.items c.args.seats.items (sym c.loop-seat.seats.ok.0 ∙ c.in_default.ensures.cases.0) i.0 in
     let all = keeps_all c.args.self c.loop-seat.keeper.me.0.base c.args.seats.items c.requires t in
-    let x = tcloses_ok g.V.Annals.stands g.V.Annals.firm g.V.Annals.mark g.J.Annals.stands g.J.Annals.firm g.J.Annals.mark g.V.Annals.maker _ _ _ _ _ i.2 i.3 i.4 all c.close_with-closed.ensures.values.2 in
+    let x = tcloses_ok g.V.Annals.stands g.V.Annals.firm g.V.Annals.mark g.J.Annals.stands g.J.Annals.firm g.J.Annals.mark g.V.Annals.maker _ _ _ _ _ i.2 i.3 i.4 all
+    c.close_with-closed.ensures.values.2 in
     (x.1, sym (some-injective _ _ (sym x.3 ∙ (ap (λ (l : List (Part g.row.V.Denot g.row.J.Denot)). get_elem? l 1) (sym c.take.ensures.others.0) ∙ c.take-2.ensures.value))))
 
 pub free-requires : goal.free-requires
 free-requires g c =
     let two = c.close_with-closed.ensures.counts.1 ∙ c.args.self.sized.1 in
     let slots = c.close_with-closed.result.slots in
-    λ k low. all_free (slots_filled slots) (slots_filled c.take-2.new.self.slots) (sym (slots_counts slots).1 ∙ two) (c.take-2.ensures.others.1 ∙ ap (λ (f : List Bool). set f 1 false) c.take.ensures.others.1) k
+    λ k low. all_free (slots_filled slots) (slots_filled c.take-2.new.self.slots) (sym (slots_counts slots).1 ∙ two)
+    (c.take-2.ensures.others.1 ∙ ap (λ (f : List Bool). set f 1 false) c.take.ensures.others.1) k
 
 pub returns : goal.returns
 returns g c =
     let i = c.loop-seat.invariant in
     let t = taken_whole c.loop-seat.keeper.me.0.base c.loop-seat.seats.items c.args.seats.items (sym c.loop-seat.seats.ok.0 ∙ c.in_default.ensures.cases.0) i.0 in
     let all = keeps_all c.args.self c.loop-seat.keeper.me.0.base c.args.seats.items c.requires t in
-    let x = tcloses_ok g.V.Annals.stands g.V.Annals.firm g.V.Annals.mark g.J.Annals.stands g.J.Annals.firm g.J.Annals.mark g.V.Annals.maker _ _ _ _ _ i.2 i.3 i.4 all c.close_with-closed.ensures.values.2 in
+    let x = tcloses_ok g.V.Annals.stands g.V.Annals.firm g.V.Annals.mark g.J.Annals.stands g.J.Annals.firm g.J.Annals.mark g.V.Annals.maker _ _ _ _ _ i.2 i.3 i.4 all
+    c.close_with-closed.ensures.values.2 in
     let one : state_part x.0 ≡ c.take.result = some-injective _ _ (sym x.2 ∙ c.take.ensures.value) in
-    let other : journal_part x.1 ≡ c.take-2.result = some-injective _ _ (sym x.3 ∙ (ap (λ (l : List (Part g.row.V.Denot g.row.J.Denot)). get_elem? l 1) (sym c.take.ensures.others.0) ∙ c.take-2.ensures.value)) in
+    let other : journal_part x.1 ≡ c.take-2.result = some-injective _ _
+    (sym x.3 ∙ (ap (λ (l : List (Part g.row.V.Denot g.row.J.Denot)). get_elem? l 1) (sym c.take.ensures.others.0) ∙ c.take-2.ensures.value)) in
     let a : Some x.0 ≡ Some c.into_state-value.result = ap (λ p. p.state) (one ∙ c.into_state-value.ensures) in
     let b : Some x.1 ≡ Some c.into_journal-journal.result = ap (λ p. p.journal) (other ∙ c.into_journal-journal.ensures) in
     let same : x.0 ≡ c.into_state-value.result = cc a in
     let jsame : x.1 ≡ c.into_journal-journal.result = cc b in
-    gathers g.V.Annals.stands g.V.Annals.firm g.V.Annals.mark g.J.Annals.stands g.J.Annals.firm g.J.Annals.mark g.V.Annals.maker c.loop-seat.keeper.me.0 c.args.seats.items c.into_state-value.result c.into_journal-journal.result t
-    (subst (λ (y : g.row.V.Denot). TCloses g.V.Annals.stands g.V.Annals.firm g.V.Annals.mark g.J.Annals.stands g.J.Annals.firm g.J.Annals.mark g.V.Annals.maker c.loop-seat.keeper.me.0 y c.into_journal-journal.result) same (subst (λ (y : g.row.J.Denot). TCloses g.V.Annals.stands g.V.Annals.firm g.V.Annals.mark g.J.Annals.stands g.J.Annals.firm g.J.Annals.mark g.V.Annals.maker c.loop-seat.keeper.me.0 x.0 y) jsame x.4))
+    gathers g.V.Annals.stands g.V.Annals.firm g.V.Annals.mark g.J.Annals.stands g.J.Annals.firm g.J.Annals.mark g.V.Annals.maker c.loop-seat.keeper.me.0 c.args.seats.items c.into_state-value.result
+    c.into_journal-journal.result t
+    (subst (λ (y : g.row.V.Denot). TCloses g.V.Annals.stands g.V.Annals.firm g.V.Annals.mark g.J.Annals.stands g.J.Annals.firm g.J.Annals.mark g.V.Annals.maker c.loop-seat.keeper.me.0 y
+    c.into_journal-journal.result) same (subst (λ (y : g.row.J.Denot). TCloses g.V.Annals.stands g.V.Annals.firm g.V.Annals.mark g.J.Annals.stands g.J.Annals.firm g.J.Annals.mark g.V.Annals.maker
+    c.loop-seat.keeper.me.0 x.0 y) jsame x.4))

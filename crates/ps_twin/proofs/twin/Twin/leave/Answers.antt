@@ -30,4 +30,5 @@ pub wake-requires-clause-rings : goal.wake-requires-clause-rings
 wake-requires-clause-rings g c =
     let x = c.exchange.ensures.3 in
     let w = c.raise.ensures.seen in
-    rings_ok g.V.Annals.stands g.V.Annals.firm g.V.Annals.mark g.J.Annals.stands g.J.Annals.firm g.J.Annals.mark g.V.Annals.maker _ _ _ _ _ (lit≤ tt) (lit< tt) (ap (λ m. m.0.base.live) c.fetch_add.ensures.2.2 ∙ (ap (λ m. m.0.base.live) w ∙ (ap (λ m. m.0.base.live) x ∙ c.requires.1.1.1.twin.1)))
+    rings_ok g.V.Annals.stands g.V.Annals.firm g.V.Annals.mark g.J.Annals.stands g.J.Annals.firm g.J.Annals.mark g.V.Annals.maker _ _ _ _ _ (lit≤ tt) (lit< tt)
+    (ap (λ m. m.0.base.live) c.fetch_add.ensures.2.2 ∙ (ap (λ m. m.0.base.live) w ∙ (ap (λ m. m.0.base.live) x ∙ c.requires.1.1.1.twin.1)))

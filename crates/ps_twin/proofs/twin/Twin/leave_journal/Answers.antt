@@ -24,7 +24,8 @@ fetch_add-requires g c =
     let x = c.exchange.ensures.3 in
     let w = c.fetch_max.ensures.2 in
     let l = c.requires.list in
-    let has = ap (λ m. m.1) w ∙ (ap (λ m. m.1) x ∙ (ap (λ p. (1, p) ∷ rest c.args.seat.now.seat.me.1) c.of_journal.ensures ∙ ap (λ cs. (1, journal_part c.args.journal) ∷ rest cs) c.requires.held.2)) in
+    let has = ap (λ m. m.1) w ∙ (ap (λ m. m.1) x ∙ (ap (λ p. (1, p) ∷ rest c.args.seat.now.seat.me.1) c.of_journal.ensures ∙ ap (λ cs. (1, journal_part c.args.journal) ∷ rest cs) c.requires.held.2))
+    in
     let base = ap (λ m. m.0.base) w ∙ ap (λ m. m.0.base) x in (
       search rules,
       search rules,
@@ -38,4 +39,5 @@ fetch_add-requires g c =
 pub wake-requires-clause-rings : goal.wake-requires-clause-rings
 wake-requires-clause-rings g c =
     let base = ap (λ m. m.0.base.live) c.fetch_max.ensures.2 ∙ ap (λ m. m.0.base.live) c.exchange.ensures.3 in
-    rings_ok g.V.Annals.stands g.V.Annals.firm g.V.Annals.mark g.J.Annals.stands g.J.Annals.firm g.J.Annals.mark g.V.Annals.maker _ _ _ _ _ (lit≤ tt) (lit< tt) (ap (λ m. m.0.base.live) c.fetch_add.ensures.2 ∙ (base ∙ c.requires.twin.1))
+    rings_ok g.V.Annals.stands g.V.Annals.firm g.V.Annals.mark g.J.Annals.stands g.J.Annals.firm g.J.Annals.mark g.V.Annals.maker _ _ _ _ _ (lit≤ tt) (lit< tt)
+    (ap (λ m. m.0.base.live) c.fetch_add.ensures.2 ∙ (base ∙ c.requires.twin.1))

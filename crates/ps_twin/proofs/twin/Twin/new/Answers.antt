@@ -12,5 +12,7 @@ new-requires g c =
     let one = c.push_reserved.ensures.items ∙ (ap (λ p. c.reserve-else-is_err.new.self.items ++ p ∷ []) c.of_state.ensures ∙ ap (λ l. l ++ state_part c.args.value ∷ []) empty) in
     let items = c.push_reserved-2.ensures.items ∙ (ap (λ p. c.push_reserved.new.self.items ++ p ∷ []) c.of_journal.ensures ∙ ap (λ l. l ++ journal_part c.args.journal ∷ []) one) in
     let b = c.requires.both in
-    subst (λ (l : List (Part g.row.V.Denot g.row.J.Denot)). Twinned g.V.Annals.stands g.V.Annals.firm g.V.Annals.mark g.J.Annals.stands g.J.Annals.firm g.J.Annals.mark g.V.Annals.maker c.args.seats (opening (0 ∷ 0 ∷ 0 ∷ 0 ∷ 0 ∷ 0 ∷ 0 ∷ 0 ∷ []) l tfounder)) (sym items)
-    (topens_ok g.V.Annals.stands g.V.Annals.firm g.V.Annals.mark g.J.Annals.stands g.J.Annals.firm g.J.Annals.mark g.V.Annals.maker c.args.seats c.args.value c.args.journal c.requires.some b.empty b.journal_empty b.firm b.mark)
+    subst (λ (l : List (Part g.row.V.Denot g.row.J.Denot)). Twinned g.V.Annals.stands g.V.Annals.firm g.V.Annals.mark g.J.Annals.stands g.J.Annals.firm g.J.Annals.mark g.V.Annals.maker c.args.seats
+    (opening (0 ∷ 0 ∷ 0 ∷ 0 ∷ 0 ∷ 0 ∷ 0 ∷ 0 ∷ []) l tfounder)) (sym items)
+    (topens_ok g.V.Annals.stands g.V.Annals.firm g.V.Annals.mark g.J.Annals.stands g.J.Annals.firm g.J.Annals.mark g.V.Annals.maker c.args.seats c.args.value c.args.journal c.requires.some b.empty
+    b.journal_empty b.firm b.mark)
