@@ -85,7 +85,7 @@ def defines(files, word):
 
 
 def spec_files(name):
-    return [it for crate in ("ps_model", "ps_types", "ps_base", "ps_world") for it in [CRATES / crate / "specs" / f"{name}.antt"] if it.is_file()]
+    return [it for crate in ("ps_model", "ps_types", "ps_base", "ps_world") for it in (CRATES / crate / "specs").glob(f"**/{name}.antt")]
 
 
 def tests_named():

@@ -32,7 +32,8 @@ def lacks(reference, names):
     """Lists what a reference names and its file lacks."""
     crate, file = reference.split("/")
     is_spec = file[0].isupper()
-    path = ROOT / "crates" / crate / (f"specs/{file}.antt" if is_spec else f"src/{file}.rt")
+    folder = ROOT / "crates" / crate
+    path = next(folder.glob(f"specs/**/{file}.antt"), folder / f"specs/{file}.antt") if is_spec else folder / f"src/{file}.rt"
     if not path.is_file():
         return [f"{reference}: no such file"]
     text = path.read_text()
