@@ -14,10 +14,7 @@ use crate::depths::is_shallow;
 use ps_access::{Tables, is_collection};
 use ps_base::Memory;
 use ps_items::Items;
-use ps_types::{ItemRow, NodeConfig};
-
-/// 9999-01-01T00:00:00Z, in seconds since 1970-01-01T00:00:00Z.
-const END_OF_TIME: u64 = 253_370_764_800;
+use ps_types::{END_OF_TIME, ItemRow, NodeConfig};
 
 fn is_early(moment: Option<u64>) -> bool
     ensures { result ≡ model.is_early moment }

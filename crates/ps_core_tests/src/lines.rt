@@ -3,7 +3,7 @@ ghost use Rattle.std.specs.Prelude.{◌≡◌, true};
 ghost use Rattle.ps_book_laws.specs.Addressed.{IsTimely};
 
 use ps_core::{Answer, Service};
-use ps_types::{Arrival, Bytes, Entry, Notice, Text};
+use ps_types::{Arrival, Bytes, END_OF_TIME, Entry, Notice, Text};
 use ps_wire::print_tree;
 use std::alloc::Global;
 use std::process::Abort;
@@ -34,7 +34,7 @@ pub fn is_timely(entry: &Entry) -> bool
 {
     match entry {
         Entry::Change { moment, .. } => match moment {
-            Some(moment) => *moment < 253_370_764_800,
+            Some(moment) => *moment < END_OF_TIME,
             None => true,
         },
         _ => true,

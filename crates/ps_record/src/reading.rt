@@ -8,7 +8,7 @@ ghost use Rattle.ps_record.specs.Reading.{OnBad, IsCause};
 
 use crate::fields::{Unread, address_of, host_of, tree_of};
 use crate::raw::{Raw, fields_at};
-use ps_types::Entry;
+use ps_types::{END_OF_TIME, Entry};
 use std::alloc::Global;
 
 /// Why no entry was read.
@@ -18,9 +18,6 @@ pub enum EntryRefusal {
     Bad(u64),
     Memory,
 }
-
-/// 9999-01-01T00:00:00Z, in seconds since 1970-01-01T00:00:00Z.
-const END_OF_TIME: u64 = 253_370_764_800;
 
 /// Whether it is the moment of an entry: none, or one before the year 9999.
 pub fn is_moment(moment: Option<u64>) -> bool

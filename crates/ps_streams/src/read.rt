@@ -16,7 +16,7 @@ use crate::idle::{FOR_ROOM, await_news};
 use ps_disk::Disk;
 use ps_hall::{ArriveRefusal, FlushRefusal, Hall, HandedRefusal, Opening, Pass};
 use ps_io::Clock;
-use ps_types::Arrival;
+use ps_types::{Arrival, END_OF_TIME};
 use ps_wire::{Lines, NextLine, NextLineRefusal, Source};
 use std::alloc::Global;
 use std::sync::Wait;
@@ -100,7 +100,7 @@ fn moment<C: Clock>(clock: &mut C) -> Option<u64>
     ensures gives { ClockGives (C.told clock.old) (C.told clock.new) result }
 {
     match clock.now() {
-        Ok(at) => { if at < 253_370_764_800 { Some(at) } else { None } }
+        Ok(at) => { if at < END_OF_TIME { Some(at) } else { None } }
         Err(_) => None,
     }
 }
