@@ -1,8 +1,9 @@
 -- Rows as the entries of a compacted store.
-use Rattle.std.specs.Prelude.{List, [], ◌∷◌, map, Option, Some, None}
+use Rattle.std.specs.Prelude.{◌<◌, ◌^◌, List, [], ◌∷◌, length, map, Option, Some, None}
 use Rattle.ps_types.specs.declared.entry.Entry.{Entry}
 use Rattle.ps_types.specs.declared.entry.Entry.TheVariants as entry
 use Rattle.ps_model.specs.BaseRows.{BaseRow, row_tree}
+use Rattle.ps_model.specs.Entries.{body}
 
 abbrev pub written : BaseRow → Entry
 written r = entry.Base (row_tree r)
@@ -16,3 +17,7 @@ module _ {R : Type 0} (kind : R → BaseRow) where
   abbrev pub if_written : Option R → List Entry
   if_written None = []
   if_written (Some r) = written (kind r) ∷ []
+
+-- they have more bytes than a batch has
+abbrev pub AreLong : List Entry → Type 0
+AreLong es = 2 ^ 30 < length (body es)

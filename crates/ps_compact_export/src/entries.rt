@@ -1,32 +1,35 @@
 // The entries of all rows, and of what is told beside them.
-ghost use Rattle.std.specs.Prelude.{◌≡◌, IfOk, map};
+ghost use Rattle.std.specs.Prelude.{◌≡◌, ◌++◌, IfOk, IsErrOf, OnOk, map};
 ghost use Rattle.ps_model.specs.Base.{book_rows};
 ghost use Rattle.ps_model.specs.BaseRows as base;
 ghost use Rattle.ps_access.specs.Tables.{book_of};
-ghost use Rattle.ps_compact_export.specs.Written.{written};
+ghost use Rattle.ps_record.specs.Formed.{AreFormed};
+ghost use Rattle.ps_compact_export.specs.Written.{AreLong, written};
 
 use crate::adding::{add_nodes, add_rows};
 use ps_access::Tables;
 use ps_base::Memory;
 use ps_compact_codec::{counter_tree, notice_tree};
+use ps_record::{Batch, BatchRefusal};
 use ps_types::{Entry, Jid, Text};
 use std::alloc::Global;
 
-/// The entries of the rows of a Book, in the order in which each is accepted behind those before it. None is of the
-/// resources that are present.
-pub fn book_entries(alloc: Global, tables: &Tables) -> Result<Vec<Entry>, Memory>
-    ensures rows { IfOk result (λ v. v.items ≡ map written (book_rows (book_of tables.now))) }
+/// Adds the entries of the rows of a Book, in the order in which each is accepted behind those before it. None is of the
+/// resources that are present. Each is printed once, and no list of them is made beside the batch.
+pub fn add_book(alloc: Global, batch: &mut Batch, tables: &Tables) -> Result<(), BatchRefusal>
+    requires formed { AreFormed (map written (book_rows (book_of tables.now))) }
+    ensures ok { OnOk result (batch.new ≡ batch.old ++ map written (book_rows (book_of tables.now))) }
+    ensures long { IsErrOf result BatchRefusal.Long
+        → AreLong (batch.old ++ map written (book_rows (book_of tables.now))) }
 {
-    let mut entries = Vec::new(alloc);
-    add_nodes(alloc, &mut entries, &tables.nodes)?;
-    add_rows(alloc, &mut entries, tables.affils.places())?;
-    add_rows(alloc, &mut entries, tables.subs.places())?;
-    add_rows(alloc, &mut entries, tables.items.places())?;
-    add_rows(alloc, &mut entries, tables.links.places())?;
-    add_rows(alloc, &mut entries, tables.roster.places())?;
-    add_rows(alloc, &mut entries, tables.cache.places())?;
-    add_rows(alloc, &mut entries, tables.counts.places())?;
-    Ok(entries)
+    add_nodes(alloc, batch, &tables.nodes)?;
+    add_rows(alloc, batch, tables.affils.places())?;
+    add_rows(alloc, batch, tables.subs.places())?;
+    add_rows(alloc, batch, tables.items.places())?;
+    add_rows(alloc, batch, tables.links.places())?;
+    add_rows(alloc, batch, tables.roster.places())?;
+    add_rows(alloc, batch, tables.cache.places())?;
+    add_rows(alloc, batch, tables.counts.places())
 }
 
 /// The entry that says how many notices were handed to a bare address.
