@@ -1,15 +1,16 @@
 // The numbers of handed notices, as entries.
-ghost use Rattle.std.specs.Prelude.{◌≡◌, ◌<◌, ◌^◌, ◌++◌, IfOk, IfSome, IsTrue, OnOk, map, option_to_list, slice_get};
+ghost use Rattle.std.specs.Prelude.{◌≡◌, ◌<◌, ◌^◌, ◌++◌, IfOk, IfSome, IsErrOf, IsTrue, OnOk, map, option_to_list, slice_get};
 ghost use Rattle.ps_compact.specs.Few.{AreHanded, AreMade};
 ghost use Rattle.ps_compact.specs.Rows.{counter_at, counters_of, who_at, whos_of};
 ghost use Rattle.ps_model.specs.Tallies.{handed_to};
-ghost use Rattle.ps_compact_export.specs.Written.{written};
+ghost use Rattle.ps_compact_export.specs.Written.{AreLong, written};
 
 use ps_base::Memory;
 use ps_compact_export::counter_entry;
 use ps_item_ids::Counts;
 use ps_notice_numbers::Tallies;
-use ps_types::{CountRow, Entry, Jid};
+use ps_record::{Batch, BatchRefusal};
+use ps_types::{CountRow, Jid};
 use std::alloc::Global;
 
 /// A number in a row is below this one.
@@ -67,35 +68,40 @@ pub(crate) fn addresses(alloc: Global, tallies: &Tallies) -> Result<Vec<Jid>, Me
 // Adds the number of an address, if some notices were handed to it.
 fn add_counter(
     alloc: Global,
-    entries: &mut Vec<Entry>,
+    batch: &mut Batch,
     tallies: &Tallies,
     who: &Jid,
-) -> Result<(), Memory>
+) -> Result<(), BatchRefusal>
     requires few { handed_to who.now tallies.now.rows < 2 ^ 62 }
-    ensures { OnOk result (entries.new.items
-        ≡ entries.old.items ++ map written (option_to_list (counter_at tallies.now.rows who.now))) }
+    ensures ok { OnOk result (batch.new
+        ≡ batch.old ++ map written (option_to_list (counter_at tallies.now.rows who.now))) }
+    ensures long { IsErrOf result BatchRefusal.Long
+        → AreLong (batch.old ++ map written (option_to_list (counter_at tallies.now.rows who.now))) }
 {
     let handed = tallies.handed(who);
     if handed == 0 {
         return Ok(());
     }
-    entries.push(counter_entry(alloc, who, handed as u64)?)?;
-    Ok(())
+    batch.add(&counter_entry(alloc, who, handed as u64)?)
 }
 
 /// Adds the numbers of these addresses.
 pub(crate) fn add_counters(
     alloc: Global,
-    entries: &mut Vec<Entry>,
+    batch: &mut Batch,
     tallies: &Tallies,
     whos: &Vec<Jid>,
-) -> Result<(), Memory>
+) -> Result<(), BatchRefusal>
     requires few { AreHanded tallies.now.rows }
-    ensures { OnOk result (entries.new.items
-        ≡ entries.old.items ++ map written (counters_of tallies.now.rows whos.now.items)) }
+    ensures ok { OnOk result (batch.new
+        ≡ batch.old ++ map written (counters_of tallies.now.rows whos.now.items)) }
+    ensures long { IsErrOf result BatchRefusal.Long
+        → AreLong (batch.old ++ map written (counters_of tallies.now.rows whos.now.items)) }
 {
     'whos: for who in whos {
-        add_counter(alloc, entries, tallies, who)?;
+        if let Err(why) = add_counter(alloc, batch, tallies, who) {
+            return Err(why);
+        }
     }
     Ok(())
 }

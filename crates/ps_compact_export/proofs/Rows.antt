@@ -16,7 +16,7 @@ use Rattle.ps_compact_export.specs.Written.{AreLong, all_written, if_written, wr
 
 -- ---- parts of entries with a form, and entries with a part that is long
 
-formed-front : (a b : List Entry) → AreFormed (a ++ b) → AreFormed a
+pub formed-front : (a b : List Entry) → AreFormed (a ++ b) → AreFormed a
 formed-front [] b are = tt
 formed-front (e ∷ a) b are = (are.0, formed-front a b are.1)
 
@@ -24,11 +24,11 @@ formed-back : (a b : List Entry) → AreFormed (a ++ b) → AreFormed b
 formed-back [] b are = are
 formed-back (e ∷ a) b are = formed-back a b are.1
 
-long-more : (a b : List Entry) → AreLong a → AreLong (a ++ b)
+pub long-more : (a b : List Entry) → AreLong a → AreLong (a ++ b)
 long-more a b long = omega (arith, long, ap length (flat_map-append spelling a b), length-append (body a) (body b))
 
 -- behind what was before
-long-behind : (old a b : List Entry) → AreLong (old ++ a) → AreLong (old ++ (a ++ b))
+pub long-behind : (old a b : List Entry) → AreLong (old ++ a) → AreLong (old ++ (a ++ b))
 long-behind old a b long = subst AreLong (append_assoc old a b) (long-more (old ++ a) b long)
 
 -- ---- one row more

@@ -1,6 +1,7 @@
 // Rows as entries, by their attributes.
 use ps_access::Tables;
-use ps_compact_export::{book_entries, counter_entry, notice_entry};
+use ps_compact_export::{add_book, counter_entry, notice_entry};
+use ps_record::{Batch, read_entry};
 use ps_types::{Affil, AffilRow, Child, Elem, Entry, Jid, NodeKey, Text};
 use std::alloc::Global;
 use std::process::Abort;
@@ -56,14 +57,14 @@ fn owned(alloc: Global) -> Result<Tables, Fail> {
 fn an_affiliation_is_one_entry(rt: HostRuntime) -> Result<(), Fail> {
     let alloc = rt.alloc();
     let tables = owned(alloc)?;
-    let entries = book_entries(alloc, &tables)?;
-    assert_eq!(rt; entries.len(), 1);
-    for entry in &entries {
-        assert!(rt; is_row(entry, "affiliation", "affiliation", "owner"));
-        assert!(rt; is_row(entry, "affiliation", "jid", "alf@a.example"));
-        assert!(rt; is_row(entry, "affiliation", "name", "n1"));
-        assert!(rt; is_row(entry, "affiliation", "service", "pubsub.example"));
-    }
+    let mut batch = Batch::new(alloc)?;
+    add_book(alloc, &mut batch, &tables)?;
+    let (entry, next) = read_entry(alloc, batch.frame(), 4)?;
+    assert_eq!(rt; next, batch.len() + 4);
+    assert!(rt; is_row(&entry, "affiliation", "affiliation", "owner"));
+    assert!(rt; is_row(&entry, "affiliation", "jid", "alf@a.example"));
+    assert!(rt; is_row(&entry, "affiliation", "name", "n1"));
+    assert!(rt; is_row(&entry, "affiliation", "service", "pubsub.example"));
     Ok(())
 }
 

@@ -1,7 +1,6 @@
 // The service: what it answers, and the entry that it prepares and commits.
-ghost use Rattle.std.specs.Prelude.{◌≡◌, ◌<◌, ◌^◌, [], true, false, IfOk, OnOk, OnErr, IfSome, IsSome, Some, None, map, option_copied, option_map};
+ghost use Rattle.std.specs.Prelude.{◌≡◌, ◌<◌, ◌^◌, [], true, false, IfOk, OnOk, OnErr, IfSome, IsSome, Some, None, option_copied, option_map};
 ghost use Rattle.ps_model.specs.After.{after, notices_at};
-ghost use Rattle.ps_model.specs.Base.{book_rows};
 ghost use Rattle.ps_model.specs.Book.{empty_state};
 ghost use Rattle.ps_model.specs.Replay.{accepted};
 ghost use Rattle.ps_model.specs.Replies.{reply_to, entry_of};
@@ -16,7 +15,6 @@ ghost use Rattle.ps_core.specs.Stages.{Follows, IsBack, IsStage};
 ghost use Rattle.ps_core.specs.declared.service.Stage.TheVariants.{Prepared};
 ghost use Rattle.ps_core.specs.Wants.{BackHasWants, HasWants};
 ghost use Rattle.ps_filter.specs.Wants.{AreWants};
-ghost use Rattle.ps_compact_export.specs.Written.{written};
 
 use crate::accepting::{Acceptance, acceptance_at};
 use crate::answers::{Answer, WithRequest, answer_at};
@@ -25,7 +23,6 @@ use crate::numbers::{NumberChange, numbers_of, reserve_for};
 use crate::telling::told_by;
 use ps_access::Tables;
 use ps_base::Memory;
-use ps_compact_export::book_entries;
 use ps_filter::Wants;
 use ps_notice_numbers::Tallies;
 use ps_types::{Arrival, Entry, Notice, Request, Text};
@@ -146,14 +143,6 @@ impl Service {
         ensures tallies { result.now.rows ≡ self.now.state.tallies }
     {
         &self.tallies
-    }
-
-    /// The entries that a compacted store has for the rows of the Book, without those of the numbers of notices and of the notices that
-    /// aren't handed.
-    pub fn base(&self) -> Result<Vec<Entry>, Memory>
-        ensures rows { IfOk result (λ v. v.items ≡ map written (book_rows self.now.state.book)) }
-    {
-        book_entries(self.alloc, &self.front.tables)
     }
 
     /// How many entries the State has.

@@ -8,5 +8,5 @@ whos-preserved c =
     let whos = c.args.whos.now.items in
     let who = c.who-item.result in
     let here = c.who-item.is ∙ ap (λ (l : List Jid). get_or l c.whos.who-index who) c.deref-who-items.ensures.value in
-    counters-more c.args.tallies.now.rows whos c.whos.who-index who c.args.entries.now.items c.whos.entries.items c.add_counter.new.entries.items (omega (arith, c.deref-who-items.ensures.len)) here
-    c.whos.invariant c.in_ok-add_counter.ensures
+    counters-more c.args.tallies.now.rows whos c.whos.who-index who c.args.batch.now c.whos.batch c.add_counter.new.batch (omega (arith, c.deref-who-items.ensures.len)) here
+    c.whos.invariant c.in_default.ensures.ok

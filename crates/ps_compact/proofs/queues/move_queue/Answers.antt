@@ -9,13 +9,13 @@ move_first-requires c = record { ready = first-ready c.args.count c.args.who.now
 
 pub notices-preserved : goal.notices-preserved
 notices-preserved c =
-    let done = c.in_ok-move_first.ensures in
-    moved-more c.args.who.now c.notices.at c.args.queues.now.waiting c.notices.queues.waiting c.move_first.new.queues.waiting c.args.entries.now.items c.notices.entries.items
-    c.move_first.new.entries.items c.notices.invariant done.entries done.queues
+    let done = c.in_default.ensures in
+    moved-more c.args.who.now c.notices.at c.args.queues.now.waiting c.notices.queues.waiting c.move_first.new.queues.waiting c.args.batch.now c.notices.batch
+    c.move_first.new.batch c.notices.invariant done.ok done.queues
 
-pub returns-clause-entries : goal.returns-clause-entries
-returns-clause-entries c =
+pub returns-clause-ok : goal.returns-clause-ok
+returns-clause-ok c =
     let who = c.args.who.now in
     let old = c.args.queues.now.waiting in
-    moved-all who c.notices.at old c.notices.queues.waiting c.args.entries.now.items c.notices.entries.items (omega (arith, length-filter (is_to who) old, c.pending-at-end.ensures))
+    moved-all who c.notices.at old c.notices.queues.waiting c.args.batch.now c.notices.batch (omega (arith, length-filter (is_to who) old, c.pending-at-end.ensures))
     c.notices.invariant
